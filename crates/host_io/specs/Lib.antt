@@ -1,0 +1,6 @@
+pub mod Causes
+pub mod Files
+pub mod Reading
+pub mod Writing
+pub mod MemoryFiles
+pub mod MemoryOutput

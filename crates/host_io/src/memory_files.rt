@@ -1,0 +1,186 @@
+//! A shelf in memory, whose calls of given numbers fail.
+//!
+//! It tells its map. Its calls of `read` and `list` are numbered together from 1.
+ghost use Rattle.std.specs.Prelude.{◌≡◌, ◌≤◌, ◌↔◌, map, IfOk, IsTrue, IsErrOf, vec_len, string_bytes};
+ghost use Rattle.std.specs.Option.{option_map};
+ghost use Rattle.host_io.specs.declared.reading.ShelfError.TheVariants.{Failed};
+ghost use Rattle.host_io.specs.Causes.{Rose};
+ghost use Rattle.host_io.specs.Files.{is_file_map, is_new_path, behind, bytes_at, name_in, names_in};
+ghost use Rattle.host_io.specs.MemoryFiles.{file_of, told_files, fails_now, after_call};
+ghost use Rattle.host_io.specs.Reading.{Reads, Lists, HasCause};
+
+use crate::reading::{Shelf, ShelfError};
+use std::alloc::{AllocError, Global};
+use std::marker::Model;
+
+/// Files in memory, as pairs of a path and its bytes.
+#[derive(Drop)]
+pub struct MemShelf {
+    files: Vec<(String, Vec<u8>)>,
+    failing: Vec<u64>,
+    calls: u64,
+    faults: u64,
+}
+
+impl Model for MemShelf {
+    ghost use Rattle.std.specs.Prelude.{map, IsTrue};
+    ghost use Rattle.host_io.specs.Files.{is_file_map};
+    ghost use Rattle.host_io.specs.MemoryFiles.{MemFiles, file_of};
+
+    ghost Value = { MemFiles };
+
+    ghost view = { λ s. record { files = map file_of s.files.items; failing = s.failing.items; calls = s.calls; faults = s.faults } };
+
+    ghost invariant = { λ s. IsTrue (is_file_map (map file_of s.files.items)) };
+}
+
+/// Whether these can be the files of a shelf: no path begins with a slash or stands twice.
+pub fn are_files(files: &[(String, Vec<u8>)]) -> bool
+    ensures { result ≡ is_file_map (map file_of files.now) }
+{
+    match files {
+        [] => true,
+        [first, rest @ ..] => is_path(first.0.as_str(), rest) && are_files(rest),
+    }
+}
+
+// Whether the path has no slash at its front and none of these files has it.
+fn is_path(path: &str, others: &[(String, Vec<u8>)]) -> bool
+    ensures { result ≡ is_new_path path.now (map file_of others.now) }
+{
+    !path.as_bytes().starts_with(b"/") && find_file(others, path).is_none()
+}
+
+impl MemShelf {
+    /// A shelf with these files, whose calls with the numbers in `failing` fail. `are_files` tests the condition.
+    pub fn new(files: Vec<(String, Vec<u8>)>, failing: Vec<u64>) -> Self
+        requires { IsTrue (is_file_map (map file_of files.items)) }
+        ensures starts { result ≡ record { files = map file_of files.items; failing = failing.items; calls = 0; faults = 0 } }
+    {
+        MemShelf {
+            files,
+            failing,
+            calls: 0,
+            faults: 0,
+        }
+    }
+
+    // Counts a call, and says whether it fails.
+    fn counts_call(&mut self) -> bool
+        ensures fails { result ≡ fails_now self.old }
+        ensures counts { self.new ≡ after_call self.old }
+        ensures later { self.old.faults ≤ self.new.faults }
+        ensures rose { IsTrue result → Rose self.old.faults self.new.faults }
+    {
+        self.calls = self.calls.saturating_add(1);
+        let fails = self.failing.contains(&self.calls);
+        if fails {
+            self.faults = self.faults.saturating_add(1);
+        }
+        fails
+    }
+}
+
+// The bytes of the file at the path.
+fn find_file<'a>(files: &'a [(String, Vec<u8>)], path: &str) -> Option<&'a Vec<u8>>
+    ensures { option_map (λ v. v.now.items) result ≡ bytes_at (map file_of files.now) path.now }
+{
+    for file in files {
+        if file.0.as_str() == path {
+            return Some(&file.1);
+        }
+    }
+    None
+}
+
+// What comes after a front of the text.
+fn text_behind<'a>(front: &str, text: &'a str) -> Option<&'a str>
+    ensures { option_map (λ rest. rest.now) result ≡ behind front.now text.now }
+{
+    text.strip_prefix(front)
+}
+
+// The name of a path that lies directly in the folder.
+fn name_of<'a>(folder: &str, path: &'a str) -> Option<&'a str>
+    ensures { option_map (λ name. name.now) result ≡ name_in folder.now path.now }
+{
+    match text_behind(folder, path) {
+        None => None,
+        Some(rest) => match text_behind("/", rest) {
+            None => None,
+            Some(name) => {
+                if !name.is_empty() && !name.as_bytes().contains(&b'/') {
+                    Some(name)
+                } else {
+                    None
+                }
+            }
+        },
+    }
+}
+
+// The names of the files directly in the folder.
+fn names_of(
+    alloc: Global,
+    files: &[(String, Vec<u8>)],
+    folder: &str,
+) -> Result<Vec<String>, AllocError>
+    ensures { IfOk result (λ names. map string_bytes names.items ≡ names_in (map file_of files.now) folder.now) }
+{
+    let mut names = Vec::new(alloc);
+    for file in files {
+        if let Some(name) = name_of(folder, file.0.as_str()) {
+            names.push(String::from_str(alloc, name)?)?;
+        }
+    }
+    Ok(names)
+}
+
+impl Shelf for MemShelf {
+    ghost use Rattle.host_io.specs.MemoryFiles.{told_files, told_files-is_file_map};
+
+    ghost told = { λ shelf. told_files shelf.files };
+
+    ghost faults = { λ shelf. shelf.faults };
+
+    ghost tells_a_map = { λ shelf. told_files-is_file_map shelf.files };
+
+    fn read(&mut self, alloc: Global, path: &str, limit: u64) -> Result<Vec<u8>, ShelfError>
+        ensures answers_by_the_map { Reads (told_files self.old.files) path.now limit result }
+        ensures within_limit { IfOk result (λ bytes. vec_len bytes ≤ limit) }
+        ensures map_stays { told_files self.new.files ≡ told_files self.old.files }
+        ensures fault_rose { HasCause self.old.faults self.new.faults result }
+        ensures fails_as_told { IsErrOf result Failed ↔ IsTrue (fails_now self.old) }
+        ensures counts_the_call { self.new ≡ after_call self.old }
+    {
+        if self.counts_call() {
+            return Err(ShelfError::Failed);
+        }
+        match find_file(&self.files, path) {
+            None => Err(ShelfError::Missing),
+            Some(bytes) if bytes.len() as u64 > limit => Err(ShelfError::TooLarge),
+            Some(bytes) => Ok(bytes.to_vec(alloc)?),
+        }
+    }
+
+    fn list(&mut self, alloc: Global, dir: &str) -> Result<Vec<String>, ShelfError>
+        ensures answers_by_the_map { Lists (told_files self.old.files) dir.now result }
+        ensures within_limit { IfOk result (λ names. vec_len names ≤ 4096) }
+        ensures map_stays { told_files self.new.files ≡ told_files self.old.files }
+        ensures fault_rose { HasCause self.old.faults self.new.faults result }
+        ensures fails_as_told { IsErrOf result Failed ↔ IsTrue (fails_now self.old) }
+        ensures counts_the_call { self.new ≡ after_call self.old }
+    {
+        if self.counts_call() {
+            return Err(ShelfError::Failed);
+        }
+        let names = names_of(alloc, &self.files, dir)?;
+        if names.is_empty() {
+            return Err(ShelfError::Missing);
+        }
+        if names.len() > 4096 {
+            return Err(ShelfError::TooLarge);
+        }
+        Ok(names)
+    }
+}

@@ -1,0 +1,75 @@
+//! Where files are read: the trait `Shelf` and its errors.
+//!
+//! The meanings of a shelf are a count of faults and, where it tells it, a map from paths to bytes.
+ghost use Rattle.std.specs.Prelude.{◌≡◌, ℕ, ◌≤◌, Option, IfOk, IfSome, IsTrue, vec_len};
+ghost use Rattle.host_io.specs.declared.reading.ShelfError.TheVariants.{Memory};
+ghost use Rattle.host_io.specs.Files.{Files, is_file_map};
+ghost use Rattle.host_io.specs.Reading.{Reads, Lists, HasCause};
+
+use std::alloc::{AllocError, AllocFailed, Global};
+use thiserror::Error;
+
+/// Why a file or a folder was not read.
+#[derive(Clone, Copy, Debug, PartialEq, Eq, Error)]
+pub enum ShelfError {
+    /// No file has the path, or none lies directly in the folder.
+    #[error("the file is missing")]
+    Missing,
+    /// The file has more bytes than were asked for, or the folder more than 4,096 files.
+    #[error("the file is too large")]
+    TooLarge,
+    /// What lies outside failed, and the count of faults rose.
+    #[error("the read failed")]
+    Failed,
+    /// Memory ran out.
+    #[error("out of memory")]
+    Memory,
+}
+
+impl From<AllocError> for ShelfError {
+    ghost from_gives = { λ _ e. e ≡ Memory };
+
+    fn from(_: AllocError) -> Self {
+        ShelfError::Memory
+    }
+}
+
+impl<T: Drop> From<AllocFailed<T>> for ShelfError {
+    ghost from_gives = { λ _ e. e ≡ Memory };
+
+    fn from(_: AllocFailed<T>) -> Self {
+        ShelfError::Memory
+    }
+}
+
+/// Where files are read. Paths are relative: none begins with a slash.
+pub trait Shelf {
+    /// The files, where the shelf tells them.
+    ghost told: { Self → Option Files };
+
+    /// How often what lies outside has failed.
+    ghost faults: { Self → ℕ };
+
+    /// The bytes of the file at `path`, of which there are at most `limit`.
+    ///
+    /// `Missing` where no file has the path, `TooLarge` where it has more than `limit` bytes, `Failed`
+    /// only where the count of faults rose, `Memory` for want of memory.
+    fn read(&mut self, alloc: Global, path: &str, limit: u64) -> Result<Vec<u8>, ShelfError>
+        ensures answers_by_the_map { Reads (told self.old) path.now limit result }
+        ensures within_limit { IfOk result (λ bytes. vec_len bytes ≤ limit) }
+        ensures map_stays { told self.new ≡ told self.old }
+        ensures fault_rose { HasCause (faults self.old) (faults self.new) result };
+
+    /// The names of the files directly in the folder `dir`, each once, in no promised order.
+    ///
+    /// `Missing` where there is none, `TooLarge` where there are more than 4,096, `Failed` only where the
+    /// count of faults rose, `Memory` for want of memory.
+    fn list(&mut self, alloc: Global, dir: &str) -> Result<Vec<String>, ShelfError>
+        ensures answers_by_the_map { Lists (told self.old) dir.now result }
+        ensures within_limit { IfOk result (λ names. vec_len names ≤ 4096) }
+        ensures map_stays { told self.new ≡ told self.old }
+        ensures fault_rose { HasCause (faults self.old) (faults self.new) result };
+
+    /// No path of a told map begins with a slash or stands in it twice.
+    ghost tells_a_map: { (shelf : Self) → IfSome (told shelf) (λ files. IsTrue (is_file_map files)) };
+}

@@ -1,0 +1,60 @@
+//! Where bytes are written: the trait `Sink`, its errors, and writing a whole piece.
+//!
+//! The meanings of a sink are a count of faults and, where it tells them, the bytes taken so far.
+ghost use Rattle.std.specs.Prelude.{◌≡◌, ℕ, List, Option};
+ghost use Rattle.host_io.specs.declared.writing.SinkError.TheVariants.{Memory};
+ghost use Rattle.host_io.specs.Writing.{Takes, TakesWhole, HasCause};
+
+use std::alloc::AllocError;
+use thiserror::Error;
+
+/// Why bytes were not taken.
+#[derive(Clone, Copy, Debug, PartialEq, Eq, Error)]
+pub enum SinkError {
+    /// What lies outside failed, and the count of faults rose.
+    #[error("the write failed")]
+    Failed,
+    /// Memory ran out.
+    #[error("out of memory")]
+    Memory,
+}
+
+impl From<AllocError> for SinkError {
+    ghost from_gives = { λ _ e. e ≡ Memory };
+
+    fn from(_: AllocError) -> Self {
+        SinkError::Memory
+    }
+}
+
+/// Where bytes are written.
+pub trait Sink {
+    /// The bytes taken so far, where the sink tells them.
+    ghost taken: { Self → Option (List ℕ) };
+
+    /// How often what lies outside has failed.
+    ghost faults: { Self → ℕ };
+
+    /// Takes a prefix of the piece and answers its length, at least one byte of a piece that is not empty.
+    ///
+    /// At an error it has taken nothing: `Failed` comes only where the count of faults rose, `Memory` for
+    /// want of memory.
+    fn put(&mut self, piece: &[u8]) -> Result<usize, SinkError>
+        ensures takes_a_prefix { Takes (taken self.old) (taken self.new) piece.now result }
+        ensures fault_rose { HasCause (faults self.old) (faults self.new) result };
+}
+
+/// Puts the whole piece, in at most as many turns as it has bytes.
+///
+/// At an error a prefix was taken, and not the whole: `Failed` comes only where the count of faults rose,
+/// `Memory` for want of memory.
+pub fn write_whole<K: Sink>(out: &mut K, piece: &[u8]) -> Result<(), SinkError>
+    ensures takes_the_piece { TakesWhole (K.taken out.old) (K.taken out.new) piece.now result }
+    ensures fault_rose { HasCause (K.faults out.old) (K.faults out.new) result }
+{
+    let mut at = 0;
+    'turns: while at < piece.len() {
+        at += out.put(&piece[at..])?;
+    }
+    Ok(())
+}
