@@ -1,0 +1,7 @@
+pub mod Symbols
+pub mod Numerals
+pub mod Pieces
+pub mod Escapes
+pub mod Spelling
+pub mod Layouts
+pub mod Layable

@@ -1,0 +1,7 @@
+pub mod Numbers
+pub mod Booleans
+pub mod Errnos
+pub mod Words
+pub mod Grammar
+pub mod Escaped
+pub mod Answers

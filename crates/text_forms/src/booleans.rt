@@ -1,0 +1,55 @@
+//! Booleans of settings (systemd.syntax(7)).
+
+ghost use Rattle.std.specs.Prelude.{◌≡◌, map};
+ghost use Rattle.std.specs.Str.{bytes_eq};
+ghost use Rattle.text_forms.specs.Booleans.{in_lower_case, true_words, false_words, is_one_of, bool_value};
+
+const TRUE_WORDS: &[&str] = &["1", "yes", "true", "on", "y", "t"];
+
+const FALSE_WORDS: &[&str] = &["0", "no", "false", "off", "n", "f"];
+
+fn words_of_true() -> &'static [&'static str]
+    ensures { map (λ word. word.now) result.now ≡ true_words }
+{
+    TRUE_WORDS
+}
+
+fn words_of_false() -> &'static [&'static str]
+    ensures { map (λ word. word.now) result.now ≡ false_words }
+{
+    FALSE_WORDS
+}
+
+// the same word but for the case of ASCII letters
+fn is_same_word(word: &str, text: &str) -> bool
+    ensures { result ≡ bytes_eq (in_lower_case word.now) (in_lower_case text.now) }
+{
+    word.eq_ignore_ascii_case(text)
+}
+
+// the text is one of the words, in any case
+#[tactic(auto, unfolding(crate::specs::Booleans::is_one_of))]
+fn is_one_of(words: &[&str], text: &str) -> bool
+    ensures { result ≡ is_one_of (map (λ word. word.now) words.now) text.now }
+{
+    'words: for word in words {
+        if is_same_word(word, text) {
+            return true;
+        }
+    }
+    false
+}
+
+/// True for `1 yes true on y t`, false for `0 no false off n f`, in any ASCII case; None for all else.
+#[tactic(auto, unfolding(crate::specs::Booleans::bool_value))]
+pub fn read_bool(text: &str) -> Option<bool>
+    ensures by_word { result ≡ bool_value text.now }
+{
+    if is_one_of(words_of_true(), text) {
+        Some(true)
+    } else if is_one_of(words_of_false(), text) {
+        Some(false)
+    } else {
+        None
+    }
+}

@@ -1,0 +1,61 @@
+//! Escaped words: a text printed as one word without white space.
+
+ghost use Rattle.std.specs.Prelude.{◌≡◌, ◌<◌, ◌++◌, OnOk, OnErr, take, length};
+ghost use Rattle.text_forms.specs.Escaped.{is_coded, upper_digit, escaped_byte, escaped_word};
+
+use std::alloc::AllocError;
+
+fn is_coded(byte: u8) -> bool
+    ensures { result ≡ is_coded byte }
+{
+    byte <= b' ' || byte == 0x7f || byte == b'%'
+}
+
+fn upper_digit(digit: u8) -> u8
+    requires { digit < 16 }
+    ensures { result ≡ upper_digit digit }
+{
+    if digit < 10 {
+        b'0' + digit
+    } else {
+        b'A' - 10 + digit
+    }
+}
+
+// appends a byte as it is escaped, or a part of that
+#[tactic(auto, unfolding(crate::specs::Escaped::escaped_byte))]
+fn push_byte(out: &mut Vec<u8>, byte: u8) -> Result<(), AllocError>
+    ensures appends { OnOk result (out.new.items ≡ out.old.items ++ escaped_byte byte) }
+    ensures unchanged_on_error { OnErr result (out.new.items ≡ out.old.items) }
+{
+    if is_coded(byte) {
+        out.extend_from_slice(&[b'%', upper_digit(byte / 16), upper_digit(byte % 16)])
+    } else {
+        out.extend_from_slice(&[byte])
+    }
+}
+
+// appends the bytes as they are escaped, or a front of that
+fn push_bytes(out: &mut Vec<u8>, bytes: &[u8]) -> Result<(), AllocError>
+    ensures appends { OnOk result (out.new.items ≡ out.old.items ++ escaped_word bytes.now) }
+    ensures keeps_the_front { take (length out.old.items) out.new.items ≡ out.old.items }
+{
+    'bytes: for byte in bytes {
+        push_byte(out, *byte)?;
+    }
+    Ok(())
+}
+
+/// Appends the text as an escaped word: each byte up to the space, DEL and `%` becomes `%` and two
+/// upper-case hex digits, and all others stand. Where there is no memory `out` stays.
+pub fn push_word(out: &mut Vec<u8>, text: &str) -> Result<(), AllocError>
+    ensures appends_the_word { OnOk result (out.new.items ≡ out.old.items ++ escaped_word text.now) }
+    ensures unchanged_on_error { OnErr result (out.new.items ≡ out.old.items) }
+{
+    let front = out.len();
+    let pushed = push_bytes(out, text.as_bytes());
+    if pushed.is_err() {
+        out.truncate(front);
+    }
+    pushed
+}

@@ -1,0 +1,42 @@
+//! Laws of the forms, each the contract of a function that does nothing.
+
+ghost use Rattle.std.specs.Prelude.{◌≡◌, ◌≢◌, ◌<◌, ◌^◌, ℕ, List, Some, Ok, Err, All, IsTrue, ◌↔◌, codes, decimal, slice_index, false};
+ghost use Rattle.text_forms.specs.Numbers.{number_value};
+ghost use Rattle.text_forms.specs.Escaped.{escaped_word, word_read};
+ghost use Rattle.text_forms.specs.declared.splitting.symbols.Symbol.{Symbol};
+ghost use Rattle.text_forms.specs.declared.error.WordsError.TheVariants.{Escape, Quote, NotText};
+ghost use Rattle.text_forms.specs.Words.{symbols_of, words_of};
+ghost use Rattle.text_forms.specs.Grammar.{Spells, LaysOut};
+ghost use Rattle.std.specs.List.{list_all};
+ghost use Rattle.std.specs.Str.{is_utf8};
+
+/// A number as it is printed is read again, and has no leading zero.
+pub fn printed_number_read()
+    ensures read_again { (n : ℕ) → n < 2 ^ 64 → number_value (decimal n) ≡ Some n }
+    ensures zero { decimal 0 ≡ codes "0" }
+    ensures no_leading_zero { (n : ℕ) → 0 < n → n < 2 ^ 64 → slice_index (decimal n) 0 ≢ 48 }
+{}
+
+/// An escaped word is read back as its text, and has no white space.
+pub fn escaped_word_read()
+    ensures read_back { (text : List ℕ) → All (λ byte. byte < 256) text → word_read (escaped_word text) ≡ Some text }
+    ensures no_white_space { (text : List ℕ) → All (λ byte. 32 < byte) (escaped_word text) }
+{}
+
+/// The grammar of systemd.syntax(7) decides: a text that is written and laid out by it is split so,
+/// one that cannot be written is Escape, one that cannot be laid out is Quote, and one of whose
+/// words one is not UTF-8 is NotText.
+pub fn text_split_by_grammar()
+    ensures symbols_as_written { (text : List ℕ) (symbols : List Symbol)
+        → (symbols_of text ≡ Some symbols) ↔ Spells symbols text }
+    ensures words_as_laid_out { (text : List ℕ) (symbols : List Symbol) (words : List (List ℕ))
+        → Spells symbols text → LaysOut symbols words → IsTrue (list_all is_utf8 words)
+        → words_of text ≡ Ok words }
+    ensures escape_where_not_written { (text : List ℕ)
+        → (words_of text ≡ Err Escape) ↔ ((symbols : List Symbol) → ¬ (Spells symbols text)) }
+    ensures quote_where_not_laid_out { (text : List ℕ) (symbols : List Symbol) → Spells symbols text
+        → (words_of text ≡ Err Quote) ↔ ((words : List (List ℕ)) → ¬ (LaysOut symbols words)) }
+    ensures not_text_where_not_utf8 { (text : List ℕ) (symbols : List Symbol) (words : List (List ℕ))
+        → Spells symbols text → LaysOut symbols words
+        → (words_of text ≡ Err NotText) ↔ (list_all is_utf8 words ≡ false) }
+{}

@@ -1,0 +1,82 @@
+//! Escapes: a text as symbols, each a byte as it stands or a byte that an escape gives.
+
+ghost use Rattle.std.specs.Prelude.{◌≡◌, ◌<◌, length, MatchOption, IfSome, SomeIff, IsTrue};
+ghost use Rattle.std.specs.Char.{digit_value};
+ghost use Rattle.text_forms.specs.Words.{escape_of, is_hex_digit, symbols_of, with_symbol};
+ghost use Rattle.text_forms.specs.Answers.{ReadsSymbols};
+
+use crate::error::WordsError;
+use std::alloc::Global;
+
+/// A byte of a text.
+#[derive(Clone, Copy)]
+pub(crate) enum Symbol {
+    /// as it stands
+    Plain(u8),
+    /// by an escape, so that it is no quote and no white space
+    Escaped(u8),
+}
+
+// the byte behind a backslash, but for `x`
+#[tactic(auto, unfolding(crate::specs::Words::escape_of))]
+fn escape_of(letter: u8) -> Option<u8>
+    ensures { result ≡ escape_of letter }
+{
+    match letter {
+        b'\\' | b'"' | b'\'' | b' ' => Some(letter),
+        b's' => Some(b' '),
+        b'n' => Some(b'\n'),
+        b't' => Some(b'\t'),
+        _ => None,
+    }
+}
+
+fn hex_value(digit: u8) -> Option<u8>
+    ensures by_digit { SomeIff result (IsTrue (is_hex_digit digit)) (digit_value digit) }
+    ensures small { IfSome result (λ value. value < 16) }
+{
+    match digit {
+        b'0'..=b'9' => Some(digit - b'0'),
+        b'a'..=b'f' => Some(digit - b'a' + 10),
+        b'A'..=b'F' => Some(digit - b'A' + 10),
+        _ => None,
+    }
+}
+
+// the first symbol, and what stands behind it
+#[tactic(auto, unfolding(crate::specs::Words::symbols_of))]
+fn first_symbol(text: &[u8]) -> Option<(Symbol, &[u8])>
+    requires { 0 < length text.now }
+    ensures first { MatchOption result (symbols_of text.now ≡ None)
+        (λ taken. symbols_of text.now ≡ with_symbol taken.0 (symbols_of taken.1.now)) }
+    ensures shorter { IfSome result (λ taken. length taken.1.now < length text.now) }
+{
+    let (first, rest) = text.split_first()?;
+    if *first != b'\\' {
+        return Some((Symbol::Plain(*first), rest));
+    }
+    let (letter, rest) = rest.split_first()?;
+    if *letter != b'x' {
+        return Some((Symbol::Escaped(escape_of(*letter)?), rest));
+    }
+    let (high, rest) = rest.split_first()?;
+    let (low, rest) = rest.split_first()?;
+    Some((
+        Symbol::Escaped(hex_value(*high)? * 16 + hex_value(*low)?),
+        rest,
+    ))
+}
+
+/// The symbols of a text; Escape where a backslash stands before another byte, or is cut.
+pub(crate) fn symbols(alloc: Global, text: &[u8]) -> Result<Vec<Symbol>, WordsError>
+    ensures { ReadsSymbols text.now result }
+{
+    let mut symbols = Vec::new(alloc);
+    let mut left = text;
+    while !left.is_empty() {
+        let (symbol, rest) = first_symbol(left).ok_or(WordsError::Escape)?;
+        symbols.push(symbol)?;
+        left = rest;
+    }
+    Ok(symbols)
+}
