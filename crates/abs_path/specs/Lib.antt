@@ -1,0 +1,4 @@
+pub mod Paths
+pub mod Prefix
+pub mod ByteOrder
+pub mod Read

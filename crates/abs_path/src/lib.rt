@@ -1,0 +1,16 @@
+//! Normal absolute paths, by whole parts: reading, prefixes, what lies behind one, byte order.
+//!
+//! An `AbsPath` has no empty part, no `.`, no `..` and no NUL, and at most 512 bytes.
+//! The crate rests on std alone; `AbsPath::read(alloc, "/a//b/")?.text()` is `/a/b`.
+#![tactic(auto)]
+
+pub mod error;
+pub mod laws;
+pub mod order;
+pub mod path;
+#[cfg(test)]
+mod tests;
+
+pub use error::PathError;
+pub use order::put;
+pub use path::AbsPath;

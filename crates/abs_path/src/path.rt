@@ -1,0 +1,104 @@
+//! The type of a normal absolute path, its text and copies of it.
+//!
+//! A contract sees a path as the list of its parts; the text is a function of them.
+
+mod prefix;
+mod read;
+
+ghost use Rattle.std.specs.Prelude.{◌≡◌, ◌≤◌, IsTrue, IfOk, length, []};
+ghost use Rattle.abs_path.specs.Paths.{text_of, tail_of, is_normal};
+ghost use Rattle.std.specs.Ordering.{nat_cmp};
+ghost use Rattle.std.specs.Cmp.Lexicographic.{slice_cmp};
+
+use std::alloc::{AllocError, Global};
+use std::cmp::Ordering;
+use std::marker::Model;
+
+/// How many bytes the text of a path has at most.
+const LONGEST: usize = 512;
+
+/// A normal absolute path of at most 512 bytes: no part is empty, `.` or `..`, and no byte is NUL.
+#[derive(Drop)]
+pub struct AbsPath {
+    // the text, but nothing for the root
+    tail: String,
+}
+
+impl Model for AbsPath {
+    ghost use Rattle.std.specs.Prelude.{string_bytes};
+    ghost use Rattle.abs_path.specs.Paths.{Path, IsTail, parts_of};
+
+    ghost Value = { Path };
+
+    ghost view = { λ path. parts_of (string_bytes path.tail) };
+
+    ghost invariant = { λ path. IsTail (string_bytes path.tail) };
+}
+
+impl AbsPath {
+    /// The root, `/`.
+    pub fn root(alloc: Global) -> AbsPath
+        ensures { result ≡ [] }
+    {
+        AbsPath {
+            tail: String::new(alloc),
+        }
+    }
+
+    /// The text: a lone slash for the root, else the parts, each behind a slash.
+    pub fn text(&self) -> &str
+        ensures whole { result.now ≡ text_of self.now }
+        ensures normal { IsTrue (is_normal self.now) }
+        ensures short { length result.now ≤ 512 }
+    {
+        if self.tail.is_empty() {
+            "/"
+        } else {
+            self.tail.as_str()
+        }
+    }
+
+    /// How many bytes the parts have, each with the slash before it; none for the root.
+    pub fn tail_len(&self) -> usize
+        ensures length { result ≡ length (tail_of self.now) }
+        ensures short { result ≤ 512 }
+    {
+        self.tail.len()
+    }
+
+    /// Byte order of the texts.
+    pub fn order(&self, other: &AbsPath) -> Ordering
+        ensures by_bytes { result ≡ slice_cmp nat_cmp (tail_of self.now) (tail_of other.now) }
+    {
+        self.tail.as_str().cmp(other.tail.as_str())
+    }
+
+    /// The same path again.
+    pub fn copy(&self, alloc: Global) -> Result<AbsPath, AllocError>
+        ensures same { IfOk result (λ path. path ≡ self.now) }
+    {
+        Ok(AbsPath {
+            tail: self.tail.clone()?,
+        })
+    }
+}
+
+impl PartialEq for AbsPath {
+    ghost use Rattle.abs_path.specs.Prefix.{is_same};
+    ghost use Rattle.std.specs.Cmp.{partial_equiv_from_equiv};
+    ghost use Rattle.std.specs.Cmp.Lexicographic.{lists_equiv, nat_list_eq_equiv};
+
+    ghost eq = { is_same };
+
+    ghost laws = { partial_equiv_from_equiv (lists_equiv nat_list_eq_equiv) };
+
+    fn eq(&self, other: &AbsPath) -> bool {
+        self.tail == other.tail
+    }
+}
+
+impl Eq for AbsPath {
+    ghost use Rattle.std.specs.Cmp.Lexicographic.{lists_equiv, nat_list_eq_equiv};
+
+    ghost laws = { lists_equiv nat_list_eq_equiv };
+}

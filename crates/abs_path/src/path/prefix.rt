@@ -1,0 +1,74 @@
+//! Prefixes by whole parts, what a path has behind one, and joining the two again.
+
+ghost use Rattle.std.specs.Prelude.{◌≡◌, ◌++◌, IfOk, IfSome, IsTrue, string_bytes, option_map};
+ghost use Rattle.abs_path.specs.Paths.{is_normal};
+ghost use Rattle.abs_path.specs.Prefix.{is_prefix, rest_text, IsRest, Joins, is_behind, after, behind_text};
+
+use super::{AbsPath, LONGEST};
+use crate::error::PathError;
+use std::alloc::{AllocError, Global};
+
+fn is_behind(rest: &str) -> bool
+    ensures { result ≡ is_behind rest.now }
+{
+    match rest.as_bytes().first() {
+        None => true,
+        Some(byte) => *byte == b'/',
+    }
+}
+
+fn after<'a>(front: &str, text: &'a str) -> Option<&'a str>
+    ensures { option_map (λ rest. rest.now) result ≡ after front.now text.now }
+{
+    text.strip_prefix(front)
+}
+
+// what the text has behind the front, where it ends there or goes on at a slash
+fn behind<'a>(front: &str, text: &'a str) -> Option<&'a str>
+    ensures { option_map (λ rest. rest.now) result ≡ behind_text front.now text.now }
+{
+    let rest = after(front, text)?;
+    if is_behind(rest) { Some(rest) } else { None }
+}
+
+fn joined(alloc: Global, front: &str, rest: &str) -> Result<String, AllocError>
+    ensures { IfOk result (λ text. string_bytes text ≡ front.now ++ rest.now) }
+{
+    let mut text = String::new(alloc);
+    text.push_str(front)?;
+    text.push_str(rest)?;
+    Ok(text)
+}
+
+impl AbsPath {
+    /// Whether this path is the other or leads to it, by whole parts.
+    pub fn is_prefix(&self, of: &AbsPath) -> bool
+        ensures by_whole_parts { result ≡ is_prefix self.now of.now }
+    {
+        self.rest(of).is_some()
+    }
+
+    /// What the other path has behind this one: nothing, or further parts, each after a slash.
+    /// None where this one does not lead there.
+    pub fn rest<'a>(&self, of: &'a AbsPath) -> Option<&'a str>
+        ensures behind { option_map (λ rest. rest.now) result ≡ rest_text self.now of.now }
+        ensures may_be_joined { IfSome result (λ rest. IsRest rest.now) }
+        ensures normal { IsTrue (is_normal of.now) }
+    {
+        behind(self.tail.as_str(), of.tail.as_str())
+    }
+
+    /// The path with a rest behind it, in the form that `rest` answers.
+    ///
+    /// TooLong where the two have more than 512 bytes; Memory may come at any rest.
+    pub fn join(&self, alloc: Global, rest: &str) -> Result<AbsPath, PathError>
+        requires { IsRest rest.now }
+        ensures joins_or_too_long { Joins self.now rest.now result }
+    {
+        if self.tail.len() + rest.len() > LONGEST {
+            return Err(PathError::TooLong);
+        }
+        let tail = joined(alloc, self.tail.as_str(), rest)?;
+        Ok(AbsPath { tail })
+    }
+}

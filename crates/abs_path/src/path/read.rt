@@ -1,0 +1,84 @@
+//! Reading a path: the pieces of the text between its slashes, looked at and folded together.
+
+ghost use Rattle.std.specs.Prelude.{◌≡◌, ◌==◌, not, filter, map, codes, IfOk, string_bytes, nat_eq};
+ghost use Rattle.std.specs.List.{list_any, starts_with};
+ghost use Rattle.std.specs.Str.{bytes_eq};
+ghost use Rattle.abs_path.specs.Paths.{tail_of, pieces_of, is_idle};
+ghost use Rattle.abs_path.specs.Read.{Reads};
+
+use super::{AbsPath, LONGEST};
+use crate::error::PathError;
+use std::alloc::{AllocError, Global};
+
+// a piece that says nothing
+fn is_idle(piece: &str) -> bool
+    ensures { result ≡ is_idle piece.now }
+{
+    piece == "" || piece == "."
+}
+
+// the pieces between the slashes
+fn pieces<'a>(alloc: Global, text: &'a str) -> Result<Vec<&'a str>, AllocError>
+    ensures { IfOk result (λ found. map (λ piece. piece.now) found.items ≡ pieces_of text.now) }
+{
+    text.split('/').collect(alloc)
+}
+
+// the pieces that say something, each behind a slash
+fn folded(alloc: Global, pieces: &[&str]) -> Result<String, AllocError>
+    ensures { IfOk result (λ tail. string_bytes tail
+        ≡ tail_of (filter (λ piece. not (is_idle piece)) (map (λ piece. piece.now) pieces.now))) }
+{
+    let mut tail = String::new(alloc);
+    'pieces: for piece in pieces {
+        if !is_idle(piece) {
+            tail.push('/')?;
+            tail.push_str(piece)?;
+        }
+    }
+    Ok(tail)
+}
+
+fn has_nul(text: &str) -> bool
+    ensures { result ≡ list_any (λ byte. byte == 0) text.now }
+{
+    text.as_bytes().contains(&0)
+}
+
+fn is_rooted(text: &str) -> bool
+    ensures { result ≡ starts_with nat_eq text.now (codes "/") }
+{
+    text.as_bytes().starts_with(b"/")
+}
+
+fn climbs(pieces: &[&str]) -> bool
+    ensures { result ≡ list_any (λ piece. bytes_eq piece.now (codes "..")) pieces.now }
+{
+    pieces.iter().any(|piece| *piece == "..")
+}
+
+impl AbsPath {
+    /// Reads a text: repeated slashes, `.` parts and a final slash fold away (path_resolution(7)).
+    ///
+    /// The first fault in this order is told: TooLong above 512 bytes, HasNul, Relative without a
+    /// slash in front, DotDot where a part is `..`. Memory may come at any text.
+    pub fn read(alloc: Global, text: &str) -> Result<AbsPath, PathError>
+        ensures reads_or_first_fault { Reads text.now result }
+    {
+        if text.len() > LONGEST {
+            return Err(PathError::TooLong);
+        }
+        if has_nul(text) {
+            return Err(PathError::HasNul);
+        }
+        if !is_rooted(text) {
+            return Err(PathError::Relative);
+        }
+        let pieces = pieces(alloc, text)?;
+        if climbs(&pieces) {
+            return Err(PathError::DotDot);
+        }
+        let tail = folded(alloc, &pieces)?;
+        Ok(AbsPath { tail })
+    }
+}
