@@ -1,0 +1,3 @@
+pub mod Words
+pub mod Members
+pub mod Naming

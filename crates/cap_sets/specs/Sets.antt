@@ -1,0 +1,38 @@
+-- Sets of capabilities (capabilities(7)) as words: the capability of a number is in the set where the bit of that number is on.
+use Rattle.std.specs.Prelude.{◌≡◌, ℕ, ◌-◌, ◌^◌, Bool, true, ◌==◌}
+use Rattle.std.specs.Int.{bit_at}
+use Rattle.std.specs.Int.RustNames.{bit_and, bit_or, bit_xor}
+
+-- whether the capability of this number is in the set
+unfoldable pub has : ℕ → ℕ → Bool
+has set number = bit_at set number == 1
+
+unfoldable pub none : ℕ
+none = 0
+
+-- the capabilities 0 to 40
+unfoldable pub all : ℕ
+all = 2 ^ 41 - 1
+
+unfoldable pub single : ℕ → ℕ
+single number = 2 ^ number
+
+-- those of either
+unfoldable pub union : ℕ → ℕ → ℕ
+union one other = bit_or one other
+
+-- those of both
+unfoldable pub cut : ℕ → ℕ → ℕ
+cut one other = bit_and one other
+
+-- those of the first that the second lacks
+unfoldable pub minus : ℕ → ℕ → ℕ
+minus one other = bit_xor one (bit_and one other)
+
+-- the test that each capability of the first is one of the second
+unfoldable pub within : ℕ → ℕ → Bool
+within one other = bit_and other one == one
+
+-- each capability of the first is one of the second
+pub record IsWithin (one other : ℕ) : Type 0 where
+  pub each : (number : ℕ) → has one number ≡ true → has other number ≡ true

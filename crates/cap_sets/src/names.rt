@@ -1,0 +1,36 @@
+//! The names of the capabilities, from the one table of their bits.
+
+ghost use Rattle.std.specs.Prelude.{◌≡◌, ◌↔◌, ℕ, ◌≤◌, Some, IfSome};
+ghost use Rattle.cap_sets.specs.Names.{name_of, in_lower_case};
+
+use crate::bits::Bits;
+use crate::set::CapSet;
+use bitflags::{Flag, Flags};
+
+/// How many capabilities there are: CAP_LAST_CAP and one, linux/capability.h.
+const COUNT: u8 = 41;
+
+impl CapSet {
+    /// The number of the capability of this name in any ASCII case, as `cap_chown`; else None.
+    pub fn from_name(name: &str) -> Option<u8>
+        ensures named { (number : ℕ) → number ≤ 40
+            → (result ≡ Some number) ↔ (in_lower_case (name_of number) ≡ in_lower_case name.now) }
+        ensures in_range { IfSome result (λ number. number ≤ 40) }
+    {
+        for cap in 0..COUNT {
+            if CapSet::name(cap).eq_ignore_ascii_case(name) {
+                return Some(cap);
+            }
+        }
+        None
+    }
+
+    /// The name of the capability of this number, at most 40, as `CAP_CHOWN`.
+    pub fn name(cap: u8) -> &'static str
+        requires { cap ≤ 40 }
+        ensures { result.now ≡ name_of cap }
+    {
+        let flags: &'static [Flag<Bits>] = Bits::flags();
+        flags[cap as usize].name
+    }
+}

@@ -1,0 +1,135 @@
+//! The type of a set of capabilities, and its algebra.
+//!
+//! A contract sees a set as the word of its bits, and its members by `has`.
+
+ghost use Rattle.std.specs.Prelude.{◌≡◌, ◌↔◌, ℕ, ◌==◌, ◌<◌, ◌≤◌, ◌^◌, ◌&&◌, ◌||◌, not, false, nat_le, IsTrue, IsSome, IfSome};
+ghost use Rattle.cap_sets.specs.Sets.{has, none, all, union, cut, minus, single, within, IsWithin};
+
+use crate::bits::Bits;
+use bitflags::Flags;
+use std::marker::Model;
+
+/// A set of capabilities: numbers 0 to 40, as capabilities(7) lists them.
+#[derive(Clone, Copy, Debug, PartialEq, Eq)]
+pub struct CapSet {
+    bits: Bits,
+}
+
+impl Model for CapSet {
+    ghost use Rattle.std.specs.Prelude.{ℕ, ◌<◌, ◌^◌};
+
+    ghost Value = { ℕ };
+
+    ghost view = { λ set. set.bits.0 };
+
+    ghost invariant = { λ set. set.bits.0 < 2 ^ 41 };
+
+    ghost inverse = { λ word. record { bits = record { 0 = word } } };
+}
+
+impl CapSet {
+    /// The set of none.
+    #[tactic(auto, using(crate::proofs::Members::has_none), unfolding(crate::specs::Sets::none))]
+    pub fn empty() -> CapSet
+        ensures none { result ≡ none }
+        ensures members { (number : ℕ) → has result number ≡ false }
+    {
+        CapSet { bits: Bits(0) }
+    }
+
+    /// The set of all 41.
+    #[tactic(auto, using(crate::proofs::Members::has_all), unfolding(crate::specs::Sets::all))]
+    pub fn full() -> CapSet
+        ensures all { result ≡ all }
+        ensures members { (number : ℕ) → has result number ≡ nat_le number 40 }
+    {
+        CapSet {
+            bits: Bits((1 << 41) - 1),
+        }
+    }
+
+    /// Those of either set.
+    #[tactic(auto, using(crate::proofs::Words::or_below, crate::proofs::Members::has_union), unfolding(crate::specs::Sets::union))]
+    pub fn union(self, other: CapSet) -> CapSet
+        ensures union { result ≡ union self other }
+        ensures members { (number : ℕ) → has result number ≡ (has self number || has other number) }
+    {
+        CapSet {
+            bits: self.bits.union(other.bits),
+        }
+    }
+
+    /// Those of this set that the other lacks.
+    #[tactic(auto, using(crate::proofs::Words::minus_below, crate::proofs::Members::has_minus), unfolding(crate::specs::Sets::minus))]
+    pub fn minus(self, other: CapSet) -> CapSet
+        ensures minus { result ≡ minus self other }
+        ensures members { (number : ℕ) → has result number ≡ (has self number && not (has other number)) }
+    {
+        CapSet {
+            bits: self
+                .bits
+                .symmetric_difference(self.bits.intersection(other.bits)),
+        }
+    }
+
+    /// Those of both sets.
+    #[tactic(auto, using(crate::proofs::Words::and_below, crate::proofs::Members::has_cut), unfolding(crate::specs::Sets::cut))]
+    pub fn cut(self, other: CapSet) -> CapSet
+        ensures cut { result ≡ cut self other }
+        ensures members { (number : ℕ) → has result number ≡ (has self number && has other number) }
+    {
+        CapSet {
+            bits: self.bits.intersection(other.bits),
+        }
+    }
+
+    /// Whether the capability of this number is in the set; none above 40 is.
+    #[tactic(auto, using(crate::proofs::Words::shifted, crate::proofs::Words::shifted_out), unfolding(crate::specs::Sets::has))]
+    pub fn contains(self, cap: u8) -> bool
+        ensures has { result ≡ has self cap }
+        ensures none_above_40 { IsTrue result → cap ≤ 40 }
+    {
+        cap <= 40 && (self.bits.0 >> cap) & 1 == 1
+    }
+
+    /// Whether each of this set is in the other.
+    #[tactic(auto, unfolding(crate::specs::Sets::within))]
+    pub fn within(self, other: CapSet) -> bool
+        ensures test { result ≡ within self other }
+        ensures each { IsTrue result ↔ IsWithin self other }
+    {
+        other.bits.contains(self.bits)
+    }
+
+    /// This set and the capability of this number, at most 40.
+    #[tactic(auto, using(crate::proofs::Words::single_below, crate::proofs::Words::or_below, crate::proofs::Members::has_with), unfolding(crate::specs::Sets::union, crate::specs::Sets::single))]
+    pub fn with(self, cap: u8) -> CapSet
+        requires { cap ≤ 40 }
+        ensures with { result ≡ union self (single cap) }
+        ensures members { (number : ℕ) → has result number ≡ (has self number || number == cap) }
+    {
+        CapSet {
+            bits: self.bits.union(Bits(1 << cap)),
+        }
+    }
+
+    /// The word of the set, as capset(2) takes it: bit 0 for capability 0.
+    pub fn bits(self) -> u64
+        ensures word { result ≡ self }
+        ensures below { result < 2 ^ 41 }
+    {
+        self.bits.0
+    }
+
+    /// The set of a word, or None exactly where a bit above 40 is set.
+    pub fn from_bits(n: u64) -> Option<CapSet>
+        ensures known_bits { IsSome result ↔ (n < 2 ^ 41) }
+        ensures set { IfSome result (λ set. set ≡ n) }
+    {
+        if n < 1 << 41 {
+            Some(CapSet { bits: Bits(n) })
+        } else {
+            None
+        }
+    }
+}
