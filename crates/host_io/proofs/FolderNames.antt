@@ -1,8 +1,8 @@
 -- The names of a folder are distinct where the files are a map.
 use Rattle.std.proofs.Common.{◌≡◌, ℕ, Bool, true, false, cond, List, [], ◌∷◌, ◌++◌, length, drop, map, Option, Some, None, Ok, Vec, String, Global, ◌<◌, ◌≤◌, refl, sym, ap, ◌∙◌, subst}
-use Rattle.std.specs.Prelude.{◌&&◌, option_and_then, ◌==◌, not, nat_eq, is_none, find, string_bytes}
+use Rattle.std.specs.Prelude.{◌&&◌, option_and_then, nat_eq, is_none, find, string_bytes}
 use Rattle.std.specs.Option.{option_map}
-use Rattle.std.specs.List.{filter_map, cons_option, starts_with, list_any, AllByRecursion, IsDistinct}
+use Rattle.std.specs.List.{cons_option, starts_with, AllByRecursion, IsDistinct}
 use Rattle.std.specs.Str.{bytes_eq}
 use Rattle.std.proofs.lemmas.List.Sorted.{IsPermutation-refl}
 use Rattle.std.specs.List.Sorted.{IsPermutation}
@@ -11,7 +11,7 @@ use Rattle.std.proofs.lemmas.Bool.{false≢true}
 use Rattle.std.proofs.lemmas.Bool.Decides.{Decides-eqb}
 use Rattle.host_io.specs.Files.{Files, bytes_at, is_new_path, is_file_map, behind, as_name, name_in, names_in}
 use Rattle.host_io.specs.MemoryFiles.{told_files}
-use Rattle.host_io.specs.Reading.{Lists, ListsNames}
+use Rattle.host_io.specs.Reading.{Lists}
 
 -- what a value that is there by a test is
 pub some_if : {A : Type 0} (b : Bool) (x y : A) → cond b (Some x) None ≡ Some y → (b ≡ true) × (x ≡ y)

@@ -1,8 +1,8 @@
-use Rattle.std.proofs.Common.{◌≡◌, List, ℕ, map, length, ◌<◌, ◌≤◌, ◌∙◌, ap, sym, arith}
+use Rattle.std.proofs.Common.{◌≡◌, map, length, ◌∙◌, ap, sym, arith}
 use Rattle.std.proofs.lemmas.List.{length-map}
 use Rattle.std.proofs.lemmas.Bool.Decides.{nat_tests}
 use Rattle.std.specs.Prelude.{string_bytes}
-use Rattle.host_io.specs.Files.{Files, names_in}
+use Rattle.host_io.specs.Files.{names_in}
 use Rattle.host_io.specs.MemoryFiles.{file_of}
 use Rattle.host_io.proofs.FolderNames.{lists_names}
 use Rattle.host_io.proofs.memory_files.MemShelfShelf.list.Goals as goal
