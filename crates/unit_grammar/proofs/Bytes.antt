@@ -1,0 +1,28 @@
+-- Bytes that are text, and bytes that are not.
+use Rattle.std.proofs.Common.{◌≡◌, ℕ, Bool, true, false, cond, eqb, Result, Err, List, refl, sym, ap, ◌∙◌, subst}
+use Rattle.std.specs.Prelude.{◌&&◌, not}
+use Rattle.std.specs.List.{list_any}
+use Rattle.std.specs.Str.{IsUtf8, is_utf8}
+use Rattle.std.proofs.lemmas.Str.{IsUtf8-from_is_utf8, is_utf8-from_IsUtf8}
+use Rattle.unit_grammar.specs.Lines.{joined_lines}
+use Rattle.unit_grammar.specs.declared.joined.Line.{Line}
+use Rattle.unit_grammar.specs.declared.unit.UnitText.{UnitText}
+use Rattle.unit_grammar.specs.declared.unit.UnitError.{UnitError}
+use Rattle.unit_grammar.specs.declared.unit.UnitError.TheVariants.{NotText}
+use Rattle.unit_grammar.specs.Reading.{unit_of, unit_of_lines}
+use Rattle.unit_grammar.specs.Progress.{IsUnlessMemory}
+
+is_false : (b : Bool) → (b ≡ true → ⊥) → b ≡ false
+is_false true h = absurd (h refl)
+is_false false h = refl
+
+pub not_utf8 : (bytes : List ℕ) → ¬ (IsUtf8 bytes) → unit_of bytes ≡ Err NotText
+not_utf8 bytes h =
+    ap (λ b. cond (b && not (list_any (λ byte. eqb byte 0) bytes)) (unit_of_lines (joined_lines bytes)) (Err NotText)) (is_false (is_utf8 bytes) (λ e. h (IsUtf8-from_is_utf8 bytes e)))
+
+pub of_text : (bytes text : List ℕ) (lines : List Line) (result : Result UnitText UnitError) → IsUtf8 bytes → list_any (λ byte. eqb byte 0) bytes ≡ false → text ≡ bytes → lines ≡ joined_lines text → IsUnlessMemory result (unit_of_lines lines) → IsUnlessMemory result (unit_of bytes)
+of_text bytes text lines result u z t e h =
+    let known : unit_of_lines lines ≡ unit_of bytes =
+    ap unit_of_lines (e ∙ ap joined_lines t)
+    ∙ sym (ap (λ b. cond (b && not (list_any (λ byte. eqb byte 0) bytes)) (unit_of_lines (joined_lines bytes)) (Err NotText)) (is_utf8-from_IsUtf8 bytes u) ∙ ap (λ b. cond (not b) (unit_of_lines (joined_lines bytes)) (Err NotText)) z) in
+    subst (IsUnlessMemory result) known h

@@ -1,0 +1,9 @@
+pub mod Answered
+pub mod Befores
+pub mod Bytes
+pub mod Cuts
+pub mod Ends
+pub mod Falling
+pub mod Groups
+pub mod Meant
+pub mod Steps

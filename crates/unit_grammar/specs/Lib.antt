@@ -1,0 +1,10 @@
+pub mod Before
+pub mod Causes
+pub mod Joining
+pub mod Kinds
+pub mod Lines
+pub mod Meaning
+pub mod Progress
+pub mod Reading
+pub mod Spaces
+pub mod Stretches

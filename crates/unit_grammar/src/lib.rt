@@ -1,0 +1,23 @@
+//! What a unit file assigns.
+//!
+//! Lines are joined, and each joined line is skipped, a header, noted or an assignment;
+//! systemd.syntax(7) has the rules. It rests on nothing, and `dropin_merge` reads files by it.
+//!
+//! `read_unit(alloc, b"[Service]\nUser=web\n")?` has one assignment and no note.
+#![tactic(auto)]
+
+mod joined;
+mod kinds;
+mod notes;
+mod reader;
+mod spaces;
+mod texts;
+mod unit;
+
+pub use notes::{Note, NoteCause, Notes};
+pub use reader::read_unit;
+pub use texts::Text;
+pub use unit::{Assignment, Assignments, UnitError, UnitText};
+
+#[cfg(test)]
+mod tests;
