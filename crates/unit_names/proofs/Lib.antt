@@ -1,0 +1,9 @@
+pub mod Answered
+pub mod Appending
+pub mod AtSigns
+pub mod Dashes
+pub mod Endings
+pub mod Escapes
+pub mod Pieces
+pub mod Spelling
+pub mod Taken

@@ -1,0 +1,42 @@
+-- What the helpers that expand a value answer, piece by piece.
+use Rattle.std.specs.Prelude.{Vec, String, string_bytes, ◌≡◌, ℕ, ◌∷◌, ◌<◌, ◌≤◌, Option, Some, None, Result, Ok, Err, List, [], length}
+use Rattle.std.specs.Fmt.{option_append}
+use Rattle.std.specs.declared.alloc.Global.{Global}
+use Rattle.unit_names.specs.Names.{Name}
+use Rattle.unit_names.specs.Unescaping.{unescaped, onto}
+use Rattle.unit_names.specs.Expansion.{percent, expanded_bytes}
+use Rattle.unit_names.specs.declared.expansion.ExpandError.{ExpandError}
+use Rattle.unit_names.specs.declared.expansion.ExpandError.TheVariants.{Specifier as Refused, Memory}
+use denote.Ref.{Bor}
+
+-- the first piece of an escaped text: its byte, and the text behind it
+abbrev pub TakesPart : List ℕ → Result (Option (ℕ × Bor (List ℕ))) ExpandError → Type 0
+TakesPart text (Ok None) = text ≡ []
+TakesPart text (Ok (Some taken)) = (unescaped text ≡ onto (Some taken.0) (unescaped taken.1.now)) × (length taken.1.now < length text)
+TakesPart text (Err Refused) = unescaped text ≡ None
+TakesPart text (Err Memory) = ⊥
+
+-- what is put behind some bytes
+abbrev pub AddsMeaning : List ℕ → Option (List ℕ) → Result (Unit {0}) ExpandError → List ℕ → Type 0
+AddsMeaning old meant (Ok done) new = option_append (Some old) meant ≡ Some new
+AddsMeaning old meant (Err Refused) new = meant ≡ None
+AddsMeaning old meant (Err Memory) new = Unit {0}
+
+-- what the specifier before a text puts behind some bytes, and the text behind it
+abbrev pub TakesSpecifier : Name → List ℕ → List ℕ → Result (Bor (List ℕ)) ExpandError → List ℕ → Type 0
+TakesSpecifier name behind old (Ok rest) new =
+    (option_append (Some old) (expanded_bytes name (percent ∷ behind)) ≡ option_append (Some new) (expanded_bytes name rest.now)) × (length rest.now ≤ length behind)
+TakesSpecifier name behind old (Err Refused) new = expanded_bytes name (percent ∷ behind) ≡ None
+TakesSpecifier name behind old (Err Memory) new = Unit {0}
+
+-- the bytes that are given
+abbrev pub GivesBytes : Option (List ℕ) → Result (Vec ℕ Global) ExpandError → Type 0
+GivesBytes wanted (Ok bytes) = wanted ≡ Some bytes.items
+GivesBytes wanted (Err Refused) = wanted ≡ None
+GivesBytes wanted (Err Memory) = Unit {0}
+
+-- the text that is given
+abbrev pub GivesText : Option (List ℕ) → Result (String Global) ExpandError → Type 0
+GivesText wanted (Ok text) = wanted ≡ Some (string_bytes text)
+GivesText wanted (Err Refused) = wanted ≡ None
+GivesText wanted (Err Memory) = Unit {0}

@@ -1,0 +1,107 @@
+// A name's text, cut into its prefix and its instance.
+//
+// The parts are lent from the text; `name` tests them and keeps copies.
+ghost use Rattle.std.specs.Prelude.{◌≡◌, codes};
+ghost use Rattle.std.specs.List.{list_all};
+ghost use Rattle.std.specs.Option.{option_map, option_copied};
+ghost use Rattle.unit_names.specs.Names.{is_prefix_byte, is_instance_byte, is_filled_by, is_instance};
+ghost use Rattle.unit_names.specs.Cutting.{before_end, cut_at, of_stem, name_of, borrowed_name};
+
+/// What stands behind a prefix and an instance.
+pub const SUFFIX: &str = ".service";
+
+/// The most bytes that a name has.
+const LONGEST_NAME: usize = 255;
+
+/// The parts of a name, lent from its text.
+#[derive(Clone, Copy)]
+pub struct Parts<'a> {
+    pub prefix: &'a str,
+    pub instance: Option<&'a str>,
+}
+
+/// What stands before `.service`, where the text ends so.
+pub fn stem_of(text: &str) -> Option<&str>
+    ensures { option_map (λ stem. stem.now) result ≡ before_end (codes ".service") text.now }
+{
+    text.strip_suffix(SUFFIX)
+}
+
+fn sides_of_at(stem: &str) -> Option<(&str, &str)>
+    ensures { option_map (λ sides. (sides.0.now, sides.1.now)) result ≡ cut_at 64 stem.now }
+{
+    stem.split_once('@')
+}
+
+/// The parts of what stands before `.service`: they are cut at the first `@`.
+pub fn parts_of(stem: &str) -> Parts<'_>
+    ensures { borrowed_name result ≡ of_stem stem.now }
+{
+    match sides_of_at(stem) {
+        Some((prefix, instance)) => Parts {
+            prefix,
+            instance: Some(instance),
+        },
+        None => Parts {
+            prefix: stem,
+            instance: None,
+        },
+    }
+}
+
+fn is_prefix_byte(byte: u8) -> bool
+    ensures { result ≡ is_prefix_byte byte }
+{
+    byte.is_ascii_alphanumeric() || matches!(byte, b':' | b'-' | b'_' | b'.' | b'\\')
+}
+
+fn is_instance_byte(byte: u8) -> bool
+    ensures { result ≡ is_instance_byte byte }
+{
+    is_prefix_byte(byte) || byte == b'@'
+}
+
+fn are_prefix_bytes(text: &[u8]) -> bool
+    ensures { result ≡ list_all is_prefix_byte text.now }
+{
+    text.iter().all(|byte| is_prefix_byte(*byte))
+}
+
+fn are_instance_bytes(text: &[u8]) -> bool
+    ensures { result ≡ list_all is_instance_byte text.now }
+{
+    text.iter().all(|byte| is_instance_byte(*byte))
+}
+
+fn is_prefix(text: &str) -> bool
+    ensures { result ≡ is_filled_by is_prefix_byte text.now }
+{
+    !text.is_empty() && are_prefix_bytes(text.as_bytes())
+}
+
+fn is_instance_text(text: &str) -> bool
+    ensures { result ≡ is_filled_by is_instance_byte text.now }
+{
+    !text.is_empty() && are_instance_bytes(text.as_bytes())
+}
+
+fn is_instance(instance: Option<&str>) -> bool
+    ensures { result ≡ is_instance (option_copied instance.entry) }
+{
+    match instance {
+        Some(instance) => is_instance_text(instance),
+        None => true,
+    }
+}
+
+/// The parts of the name that a text is, or nothing where it is none.
+pub fn name_parts(text: &str) -> Option<Parts<'_>>
+    ensures { option_map (λ parts. borrowed_name parts) result ≡ name_of text.now }
+{
+    let parts = parts_of(stem_of(text)?);
+    if is_prefix(parts.prefix) && is_instance(parts.instance) && text.len() <= LONGEST_NAME {
+        Some(parts)
+    } else {
+        None
+    }
+}

@@ -1,0 +1,129 @@
+// A value with its specifiers expanded.
+//
+// The pieces of a value are taken one by one; `specifier` tells what each stands for.
+ghost use Rattle.std.specs.Prelude.{◌≡◌, ◌↔◌, List, ℕ, IfOk, Some, None};
+ghost use Rattle.std.specs.String.{string_bytes};
+ghost use Rattle.unit_names.specs.Specifiers.{meaning};
+ghost use Rattle.unit_names.specs.Unescaping.{unescaped, Unescapes};
+ghost use Rattle.unit_names.specs.Taking.{AddsMeaning, TakesSpecifier, GivesBytes, GivesText};
+ghost use Rattle.unit_names.specs.Expansion.{expansion, expanded_bytes, if_text, Expands};
+ghost use Rattle.unit_names.specs.declared.expansion.ExpandError.TheVariants.{Specifier as NotExpanded, Memory};
+
+use crate::name::UnitName;
+use crate::specifier::Specifier;
+use crate::unescape::push_unescaped;
+use std::alloc::{AllocError, AllocFailed, Global};
+use thiserror::Error;
+
+/// Why a value is not expanded.
+#[derive(Clone, Copy, Debug, PartialEq, Eq, Error)]
+pub enum ExpandError {
+    /// A `%` makes no specifier, a text cannot be unescaped, or the result is not UTF-8.
+    #[error("a specifier that cannot be expanded")]
+    Specifier,
+    /// There is no memory left.
+    #[error("out of memory")]
+    Memory,
+}
+
+impl From<AllocError> for ExpandError {
+    ghost from_gives = { λ _ e. e ≡ Memory };
+
+    fn from(_: AllocError) -> Self {
+        ExpandError::Memory
+    }
+}
+
+impl<T: Drop> From<AllocFailed<T>> for ExpandError {
+    ghost from_gives = { λ _ e. e ≡ Memory };
+
+    fn from(_: AllocFailed<T>) -> Self {
+        ExpandError::Memory
+    }
+}
+
+// Puts what a specifier stands for behind the bytes.
+fn push_meaning(
+    bytes: &mut Vec<u8>,
+    name: &UnitName,
+    specifier: Specifier,
+) -> Result<(), ExpandError>
+    ensures { AddsMeaning bytes.old.items (meaning name.now specifier) result bytes.new.items }
+{
+    let text = specifier.text(name).as_bytes();
+    if specifier.unescapes() {
+        push_unescaped(bytes, text)
+    } else {
+        bytes.extend_from_slice(text)?;
+        Ok(())
+    }
+}
+
+// Puts what a specifier stands for behind the bytes, and gives what stands behind its letter.
+fn push_specifier<'a>(
+    bytes: &mut Vec<u8>,
+    name: &UnitName,
+    behind: &'a [u8],
+) -> Result<&'a [u8], ExpandError>
+    ensures { TakesSpecifier name.now behind.now bytes.old.items result bytes.new.items }
+{
+    let Some((letter, rest)) = behind.split_first() else {
+        return Err(ExpandError::Specifier);
+    };
+    let Some(specifier) = Specifier::with_letter(*letter) else {
+        return Err(ExpandError::Specifier);
+    };
+    push_meaning(bytes, name, specifier)?;
+    Ok(rest)
+}
+
+// The bytes of an expanded value.
+fn expanded_bytes(alloc: Global, name: &UnitName, value: &[u8]) -> Result<Vec<u8>, ExpandError>
+    ensures { GivesBytes (expanded_bytes name.now value.now) result }
+{
+    let mut bytes = Vec::new(alloc);
+    let mut rest = value;
+    while let Some((byte, behind)) = rest.split_first() {
+        rest = if *byte == b'%' {
+            push_specifier(&mut bytes, name, behind)?
+        } else {
+            bytes.push(*byte)?;
+            behind
+        };
+    }
+    Ok(bytes)
+}
+
+// The bytes as a text.
+fn text_of(bytes: Vec<u8>) -> Result<String, ExpandError>
+    ensures { GivesText (if_text bytes.items) result }
+{
+    match String::from_utf8(bytes) {
+        Ok(text) => Ok(text),
+        Err(_) => Err(ExpandError::Specifier),
+    }
+}
+
+// The expanded value.
+fn expanded(alloc: Global, name: &UnitName, value: &str) -> Result<String, ExpandError>
+    ensures { GivesText (expansion name.now value.now) result }
+{
+    let bytes = expanded_bytes(alloc, name, value.as_bytes())?;
+    text_of(bytes)
+}
+
+/// A value with its specifiers expanded; `Specifier` exactly where that cannot be.
+///
+/// systemd.unit(5), Specifiers: `%%`, `%n`, `%N`, `%p`, `%i`, `%j`, `%P`, `%I`, `%J`, `%t`, `%S`,
+/// `%C`, `%L`, `%E`, `%T`, `%V`, `%u`, `%U` and `%h`. A `%` that makes none of them, an unescaped
+/// text whose `\x` lacks its two digits, and a result that is not UTF-8 are refused.
+pub fn expand(alloc: Global, name: &UnitName, value: &str) -> Result<String, ExpandError>
+    ensures expands_the_value { IfOk result (λ text. expansion name.now value.now ≡ Some (string_bytes text)) }
+    ensures refuses_the_value { result ≡ Err NotExpanded → expansion name.now value.now ≡ None }
+    // What expanding means: the pieces of the value, and what they stand for together.
+    ensures expanding_is_by_pieces { (text : List ℕ) → (expansion name.now value.now ≡ Some text) ↔ Expands name.now value.now text }
+    // What unescaping means in it: the pieces of the text, and what each stands for.
+    ensures unescaping_is_by_pieces { (text plain : List ℕ) → (unescaped text ≡ Some plain) ↔ Unescapes text plain }
+{
+    expanded(alloc, name, value)
+}

@@ -1,0 +1,21 @@
+//! The names of services, the folders of their drop-ins, and the specifiers in their settings.
+//!
+//! A name is read once, and then tells its prefix and its instance; systemd.unit(5) has the rules.
+//! It rests on nothing: `dropin_merge` looks for the folders, `exec_settings` expands the values.
+//!
+//! `dropin_folders(alloc, &UnitName::read(alloc, "web@1.service")?)` begins with `web@1.service.d`.
+#![tactic(auto)]
+
+mod cutting;
+mod expansion;
+mod folders;
+mod name;
+mod specifier;
+mod unescape;
+
+pub use expansion::{ExpandError, expand};
+pub use folders::dropin_folders;
+pub use name::{NameError, UnitName};
+
+#[cfg(test)]
+mod tests;

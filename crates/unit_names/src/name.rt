@@ -1,0 +1,147 @@
+// A unit name that has been read.
+//
+// Contracts see it as its prefix and its instance; the parts come from `cutting`.
+ghost use Rattle.std.specs.Prelude.{◌≡◌, ◌↔◌, IfOk, IsOkUnless, Some, None, true};
+ghost use Rattle.std.specs.Option.{option_copied, option_map};
+ghost use Rattle.std.specs.String.{string_bytes};
+ghost use Rattle.unit_names.specs.Names.{Name, Names, text_of, stem_of, template_of, is_unit_name};
+ghost use Rattle.unit_names.specs.Cutting.{name_of, borrowed_name};
+ghost use Rattle.unit_names.specs.declared.name.NameError.TheVariants.{BadName, Memory};
+
+use crate::cutting::{Parts, SUFFIX, name_parts};
+use std::alloc::{AllocError, Global};
+use std::marker::Model;
+use thiserror::Error;
+
+/// The name of a service: `PREFIX.service`, or `PREFIX@INSTANCE.service`.
+#[derive(Debug, Drop)]
+pub struct UnitName {
+    text: String,
+    prefix: String,
+    instance: Option<String>,
+}
+
+impl Model for UnitName {
+    ghost use Rattle.unit_names.specs.Names.{Name};
+
+    ghost Value = { Name };
+
+    ghost use Rattle.unit_names.specs.Inside.{inner_name, IsWhole};
+
+    ghost view = { inner_name };
+
+    ghost invariant = { IsWhole };
+}
+
+/// Why a text is no unit name.
+#[derive(Clone, Copy, Debug, PartialEq, Eq, Error)]
+pub enum NameError {
+    /// The text has another form, a character that a name cannot have, or more than 255 bytes.
+    #[error("no name of a service")]
+    BadName,
+    /// There is no memory left.
+    #[error("out of memory")]
+    Memory,
+}
+
+impl From<AllocError> for NameError {
+    ghost from_gives = { λ _ e. e ≡ Memory };
+
+    fn from(_: AllocError) -> Self {
+        NameError::Memory
+    }
+}
+
+impl UnitName {
+    /// Reads a name: `BadName` exactly where the text is none.
+    ///
+    /// systemd.unit(5), Description: a prefix of ASCII letters, digits, `:`, `-`, `_`, `.` and `\`,
+    /// for an instance an `@` and the instance, which may have further `@`, and `.service`; no part
+    /// is empty, and the whole has at most 255 bytes.
+    pub fn read(alloc: Global, text: &str) -> Result<UnitName, NameError>
+        ensures reads_the_name { IfOk result (λ name. name_of text.now ≡ Some name) }
+        ensures bad_name { result ≡ Err BadName → name_of text.now ≡ None }
+        // What reading means: the text is spelled so, and the parts are allowed.
+        ensures reading_is_spelling { (name : Name) → (name_of text.now ≡ Some name) ↔ Names text.now name }
+    {
+        match name_parts(text) {
+            Some(parts) => UnitName::with_parts(alloc, text, parts),
+            None => Err(NameError::BadName),
+        }
+    }
+
+    // Keeps a text and the parts that it has.
+    fn with_parts(alloc: Global, text: &str, parts: Parts<'_>) -> Result<UnitName, NameError>
+        requires { Names text.now (borrowed_name parts) }
+        ensures keeps { IfOk result (λ name. name ≡ borrowed_name parts.entry) }
+        ensures memory_alone { IsOkUnless result Memory }
+    {
+        let instance = match parts.instance {
+            Some(instance) => Some(String::from_str(alloc, instance)?),
+            None => None,
+        };
+        Ok(UnitName {
+            text: String::from_str(alloc, text)?,
+            prefix: String::from_str(alloc, parts.prefix)?,
+            instance,
+        })
+    }
+
+    /// The same name once more.
+    pub fn copy(&self, alloc: Global) -> Result<UnitName, AllocError>
+        ensures same_name { IfOk result (λ copy. copy ≡ self.now) }
+    {
+        let instance = match &self.instance {
+            Some(instance) => Some(String::from_str(alloc, instance.as_str())?),
+            None => None,
+        };
+        Ok(UnitName {
+            text: String::from_str(alloc, self.text.as_str())?,
+            prefix: String::from_str(alloc, self.prefix.as_str())?,
+            instance,
+        })
+    }
+
+    /// The whole name.
+    pub fn text(&self) -> &str
+        ensures whole_text { result.now ≡ text_of self.now }
+        ensures allowed { is_unit_name self.now ≡ true }
+    {
+        self.text.as_str()
+    }
+
+    /// What stands before the first `@`, or before `.service` where the name has no instance.
+    pub fn prefix(&self) -> &str
+        ensures { result.now ≡ self.now.prefix }
+    {
+        self.prefix.as_str()
+    }
+
+    /// What stands between the first `@` and `.service`; `None` exactly where there is no `@`.
+    pub fn instance(&self) -> Option<&str>
+        ensures { option_copied result ≡ self.now.instance }
+    {
+        match &self.instance {
+            Some(instance) => Some(instance.as_str()),
+            None => None,
+        }
+    }
+
+    /// What stands before `.service`.
+    pub fn stem(&self) -> &str
+        ensures { result.now ≡ stem_of self.now }
+    {
+        self.text.strip_suffix(SUFFIX).unwrap()
+    }
+
+    /// The name of the file that an instance is made from, `PREFIX@.service`; `None` exactly where
+    /// the name has no instance.
+    pub fn template(&self, alloc: Global) -> Result<Option<String>, AllocError>
+        ensures { IfOk result (λ template. option_map (λ t. string_bytes t) template ≡ template_of self.now) }
+    {
+        match &self.instance {
+            Some(_) => Ok(Some(format!(in alloc; "{}@{SUFFIX}", self.prefix)?)),
+            None => Ok(None),
+        }
+    }
+}

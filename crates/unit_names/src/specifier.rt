@@ -1,0 +1,163 @@
+// The specifiers, their letters and the texts that they stand for.
+//
+// systemd.unit(5), Specifiers, has the table; `expand` puts the texts into a value.
+ghost use Rattle.std.specs.Prelude.{◌≡◌};
+ghost use Rattle.unit_names.specs.Specifiers.{letter_of, specifier_at, specified_text, unescapes, instance_text, last_part};
+
+use crate::name::UnitName;
+
+/// A specifier: `%` and a letter. The values are those of the system's manager, which runs as root.
+#[derive(Clone, Copy, Debug, PartialEq, Eq)]
+pub enum Specifier {
+    /// `%%`: one percent sign.
+    Percent,
+    /// `%n`: the whole name.
+    WholeName,
+    /// `%N`: the name without `.service`.
+    Stem,
+    /// `%p`: the prefix.
+    Prefix,
+    /// `%i`: the instance, or nothing.
+    Instance,
+    /// `%j`: the prefix behind its last dash, or all of it.
+    LastPart,
+    /// `%P`: the prefix, unescaped.
+    PrefixUnescaped,
+    /// `%I`: the instance, unescaped.
+    InstanceUnescaped,
+    /// `%J`: what `%j` is, unescaped.
+    LastPartUnescaped,
+    /// `%t`: `/run`.
+    RuntimeFolder,
+    /// `%S`: `/var/lib`.
+    StateFolder,
+    /// `%C`: `/var/cache`.
+    CacheFolder,
+    /// `%L`: `/var/log`.
+    LogFolder,
+    /// `%E`: `/etc`.
+    ConfigFolder,
+    /// `%T`: `/tmp`.
+    TemporaryFolder,
+    /// `%V`: `/var/tmp`.
+    LastingTemporaryFolder,
+    /// `%u`: the name of the user of the manager, `root`.
+    UserName,
+    /// `%U`: the number of that user, 0.
+    UserNumber,
+    /// `%h`: the home of that user, `/root`.
+    HomeFolder,
+}
+
+/// All of them.
+const SPECIFIERS: [Specifier; 19] = [
+    Specifier::Percent,
+    Specifier::WholeName,
+    Specifier::Stem,
+    Specifier::Prefix,
+    Specifier::Instance,
+    Specifier::LastPart,
+    Specifier::PrefixUnescaped,
+    Specifier::InstanceUnescaped,
+    Specifier::LastPartUnescaped,
+    Specifier::RuntimeFolder,
+    Specifier::StateFolder,
+    Specifier::CacheFolder,
+    Specifier::LogFolder,
+    Specifier::ConfigFolder,
+    Specifier::TemporaryFolder,
+    Specifier::LastingTemporaryFolder,
+    Specifier::UserName,
+    Specifier::UserNumber,
+    Specifier::HomeFolder,
+];
+
+impl Specifier {
+    /// The character behind the `%`.
+    fn letter(self) -> u8
+        ensures { result ≡ letter_of self }
+    {
+        match self {
+            Specifier::Percent => b'%',
+            Specifier::WholeName => b'n',
+            Specifier::Stem => b'N',
+            Specifier::Prefix => b'p',
+            Specifier::Instance => b'i',
+            Specifier::LastPart => b'j',
+            Specifier::PrefixUnescaped => b'P',
+            Specifier::InstanceUnescaped => b'I',
+            Specifier::LastPartUnescaped => b'J',
+            Specifier::RuntimeFolder => b't',
+            Specifier::StateFolder => b'S',
+            Specifier::CacheFolder => b'C',
+            Specifier::LogFolder => b'L',
+            Specifier::ConfigFolder => b'E',
+            Specifier::TemporaryFolder => b'T',
+            Specifier::LastingTemporaryFolder => b'V',
+            Specifier::UserName => b'u',
+            Specifier::UserNumber => b'U',
+            Specifier::HomeFolder => b'h',
+        }
+    }
+
+    /// The specifier with this letter, if there is one.
+    pub fn with_letter(letter: u8) -> Option<Specifier>
+        ensures { result ≡ specifier_at letter }
+    {
+        SPECIFIERS
+            .iter()
+            .copied()
+            .find(|specifier| specifier.letter() == letter)
+    }
+
+    /// Whether it stands for an unescaped text.
+    pub fn unescapes(self) -> bool
+        ensures { result ≡ unescapes self }
+    {
+        matches!(
+            self,
+            Specifier::PrefixUnescaped | Specifier::InstanceUnescaped | Specifier::LastPartUnescaped
+        )
+    }
+
+    /// The text that it stands for, before it is unescaped.
+    pub fn text<'a>(self, name: &'a UnitName) -> &'a str
+        ensures { result.now ≡ specified_text name.now self }
+    {
+        match self {
+            Specifier::Percent => "%",
+            Specifier::WholeName => name.text(),
+            Specifier::Stem => name.stem(),
+            Specifier::Prefix | Specifier::PrefixUnescaped => name.prefix(),
+            Specifier::Instance | Specifier::InstanceUnescaped => instance_text(name),
+            Specifier::LastPart | Specifier::LastPartUnescaped => last_part(name.prefix()),
+            Specifier::RuntimeFolder => "/run",
+            Specifier::StateFolder => "/var/lib",
+            Specifier::CacheFolder => "/var/cache",
+            Specifier::LogFolder => "/var/log",
+            Specifier::ConfigFolder => "/etc",
+            Specifier::TemporaryFolder => "/tmp",
+            Specifier::LastingTemporaryFolder => "/var/tmp",
+            Specifier::UserName => "root",
+            Specifier::UserNumber => "0",
+            Specifier::HomeFolder => "/root",
+        }
+    }
+}
+
+// The instance, or nothing.
+fn instance_text(name: &UnitName) -> &str
+    ensures { result.now ≡ instance_text name.now }
+{
+    name.instance().unwrap_or("")
+}
+
+// The prefix behind its last dash, or all of it.
+fn last_part(prefix: &str) -> &str
+    ensures { result.now ≡ last_part prefix.now }
+{
+    match prefix.rsplit_once('-') {
+        Some((_, last)) => last,
+        None => prefix,
+    }
+}
