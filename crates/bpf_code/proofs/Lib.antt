@@ -1,0 +1,10 @@
+pub mod Words
+pub mod Endings
+pub mod Runs
+pub mod FirstFaults
+pub mod Marks
+pub mod Paths
+pub mod Chunks
+pub mod Computed
+pub mod Refusals
+pub mod Stacks

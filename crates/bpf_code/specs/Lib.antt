@@ -1,0 +1,9 @@
+pub mod Ops
+pub mod Effects
+pub mod Meaning
+pub mod Accepted
+pub mod Reading
+pub mod Unstored
+pub mod ProgramOf
+pub mod Stack
+pub mod Refusing

@@ -1,0 +1,91 @@
+// What is wrong with an instruction, and whether the last one ends the program.
+ghost use Rattle.std.specs.Prelude.{◌≡◌, ◌+◌, ◌-◌, ◌≤◌, ℕ, length, Some, None, MatchOption};
+ghost use Rattle.bpf_code.specs.Ops.{op_of};
+ghost use Rattle.bpf_code.specs.Accepted.{unless, number_fault, op_fault, fault_of, AreFine, IsFirstFault, is_return, ends_in_return};
+
+use crate::codes::decode;
+use crate::machine::{DATA_LEN, Insn, SCRATCH_WORDS};
+use crate::ops::{AluOp, Op, Operand};
+use crate::program::Fault;
+
+const WORD_LEN: u32 = 4;
+
+const WORD_BITS: u32 = 32;
+
+fn fault_unless(good: bool, fault: Fault) -> Option<Fault>
+    ensures { result ≡ unless good fault }
+{
+    if good { None } else { Some(fault) }
+}
+
+// The fault of an operation with the instruction's number.
+fn fault_of_number(op: AluOp, number: u32) -> Option<Fault>
+    ensures { result ≡ number_fault op number }
+{
+    match op {
+        AluOp::Div => fault_unless(number > 0, Fault::DivZero),
+        AluOp::Lsh | AluOp::Rsh => fault_unless(number < WORD_BITS, Fault::Shift),
+        _ => None,
+    }
+}
+
+// The fault of an instruction whose code stands for this operation, and behind which so many stand.
+fn fault_in(op: Op, insn: Insn, left: usize) -> Option<Fault>
+    ensures { result ≡ op_fault op insn left }
+{
+    match op {
+        Op::LoadWord => fault_unless(insn.k < DATA_LEN && insn.k % WORD_LEN == 0, Fault::Load),
+        Op::LoadScratch(_) | Op::Store(_) => fault_unless(insn.k < SCRATCH_WORDS, Fault::Scratch),
+        Op::Alu(op, Operand::Number) => fault_of_number(op, insn.k),
+        Op::Jump => fault_unless((insn.k as usize) < left, Fault::Jump),
+        Op::JumpIf(_, _) => {
+            fault_unless(
+                (insn.jt as usize) < left && (insn.jf as usize) < left,
+                Fault::Jump,
+            )
+        }
+        _ => None,
+    }
+}
+
+// The fault of an instruction behind which so many stand.
+fn fault(insn: Insn, left: usize) -> Option<Fault>
+    ensures { result ≡ fault_of insn left }
+{
+    match decode(insn.code) {
+        None => Some(Fault::Opcode),
+        Some(op) => fault_in(op, insn, left),
+    }
+}
+
+/// The place and the fault of the first instruction that has one.
+pub fn first_fault(insns: &[Insn]) -> Option<(usize, Fault)>
+    ensures { MatchOption result (AreFine insns.now) (λ found. IsFirstFault insns.now found.0 found.1) }
+{
+    for (place, insn) in insns.iter().enumerate() {
+        if let Some(fault) = fault(*insn, insns.len() - place - 1) {
+            return Some((place, fault));
+        }
+    }
+    None
+}
+
+// Whether an instruction ends the program.
+fn is_end(insn: Insn) -> bool
+    ensures { result ≡ is_return (op_of insn.code) }
+{
+    match decode(insn.code) {
+        Some(Op::Return(_)) => true,
+        _ => false,
+    }
+}
+
+/// Whether the last instruction ends the program.
+pub fn ends(insns: &[Insn]) -> bool
+    ensures { result ≡ ends_in_return insns.now }
+{
+    match insns.last() {
+        None => false,
+        Some(insn) => is_end(*insn),
+    }
+}

@@ -1,0 +1,56 @@
+// Instructions as bytes: eight each, little endian.
+ghost use Rattle.std.specs.Prelude.{◌≡◌, ◌*◌, ◌≤◌, IfOk, length, map};
+ghost use Rattle.bpf_code.specs.Reading.{insn_of, insns_of};
+
+use crate::machine::Insn;
+use std::alloc::{AllocError, Global};
+
+/// How many bytes an instruction has, `sizeof(struct sock_filter)`.
+pub const INSN_LEN: usize = 8;
+
+// The instruction that these bytes are.
+fn insn_from(bytes: &[u8; INSN_LEN]) -> Insn
+    ensures { result ≡ insn_of bytes.now }
+{
+    let [c0, c1, jt, jf, k0, k1, k2, k3] = *bytes;
+    Insn {
+        code: u16::from_le_bytes([c0, c1]),
+        jt,
+        jf,
+        k: u32::from_le_bytes([k0, k1, k2, k3]),
+    }
+}
+
+// The bytes that are this instruction.
+fn bytes_from(insn: Insn) -> [u8; INSN_LEN]
+    ensures { insn_of result ≡ insn }
+{
+    let [c0, c1] = insn.code.to_le_bytes();
+    let [k0, k1, k2, k3] = insn.k.to_le_bytes();
+    [c0, c1, insn.jt, insn.jf, k0, k1, k2, k3]
+}
+
+/// The instructions that bytes are; fewer than eight at the end are passed over.
+pub fn insns_from_bytes(alloc: Global, bytes: &[u8]) -> Result<Vec<Insn>, AllocError>
+    ensures { IfOk result (λ insns. insns.items ≡ insns_of bytes.now) }
+{
+    let (chunks, _) = bytes.as_chunks::<INSN_LEN>();
+    let mut insns = Vec::with_capacity(alloc, chunks.len())?;
+    for chunk in chunks {
+        insns.push(insn_from(chunk))?;
+    }
+    Ok(insns)
+}
+
+/// The bytes that are these instructions.
+pub fn bytes_from_insns(alloc: Global, insns: &[Insn]) -> Result<Vec<u8>, AllocError>
+    requires { length insns.now ≤ 4096 }
+    ensures len { IfOk result (λ bytes. length bytes.items ≡ 8 * length insns.now) }
+    ensures insns { IfOk result (λ bytes. insns_of bytes.items ≡ insns.now) }
+{
+    let mut bytes = Vec::with_capacity(alloc, INSN_LEN * insns.len())?;
+    for insn in insns {
+        bytes.extend_from_slice(&bytes_from(*insn))?;
+    }
+    Ok(bytes)
+}

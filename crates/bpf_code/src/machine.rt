@@ -1,0 +1,65 @@
+// The machine of classic BPF: its instructions, the data of a call, and its registers.
+ghost use Rattle.std.specs.Prelude.{◌≡◌};
+ghost use Rattle.bpf_code.specs.Meaning.{start_regs};
+
+/// How many bytes the data of a call has, `sizeof(struct seccomp_data)`.
+pub const DATA_LEN: u32 = 64;
+
+/// How many scratch words there are, BPF_MEMWORDS.
+pub const SCRATCH_WORDS: u32 = 16;
+
+/// An instruction, `struct sock_filter` of seccomp(2).
+#[derive(Clone, Copy, Debug, PartialEq, Eq)]
+pub struct Insn {
+    /// What the instruction does: a code of [`crate::codes`].
+    pub code: u16,
+    /// How many instructions a test skips where it holds.
+    pub jt: u8,
+    /// How many instructions a test skips where it fails.
+    pub jf: u8,
+    /// A number, an offset, a scratch word or a distance.
+    pub k: u32,
+}
+
+/// What a program is asked about: a system call, `struct seccomp_data` of seccomp(2).
+#[derive(Clone, Copy, Debug, PartialEq, Eq)]
+pub struct CallData {
+    /// The number of the call.
+    pub nr: u32,
+    /// The architecture, an AUDIT_ARCH value.
+    pub arch: u32,
+    /// The instruction pointer at the call.
+    pub ip: u64,
+    /// The arguments of the call.
+    pub args: [u64; 6],
+}
+
+/// The registers A and X, and the scratch words.
+#[derive(Clone, Copy)]
+pub struct Regs {
+    pub a: u32,
+    pub x: u32,
+    pub scratch: [u32; 16],
+}
+
+/// Where an instruction leads.
+#[derive(Clone, Copy)]
+pub enum Effect {
+    /// The program ends with this result.
+    End(u32),
+    /// The program goes on behind this many instructions.
+    Skip(u32),
+}
+
+impl Regs {
+    /// All zero, as a program finds them.
+    pub fn new() -> Self
+        ensures { result ≡ start_regs }
+    {
+        Regs {
+            a: 0,
+            x: 0,
+            scratch: [0; 16],
+        }
+    }
+}

@@ -1,0 +1,214 @@
+// Programs that seccomp(2) accepts, and why others are refused.
+//
+// The checks stand in `faults` and `unstored`, the bytes of instructions in `format`.
+ghost use Rattle.std.specs.Prelude.{◌≡◌, ◌≤◌, List, length, OnOk, IfOk, IfErr, MatchResult};
+ghost use Rattle.bpf_code.specs.declared.machine.Insn.{Insn};
+ghost use Rattle.bpf_code.specs.declared.program.ProgramError.{ProgramError};
+ghost use Rattle.bpf_code.specs.Accepted.{IsAccepted};
+ghost use Rattle.bpf_code.specs.ProgramOf.{program_of};
+ghost use Rattle.bpf_code.specs.Reading.{IsCode, Accepts, Refuses, RefusesCode, refusal_of, UnlessMemory, IsOrMemory};
+
+use crate::faults::{ends, first_fault};
+use crate::format::{INSN_LEN, bytes_from_insns, insns_from_bytes};
+use crate::machine::Insn;
+use crate::unstored::first_unstored;
+use std::alloc::{AllocError, Global};
+use std::marker::Model;
+use thiserror::Error;
+
+/// The most instructions of a program, BPF_MAXINSNS.
+pub const MAX_INSNS: usize = 4096;
+
+/// What is wrong with an instruction.
+#[derive(Clone, Copy)]
+pub enum Fault {
+    /// The code is not in the table.
+    Opcode,
+    /// The offset of a load is no word of the call's data.
+    Load,
+    /// There is no such scratch word.
+    Scratch,
+    /// A shift by 32 or more.
+    Shift,
+    /// A division by 0.
+    DivZero,
+    /// A target at or past the end of the program.
+    Jump,
+}
+
+/// Why bytes are no program. A number is the place of an instruction, from 0.
+#[derive(Clone, Copy, Debug, PartialEq, Eq, Error)]
+pub enum ProgramError {
+    /// The length is no multiple of an instruction's eight bytes.
+    #[error("not whole instructions")]
+    Length,
+    /// There is no instruction.
+    #[error("no instruction")]
+    Empty,
+    /// There are more than 4,096 instructions.
+    #[error("more than 4096 instructions")]
+    TooLong,
+    /// The code is not in the table.
+    #[error("instruction {0}: unknown code")]
+    Opcode(u32),
+    /// The offset of a load is 64 or more, or no multiple of 4.
+    #[error("instruction {0}: load outside the data")]
+    Load(u32),
+    /// The number of a scratch word is 16 or more.
+    #[error("instruction {0}: no such scratch word")]
+    Scratch(u32),
+    /// A shift by 32 or more.
+    #[error("instruction {0}: shift by 32 or more")]
+    Shift(u32),
+    /// A division by 0.
+    #[error("instruction {0}: division by zero")]
+    DivZero(u32),
+    /// A target at or past the end of the program.
+    #[error("instruction {0}: jump past the end")]
+    Jump(u32),
+    /// The last instruction does not end the program.
+    #[error("the last instruction does not end the program")]
+    NoReturn,
+    /// Some path reaches this load and does not store its scratch word before.
+    #[error("instruction {0}: the scratch word may not be stored")]
+    Unstored(u32),
+    /// Memory ran out.
+    #[error("out of memory")]
+    Memory,
+}
+
+impl From<AllocError> for ProgramError {
+    ghost from_gives = { λ _ e. e ≡ Memory };
+
+    ghost use Rattle.bpf_code.specs.declared.program.ProgramError.TheVariants.{Memory};
+
+    fn from(_error: AllocError) -> Self {
+        ProgramError::Memory
+    }
+}
+
+impl Fault {
+    /// The refusal for this fault of the instruction at a place.
+    pub fn at(self, place: u32) -> ProgramError
+        ensures { result ≡ refusal_of self place }
+    {
+        match self {
+            Fault::Opcode => ProgramError::Opcode(place),
+            Fault::Load => ProgramError::Load(place),
+            Fault::Scratch => ProgramError::Scratch(place),
+            Fault::Shift => ProgramError::Shift(place),
+            Fault::DivZero => ProgramError::DivZero(place),
+            Fault::Jump => ProgramError::Jump(place),
+        }
+    }
+}
+
+/// A program that seccomp(2) accepts: one to 4,096 instructions without a fault, the last of which ends it, and on
+/// no path a load of a scratch word that is not stored before.
+#[derive(Drop)]
+pub struct Program {
+    insns: Vec<Insn>,
+}
+
+impl Model for Program {
+    ghost use Rattle.std.specs.Prelude.{List};
+    ghost use Rattle.bpf_code.specs.declared.machine.Insn.{Insn};
+    ghost use Rattle.bpf_code.specs.Accepted.{IsAccepted};
+
+    ghost Value = { List Insn };
+
+    ghost view = { λ p. p.insns.items };
+
+    ghost invariant = { λ p. IsAccepted p.insns.items };
+}
+
+// Whether the bytes are whole instructions, at least one and not too many.
+fn check_length(bytes: &[u8]) -> Result<(), ProgramError>
+    ensures { MatchResult result (λ _. IsCode bytes.now) (Refuses bytes.now) }
+{
+    if bytes.len() % INSN_LEN != 0 {
+        return Err(ProgramError::Length);
+    }
+    if bytes.is_empty() {
+        return Err(ProgramError::Empty);
+    }
+    if bytes.len() / INSN_LEN > MAX_INSNS {
+        return Err(ProgramError::TooLong);
+    }
+    Ok(())
+}
+
+// Whether the instructions are accepted.
+fn check_insns(alloc: Global, insns: &[Insn]) -> Result<(), ProgramError>
+    requires { length insns.now ≤ 4096 }
+    ensures accepted { OnOk result (IsAccepted insns.now) }
+    ensures refused { IfErr result (UnlessMemory (RefusesCode insns.now)) }
+{
+    if let Some((place, fault)) = first_fault(insns) {
+        return Err(fault.at(place as u32));
+    }
+    if !ends(insns) {
+        return Err(ProgramError::NoReturn);
+    }
+    if let Some(place) = first_unstored(alloc, insns)? {
+        return Err(ProgramError::Unstored(place as u32));
+    }
+    Ok(())
+}
+
+impl Program {
+    /// The program that bytes are, as seccomp(2) checks them: the first refusal comes, or the program.
+    ///
+    /// Each instruction is a `struct sock_filter`, little endian. Without want of memory the answer is the one that
+    /// the bytes have: the program exactly where they are one, and each refusal exactly where it is the first.
+    pub fn read(alloc: Global, bytes: &[u8]) -> Result<Program, ProgramError>
+        ensures accepts { IfOk result (Accepts bytes.now) }
+        ensures refuses { IfErr result (UnlessMemory (Refuses bytes.now)) }
+
+        // And each where it stands, but for want of memory.
+        ensures whole_program { (program : List Insn) → Accepts bytes.now program → IsOrMemory result (Ok program) }
+        ensures first_refusal { (error : ProgramError) → Refuses bytes.now error → IsOrMemory result (Err error) }
+
+        // The same by the function.
+        ensures program_of { MatchResult result
+            (λ program. program_of bytes.now ≡ Some program)
+            (UnlessMemory (λ error. program_of bytes.now ≡ None)) }
+    {
+        check_length(bytes)?;
+        let insns = insns_from_bytes(alloc, bytes)?;
+        check_insns(alloc, &insns)?;
+        Ok(Program { insns })
+    }
+
+    /// The bytes that are read back as this program.
+    pub fn bytes(&self, alloc: Global) -> Result<Vec<u8>, AllocError>
+        ensures { IfOk result (λ bytes. Accepts bytes.items self.now) }
+    {
+        bytes_from_insns(alloc, &self.insns)
+    }
+
+    /// The program of these instructions, which are accepted.
+    pub fn made(insns: Vec<Insn>) -> Self
+        requires { IsAccepted insns.items }
+        ensures { result ≡ insns.items }
+    {
+        Program { insns }
+    }
+
+    /// The instructions.
+    pub fn insns(&self) -> &[Insn]
+        ensures insns { result.now ≡ self.now }
+        ensures accepted { IsAccepted self.now }
+    {
+        &self.insns
+    }
+
+    /// An equal program.
+    pub fn copy(&self) -> Result<Program, AllocError>
+        ensures { IfOk result (λ program. program ≡ self.now) }
+    {
+        Ok(Program {
+            insns: self.insns.clone()?,
+        })
+    }
+}

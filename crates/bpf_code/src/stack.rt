@@ -1,0 +1,155 @@
+// Stacks of programs: all that a process has installed.
+//
+// A call is put to every program (`interpreter`), and one answer decides (`decision`).
+ghost use Rattle.std.specs.Prelude.{◌≡◌, ◌+◌, ◌≤◌, ◌<◌, ◌↔◌, [], ◌∷◌, ◌++◌, length, IfOk, OnOk, OnErr};
+ghost use Rattle.bpf_code.specs.Stack.{room_of, answers_of, deciding, pushed, AnswerEach, Decides, decision_on};
+ghost use Rattle.bpf_code.specs.Refusing.{RefusalsStand};
+
+use crate::decision::{Decision, decision_for, stronger_answer};
+use crate::interpreter::run;
+use crate::machine::CallData;
+use crate::program::Program;
+use std::alloc::{AllocError, AllocFailed, Global};
+use std::marker::Model;
+use thiserror::Error;
+
+/// Why a program is not pushed.
+#[derive(Clone, Copy, Debug, PartialEq, Eq, Error)]
+pub enum PushError {
+    /// The programs would take more than 32,768 instructions, where each earlier one takes 4 more.
+    #[error("the programs are too long together")]
+    TooLong,
+    /// Memory ran out.
+    #[error("out of memory")]
+    Memory,
+}
+
+impl<T: Drop> From<AllocFailed<T>> for PushError {
+    ghost from_gives = { λ _ e. e ≡ Memory };
+
+    ghost use Rattle.bpf_code.specs.declared.stack.PushError.TheVariants.{Memory};
+
+    fn from(_error: AllocFailed<T>) -> Self {
+        PushError::Memory
+    }
+}
+
+// The most instructions of all programs of a process, where each earlier program takes PROGRAM_ROOM more:
+// MAX_INSNS_PER_PATH.
+const MAX_ROOM: usize = 32_768;
+
+// What a program takes beside its instructions.
+const PROGRAM_ROOM: usize = 4;
+
+/// The programs of a process, the oldest first.
+#[derive(Drop)]
+pub struct Stack {
+    programs: Vec<Program>,
+}
+
+impl Model for Stack {
+    ghost use Rattle.std.specs.Prelude.{List, ◌≤◌};
+    ghost use Rattle.bpf_code.specs.declared.machine.Insn.{Insn};
+    ghost use Rattle.bpf_code.specs.Stack.{room_of};
+
+    ghost Value = { List (List Insn) };
+
+    ghost view = { λ s. s.programs.items };
+
+    ghost invariant = { λ s. room_of s.programs.items ≤ 32772 };
+}
+
+// The room that the programs take.
+fn room(programs: &[Program]) -> usize
+    requires { room_of programs.now ≤ 32772 }
+    ensures { result ≡ room_of programs.now }
+{
+    let mut room = 0;
+    for program in programs {
+        room += program.insns().len() + PROGRAM_ROOM;
+    }
+    room
+}
+
+// The answer that decides once a newer one is there.
+fn with_newer(strongest: Option<u32>, newest: u32) -> u32
+    ensures { result ≡ pushed strongest newest }
+{
+    match strongest {
+        None => newest,
+        Some(older) => stronger_answer(older, newest),
+    }
+}
+
+// The answer that decides.
+fn deciding_answer(programs: &[Program], input: &CallData) -> Option<u32>
+    ensures deciding { result ≡ deciding (answers_of programs.now input.now) }
+    ensures each { AnswerEach programs.now input.now (answers_of programs.now input.now) }
+{
+    let mut strongest = None;
+    for program in programs {
+        strongest = Some(with_newer(strongest, run(program, input)));
+    }
+    strongest
+}
+
+fn copies(alloc: Global, programs: &[Program]) -> Result<Vec<Program>, AllocError>
+    ensures { IfOk result (λ copies. copies.items ≡ programs.now) }
+{
+    let mut copies = Vec::new(alloc);
+    for program in programs {
+        copies.push(program.copy()?)?;
+    }
+    Ok(copies)
+}
+
+impl Stack {
+    /// A stack with no programs.
+    pub fn new(alloc: Global) -> Self
+        ensures { result ≡ [] }
+    {
+        Stack {
+            programs: Vec::new(alloc),
+        }
+    }
+
+    /// An equal stack.
+    pub fn copy(&self) -> Result<Stack, AllocError>
+        ensures { IfOk result (λ stack. stack ≡ self.now) }
+    {
+        Ok(Stack {
+            programs: copies(*self.programs.allocator(), &self.programs)?,
+        })
+    }
+
+    /// Puts a program on top, where there is room for it; on a refusal the stack stays as it was.
+    pub fn push(&mut self, program: Program) -> Result<(), PushError>
+        ensures on_top { OnOk result (self.new ≡ self.old ++ program ∷ []) }
+        ensures has_room { OnOk result (room_of self.old + length program ≤ 32768) }
+        ensures too_long { (result ≡ Err PushError.TooLong) ↔ (32768 < room_of self.old + length program) }
+        ensures stays { OnErr result (self.new ≡ self.old) }
+    {
+        if room(&self.programs) + program.insns().len() > MAX_ROOM {
+            return Err(PushError::TooLong);
+        }
+        self.programs.push(program)?;
+        Ok(())
+    }
+
+    /// What the programs decide about a call: all of them answer, and the least action decides, the newest of
+    /// several answers that have it. Nothing is allocated.
+    pub fn decide(&self, input: &CallData) -> Decision
+        ensures decides { Decides self.now input.now result }
+        ensures decision { result ≡ decision_on self.now input.now }
+    {
+        match deciding_answer(&self.programs, input) {
+            None => Decision::Pass,
+            Some(answer) => decision_for(answer),
+        }
+    }
+}
+
+/// The law that newer programs do not let through what older ones refuse.
+pub fn refusals_stand()
+    ensures { RefusalsStand }
+{}
