@@ -1,0 +1,57 @@
+//! The action of a rule set on a call, decided from the rules themselves.
+//!
+//! One chain a function: which test holds, which case passes, which rule is the call's. No memory is taken.
+ghost use Rattle.std.specs.Prelude.{◌≡◌, ◌==◌, find, option_copied};
+ghost use Rattle.call_rules.specs.Action.{test_holds, case_holds, call_action, case_action};
+
+use crate::actions::KILL_PROCESS;
+use crate::rules::{CallRule, Case, RuleSet, Test};
+use bpf_code::CallData;
+
+fn holds(test: Test, input: &CallData) -> bool
+    ensures { result ≡ test_holds input.now test }
+{
+    (input.args[test.arg as usize] & 0xffff_ffff) as u32 & test.mask == test.value
+}
+
+fn passes(case: &Case, input: &CallData) -> bool
+    ensures { result ≡ case_holds input.now case.now }
+{
+    case.tests.list().iter().all(|test| holds(*test, input))
+}
+
+fn first_passing<'a>(cases: &'a [Case], input: &CallData) -> Option<&'a Case>
+    ensures { option_copied result ≡ find (case_holds input.now) cases.now }
+{
+    cases.iter().find(|case| passes(case, input))
+}
+
+fn rule_of(calls: &[CallRule], number: u32) -> Option<&CallRule>
+    ensures { option_copied result ≡ find (λ call. call.number == number) calls.now }
+{
+    calls.iter().find(|call| call.number == number)
+}
+
+fn action_of(call: &CallRule, input: &CallData) -> u32
+    ensures { result ≡ call_action input.now call.now }
+{
+    match first_passing(call.cases.list(), input) {
+        Some(case) => case.action,
+        None => call.rest,
+    }
+}
+
+/// The action of the rules on a call: for another architecture than theirs the process is ended; else the
+/// first case of the call's rule whose tests all hold decides, else that rule's rest, and for a number
+/// without a rule the rest of the set.
+pub fn action(rules: &RuleSet, input: &CallData) -> u32
+    ensures decides_by_case { result ≡ case_action rules.now input.now }
+{
+    if input.arch != rules.arch {
+        return KILL_PROCESS;
+    }
+    match rule_of(rules.calls.list(), input.nr) {
+        Some(call) => action_of(call, input),
+        None => rules.rest,
+    }
+}

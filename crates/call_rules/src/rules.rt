@@ -1,0 +1,171 @@
+//! Rule sets, as types that keep what a rule set must be: numbers ascend, and a test looks at an argument
+//! that a call has.
+ghost use Rattle.std.specs.Prelude.{◌≡◌, ◌≤◌, ◌↔◌, map, IsTrue};
+ghost use Rattle.std.specs.List.Sorted.{IsStrictlyIncreasing};
+
+use std::marker::Model;
+
+/// A test of an argument: the low 32 bits of argument `arg`, from 0 to 5, and `mask` are `value`.
+#[derive(Clone, Copy)]
+pub struct Test {
+    pub arg: u8,
+    pub mask: u32,
+    pub value: u32,
+}
+
+impl Model for Test {
+    ghost use Rattle.std.specs.Prelude.{◌≤◌};
+    ghost use Rattle.call_rules.specs.Tested.{Tested};
+
+    ghost Value = { Tested };
+
+    ghost view = { λ t. record { arg = t.arg; mask = t.mask; value = t.value } };
+
+    ghost invariant = { λ t. t.arg ≤ 5 };
+
+    ghost inverse = { λ v. record { arg = v.arg; mask = v.mask; value = v.value } };
+}
+
+impl Test {
+    /// The test of argument `arg`, which a call has.
+    pub fn new(arg: u8, mask: u32, value: u32) -> Self
+        requires { arg ≤ 5 }
+        ensures { result ≡ record { arg = arg; mask = mask; value = value } }
+    {
+        Test { arg, mask, value }
+    }
+}
+
+/// The tests of a case, all of which are to hold.
+#[derive(Drop)]
+pub struct Tests {
+    items: Vec<Test>,
+}
+
+impl Model for Tests {
+    ghost use Rattle.std.specs.Prelude.{List};
+    ghost use Rattle.call_rules.specs.Tested.{Tested};
+
+    ghost Value = { List Tested };
+
+    ghost view = { λ t. t.items.items };
+}
+
+impl Tests {
+    /// These tests.
+    pub fn new(items: Vec<Test>) -> Self
+        ensures { result ≡ items.items }
+    {
+        Tests { items }
+    }
+
+    /// The tests in order.
+    pub fn list(&self) -> &[Test]
+        ensures { result.now ≡ self.now }
+    {
+        &self.items
+    }
+}
+
+/// An action for the calls that pass all tests.
+#[derive(Drop)]
+pub struct Case {
+    pub tests: Tests,
+    pub action: u32,
+}
+
+/// The cases of a call, of which the first that passes decides.
+#[derive(Drop)]
+pub struct Cases {
+    items: Vec<Case>,
+}
+
+impl Model for Cases {
+    ghost use Rattle.std.specs.Prelude.{List};
+    ghost use Rattle.call_rules.specs.declared.rules.Case.{Case};
+
+    ghost Value = { List Case };
+
+    ghost view = { λ c. c.items.items };
+}
+
+impl Cases {
+    /// These cases.
+    pub fn new(items: Vec<Case>) -> Self
+        ensures { result ≡ items.items }
+    {
+        Cases { items }
+    }
+
+    /// The cases in order.
+    pub fn list(&self) -> &[Case]
+        ensures { result.now ≡ self.now }
+    {
+        &self.items
+    }
+}
+
+/// The rule of one call number: its cases, and the action where none passes.
+#[derive(Drop)]
+pub struct CallRule {
+    pub number: u32,
+    pub cases: Cases,
+    pub rest: u32,
+}
+
+/// The rules of some calls, whose numbers ascend strictly.
+#[derive(Drop)]
+pub struct CallRules {
+    items: Vec<CallRule>,
+}
+
+impl Model for CallRules {
+    ghost use Rattle.std.specs.Prelude.{List, map};
+    ghost use Rattle.call_rules.specs.declared.rules.CallRule.{CallRule};
+    ghost use Rattle.std.specs.List.Sorted.{IsStrictlyIncreasing};
+
+    ghost Value = { List CallRule };
+
+    ghost view = { λ c. c.items.items };
+
+    ghost invariant = { λ c. IsStrictlyIncreasing (map (λ call. call.number) c.items.items) };
+}
+
+impl CallRules {
+    /// These rules, whose numbers ascend, as `are_ascending` tests.
+    pub fn new(items: Vec<CallRule>) -> Self
+        requires { IsStrictlyIncreasing (map (λ call. call.number) items.items) }
+        ensures { result ≡ items.items }
+    {
+        CallRules { items }
+    }
+
+    /// The rules, ascending by number.
+    pub fn list(&self) -> &[CallRule]
+        ensures lends_the_rules { result.now ≡ self.now }
+        ensures ascending { IsStrictlyIncreasing (map (λ call. call.number) self.now) }
+    {
+        &self.items
+    }
+}
+
+/// Whether the numbers of these rules ascend strictly.
+pub fn are_ascending(calls: &[CallRule]) -> bool
+    ensures { IsTrue result ↔ IsStrictlyIncreasing (map (λ call. call.number) calls.now) }
+{
+    for at in 1..calls.len() {
+        if calls[at - 1].number >= calls[at].number {
+            return false;
+        }
+    }
+    true
+}
+
+/// The rules of a filter: its architecture (an AUDIT_ARCH number), the rules of some calls, and the action
+/// on every other number.
+#[derive(Drop)]
+pub struct RuleSet {
+    pub arch: u32,
+    pub calls: CallRules,
+    pub rest: u32,
+}
