@@ -1,0 +1,123 @@
+-- What was answered and what was written, put together.
+use Rattle.std.proofs.Common.{◌≡◌, ◌≢◌, ℕ, ◌≤◌, List, [], take, drop, true, Option, None, Some, Result, Ok, Err, refl, sym, ap, ◌∙◌, subst, arith, append-nil, inl, inr}
+use Rattle.std.specs.Prelude.{◌⊎◌, IsTrue}
+use Rattle.std.proofs.lemmas.List.{take-append-drop}
+use Rattle.host_io.specs.Files.{Files}
+use Rattle.host_io.specs.Writing.{Grew, TakesWhole, HasCause}
+use Rattle.host_io.specs.declared.writing.SinkError.{SinkError}
+use Rattle.host_io.specs.declared.writing.SinkError.TheVariants.{Failed, Memory}
+use Rattle.host_io.proofs.Growth.{append_known-nil}
+use Rattle.sandbox_cli.specs.declared.status.Ending.{Ending}
+use Rattle.sandbox_cli.specs.declared.status.Ending.TheVariants.{Done, NoCommand, Refused, ReadFault, WriteFault, OutOfMemory}
+use Rattle.sandbox_cli.specs.Endings.{is_whole}
+use Rattle.sandbox_cli.specs.Requests.{Request, FilterOf, command_of}
+use Rattle.sandbox_cli.specs.Prints.{PrintsFilter, refuses_the_unit, refuses_the_table, prints_a_program, PrintsCommand, Prints, AcceptsCommand, Accepts, CommandReads, EndsRequest, EndsCommand, EndsBy}
+use Rattle.sandbox_cli.specs.Runs.{WroteWhole, WrotePrefix, HasFaultCause, Completes}
+use Rattle.sandbox_cli.specs.Steps.{ending_of_put}
+
+module _ (admits : Ending → List ℕ → Type 0) (old new : Option (List ℕ)) where
+  pub wrote_nothing : new ≡ old → WrotePrefix admits old new
+  wrote_nothing e = ([], [], e ∙ sym (append_known-nil old), λ some. absurd (omega arith))
+
+  wrote_all : (ending : Ending) (text : List ℕ) → admits ending text → Grew old new text → WrotePrefix admits old new
+  wrote_all ending text admitted grew = (text, [], grew, λ some. (ending, subst (admits ending) (sym (append-nil text)) admitted))
+
+  wrote_front : (ending : Ending) (text : List ℕ) (count : ℕ) → admits ending text → Grew old new (take count text) → WrotePrefix admits old new
+  wrote_front ending text count admitted grew =
+      (take count text, drop count text, grew, λ some. (ending, subst (admits ending) (sym (take-append-drop count text)) admitted))
+
+  -- by how the lines were put
+  pub prefix_by_put : (put : Result (Unit {0}) SinkError) (ending : Ending) (text : List ℕ) → admits ending text → TakesWhole old new text put → WrotePrefix admits old new
+  prefix_by_put (Ok u) ending text admitted takes = wrote_all ending text admitted takes
+  prefix_by_put (Err error) ending text admitted takes = wrote_front ending text takes.0 admitted takes.2
+
+  pub whole_by_put : (put : Result (Unit {0}) SinkError) (ending : Ending) (text : List ℕ) → admits ending text → TakesWhole old new text put → IsTrue (is_whole (ending_of_put put ending)) → WroteWhole (admits (ending_of_put put ending)) old new
+  whole_by_put (Ok u) ending text admitted takes whole = (text, admitted, takes)
+  whole_by_put (Err Failed) ending text admitted takes whole = cc
+  whole_by_put (Err Memory) ending text admitted takes whole = cc
+
+-- what is printed ends as the inputs say
+ends_filter : (files : Files) (unit : List ℕ) (ending : Ending) (text : List ℕ) → PrintsFilter files unit ending text → EndsRequest (Some files) (FilterOf unit) ending
+ends_filter files unit _ _ (refuses_the_unit none) = λ accepted. none accepted.0 accepted.2
+ends_filter files unit _ _ (refuses_the_table names says none) = λ accepted. none accepted.1 accepted.3
+ends_filter files unit _ _ (prints_a_program names table program says table_says meets) = (names, table, says, table_says)
+
+ends_done_or_refused : (ending : Ending) → (ending ≡ Done) ⊎ (ending ≡ Refused) → ending ≢ NoCommand
+ends_done_or_refused ending (inl e) n = cc
+ends_done_or_refused ending (inr e) n = cc
+
+ends_command : (command : Option Request) (told : Option Files) (ending : Ending) (text : List ℕ) → PrintsCommand command told ending text → EndsCommand command told ending
+ends_command None told ending text prints =
+    let is = prints.0 in (λ e. let f : NoCommand ≡ Done = sym is ∙ e in cc, λ e. let f : NoCommand ≡ Refused = sym is ∙ e in cc, λ e. let f : NoCommand ≡ ReadFault = sym is ∙ e in cc)
+ends_command (Some request) None ending text prints = ends_done_or_refused ending prints
+ends_command (Some (FilterOf unit)) (Some files) ending text prints = ends_filter files unit ending text prints
+
+ends_write_fault : (command : Option Request) (told : Option Files) → EndsCommand command told WriteFault
+ends_write_fault None told = (λ e. cc, λ e. cc, λ e. cc)
+ends_write_fault (Some request) None = λ e. cc
+ends_write_fault (Some request) (Some files) = tt
+
+ends_out_of_memory : (command : Option Request) (told : Option Files) → EndsCommand command told OutOfMemory
+ends_out_of_memory None told = (λ e. cc, λ e. cc, λ e. cc)
+ends_out_of_memory (Some request) None = λ e. cc
+ends_out_of_memory (Some request) (Some files) = tt
+
+ends_read_fault : (command : Option Request) (told : Option Files) → CommandReads command → EndsCommand command told ReadFault
+ends_read_fault None told reads = absurd reads
+ends_read_fault (Some request) None reads = λ e. cc
+ends_read_fault (Some request) (Some files) reads = reads
+
+module _ (words : List (List ℕ)) (told : Option Files) where
+  pub ends_by_put : (put : Result (Unit {0}) SinkError) (ending : Ending) (text : List ℕ) → Prints words told ending text → EndsBy words told (ending_of_put put ending)
+  ends_by_put (Ok u) ending text prints = ends_command (command_of words) told ending text prints
+  ends_by_put (Err Failed) ending text prints = ends_write_fault (command_of words) told
+  ends_by_put (Err Memory) ending text prints = ends_out_of_memory (command_of words) told
+
+  pub ends_by_read_fault : CommandReads (command_of words) → EndsBy words told ReadFault
+  ends_by_read_fault reads = ends_read_fault (command_of words) told reads
+
+  pub ends_by_memory : EndsBy words told OutOfMemory
+  ends_by_memory = ends_out_of_memory (command_of words) told
+
+-- the causes of an ending behind lines that were put so
+module _ (shelf_before shelf_now sink_before sink_now : ℕ) (old new : Option (List ℕ)) where
+  no_fault : (ending : Ending) → IsTrue (is_whole ending) → shelf_before ≤ shelf_now → sink_before ≤ sink_now → HasFaultCause ending shelf_before shelf_now sink_before sink_now old new
+  no_fault ending whole shelf sink = record {
+    shelf_later = shelf;
+    sink_later = sink;
+    read_fault = λ e. let f : is_whole ReadFault ≡ true = ap is_whole (sym e) ∙ whole in cc;
+    nothing_written = λ e. let f : is_whole ReadFault ≡ true = ap is_whole (sym e) ∙ whole in cc;
+    write_fault = λ e. let f : is_whole WriteFault ≡ true = ap is_whole (sym e) ∙ whole in cc;
+  }
+
+  pub causes_by_put : (put : Result (Unit {0}) SinkError) (ending : Ending) → IsTrue (is_whole ending) → shelf_before ≤ shelf_now → HasCause sink_before sink_now put → HasFaultCause (ending_of_put put ending) shelf_before shelf_now sink_before sink_now old new
+  causes_by_put (Ok u) ending whole shelf cause = no_fault ending whole shelf cause.later
+  causes_by_put (Err Failed) ending whole shelf cause = record {
+    shelf_later = shelf;
+    sink_later = cause.later;
+    read_fault = λ e. cc;
+    nothing_written = λ e. cc;
+    write_fault = λ e. cause.failed refl;
+  }
+  causes_by_put (Err Memory) ending whole shelf cause = record {
+    shelf_later = shelf;
+    sink_later = cause.later;
+    read_fault = λ e. cc;
+    nothing_written = λ e. cc;
+    write_fault = λ e. cc;
+  }
+
+-- inputs that are accepted and no fault
+completes_command : (command : Option Request) (told : Option Files) (ending : Ending) (shelf_before shelf_now sink_before sink_now : ℕ) (old new : Option (List ℕ)) → EndsCommand command told ending → HasFaultCause ending shelf_before shelf_now sink_before sink_now old new → Completes (AcceptsCommand command told) ending shelf_before shelf_now sink_before sink_now
+completes_command None told ending a b s t old new ends causes accepted shelf sink = absurd accepted
+completes_command (Some request) None ending a b s t old new ends causes accepted shelf sink = absurd accepted
+completes_command (Some request) (Some files) Done a b s t old new ends causes accepted shelf sink = inl refl
+completes_command (Some request) (Some files) NoCommand a b s t old new ends causes accepted shelf sink = absurd ends
+completes_command (Some request) (Some files) Refused a b s t old new ends causes accepted shelf sink = absurd (ends accepted)
+completes_command (Some request) (Some files) ReadFault a b s t old new ends causes accepted shelf sink = absurd (shelf (causes.read_fault refl))
+completes_command (Some request) (Some files) WriteFault a b s t old new ends causes accepted shelf sink = absurd (sink (causes.write_fault refl))
+completes_command (Some request) (Some files) OutOfMemory a b s t old new ends causes accepted shelf sink = inr refl
+
+pub completes_by : (words : List (List ℕ)) (told : Option Files) (ending : Ending) (shelf_before shelf_now sink_before sink_now : ℕ) (old new : Option (List ℕ)) → EndsBy words told ending → HasFaultCause ending shelf_before shelf_now sink_before sink_now old new → Completes (Accepts words told) ending shelf_before shelf_now sink_before sink_now
+completes_by words told ending a b s t old new ends causes =
+    completes_command (command_of words) told ending a b s t old new ends causes

@@ -1,0 +1,28 @@
+//! Files of the shelf, as the commands read them.
+ghost use Rattle.std.specs.Prelude.{◌≡◌, IfOk};
+ghost use Rattle.sandbox_cli.specs.Steps.{HasReadCause, ReadsIfTold};
+
+use crate::answer::Failure;
+use host_io::{Shelf, ShelfError};
+use std::alloc::Global;
+
+/// The most bytes of a file: 1 MiB.
+const MOST_BYTES: u64 = 1_048_576;
+
+/// The bytes of a file, or none where it is missing or too large.
+pub fn read_file<S: Shelf>(
+    alloc: Global,
+    shelf: &mut S,
+    path: &str,
+) -> Result<Option<Vec<u8>>, Failure>
+    ensures reads_the_file { IfOk result (ReadsIfTold path.now (S.told shelf.old)) }
+    ensures map_stays { S.told shelf.new ≡ S.told shelf.old }
+    ensures fault_rose { HasReadCause (S.faults shelf.old) (S.faults shelf.new) result }
+{
+    match shelf.read(alloc, path, MOST_BYTES) {
+        Ok(bytes) => Ok(Some(bytes)),
+        Err(ShelfError::Missing | ShelfError::TooLarge) => Ok(None),
+        Err(ShelfError::Failed) => Err(Failure::ReadFault),
+        Err(ShelfError::Memory) => Err(Failure::Memory),
+    }
+}

@@ -1,0 +1,80 @@
+//! The lines that are printed.
+ghost use Rattle.std.specs.Prelude.{◌≡◌, ◌<◌, ◌++◌, map, flat_map, IfOk, OnOk};
+ghost use Rattle.sandbox_cli.specs.Texts.{filter_lines, hex_byte, hex_digit, insn_line, unbuilt_line, words_line};
+
+use bpf_code::Insn;
+use std::alloc::{AllocError, Global};
+use text_forms::push_word;
+
+fn lower_digit(n: u8) -> u8
+    requires { n < 16 }
+    ensures { result ≡ hex_digit n }
+{
+    if n < 10 { b'0' + n } else { b'a' + (n - 10) }
+}
+
+fn push_hex_byte(out: &mut Vec<u8>, n: u8) -> Result<(), AllocError>
+    ensures { OnOk result (out.new.items ≡ out.old.items ++ hex_byte n) }
+{
+    out.push(lower_digit(n / 16))?;
+    out.push(lower_digit(n % 16))?;
+    Ok(())
+}
+
+fn push_hex(out: &mut Vec<u8>, bytes: &[u8]) -> Result<(), AllocError>
+    ensures { OnOk result (out.new.items ≡ out.old.items ++ flat_map hex_byte bytes.now) }
+{
+    for byte in bytes {
+        push_hex_byte(out, *byte)?;
+    }
+    Ok(())
+}
+
+fn line_of(alloc: Global, insn: &Insn) -> Result<Vec<u8>, AllocError>
+    ensures { IfOk result (λ line. line.items ≡ insn_line insn.now) }
+{
+    let mut line = Vec::new(alloc);
+    push_hex(&mut line, &insn.code.to_le_bytes())?;
+    push_hex(&mut line, &[insn.jt, insn.jf])?;
+    push_hex(&mut line, &insn.k.to_le_bytes())?;
+    line.push(b'\n')?;
+    Ok(line)
+}
+
+fn insn_lines(alloc: Global, program: &[Insn]) -> Result<Vec<Vec<u8>>, AllocError>
+    ensures { IfOk result (λ lines. map (λ line. line.items) lines.items ≡ map insn_line program.now) }
+{
+    let mut lines = Vec::new(alloc);
+    for insn in program {
+        lines.push(line_of(alloc, insn)?)?;
+    }
+    Ok(lines)
+}
+
+/// The lines of a filter: its name and length, its instructions, and the count of filters.
+pub fn filter(alloc: Global, program: &[Insn]) -> Result<Vec<Vec<u8>>, AllocError>
+    ensures prints_the_program { IfOk result (λ lines. map (λ line. line.items) lines.items ≡ filter_lines program.now) }
+{
+    let count = program.len();
+    let mut lines = insn_lines(alloc, program)?;
+    lines.insert(0, format!(in alloc; "filter calls {count}\n")?.into_bytes())?;
+    lines.push(b"filters 1\n".to_vec(alloc)?)?;
+    Ok(lines)
+}
+
+/// The line of an input that this program does not read yet.
+pub fn unbuilt(alloc: Global, file: &str) -> Result<Vec<u8>, AllocError>
+    ensures names_the_file { IfOk result (λ line. line.items ≡ unbuilt_line file.now) }
+{
+    let mut line = b"refused ".to_vec(alloc)?;
+    push_word(&mut line, file)?;
+    line.extend_from_slice(b" unbuilt\n")?;
+    Ok(line)
+}
+
+/// The line of words that are no command.
+pub fn no_command(alloc: Global) -> Result<Vec<u8>, AllocError>
+    ensures { IfOk result (λ line. line.items ≡ words_line) }
+{
+    b"refused words\n".to_vec(alloc)
+}

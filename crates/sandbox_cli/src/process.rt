@@ -1,0 +1,40 @@
+//! The process around a run: its words, the current folder and the standard output.
+use crate::running::run;
+use crate::status::{Ending, Status};
+use host_io::{DirShelf, StdSink};
+use std::rt::{Env, Files};
+use std::{env, io};
+
+// The words behind the program's name; none where one of them is not text, which are no command either.
+fn words<R: Env + AllocGlobal>(rt: &R) -> io::Result<Vec<String>> {
+    let mut words = Vec::new(rt.alloc());
+    match env::args(rt) {
+        Ok(args) => {
+            for word in args.skip(1) {
+                words.push(word)?;
+            }
+            Ok(words)
+        }
+        Err(error) if error.kind() == io::ErrorKind::InvalidData => Ok(words),
+        Err(error) => Err(error),
+    }
+}
+
+fn run_words<R: Env + Files + Print + AllocGlobal + Clone + Drop>(rt: &R) -> io::Result<Status> {
+    let words = words(rt)?;
+    let mut texts = Vec::new(rt.alloc());
+    for word in &words {
+        texts.push(word.as_str())?;
+    }
+    let mut shelf = DirShelf::new(rt.clone()?);
+    let mut sink = StdSink::new(rt.clone()?);
+    Ok(run(rt.alloc(), texts.as_slice(), &mut shelf, &mut sink))
+}
+
+/// Runs the words of the process over the current folder and the standard output.
+pub fn run_here<R: Env + Files + Print + AllocGlobal + Clone + Drop>(rt: &R) -> Status {
+    match run_words(rt) {
+        Ok(status) => status,
+        Err(_) => Status::of(Ending::OutOfMemory),
+    }
+}

@@ -1,0 +1,64 @@
+//! How a run ends, and the number that the process ends with.
+ghost use Rattle.std.specs.Prelude.{◌≡◌};
+ghost use Rattle.sandbox_cli.specs.Endings.{code_of};
+
+use std::marker::Model;
+
+/// How a run ends.
+#[derive(Clone, Copy, Debug, PartialEq, Eq)]
+pub enum Ending {
+    /// The whole text was printed.
+    Done,
+    /// The words are no command.
+    NoCommand,
+    /// An input is refused.
+    Refused,
+    /// A read failed, and nothing was printed.
+    ReadFault,
+    /// A write failed, and a prefix of the text was printed.
+    WriteFault,
+    /// Memory ran out, and a prefix of the text was printed.
+    OutOfMemory,
+}
+
+/// The status of a run: 0 done, 2 no command, 3 a refused input, 4 a failed read, 5 a failed write, 6 want of memory.
+#[derive(Clone, Copy, Debug)]
+pub struct Status {
+    pub code: u8,
+}
+
+impl Model for Status {
+    ghost use Rattle.std.specs.Prelude.{◌≡◌};
+    ghost use Rattle.sandbox_cli.specs.Endings.{code_of, ending_of};
+    ghost use Rattle.sandbox_cli.specs.declared.status.Ending.{Ending};
+
+    ghost Value = { Ending };
+
+    ghost view = { λ status. ending_of status.code };
+
+    ghost invariant = { λ status. code_of (ending_of status.code) ≡ status.code };
+
+    ghost inverse = { λ ending. record { code = code_of ending } };
+}
+
+fn code(ending: Ending) -> u8
+    ensures { result ≡ code_of ending }
+{
+    match ending {
+        Ending::Done => 0,
+        Ending::NoCommand => 2,
+        Ending::Refused => 3,
+        Ending::ReadFault => 4,
+        Ending::WriteFault => 5,
+        Ending::OutOfMemory => 6,
+    }
+}
+
+impl Status {
+    /// The status of a run that ends so.
+    pub fn of(ending: Ending) -> Self
+        ensures is_the_ending { result ≡ ending }
+    {
+        Status { code: code(ending) }
+    }
+}
