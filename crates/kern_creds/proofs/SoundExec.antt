@@ -1,0 +1,71 @@
+-- execve keeps what is effective permitted, and what is ambient permitted and inheritable; what it gives is bounded.
+use Rattle.std.proofs.Common.{◌≡◌, ℕ, Bool, true, false, cond, Ok, Err}
+use Rattle.std.specs.Prelude.{◌&&◌}
+use Rattle.cap_sets.specs.Sets.{none, union, cut, IsWithin}
+use Rattle.cap_sets.proofs.Members.{within_self, none_within, cut_within_left, cut_within_right, within_cut, union_within, within_union_left, within_union_right}
+use Rattle.kern_creds.specs.declared.file.FileCreds.{FileCreds}
+use Rattle.kern_creds.specs.declared.creds.Creds.{Creds}
+use Rattle.kern_creds.specs.Exec.{honours, is_privileged, runs_as_root, exec_uids, exec_ambient, exec_gains, exec_permitted, is_effective, exec_done, is_refused, after_exec}
+use Rattle.kern_creds.specs.Sound.{IsSound}
+use Rattle.kern_creds.proofs.Answers.{Leaves, left_err, left_ok, left_if}
+
+within_if : (b : Bool) (x y a : ℕ) → IsWithin x a → IsWithin y a → IsWithin (cond b x y) a
+within_if true x y a p q = p
+within_if false x y a p q = q
+
+above_if : (b : Bool) (x y a : ℕ) → IsWithin a x → IsWithin a y → IsWithin a (cond b x y)
+above_if true x y a p q = p
+above_if false x y a p q = q
+
+cut_if : (b : Bool) (x y : ℕ) → b ≡ true → IsWithin (cond b (cut x y) x) y
+cut_if true x y e = cut_within_right _ _ _ (within_self y)
+cut_if false x y e = cc
+
+module _ (creds : Creds) (file : FileCreds) (nosuid : Bool) where
+  abbrev amb : ℕ
+  amb = exec_ambient creds file nosuid
+
+  abbrev gains : ℕ
+  gains = exec_gains creds file nosuid
+
+  abbrev root : Bool
+  root = runs_as_root (exec_uids creds file nosuid)
+
+  -- what is ambient afterwards lies where it lay before
+  amb_before : (c : ℕ) → IsWithin creds.ambient c → IsWithin amb c
+  amb_before c w = within_if (honours creds nosuid && is_privileged file) none creds.ambient c (none_within c) w
+
+  pub gains_nothing : creds.no_new_privs ≡ true → IsWithin (exec_permitted creds file nosuid) creds.permitted
+  gains_nothing e = cut_if creds.no_new_privs gains creds.permitted e
+
+  module _ (k : IsSound creds) where
+    amb_gains : IsWithin amb gains
+    amb_gains =
+        above_if root (union creds.inheritable creds.bounding) _ amb (within_union_left _ _ _ (amb_before _ k.ambient_is_inheritable))
+        (above_if (honours creds nosuid) (union (cut file.caps creds.bounding) amb) amb amb (within_union_right _ _ _ (within_self amb)) (within_self amb))
+
+    amb_permitted : IsWithin amb (exec_permitted creds file nosuid)
+    amb_permitted = above_if creds.no_new_privs (cut gains creds.permitted) gains amb (within_cut _ _ _ amb_gains (amb_before _ k.ambient_is_permitted)) amb_gains
+
+    sound-done : IsSound (exec_done creds file nosuid)
+    sound-done = record {
+      effective_is_permitted = within_if (is_effective creds file nosuid) (exec_permitted creds file nosuid) amb _ (within_self _) amb_permitted;
+      ambient_is_permitted = amb_permitted;
+      ambient_is_inheritable = amb_before _ k.ambient_is_inheritable;
+    }
+
+    pub sound-exec : Leaves IsSound (after_exec creds file nosuid)
+    sound-exec = left_if IsSound (is_refused creds file nosuid) (Err 1) (Ok (exec_done creds file nosuid)) (λ e. left_err IsSound 1) (λ e. left_ok IsSound _ sound-done)
+
+    gains_bounded : IsWithin gains (union creds.inheritable creds.bounding)
+    gains_bounded =
+        let inherited = within_union_left amb creds.inheritable creds.bounding (amb_before _ k.ambient_is_inheritable) in
+        within_if root (union creds.inheritable creds.bounding) _ _ (within_self _)
+        (within_if (honours creds nosuid) (union (cut file.caps creds.bounding) amb) amb _
+        (union_within _ _ _ (cut_within_right _ _ _ (within_union_right _ _ _ (within_self _))) inherited) inherited)
+
+    permitted_bounded : IsWithin (exec_permitted creds file nosuid) (union creds.inheritable creds.bounding)
+    permitted_bounded = within_if creds.no_new_privs (cut gains creds.permitted) gains _ (cut_within_left _ _ _ gains_bounded) gains_bounded
+
+    pub bounded-exec : Leaves (λ now. IsWithin now.permitted (union creds.inheritable creds.bounding)) (after_exec creds file nosuid)
+    bounded-exec = left_if _ (is_refused creds file nosuid) (Err 1) (Ok (exec_done creds file nosuid)) (λ e. left_err _ 1) (λ e. left_ok _ _ permitted_bounded)

@@ -1,0 +1,27 @@
+-- capset(2) of the calling thread, with the rules of capabilities(7), "Programmatically adjusting capability sets".
+use Rattle.std.specs.Prelude.{ℕ, Bool, Result, Ok, Err, if◌then◌else◌, ◌&&◌, ◌||◌}
+use Rattle.cap_sets.specs.Sets.{has, union, cut, within}
+use Rattle.kern_creds.specs.declared.creds.Creds.{Creds}
+use Rattle.kern_creds.specs.declared.numbers.TheConstants.{EPERM, CAP_SETPCAP}
+
+-- the new permitted set is a subset of the old one, the new effective set of the new permitted one, the new
+-- inheritable set of the old one with the bounding set and, without CAP_SETPCAP, of the old one with the old permitted set
+abbrev pub may_capset : Creds → ℕ → ℕ → ℕ → Bool
+may_capset creds permitted effective inheritable =
+    (within permitted creds.permitted && within effective permitted)
+    && (within inheritable (union creds.inheritable creds.bounding)
+    && (has creds.effective CAP_SETPCAP || within inheritable (union creds.inheritable creds.permitted)))
+
+-- an ambient capability that is no longer both permitted and inheritable is lowered
+abbrev pub with_sets : Creds → ℕ → ℕ → ℕ → Creds
+with_sets creds permitted effective inheritable =
+    record creds {
+      permitted = permitted;
+      effective = effective;
+      inheritable = inheritable;
+      ambient = cut creds.ambient (cut permitted inheritable);
+    }
+
+abbrev pub after_capset : Creds → ℕ → ℕ → ℕ → Result Creds ℕ
+after_capset creds permitted effective inheritable =
+    if may_capset creds permitted effective inheritable then Ok (with_sets creds permitted effective inheritable) else Err EPERM

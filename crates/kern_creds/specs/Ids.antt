@@ -1,0 +1,27 @@
+-- Real, effective and saved ids: credentials(7), and what setresuid(2) and setresgid(2) ask of an id.
+use Rattle.std.specs.Prelude.{ℕ, Bool, if◌then◌else◌, ◌==◌, ◌&&◌, ◌||◌}
+use Rattle.kern_creds.specs.declared.ids.Ids.{Ids}
+use Rattle.kern_creds.specs.declared.numbers.TheConstants.{NO_ID}
+
+-- the id is one of the three
+abbrev pub is_one_of : Ids → ℕ → Bool
+is_one_of ids id = (id == ids.real || id == ids.effective) || id == ids.saved
+
+-- without a capability an id may be left alone (-1), or be one of the three
+abbrev pub may_take : Ids → ℕ → Bool
+may_take ids id = id == NO_ID || is_one_of ids id
+
+abbrev pub may_take_all : Ids → ℕ → ℕ → ℕ → Bool
+may_take_all ids real effective saved = (may_take ids real && may_take ids effective) && may_take ids saved
+
+-- -1 leaves the id as it was
+abbrev pub kept_id : ℕ → ℕ → ℕ
+kept_id old id = if id == NO_ID then old else id
+
+abbrev pub kept_ids : Ids → ℕ → ℕ → ℕ → Ids
+kept_ids old real effective saved =
+    record { real = kept_id old.real real; effective = kept_id old.effective effective; saved = kept_id old.saved saved }
+
+-- all three are one id
+abbrev pub all_of : ℕ → Ids
+all_of id = record { real = id; effective = id; saved = id }

@@ -1,0 +1,14 @@
+pub mod Answer
+pub mod Start
+pub mod Ids
+pub mod RootChange
+pub mod Setuid
+pub mod Setresuid
+pub mod Setgroups
+pub mod Capset
+pub mod Prctl
+pub mod Exec
+pub mod Calls
+pub mod Sound
+pub mod Steps
+pub mod Guarded

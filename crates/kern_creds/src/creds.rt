@@ -1,0 +1,159 @@
+//! The credentials of a process: what they are, those of the first process, and their parts.
+
+ghost use Rattle.std.specs.Prelude.{◌≡◌, IfOk};
+ghost use Rattle.kern_creds.specs.Start.{start};
+ghost use Rattle.kern_creds.specs.RootChange.{with_uids};
+
+use crate::groups::Groups;
+use crate::ids::Ids;
+use cap_sets::CapSet;
+use std::alloc::{AllocError, Global};
+
+/// The credentials of a process, credentials(7) and capabilities(7).
+#[derive(Drop)]
+pub struct Creds {
+    pub(crate) uids: Ids,
+    pub(crate) gids: Ids,
+    pub(crate) groups: Groups,
+    pub(crate) permitted: CapSet,
+    pub(crate) effective: CapSet,
+    pub(crate) inheritable: CapSet,
+    pub(crate) bounding: CapSet,
+    pub(crate) ambient: CapSet,
+    pub(crate) no_new_privs: bool,
+    pub(crate) keepcaps: bool,
+}
+
+impl Creds {
+    /// The credentials of the first process: all ids 0, no groups, and the permitted, effective and bounding sets full.
+    pub fn start(alloc: Global) -> Creds
+        ensures { result ≡ start }
+    {
+        Creds {
+            uids: Ids::all_of(0),
+            gids: Ids::all_of(0),
+            groups: Groups::new(alloc),
+            permitted: CapSet::full(),
+            effective: CapSet::full(),
+            inheritable: CapSet::empty(),
+            bounding: CapSet::full(),
+            ambient: CapSet::empty(),
+            no_new_privs: false,
+            keepcaps: false,
+        }
+    }
+
+    /// Equal credentials.
+    pub fn copy(&self) -> Result<Creds, AllocError>
+        ensures { IfOk result (λ creds. creds ≡ self.now) }
+    {
+        Ok(Creds {
+            uids: self.uids,
+            gids: self.gids,
+            groups: self.groups.copy()?,
+            permitted: self.permitted,
+            effective: self.effective,
+            inheritable: self.inheritable,
+            bounding: self.bounding,
+            ambient: self.ambient,
+            no_new_privs: self.no_new_privs,
+            keepcaps: self.keepcaps,
+        })
+    }
+
+    /// The real, the effective and the saved uid.
+    pub fn uids(&self) -> (u32, u32, u32)
+        ensures real { result.0 ≡ self.now.uids.real }
+        ensures effective { result.1 ≡ self.now.uids.effective }
+        ensures saved { result.2 ≡ self.now.uids.saved }
+    {
+        (self.uids.real, self.uids.effective, self.uids.saved)
+    }
+
+    /// The real, the effective and the saved gid.
+    pub fn gids(&self) -> (u32, u32, u32)
+        ensures real { result.0 ≡ self.now.gids.real }
+        ensures effective { result.1 ≡ self.now.gids.effective }
+        ensures saved { result.2 ≡ self.now.gids.saved }
+    {
+        (self.gids.real, self.gids.effective, self.gids.saved)
+    }
+
+    /// The supplementary groups.
+    pub fn groups(&self) -> &[u32]
+        ensures { result.now ≡ self.now.groups }
+    {
+        self.groups.ids()
+    }
+
+    /// The permitted set: the most that the process can make effective.
+    pub fn permitted(&self) -> CapSet
+        ensures { result ≡ self.now.permitted }
+    {
+        self.permitted
+    }
+
+    /// The effective set: what the kernel asks for.
+    pub fn effective(&self) -> CapSet
+        ensures { result ≡ self.now.effective }
+    {
+        self.effective
+    }
+
+    /// The inheritable set.
+    pub fn inheritable(&self) -> CapSet
+        ensures { result ≡ self.now.inheritable }
+    {
+        self.inheritable
+    }
+
+    /// The bounding set: the most that execve gives.
+    pub fn bounding(&self) -> CapSet
+        ensures { result ≡ self.now.bounding }
+    {
+        self.bounding
+    }
+
+    /// The ambient set: what stays over an execve of a file that is not privileged.
+    pub fn ambient(&self) -> CapSet
+        ensures { result ≡ self.now.ambient }
+    {
+        self.ambient
+    }
+
+    /// Whether execve can give no new privileges, PR_GET_NO_NEW_PRIVS of prctl(2).
+    pub fn no_new_privs(&self) -> bool
+        ensures { result ≡ self.now.no_new_privs }
+    {
+        self.no_new_privs
+    }
+
+    /// Whether the permitted set stays when the last uid 0 goes, PR_GET_KEEPCAPS of prctl(2).
+    pub fn keepcaps(&self) -> bool
+        ensures { result ≡ self.now.keepcaps }
+    {
+        self.keepcaps
+    }
+
+    // Takes these uids, with what follows for the sets.
+    pub(crate) fn take_uids(&mut self, uids: Ids)
+        ensures { self.new ≡ with_uids self.old uids }
+    {
+        let old = self.uids;
+        self.uids = uids;
+        if old.has_root() && !uids.has_root() {
+            self.ambient = CapSet::empty();
+            if !self.keepcaps {
+                self.permitted = CapSet::empty();
+                self.effective = CapSet::empty();
+            }
+        }
+        if old.effective == 0 {
+            if uids.effective != 0 {
+                self.effective = CapSet::empty();
+            }
+        } else if uids.effective == 0 {
+            self.effective = self.permitted;
+        }
+    }
+}

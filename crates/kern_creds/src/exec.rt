@@ -1,0 +1,135 @@
+//! What becomes of credentials when a process runs a file: execve(2) and capabilities(7).
+//!
+//! Each part of the rule is a function of its own, named as in `specs/Exec.antt`.
+
+ghost use Rattle.std.specs.Prelude.{◌≡◌};
+ghost use Rattle.kern_creds.specs.Answer.{Becomes};
+ghost use Rattle.kern_creds.specs.Exec.{is_refused, honours, is_privileged, exec_ids, exec_uids, exec_ambient, runs_as_root, exec_gains, exec_permitted, exec_effective, after_exec};
+
+use crate::creds::Creds;
+use crate::file::FileCreds;
+use crate::ids::Ids;
+use crate::numbers::EPERM;
+use crate::sets::is_empty;
+use cap_sets::CapSet;
+
+impl FileCreds {
+    // Whether there is a set-id bit or a capability.
+    fn is_privileged(&self) -> bool
+        ensures { result ≡ is_privileged self.now }
+    {
+        self.setuid.is_some() || self.setgid.is_some() || !is_empty(self.caps)
+    }
+}
+
+impl Ids {
+    // The ids after a file with this owner, where set-id bits count.
+    fn after_exec(self, honoured: bool, owner: Option<u32>) -> Ids
+        ensures { result ≡ exec_ids honoured self owner }
+    {
+        let id = match owner {
+            Some(owner) => if honoured { owner } else { self.effective },
+            None => self.effective,
+        };
+        Ids {
+            real: self.real,
+            effective: id,
+            saved: id,
+        }
+    }
+
+    fn runs_as_root(&self) -> bool
+        ensures { result ≡ runs_as_root self.now }
+    {
+        self.real == 0 || self.effective == 0
+    }
+}
+
+impl Creds {
+    fn honours(&self, nosuid: bool) -> bool
+        ensures { result ≡ honours self.now nosuid }
+    {
+        !self.no_new_privs && !nosuid
+    }
+
+    fn is_refused(&self, file: &FileCreds, nosuid: bool) -> bool
+        ensures { result ≡ is_refused self.now file.now nosuid }
+    {
+        !nosuid && file.effective && !file.caps.within(self.bounding)
+    }
+
+    fn exec_uids(&self, file: &FileCreds, nosuid: bool) -> Ids
+        ensures { result ≡ exec_uids self.now file.now nosuid }
+    {
+        self.uids.after_exec(self.honours(nosuid), file.setuid)
+    }
+
+    fn exec_ambient(&self, file: &FileCreds, nosuid: bool) -> CapSet
+        ensures { result ≡ exec_ambient self.now file.now nosuid }
+    {
+        if self.honours(nosuid) && file.is_privileged() {
+            CapSet::empty()
+        } else {
+            self.ambient
+        }
+    }
+
+    fn exec_gains(&self, file: &FileCreds, nosuid: bool) -> CapSet
+        ensures { result ≡ exec_gains self.now file.now nosuid }
+    {
+        if self.exec_uids(file, nosuid).runs_as_root() {
+            self.inheritable.union(self.bounding)
+        } else if self.honours(nosuid) {
+            file.caps
+                .cut(self.bounding)
+                .union(self.exec_ambient(file, nosuid))
+        } else {
+            self.exec_ambient(file, nosuid)
+        }
+    }
+
+    fn exec_permitted(&self, file: &FileCreds, nosuid: bool) -> CapSet
+        ensures { result ≡ exec_permitted self.now file.now nosuid }
+    {
+        let gains = self.exec_gains(file, nosuid);
+        if self.no_new_privs {
+            gains.cut(self.permitted)
+        } else {
+            gains
+        }
+    }
+
+    fn exec_effective(&self, file: &FileCreds, nosuid: bool) -> CapSet
+        ensures { result ≡ exec_effective self.now file.now nosuid }
+    {
+        let uids = self.exec_uids(file, nosuid);
+        if uids.effective == 0 || (self.honours(nosuid) && file.effective) {
+            self.exec_permitted(file, nosuid)
+        } else {
+            self.exec_ambient(file, nosuid)
+        }
+    }
+
+    /// execve(2) of a file with these marks, from a mount with or without nosuid.
+    ///
+    /// EPERM where the mount has not nosuid, the file's effective bit is on and the bounding set lacks one of its
+    /// capabilities; else the credentials change by the rules of capabilities(7).
+    pub fn exec(&mut self, file: &FileCreds, nosuid: bool) -> Result<(), u32>
+        ensures { Becomes self.old self.new result (after_exec self.old file.now nosuid) }
+    {
+        if self.is_refused(file, nosuid) {
+            return Err(EPERM);
+        }
+        let uids = self.exec_uids(file, nosuid);
+        let gids = self.gids.after_exec(self.honours(nosuid), file.setgid);
+        let permitted = self.exec_permitted(file, nosuid);
+        let effective = self.exec_effective(file, nosuid);
+        self.ambient = self.exec_ambient(file, nosuid);
+        self.permitted = permitted;
+        self.effective = effective;
+        self.uids = uids;
+        self.gids = gids;
+        self.keepcaps = false;
+        Ok(())
+    }
+}

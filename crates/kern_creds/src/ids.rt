@@ -1,0 +1,68 @@
+//! The three ids of a process, and what an unprivileged process may make of them: credentials(7), setresuid(2).
+
+ghost use Rattle.std.specs.Prelude.{◌≡◌};
+ghost use Rattle.kern_creds.specs.Ids.{may_take, may_take_all, kept_id, kept_ids, all_of};
+ghost use Rattle.kern_creds.specs.RootChange.{has_root};
+
+use crate::numbers::NO_ID;
+
+/// Real, effective and saved id: three of a user, or three of a group.
+#[derive(Clone, Copy, Debug, PartialEq, Eq)]
+pub struct Ids {
+    /// Whose process it is.
+    pub real: u32,
+    /// Whose permissions it has.
+    pub effective: u32,
+    /// Whose permissions it can take again.
+    pub saved: u32,
+}
+
+fn kept_id(old: u32, id: u32) -> u32
+    ensures { result ≡ kept_id old id }
+{
+    if id == NO_ID { old } else { id }
+}
+
+impl Ids {
+    // All three are this one.
+    pub(crate) fn all_of(id: u32) -> Ids
+        ensures { result ≡ all_of id }
+    {
+        Ids {
+            real: id,
+            effective: id,
+            saved: id,
+        }
+    }
+
+    // Whether one of them is 0.
+    pub(crate) fn has_root(&self) -> bool
+        ensures { result ≡ has_root self.now }
+    {
+        self.real == 0 || self.effective == 0 || self.saved == 0
+    }
+
+    fn may_take(&self, id: u32) -> bool
+        ensures { result ≡ may_take self.now id }
+    {
+        id == NO_ID || (id == self.real || id == self.effective || id == self.saved)
+    }
+
+    // Whether each of the three new ids is -1 or one of these.
+    pub(crate) fn may_take_all(&self, real: u32, effective: u32, saved: u32) -> bool
+        ensures { result ≡ may_take_all self.now real effective saved }
+    {
+        self.may_take(real) && self.may_take(effective) && self.may_take(saved)
+    }
+
+    // These ids, each but -1 in place of the old one.
+    pub(crate) fn with(&self, real: u32, effective: u32, saved: u32) -> Ids
+        ensures { result ≡ kept_ids self.now real effective saved }
+    {
+        Ids {
+            real: kept_id(self.real, real),
+            effective: kept_id(self.effective, effective),
+            saved: kept_id(self.saved, saved),
+        }
+    }
+}

@@ -1,0 +1,113 @@
+//! The calls that change sets and marks: capset(2) and prctl(2).
+
+ghost use Rattle.std.specs.Prelude.{◌≡◌};
+ghost use Rattle.kern_creds.specs.Answer.{Becomes};
+ghost use Rattle.kern_creds.specs.Capset.{may_capset, after_capset};
+ghost use Rattle.kern_creds.specs.Prctl.{after_drop_bounding, after_raise, after_lower, after_clear_ambient, after_set_keepcaps, after_set_no_new_privs};
+
+use crate::creds::Creds;
+use crate::numbers::{CAP_LAST_CAP, CAP_SETPCAP, EINVAL, EPERM};
+use crate::sets::single;
+use cap_sets::CapSet;
+
+impl Creds {
+    fn may_capset(&self, permitted: CapSet, effective: CapSet, inheritable: CapSet) -> bool
+        ensures { result ≡ may_capset self.now permitted effective inheritable }
+    {
+        permitted.within(self.permitted)
+            && effective.within(permitted)
+            && (inheritable.within(self.inheritable.union(self.bounding))
+                && (self.effective.contains(CAP_SETPCAP)
+                    || inheritable.within(self.inheritable.union(self.permitted))))
+    }
+
+    /// capset(2): the permitted, the effective and the inheritable set. The ambient set is cut to what is still
+    /// permitted and inheritable.
+    ///
+    /// EPERM unless permitted is within the old set, effective within permitted, and inheritable within the old one
+    /// with the bounding set and, without CAP_SETPCAP, within the old one with the old permitted set.
+    pub fn capset(
+        &mut self,
+        permitted: CapSet,
+        effective: CapSet,
+        inheritable: CapSet,
+    ) -> Result<(), u32>
+        ensures { Becomes self.old self.new result (after_capset self.old permitted effective inheritable) }
+    {
+        if !self.may_capset(permitted, effective, inheritable) {
+            return Err(EPERM);
+        }
+        self.ambient = self.ambient.cut(permitted.cut(inheritable));
+        self.permitted = permitted;
+        self.effective = effective;
+        self.inheritable = inheritable;
+        Ok(())
+    }
+
+    /// PR_CAPBSET_DROP: takes a capability from the bounding set.
+    ///
+    /// EINVAL above 40, then EPERM without CAP_SETPCAP.
+    pub fn drop_bounding(&mut self, cap: u32) -> Result<(), u32>
+        ensures { Becomes self.old self.new result (after_drop_bounding self.old cap) }
+    {
+        if cap > CAP_LAST_CAP {
+            return Err(EINVAL);
+        }
+        if !self.effective.contains(CAP_SETPCAP) {
+            return Err(EPERM);
+        }
+        self.bounding = self.bounding.minus(single(cap as u8));
+        Ok(())
+    }
+
+    /// PR_CAP_AMBIENT_RAISE: puts a capability into the ambient set.
+    ///
+    /// EINVAL above 40, then EPERM unless it is permitted and inheritable.
+    pub fn raise(&mut self, cap: u32) -> Result<(), u32>
+        ensures { Becomes self.old self.new result (after_raise self.old cap) }
+    {
+        if cap > CAP_LAST_CAP {
+            return Err(EINVAL);
+        }
+        let cap = cap as u8;
+        if !(self.permitted.contains(cap) && self.inheritable.contains(cap)) {
+            return Err(EPERM);
+        }
+        self.ambient = self.ambient.with(cap);
+        Ok(())
+    }
+
+    /// PR_CAP_AMBIENT_LOWER: takes a capability from the ambient set.
+    ///
+    /// EINVAL above 40.
+    pub fn lower(&mut self, cap: u32) -> Result<(), u32>
+        ensures { Becomes self.old self.new result (after_lower self.old cap) }
+    {
+        if cap > CAP_LAST_CAP {
+            return Err(EINVAL);
+        }
+        self.ambient = self.ambient.minus(single(cap as u8));
+        Ok(())
+    }
+
+    /// PR_CAP_AMBIENT_CLEAR_ALL: empties the ambient set.
+    pub fn clear_ambient(&mut self)
+        ensures { self.new ≡ after_clear_ambient self.old }
+    {
+        self.ambient = CapSet::empty();
+    }
+
+    /// PR_SET_KEEPCAPS: whether the permitted set stays when the last uid 0 goes.
+    pub fn set_keepcaps(&mut self, on: bool)
+        ensures { self.new ≡ after_set_keepcaps self.old on }
+    {
+        self.keepcaps = on;
+    }
+
+    /// PR_SET_NO_NEW_PRIVS: from now on execve gives no new privileges.
+    pub fn set_no_new_privs(&mut self)
+        ensures { self.new ≡ after_set_no_new_privs self.old }
+    {
+        self.no_new_privs = true;
+    }
+}
