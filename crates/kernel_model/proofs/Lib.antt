@@ -1,0 +1,10 @@
+pub mod Processes
+pub mod Lifts
+pub mod Steps
+pub mod Runs
+pub mod Kept
+pub mod Judged
+pub mod Fronts
+pub mod Tables
+pub mod Launched
+pub mod Endings

@@ -1,0 +1,11 @@
+pub mod Table
+pub mod World
+pub mod Rules
+pub mod Step
+pub mod StepCases
+pub mod Runs
+pub mod Kept
+pub mod Judged
+pub mod Launch
+pub mod Plain
+pub mod Laws
