@@ -1,7 +1,9 @@
-pub mod FilterAnswers
+pub mod ThinAnswers
+pub mod KernelTables
 pub mod LineSteps
 pub mod Numbers
 pub mod Outcomes
+pub mod Reports
 pub mod TableReadings
 pub mod ThinTables
 pub mod ThinUnits

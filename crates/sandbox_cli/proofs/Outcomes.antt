@@ -1,6 +1,6 @@
 -- What was answered and what was written, put together.
-use Rattle.std.proofs.Common.{◌≡◌, ◌≢◌, ℕ, ◌≤◌, List, [], take, drop, true, Option, None, Some, Result, Ok, Err, refl, sym, ap, ◌∙◌, subst, arith, append-nil, inl, inr}
-use Rattle.std.specs.Prelude.{◌⊎◌, IsTrue}
+use Rattle.std.proofs.Common.{◌≡◌, ℕ, ◌≤◌, List, [], take, drop, true, Option, None, Some, Result, Ok, Err, refl, sym, ap, ◌∙◌, subst, arith, append-nil, inl, inr}
+use Rattle.std.specs.Prelude.{IsTrue}
 use Rattle.std.proofs.lemmas.List.{take-append-drop}
 use Rattle.host_io.specs.Files.{Files}
 use Rattle.host_io.specs.Writing.{Grew, TakesWhole, HasCause}
@@ -8,12 +8,20 @@ use Rattle.host_io.specs.declared.writing.SinkError.{SinkError}
 use Rattle.host_io.specs.declared.writing.SinkError.TheVariants.{Failed, Memory}
 use Rattle.host_io.proofs.Growth.{append_known-nil}
 use Rattle.sandbox_cli.specs.declared.status.Ending.{Ending}
-use Rattle.sandbox_cli.specs.declared.status.Ending.TheVariants.{Done, NoCommand, Refused, ReadFault, WriteFault, OutOfMemory}
+use Rattle.sandbox_cli.specs.declared.status.Ending.TheVariants.{Done, NoCommand, Refused, ReadFault, WriteFault, OutOfMemory, LaunchRefused}
 use Rattle.sandbox_cli.specs.Endings.{is_whole}
-use Rattle.sandbox_cli.specs.Requests.{Request, FilterOf, command_of}
-use Rattle.sandbox_cli.specs.Prints.{PrintsFilter, refuses_the_unit, refuses_the_table, prints_a_program, PrintsCommand, Prints, AcceptsCommand, Accepts, CommandReads, EndsRequest, EndsCommand, EndsBy}
+use Rattle.sandbox_cli.specs.Requests.{Request, FilterOf, JudgeOf, command_of, unit_asked}
+use Rattle.sandbox_cli.specs.ThinTable.{Table}
+use Rattle.sandbox_cli.specs.ThinFilter.{MeetsWanted}
+use Rattle.sandbox_cli.specs.Report.{Reports}
+use Rattle.bpf_code.specs.declared.machine.Insn.{Insn}
+use Rattle.kernel_model.specs.declared.outcome.Launch.{Launch}
+use Rattle.kernel_model.specs.declared.outcome.Launch.TheVariants as launch
+use Rattle.kernel_model.specs.Launch.{LaunchesTo}
+use Rattle.sandbox_cli.specs.Prints.{SaysUnit, SaysTable, AnswersThin, PrintsThin, refuses_the_unit, refuses_the_table, answers, EndsUntold, PrintsCommand, Prints, AcceptsCommand, Accepts, CommandReads, EndsRequest, EndsCommand, EndsBy}
 use Rattle.sandbox_cli.specs.Runs.{WroteWhole, WrotePrefix, HasFaultCause, Completes}
 use Rattle.sandbox_cli.specs.Steps.{ending_of_put}
+use Rattle.sandbox_cli.proofs.ThinAnswers.{answers_end}
 
 module _ (admits : Ending → List ℕ → Type 0) (old new : Option (List ℕ)) where
   pub wrote_nothing : new ≡ old → WrotePrefix admits old new
@@ -37,34 +45,71 @@ module _ (admits : Ending → List ℕ → Type 0) (old new : Option (List ℕ))
   whole_by_put (Err Memory) ending text admitted takes whole = cc
 
 -- what is printed ends as the inputs say
-ends_filter : (files : Files) (unit : List ℕ) (ending : Ending) (text : List ℕ) → PrintsFilter files unit ending text → EndsRequest (Some files) (FilterOf unit) ending
-ends_filter files unit _ _ (refuses_the_unit none) = λ accepted. none accepted.0 accepted.2
-ends_filter files unit _ _ (refuses_the_table names says none) = λ accepted. none accepted.1 accepted.3
-ends_filter files unit _ _ (prints_a_program names table program says table_says meets) = (names, table, says, table_says)
+ends_report : (files : Files) (unit : List ℕ) (names : List (List ℕ)) (table : Table) (program : List Insn) (launched : Launch) (ending : Ending) (lines : List (List ℕ)) → SaysUnit files unit names → SaysTable files table → MeetsWanted table names program → LaunchesTo table.arch table.calls program launched → Reports unit table.calls launched ending lines → EndsRequest (Some files) (JudgeOf unit) ending
+ends_report files unit names table program (launch.Launched world) ending lines says table_says meets launches reports =
+    subst (EndsRequest (Some files) (JudgeOf unit)) (sym reports.0) (record { names = names; table = table; says_unit = says; says_table = table_says; program = program; meets = meets; launched = launch.Launched world; launches = launches; ends = refl })
+ends_report files unit names table program (launch.Refused step errno) ending lines says table_says meets launches reports =
+    subst (EndsRequest (Some files) (JudgeOf unit)) (sym reports.0) (record { names = names; table = table; says_unit = says; says_table = table_says; program = program; meets = meets; launched = launch.Refused step errno; launches = launches; ends = refl })
+ends_report files unit names table program (launch.Killed step) ending lines says table_says meets launches reports =
+    subst (EndsRequest (Some files) (JudgeOf unit)) (sym reports.0) (record { names = names; table = table; says_unit = says; says_table = table_says; program = program; meets = meets; launched = launch.Killed step; launches = launches; ends = refl })
 
-ends_done_or_refused : (ending : Ending) → (ending ≡ Done) ⊎ (ending ≡ Refused) → ending ≢ NoCommand
-ends_done_or_refused ending (inl e) n = cc
-ends_done_or_refused ending (inr e) n = cc
+ends_answered : (files : Files) (request : Request) (names : List (List ℕ)) (table : Table) (ending : Ending) (lines : List (List ℕ)) → SaysUnit files (unit_asked request) names → SaysTable files table → AnswersThin request names table ending lines → EndsRequest (Some files) request ending
+ends_answered files (FilterOf unit) names table ending lines says table_says said =
+    subst (EndsRequest (Some files) (FilterOf unit)) (sym said.0) (names, table, says, table_says)
+ends_answered files (JudgeOf unit) names table ending lines says table_says (program, meets, (launched, launches, reports)) =
+    ends_report files unit names table program launched ending lines says table_says meets launches reports
+
+ends_thin : (files : Files) (request : Request) (ending : Ending) (text : List ℕ) → PrintsThin files request ending text → EndsRequest (Some files) request ending
+ends_thin files request _ _ (refuses_the_unit none) = λ accepted. none accepted.0 accepted.2
+ends_thin files request _ _ (refuses_the_table names says none) = λ accepted. none accepted.1 accepted.3
+ends_thin files request _ _ (answers names table ending lines says table_says said) = ends_answered files request names table ending lines says table_says said
+
+ends_untold : (request : Request) (ending : Ending) → EndsUntold request ending → EndsRequest None request ending
+ends_untold request ending (inl e) = (λ n. (let f : Done ≡ NoCommand = sym e ∙ n in cc), λ n. (let f : Done ≡ LaunchRefused = sym e ∙ n in cc))
+ends_untold request ending (inr (inl e)) = (λ n. (let f : Refused ≡ NoCommand = sym e ∙ n in cc), λ n. (let f : Refused ≡ LaunchRefused = sym e ∙ n in cc))
+ends_untold request ending (inr (inr (e, launched))) = (λ n. (let f : LaunchRefused ≡ NoCommand = sym e ∙ n in cc), λ n. launched)
+
+-- what is printed is whole
+whole_as : (ending kind : Ending) → ending ≡ kind → IsTrue (is_whole kind) → IsTrue (is_whole ending)
+whole_as ending kind e whole = ap is_whole e ∙ whole
+
+whole_untold : (request : Request) (ending : Ending) → EndsUntold request ending → IsTrue (is_whole ending)
+whole_untold request ending (inl e) = whole_as ending Done e refl
+whole_untold request ending (inr (inl e)) = whole_as ending Refused e refl
+whole_untold request ending (inr (inr (e, launched))) = whole_as ending LaunchRefused e refl
+
+whole_thin : (files : Files) (request : Request) (ending : Ending) (text : List ℕ) → PrintsThin files request ending text → IsTrue (is_whole ending)
+whole_thin files request _ _ (refuses_the_unit none) = refl
+whole_thin files request _ _ (refuses_the_table names says none) = refl
+whole_thin files request _ _ (answers names table ending lines says table_says said) = whole_untold request ending (answers_end request names table ending lines said)
+
+whole_command : (command : Option Request) (told : Option Files) (ending : Ending) (text : List ℕ) → PrintsCommand command told ending text → IsTrue (is_whole ending)
+whole_command None told ending text prints = whole_as ending NoCommand prints.0 refl
+whole_command (Some request) None ending text prints = whole_untold request ending prints
+whole_command (Some request) (Some files) ending text prints = whole_thin files request ending text prints
+
+pub prints_whole : (words : List (List ℕ)) (told : Option Files) (ending : Ending) (text : List ℕ) → Prints words told ending text → IsTrue (is_whole ending)
+prints_whole words told ending text prints = whole_command (command_of words) told ending text prints
 
 ends_command : (command : Option Request) (told : Option Files) (ending : Ending) (text : List ℕ) → PrintsCommand command told ending text → EndsCommand command told ending
 ends_command None told ending text prints =
-    let is = prints.0 in (λ e. let f : NoCommand ≡ Done = sym is ∙ e in cc, λ e. let f : NoCommand ≡ Refused = sym is ∙ e in cc, λ e. let f : NoCommand ≡ ReadFault = sym is ∙ e in cc)
-ends_command (Some request) None ending text prints = ends_done_or_refused ending prints
-ends_command (Some (FilterOf unit)) (Some files) ending text prints = ends_filter files unit ending text prints
+    let is = prints.0 in (λ e. let f : NoCommand ≡ Done = sym is ∙ e in cc, λ e. let f : NoCommand ≡ Refused = sym is ∙ e in cc, λ e. let f : NoCommand ≡ ReadFault = sym is ∙ e in cc, λ e. let f : NoCommand ≡ LaunchRefused = sym is ∙ e in cc)
+ends_command (Some request) None ending text prints = ends_untold request ending prints
+ends_command (Some request) (Some files) ending text prints = ends_thin files request ending text prints
 
 ends_write_fault : (command : Option Request) (told : Option Files) → EndsCommand command told WriteFault
-ends_write_fault None told = (λ e. cc, λ e. cc, λ e. cc)
-ends_write_fault (Some request) None = λ e. cc
+ends_write_fault None told = (λ e. cc, λ e. cc, λ e. cc, λ e. cc)
+ends_write_fault (Some request) None = (λ e. cc, λ e. cc)
 ends_write_fault (Some request) (Some files) = tt
 
 ends_out_of_memory : (command : Option Request) (told : Option Files) → EndsCommand command told OutOfMemory
-ends_out_of_memory None told = (λ e. cc, λ e. cc, λ e. cc)
-ends_out_of_memory (Some request) None = λ e. cc
+ends_out_of_memory None told = (λ e. cc, λ e. cc, λ e. cc, λ e. cc)
+ends_out_of_memory (Some request) None = (λ e. cc, λ e. cc)
 ends_out_of_memory (Some request) (Some files) = tt
 
 ends_read_fault : (command : Option Request) (told : Option Files) → CommandReads command → EndsCommand command told ReadFault
 ends_read_fault None told reads = absurd reads
-ends_read_fault (Some request) None reads = λ e. cc
+ends_read_fault (Some request) None reads = (λ e. cc, λ e. cc)
 ends_read_fault (Some request) (Some files) reads = reads
 
 module _ (words : List (List ℕ)) (told : Option Files) where
@@ -116,7 +161,8 @@ completes_command (Some request) (Some files) NoCommand a b s t old new ends cau
 completes_command (Some request) (Some files) Refused a b s t old new ends causes accepted shelf sink = absurd (ends accepted)
 completes_command (Some request) (Some files) ReadFault a b s t old new ends causes accepted shelf sink = absurd (shelf (causes.read_fault refl))
 completes_command (Some request) (Some files) WriteFault a b s t old new ends causes accepted shelf sink = absurd (sink (causes.write_fault refl))
-completes_command (Some request) (Some files) OutOfMemory a b s t old new ends causes accepted shelf sink = inr refl
+completes_command (Some request) (Some files) OutOfMemory a b s t old new ends causes accepted shelf sink = inr (inr refl)
+completes_command (Some request) (Some files) LaunchRefused a b s t old new ends causes accepted shelf sink = inr (inl refl)
 
 pub completes_by : (words : List (List ℕ)) (told : Option Files) (ending : Ending) (shelf_before shelf_now sink_before sink_now : ℕ) (old new : Option (List ℕ)) → EndsBy words told ending → HasFaultCause ending shelf_before shelf_now sink_before sink_now old new → Completes (Accepts words told) ending shelf_before shelf_now sink_before sink_now
 completes_by words told ending a b s t old new ends causes =

@@ -9,7 +9,8 @@ use Rattle.std.proofs.lemmas.Slice.Eq.{bytes_eq-Decides}
 use Rattle.host_io.proofs.FolderNames.{some_if, and_then_some}
 use Rattle.sandbox_cli.specs.ThinWords.{lines_of, words_of, is_name}
 use Rattle.sandbox_cli.specs.Numerals.{decimal_of, hex_word}
-use Rattle.sandbox_cli.specs.ThinTable.{NamedCall, Table, IsAbiLine, IsCallLine, AreCallLines, IsGroupLine, IsThinTable, stand_once, numbers_stand_once, is_called, launch_calls}
+use Rattle.kernel_model.specs.Table.{NamedCall}
+use Rattle.sandbox_cli.specs.ThinTable.{Table, IsAbiLine, IsCallLine, AreCallLines, IsGroupLine, IsThinTable, stand_once, numbers_stand_once, is_called, launch_calls}
 use Rattle.sandbox_cli.specs.ThinTableReading.{Frame, abi_words, call_words, group_words, cons_known, calls_lines, front_and_last, frame_by, frame_front, frame_ended, frame_of, is_sound, with_arch, table_of_frame, table_of}
 use Rattle.sandbox_cli.proofs.ThinTables.{front_and_last-append}
 use Rattle.sandbox_cli.proofs.ThinUnits.{both_true, no_items, some_by}

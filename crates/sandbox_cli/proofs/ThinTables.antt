@@ -7,7 +7,8 @@ use Rattle.std.specs.Str.{bytes_eq}
 use Rattle.std.proofs.lemmas.List.{length-map, map-append}
 use Rattle.sandbox_cli.specs.declared.thin_lines.ThinCall.{ThinCall}
 use Rattle.sandbox_cli.specs.ThinChecks.{has_call, has_calls, names_apart, numbers_apart}
-use Rattle.sandbox_cli.specs.ThinTable.{NamedCall, is_called, launch_calls, stand_once, numbers_stand_once}
+use Rattle.kernel_model.specs.Table.{NamedCall}
+use Rattle.sandbox_cli.specs.ThinTable.{is_called, launch_calls, stand_once, numbers_stand_once}
 use Rattle.sandbox_cli.specs.ThinTableReading.{front_and_last, frame_by, frame_front, frame_ended, frame_of, is_sound}
 use Rattle.sandbox_cli.specs.ThinViews.{call_view}
 use denote.Ref.{Bor}

@@ -25,7 +25,7 @@ use denote.Ref.{Bor}
 eqb_comm : (a b : ℕ) → eqb a b ≡ eqb b a
 eqb_comm a b = grind (arith, nat_tests)
 
-same_tests : (b c : Bool) → (b ≡ true → c ≡ true) → (c ≡ true → b ≡ true) → b ≡ c
+pub same_tests : (b c : Bool) → (b ≡ true → c ≡ true) → (c ≡ true → b ≡ true) → b ≡ c
 same_tests true c f g = sym (f refl)
 same_tests false true f g = g refl
 same_tests false false f g = refl

@@ -1,6 +1,7 @@
 pub mod Endings
 pub mod Requests
 pub mod Texts
+pub mod Report
 pub mod ThinWords
 pub mod ThinUnit
 pub mod ThinUnitReading
@@ -14,3 +15,4 @@ pub mod ThinNumbers
 pub mod Prints
 pub mod Runs
 pub mod Steps
+pub mod ReportSteps

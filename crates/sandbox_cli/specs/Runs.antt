@@ -3,7 +3,7 @@ use Rattle.std.specs.Prelude.{◌≡◌, ◌⊎◌, ℕ, ◌<◌, ◌≤◌, Lis
 use Rattle.host_io.specs.Causes.{Rose}
 use Rattle.host_io.specs.Writing.{Grew}
 use Rattle.sandbox_cli.specs.declared.status.Ending.{Ending}
-use Rattle.sandbox_cli.specs.declared.status.Ending.TheVariants.{Done, ReadFault, WriteFault, OutOfMemory}
+use Rattle.sandbox_cli.specs.declared.status.Ending.TheVariants.{Done, ReadFault, WriteFault, OutOfMemory, LaunchRefused}
 
 -- all of a text was written, one that is admitted
 abbrev pub WroteWhole : (List ℕ → Type 0) → Option (List ℕ) → Option (List ℕ) → Type 0
@@ -23,7 +23,7 @@ pub record HasFaultCause (ending : Ending) (shelf_before shelf_now sink_before s
   pub nothing_written : ending ≡ ReadFault → new ≡ old
   pub write_fault : ending ≡ WriteFault → Rose sink_before sink_now
 
--- inputs that are accepted and no fault: done, or out of memory
+-- inputs that are accepted and no fault: done, or its launch is refused, or out of memory
 abbrev pub Completes : Type 0 → Ending → (shelf_before shelf_now sink_before sink_now : ℕ) → Type 0
 Completes accepted ending shelf_before shelf_now sink_before sink_now =
-    accepted → (Rose shelf_before shelf_now → ⊥) → (Rose sink_before sink_now → ⊥) → (ending ≡ Done) ⊎ (ending ≡ OutOfMemory)
+    accepted → (Rose shelf_before shelf_now → ⊥) → (Rose sink_before sink_now → ⊥) → (ending ≡ Done) ⊎ ((ending ≡ LaunchRefused) ⊎ (ending ≡ OutOfMemory))

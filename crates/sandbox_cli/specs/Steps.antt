@@ -1,5 +1,5 @@
 -- What the parts of a run answer each other.
-use Rattle.std.specs.Prelude.{◌≡◌, ◌⊎◌, ℕ, ◌≤◌, List, ◌∷◌, [], map, Option, Some, None, option_and_then, Vec, Result, Ok, Err, IsErrOf}
+use Rattle.std.specs.Prelude.{◌≡◌, ℕ, ◌≤◌, List, ◌∷◌, [], map, Option, Some, None, option_and_then, Vec, Result, Ok, Err, IsErrOf}
 use Rattle.std.specs.List.{concat}
 use Rattle.std.specs.Option.{option_map}
 use Rattle.std.specs.declared.alloc.Global.{Global}
@@ -7,16 +7,15 @@ use Rattle.host_io.specs.Causes.{Rose}
 use Rattle.host_io.specs.Files.{Files}
 use Rattle.host_io.specs.declared.writing.SinkError.{SinkError}
 use Rattle.host_io.specs.declared.writing.SinkError.TheVariants.{Failed, Memory}
-use Rattle.bpf_code.specs.declared.machine.Insn.{Insn}
 use Rattle.sandbox_cli.specs.declared.answer.Answer.{Answer}
 use Rattle.sandbox_cli.specs.declared.answer.Failure.{Failure}
 use Rattle.sandbox_cli.specs.declared.answer.Failure.TheVariants as failure
 use Rattle.sandbox_cli.specs.declared.status.Ending.{Ending}
-use Rattle.sandbox_cli.specs.declared.status.Ending.TheVariants.{Done, Refused, WriteFault, OutOfMemory}
-use Rattle.sandbox_cli.specs.Prints.{file_of, unit_path, table_path}
-use Rattle.sandbox_cli.specs.Texts.{filter_lines, unbuilt_line}
+use Rattle.sandbox_cli.specs.declared.status.Ending.TheVariants.{Refused, WriteFault, OutOfMemory}
+use Rattle.sandbox_cli.specs.Prints.{file_of, unit_path, table_path, AnswersThin, EndsUntold}
+use Rattle.sandbox_cli.specs.Requests.{Request, unit_asked}
+use Rattle.sandbox_cli.specs.Texts.{unbuilt_line}
 use Rattle.sandbox_cli.specs.ThinTable.{Table}
-use Rattle.sandbox_cli.specs.ThinFilter.{MeetsWanted}
 use Rattle.sandbox_cli.specs.ThinUnitReading.{unit_of}
 use Rattle.sandbox_cli.specs.ThinTableReading.{table_of}
 
@@ -53,13 +52,13 @@ abbrev pub inputs_of : Files → List ℕ → Inputs
 inputs_of files unit = with_unit files unit (option_and_then unit_of (file_of files (unit_path unit)))
 
 -- the lines that are answered to these inputs
-abbrev pub AnswersInputs : Inputs → Ending → List (List ℕ) → Type 0
-AnswersInputs (RefusesFile file) ending lines = (ending ≡ Refused) × (lines ≡ unbuilt_line file ∷ [])
-AnswersInputs (Accepted names table) ending lines = (ending ≡ Done) × ((program : List Insn) × MeetsWanted table names program × (lines ≡ filter_lines program))
+abbrev pub AnswersInputs : Request → Inputs → Ending → List (List ℕ) → Type 0
+AnswersInputs request (RefusesFile file) ending lines = (ending ≡ Refused) × (lines ≡ unbuilt_line file ∷ [])
+AnswersInputs request (Accepted names table) ending lines = AnswersThin request names table ending lines
 
-abbrev pub AnswersUnit : List ℕ → Option Files → Answer → Type 0
-AnswersUnit unit None answer = (answer.ending ≡ Done) ⊎ (answer.ending ≡ Refused)
-AnswersUnit unit (Some files) answer = AnswersInputs (inputs_of files unit) answer.ending (lines_of_answer answer)
+abbrev pub AnswersUnit : Request → Option Files → Answer → Type 0
+AnswersUnit request None answer = EndsUntold request answer.ending
+AnswersUnit request (Some files) answer = AnswersInputs request (inputs_of files (unit_asked request)) answer.ending (lines_of_answer answer)
 
 -- how a run ends whose lines were put so
 abbrev pub ending_of_put : Result (Unit {0}) SinkError → Ending → Ending

@@ -6,7 +6,8 @@ use Rattle.bpf_code.specs.declared.machine.Insn.{Insn}
 use Rattle.bpf_code.specs.declared.machine.CallData.{CallData}
 use Rattle.bpf_code.specs.Meaning.{Answers, IsCallData}
 use Rattle.call_rules.specs.declared.actions.TheConstants.{ALLOW, KILL_PROCESS}
-use Rattle.sandbox_cli.specs.ThinTable.{NamedCall, Table}
+use Rattle.kernel_model.specs.Table.{NamedCall}
+use Rattle.sandbox_cli.specs.ThinTable.{Table}
 
 -- the call has the number and one of the names
 abbrev pub is_listed : List (List ℕ) → ℕ → NamedCall → Bool

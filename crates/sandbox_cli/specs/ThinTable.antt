@@ -2,13 +2,9 @@
 use Rattle.std.specs.Prelude.{◌≡◌, ◌≤◌, ℕ, ◌==◌, ◌&&◌, not, Bool, true, IsTrue, List, [], ◌∷◌, ◌++◌, length, map, codes, Some}
 use Rattle.std.specs.List.{list_all, list_any}
 use Rattle.std.specs.Str.{bytes_eq}
+use Rattle.kernel_model.specs.Table.{NamedCall}
 use Rattle.sandbox_cli.specs.ThinWords.{lines_of, words_of, is_name}
 use Rattle.sandbox_cli.specs.Numerals.{decimal_of, hex_word}
-
--- a call's name and number
-pub record NamedCall : Type 0 where
-  pub name : List ℕ
-  pub number : ℕ
 
 pub record Table : Type 0 where
   pub arch : ℕ

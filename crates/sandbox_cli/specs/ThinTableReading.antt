@@ -5,7 +5,8 @@ use Rattle.std.specs.List.{list_all}
 use Rattle.std.specs.Str.{bytes_eq}
 use Rattle.sandbox_cli.specs.ThinWords.{lines_of, words_of, is_name}
 use Rattle.sandbox_cli.specs.Numerals.{decimal_of, hex_word}
-use Rattle.sandbox_cli.specs.ThinTable.{NamedCall, Table, stand_once, numbers_stand_once, is_called, launch_calls}
+use Rattle.kernel_model.specs.Table.{NamedCall}
+use Rattle.sandbox_cli.specs.ThinTable.{Table, stand_once, numbers_stand_once, is_called, launch_calls}
 
 abbrev pub abi_words : List (List ℕ) → Option ℕ
 abi_words (word ∷ name ∷ digits ∷ []) = cond (bytes_eq word (codes "abi") && is_name name) (hex_word digits) None

@@ -4,7 +4,8 @@ use Rattle.std.specs.declared.alloc.Global.{Global}
 use Rattle.sandbox_cli.specs.declared.thin_lines.ThinCall.{ThinCall}
 use Rattle.sandbox_cli.specs.declared.thin_lines.ThinFrame.{ThinFrame}
 use Rattle.sandbox_cli.specs.declared.thin_table.ThinTable.{ThinTable}
-use Rattle.sandbox_cli.specs.ThinTable.{NamedCall, Table}
+use Rattle.kernel_model.specs.Table.{NamedCall}
+use Rattle.sandbox_cli.specs.ThinTable.{Table}
 use Rattle.sandbox_cli.specs.ThinTableReading.{Frame}
 use denote.Ref.{Bor}
 

@@ -9,6 +9,7 @@ mod answer;
 mod command;
 mod files;
 mod filter;
+mod judge;
 mod lines;
 mod numerals;
 mod process;
@@ -16,7 +17,9 @@ mod running;
 mod status;
 #[cfg(test)]
 mod tests;
+mod thin_commands;
 mod thin_filter;
+mod thin_kernel;
 mod thin_lines;
 mod thin_table;
 mod thin_unit;

@@ -10,10 +10,10 @@ ghost use Rattle.sandbox_cli.specs.Steps.{HasReadCause, ending_of_put, lines_of_
 ghost use Rattle.sandbox_cli.specs.Texts.{words_line};
 
 use crate::answer::{Answer, Failure};
-use crate::command::{Command, parse};
-use crate::filter::answer_to_filter;
+use crate::command::parse;
 use crate::lines;
 use crate::status::{Ending, Status};
+use crate::thin_commands::answer_to_thin_command;
 use host_io::{Shelf, Sink, SinkError, write_whole};
 use std::alloc::{AllocError, Global};
 
@@ -33,14 +33,13 @@ fn no_command(alloc: Global) -> Result<Answer, AllocError>
 // The answer to the words.
 fn answer_to<S: Shelf>(alloc: Global, words: &[&str], shelf: &mut S) -> Result<Answer, Failure>
     ensures prints { IfOk result (λ answer. Prints (map (λ word. word.now) words.now) (S.told shelf.old) answer.ending (text_of_answer answer)) }
-    ensures whole { IfOk result (λ answer. IsTrue (is_whole answer.ending)) }
     ensures reads_for_a_command { IsErrOf result Failure.ReadFault → CommandReads (command_of (map (λ word. word.now) words.now)) }
     ensures map_stays { S.told shelf.new ≡ S.told shelf.old }
     ensures fault_rose { HasReadCause (S.faults shelf.old) (S.faults shelf.new) result }
 {
     match parse(words) {
         None => Ok(no_command(alloc)?),
-        Some(Command::Filter(unit)) => answer_to_filter(alloc, shelf, unit),
+        Some(command) => answer_to_thin_command(alloc, shelf, command),
     }
 }
 
@@ -70,7 +69,7 @@ fn ending_after(put: Result<(), SinkError>, ending: Ending) -> Ending
 
 /// Does what the words ask for: reads its inputs from the shelf and prints the answer to the sink.
 ///
-/// The words are those behind the program's name. The status says how it ended: with 0, 2 and 3 a whole text was
+/// The words are those behind the program's name. The status says how it ended: with 0, 2, 3 and 7 a whole text was
 /// printed, with 4 nothing, and with 5 and 6 a prefix of one.
 pub fn run<S: Shelf, K: Sink>(alloc: Global, words: &[&str], shelf: &mut S, out: &mut K) -> Status
     ensures prints_the_whole_text { IsTrue (is_whole result) → WroteWhole (Prints (map (λ word. word.now) words.now) (S.told shelf.old) result) (K.taken out.old) (K.taken out.new) }

@@ -19,9 +19,12 @@ pub enum Ending {
     WriteFault,
     /// Memory ran out, and a prefix of the text was printed.
     OutOfMemory,
+    /// The launch is refused, and that was printed.
+    LaunchRefused,
 }
 
-/// The status of a run: 0 done, 2 no command, 3 a refused input, 4 a failed read, 5 a failed write, 6 want of memory.
+/// The status of a run: 0 done, 2 no command, 3 a refused input, 4 a failed read, 5 a failed write, 6 want of
+/// memory, 7 a refused launch.
 #[derive(Clone, Copy, Debug)]
 pub struct Status {
     pub code: u8,
@@ -51,6 +54,7 @@ fn code(ending: Ending) -> u8
         Ending::ReadFault => 4,
         Ending::WriteFault => 5,
         Ending::OutOfMemory => 6,
+        Ending::LaunchRefused => 7,
     }
 }
 

@@ -30,13 +30,24 @@ fn filtered(
     unit_bytes: &[u8],
     table_bytes: &[u8],
 ) -> Result<(u8, Vec<u8>), AllocError> {
+    printed(rt, alloc, &["filter", unit], unit_bytes, table_bytes)
+}
+
+// Runs these words over these two files, and gives the status and what was printed.
+fn printed(
+    rt: &impl Abort,
+    alloc: Global,
+    words: &[&str],
+    unit_bytes: &[u8],
+    table_bytes: &[u8],
+) -> Result<(u8, Vec<u8>), AllocError> {
     let mut files = Vec::new(alloc);
     files.push(file(alloc, "etc/systemd/system/web.service", unit_bytes)?)?;
     files.push(file(alloc, "calls.txt", table_bytes)?)?;
     assert!(rt; are_files(files.as_slice()));
     let mut shelf = MemShelf::new(files, Vec::new(alloc));
     let mut sink = MemSink::new(alloc, 7, Vec::new(alloc));
-    let status = run(alloc, &["filter", unit], &mut shelf, &mut sink);
+    let status = run(alloc, words, &mut shelf, &mut sink);
     Ok((status.code, sink.taken().to_vec(alloc)?))
 }
 
@@ -120,6 +131,44 @@ fn a_filter_is_printed_or_its_first_input_is_refused(rt: HostRuntime) -> Result<
         )?;
         assert_eq!(rt; status, code, "{shows}");
         assert_eq!(rt; taken.as_slice(), want.as_bytes(), "{shows}");
+    }
+    Ok(())
+}
+
+const REPORT: &str =
+    "unit web.service\nopen call read\n  1 read\ndenied call write\nopen call getpid\n  1 getpid\nsummary denied 1 open 2\n";
+
+#[test]
+fn a_unit_is_judged_or_its_launch_is_refused(rt: HostRuntime) -> Result<(), Fail> {
+    let alloc = rt.alloc();
+    let no_execve = TABLE.replace(alloc, "@default execve exit", "@default exit")?;
+    for (shows, unit, table, code, want) in [
+        ("a report", "web.service", TABLE, 0, REPORT),
+        (
+            "without execve the launch is killed at its last step",
+            "web.service",
+            no_execve.as_str(),
+            7,
+            "unit web.service\nlaunch killed step 5\n",
+        ),
+        (
+            "a refused name",
+            "web.socket",
+            TABLE,
+            3,
+            "refused etc/systemd/system/web.socket unbuilt\n",
+        ),
+        ("a refused table", "web.service", "abi", 3, TABLE_REFUSED),
+    ] {
+        let (status, text) = printed(
+            &rt,
+            alloc,
+            &["judge", unit],
+            UNIT.as_bytes(),
+            table.as_bytes(),
+        )?;
+        assert!(rt; status == code, "{shows}: status {status}");
+        assert!(rt; text.as_slice() == want.as_bytes(), "{shows}");
     }
     Ok(())
 }

@@ -1,7 +1,7 @@
 use Rattle.std.proofs.Common.{map, refl}
 use Rattle.sandbox_cli.specs.Prints.{Prints}
 use Rattle.sandbox_cli.specs.Steps.{text_of_answer, ending_of_put}
-use Rattle.sandbox_cli.proofs.Outcomes.{wrote_nothing, prefix_by_put, ends_by_put, causes_by_put, completes_by}
+use Rattle.sandbox_cli.proofs.Outcomes.{wrote_nothing, prefix_by_put, ends_by_put, causes_by_put, completes_by, prints_whole}
 use Rattle.sandbox_cli.proofs.running.run.Goals as goal
 
 pub returns-in-Err-ReadFault-clause-prints_a_prefix : goal.returns-in-Err-ReadFault-clause-prints_a_prefix
@@ -29,4 +29,4 @@ returns-in-Ok-clause-completes g c =
     (g.S.Shelf.faults c.args.shelf.now) (g.S.Shelf.faults c.answer_to.new.shelf) (g.K.Sink.faults c.args.out.now) (g.K.Sink.faults c.write_lines-put.new.out) (g.K.Sink.taken c.args.out.now) (g.K.Sink.taken c.write_lines-put.new.out)
     (ends_by_put (map (λ word. word.now) c.args.words.now) (g.S.Shelf.told c.args.shelf.now) c.write_lines-put.result c.in-Ok.answer.ending (text_of_answer c.in-Ok.answer) c.in-Ok.ensures.prints)
     (causes_by_put (g.S.Shelf.faults c.args.shelf.now) (g.S.Shelf.faults c.answer_to.new.shelf) (g.K.Sink.faults c.args.out.now) (g.K.Sink.faults c.write_lines-put.new.out) (g.K.Sink.taken c.args.out.now) (g.K.Sink.taken c.write_lines-put.new.out)
-    c.write_lines-put.result c.in-Ok.answer.ending c.in-Ok.ensures.whole c.in-Ok.ensures.fault_rose.later c.write_lines-put.ensures.fault_rose))
+    c.write_lines-put.result c.in-Ok.answer.ending (prints_whole (map (λ word. word.now) c.args.words.now) (g.S.Shelf.told c.args.shelf.now) c.in-Ok.answer.ending (text_of_answer c.in-Ok.answer) c.in-Ok.ensures.prints) c.in-Ok.ensures.fault_rose.later c.write_lines-put.ensures.fault_rose))
