@@ -5,17 +5,22 @@ use Rattle.bpf_code.specs.declared.decision.Decision.{Decision}
 use Rattle.bpf_code.specs.declared.decision.Decision.TheVariants.{Pass, Errno, Kill}
 use Rattle.bpf_code.specs.declared.machine.Insn.{Insn}
 use Rattle.bpf_code.specs.Reading.{Accepts}
-use Rattle.bpf_code.specs.Stack.{room_of}
+use Rattle.bpf_code.specs.Meaning.{Answers}
+use Rattle.bpf_code.specs.Stack.{answer_of, deciding, decision_by, room_of}
 use Rattle.bpf_code.proofs.Computed.{program_of-accepts}
+use Rattle.bpf_code.proofs.Stacks.{answer_is}
 use Rattle.kernel_model.specs.declared.call.Reply.{Reply}
 use Rattle.kernel_model.specs.declared.call.Reply.TheVariants as reply
 use Rattle.kernel_model.specs.declared.call.ThinCall.{ThinCall}
 use Rattle.kernel_model.specs.declared.errnos.TheConstants.{ENOMEM}
 use Rattle.kernel_model.specs.declared.outcome.Ending.{Ending}
 use Rattle.kernel_model.specs.declared.outcome.Ending.TheVariants as ending
+use Rattle.kernel_model.specs.declared.outcome.Launch.{Launch}
+use Rattle.kernel_model.specs.declared.outcome.Launch.TheVariants as launch
 use Rattle.kernel_model.specs.declared.process.Process.{Process}
 use Rattle.kernel_model.specs.declared.rules.Rule.TheVariants.{Seccomp, Plain}
-use Rattle.kernel_model.specs.Launch.{EndsWith, StopsAt, ending_at, ending_by, execve_decision, bare_step, filter_step, launch_calls, launched_world, can_launch}
+use Rattle.kernel_model.specs.Launch.{EndsWith, LaunchEnds, LaunchesTo, StopsAt, ending_at, ending_by, execve_data, execve_decision, bare_step, filter_step, launch_calls, launched_world, outcome_of, can_launch}
+use Rattle.kernel_model.specs.Laws.{LaunchesEndAlike}
 use Rattle.kernel_model.specs.Rules.{answer_by, installed, on_caller, rule_at}
 use Rattle.kernel_model.specs.Runs.{AllDone, IsDone, moments, run}
 use Rattle.kernel_model.specs.Step.{decided, replied, step}
@@ -128,3 +133,24 @@ pub ended_by_execve : (arch : ℕ) (calls given : List NamedCall) (program : Lis
 ended_by_execve arch calls given program start after list made ended table can begins same (bytes, reads, are) all_made ends =
     let calls_are : map call_view made ≡ launch_calls calls bytes = ap (map call_view) all_made ∙ are ∙ ap (λ c. launch_calls c bytes) (same ∙ ap (λ w. w.calls) begins) in
     sym (ends_is start after (map call_view made) ended ends) ∙ ap (λ w. ending_of w (map call_view made) 1) begins ∙ ap (λ l. ending_of (start_world arch calls) l 1) calls_are ∙ launch_ending arch calls bytes program table can reads
+
+-- a launch ends as its calls do
+outcome_ends : (start : World) (list : List Call) (launched : Launch) → LaunchEnds start list launched → (after : World) × EndsWith start list after (outcome_of launched)
+outcome_ends start list (launch.Launched after) h = (after, h)
+outcome_ends start list (launch.Refused number errno) h = (start, h)
+outcome_ends start list (launch.Killed number) h = (start, h)
+
+outcome_by_execve : (arch : ℕ) (calls : List NamedCall) (program : List Insn) (launched : Launch) → IsTable calls → IsTrue (can_launch calls) → LaunchesTo arch calls program launched → outcome_of launched ≡ ending_by (execve_decision arch calls program)
+outcome_by_execve arch calls program launched table can launches =
+    let ends = outcome_ends (start_world arch calls) (launch_calls calls launches.bytes) launched launches.ends in
+    sym (ends_is (start_world arch calls) ends.0 (launch_calls calls launches.bytes) (outcome_of launched) ends.1) ∙ launch_ending arch calls launches.bytes program table can launches.reads
+
+same_decision : (arch : ℕ) (calls : List NamedCall) (program other : List Insn) (answer : ℕ) → Answers program (execve_data arch calls) answer → Answers other (execve_data arch calls) answer → execve_decision arch calls other ≡ execve_decision arch calls program
+same_decision arch calls program other answer first second =
+    ap (λ a. decision_by (deciding (a ∷ []))) (answer_is other (execve_data arch calls) answer second ∙ sym (answer_is program (execve_data arch calls) answer first))
+
+pub launches_end_alike : LaunchesEndAlike
+launches_end_alike arch calls program other answer launched second table can first_answers other_answers first others =
+    outcome_by_execve arch calls other second table can others
+    ∙ ap ending_by (same_decision arch calls program other answer first_answers other_answers)
+    ∙ sym (outcome_by_execve arch calls program launched table can first)

@@ -85,7 +85,7 @@ data_fits world call arch fit = record { nr = fit.nr; arch = arch; ip = omega ar
 zero_words : All (λ arg. arg < 2 ^ 64) (replicate 6 0)
 zero_words = All-replicate (λ arg. arg < 2 ^ 64) 6 0 (omega arith)
 
-bare_data_fits : (world : World) (nr : ℕ) → world.arch < 2 ^ 32 → nr < 2 ^ 32 → IsCallData (bare_data world nr)
+pub bare_data_fits : (world : World) (nr : ℕ) → world.arch < 2 ^ 32 → nr < 2 ^ 32 → IsCallData (bare_data world nr)
 bare_data_fits world nr arch lt = record { nr = lt; arch = arch; ip = omega arith; count = refl; args = zero_words }
 
 not_reached : (start : World) (nr : ℕ) (programs : List (List Insn)) → start.arch < 2 ^ 32 → AreByNumber programs → (decision_on programs (bare_data start nr) ≡ Pass → ⊥)

@@ -3,6 +3,7 @@ use Rattle.std.specs.Prelude.{◌≡◌, ℕ, ◌+◌, Bool, true, codes, List, 
 use Rattle.std.specs.List.{list_all}
 use Rattle.bpf_code.specs.declared.decision.Decision.{Decision}
 use Rattle.bpf_code.specs.declared.decision.Decision.TheVariants.{Pass, Errno, Kill}
+use Rattle.bpf_code.specs.declared.machine.CallData.{CallData}
 use Rattle.bpf_code.specs.declared.machine.Insn.{Insn}
 use Rattle.bpf_code.specs.Reading.{Accepts}
 use Rattle.bpf_code.specs.Stack.{decision_on}
@@ -66,6 +67,12 @@ LaunchEnds start list (Launched after) = AllDone (moments start list) × (after 
 LaunchEnds start list (Refused number errno) = StopsAt start list number (reply.Refused errno)
 LaunchEnds start list (Killed number) = StopsAt start list number reply.Killed
 
+-- how a launch ends, without the world that it leaves
+abbrev pub outcome_of : Launch → Ending
+outcome_of (Launched after) = ending.Done
+outcome_of (Refused number errno) = ending.Refused number errno
+outcome_of (Killed number) = ending.Killed number
+
 -- the launch of a program, in the bytes that are read as it
 pub record LaunchesTo (arch : ℕ) (calls : List NamedCall) (program : List Insn) (launch : Launch) : Type 0 where
   pub bytes : List ℕ
@@ -85,6 +92,10 @@ IfLaunched P (Killed number) = Unit {0}
 -- what the program decides about execve, once it is installed
 abbrev pub execve_decision : ℕ → List NamedCall → List Insn → Decision
 execve_decision arch calls program = decision_on (program ∷ []) (bare_data (launched_world arch calls program) (number_of calls (codes "execve")))
+
+-- the data of a launch's execve
+abbrev pub execve_data : ℕ → List NamedCall → CallData
+execve_data arch calls = bare_data (start_world arch calls) (number_of calls (codes "execve"))
 
 -- the four steps before execve are always done, so how a launch ends goes by that decision alone
 abbrev pub ending_by : Decision → Ending

@@ -1,5 +1,5 @@
 // Laws of the kernel: each function does nothing, and its contract is the law.
-ghost use Rattle.kernel_model.specs.Laws.{LaunchProgramsStay, PlainNamesArePlainCalls, RefusedChangesNothing};
+ghost use Rattle.kernel_model.specs.Laws.{LaunchProgramsStay, LaunchesEndAlike, PlainNamesArePlainCalls, RefusedChangesNothing};
 
 /// A call that is refused changes nothing.
 pub fn refused_changes_nothing()
@@ -14,4 +14,9 @@ pub fn launch_programs_stay()
 /// A call of the table with a plain name has a verdict.
 pub fn plain_names_are_plain_calls()
     ensures { PlainNamesArePlainCalls }
+{}
+
+/// Programs that answer the launch's execve alike are launched alike.
+pub fn launches_end_alike()
+    ensures { LaunchesEndAlike }
 {}

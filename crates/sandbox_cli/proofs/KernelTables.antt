@@ -1,6 +1,8 @@
 -- A thin table as the kernel's, and the programs of a thin unit.
 use Rattle.std.proofs.Common.{◌≡◌, ℕ, ◌<◌, ◌==◌, Bool, true, false, cond, List, [], ◌∷◌, ◌++◌, length, get_or, drop, map, refl, sym, ap, ◌∙◌, inl, inr, arith}
-use Rattle.std.specs.Prelude.{◌&&◌, ◌||◌, not, codes, IsTrue, All}
+use Rattle.std.specs.Prelude.{◌&&◌, ◌||◌, ◌^◌, not, codes, find, nat_lt, IsTrue, All, Option, Some, None}
+use Rattle.std.specs.Char.{is_ascii_digit}
+use Rattle.std.specs.Option.{option_map_or}
 use Rattle.std.specs.List.{list_all, list_any}
 use Rattle.std.specs.Str.{bytes_eq, IsUtf8}
 use Rattle.std.proofs.lemmas.Bool.Decides.{nat_tests}
@@ -13,15 +15,21 @@ use Rattle.std.proofs.lemmas.Str.Ascii.{IsAscii-from_all}
 use Rattle.bpf_code.specs.declared.machine.Insn.{Insn}
 use Rattle.bpf_code.specs.Refusing.{IsPlain}
 use Rattle.call_rules.specs.declared.actions.TheConstants.{ALLOW, KILL_PROCESS}
+use Rattle.kernel_model.specs.declared.outcome.Launch.{Launch}
 use Rattle.kernel_model.specs.Judged.{AnswersByNumber}
-use Rattle.kernel_model.specs.Launch.{can_launch}
-use Rattle.kernel_model.specs.Table.{IsTable, NamedCall, is_called, named, numbered, stand_apart}
+use Rattle.kernel_model.specs.Launch.{LaunchesTo, can_launch, execve_data, outcome_of}
+use Rattle.kernel_model.specs.Table.{IsTable, NamedCall, is_called, named, number_of, numbered, stand_apart}
+use Rattle.kernel_model.specs.World.{start_world}
+use Rattle.kernel_model.proofs.Endings.{launches_end_alike}
+use Rattle.kernel_model.proofs.Judged.{bare_data_fits}
 use Rattle.sandbox_cli.specs.declared.thin_lines.ThinCall.{ThinCall}
 use Rattle.sandbox_cli.specs.ThinTable.{Table, IsThinTable, AreCallLines, stand_once, numbers_stand_once, launch_calls}
-use Rattle.sandbox_cli.specs.ThinFilter.{is_listed, MeetsWanted}
+use Rattle.sandbox_cli.specs.Numerals.{hex_word, is_hex_digit, number_from, number_of as digits_number}
+use Rattle.sandbox_cli.specs.Prints.{AllLaunch}
+use Rattle.sandbox_cli.specs.ThinFilter.{is_listed, wanted_action, MeetsWanted}
 use Rattle.sandbox_cli.specs.ThinViews.{call_view}
 use Rattle.sandbox_cli.specs.ThinWords.{is_name, is_name_byte}
-use Rattle.sandbox_cli.proofs.ThinUnits.{both_true}
+use Rattle.sandbox_cli.proofs.ThinUnits.{both_true, some_by}
 use Rattle.sandbox_cli.proofs.WantedNumbers.{same_tests}
 
 -- a name is ASCII text
@@ -118,3 +126,32 @@ by_number table names program meets = record {
   gives = λ input fit. meets input fit;
   plain = λ input fit. is_plain (input.arch == table.arch) (list_any (is_listed (names ++ table.default_group) input.nr) table.calls);
 }
+
+-- the numbers of a table fit their type
+number_fits : (radix : ℕ) (is_digit : ℕ → Bool) (digits : List ℕ) (number : ℕ) → digits_number radix is_digit digits ≡ Some number → number < 2 ^ 32
+number_fits radix is_digit digits number e =
+    let read = some_by _ (Some (number_from radix 0 digits)) number e in
+    let below : nat_lt (number_from radix 0 digits) (2 ^ 32) ≡ true = (both_true _ _ read.0).1 in
+    let same : number_from radix 0 digits ≡ number = cc in
+    rw (← same) (grind (arith, nat_tests))
+
+arch_fits : (digits : List ℕ) (arch : ℕ) → hex_word digits ≡ Some arch → arch < 2 ^ 32
+arch_fits digits arch e = number_fits 16 is_hex_digit digits arch (some_by (length digits == 8) (digits_number 16 is_hex_digit digits) arch e).1
+
+first_fits : (here : Bool) (call : NamedCall) (others : Option NamedCall) → call.number < 2 ^ 32 → option_map_or (λ c. c.number) others 0 < 2 ^ 32 → option_map_or (λ c. c.number) (cond here (Some call) others) 0 < 2 ^ 32
+first_fits true call others fits rest = fits
+first_fits false call others fits rest = rest
+
+named_fits : (lines : List (List ℕ)) (calls : List NamedCall) (name : List ℕ) → AreCallLines lines calls → number_of calls name < 2 ^ 32
+named_fits [] [] name h = omega arith
+named_fits [] (call ∷ calls) name h = absurd h
+named_fits (line ∷ lines) [] name h = absurd h
+named_fits (line ∷ lines) (call ∷ calls) name h =
+    first_fits (named name call) call (find (named name) calls) (number_fits 10 is_ascii_digit h.0.digits call.number h.0.reads) (named_fits lines calls name h.1)
+
+-- all programs of a unit answer execve alike, so they are launched alike
+pub all_launch : (bytes : List ℕ) (table : Table) (names : List (List ℕ)) (program : List Insn) (launched : Launch) → IsThinTable bytes table → MeetsWanted table names program → LaunchesTo table.arch table.calls program launched → AllLaunch table names (outcome_of launched)
+all_launch bytes table names program launched thin meets launches = λ other other_meets second seconds.
+    let input = execve_data table.arch table.calls in
+    let fits = bare_data_fits (start_world table.arch table.calls) (number_of table.calls (codes "execve")) (arch_fits thin.abi.digits table.arch thin.abi.reads) (named_fits thin.call_lines table.calls (codes "execve") thin.calls) in
+    launches_end_alike table.arch table.calls program other (wanted_action table names input) launched second (is_kernel_table bytes table thin) (has_launch bytes table thin) (meets input fits) (other_meets input fits) launches seconds

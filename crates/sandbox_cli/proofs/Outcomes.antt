@@ -17,8 +17,8 @@ use Rattle.sandbox_cli.specs.Report.{Reports}
 use Rattle.bpf_code.specs.declared.machine.Insn.{Insn}
 use Rattle.kernel_model.specs.declared.outcome.Launch.{Launch}
 use Rattle.kernel_model.specs.declared.outcome.Launch.TheVariants as launch
-use Rattle.kernel_model.specs.Launch.{LaunchesTo}
-use Rattle.sandbox_cli.specs.Prints.{SaysUnit, SaysTable, AnswersThin, PrintsThin, refuses_the_unit, refuses_the_table, answers, EndsUntold, PrintsCommand, Prints, AcceptsCommand, Accepts, CommandReads, EndsRequest, EndsCommand, EndsBy}
+use Rattle.kernel_model.specs.Launch.{LaunchesTo, outcome_of}
+use Rattle.sandbox_cli.specs.Prints.{SaysUnit, SaysTable, AllLaunch, AnswersThin, PrintsThin, refuses_the_unit, refuses_the_table, answers, EndsUntold, PrintsCommand, Prints, AcceptsCommand, Accepts, CommandReads, EndsRequest, EndsCommand, EndsBy}
 use Rattle.sandbox_cli.specs.Runs.{WroteWhole, WrotePrefix, HasFaultCause, Completes}
 use Rattle.sandbox_cli.specs.Steps.{ending_of_put}
 use Rattle.sandbox_cli.proofs.ThinAnswers.{answers_end}
@@ -45,19 +45,19 @@ module _ (admits : Ending → List ℕ → Type 0) (old new : Option (List ℕ))
   whole_by_put (Err Memory) ending text admitted takes whole = cc
 
 -- what is printed ends as the inputs say
-ends_report : (files : Files) (unit : List ℕ) (names : List (List ℕ)) (table : Table) (program : List Insn) (launched : Launch) (ending : Ending) (lines : List (List ℕ)) → SaysUnit files unit names → SaysTable files table → MeetsWanted table names program → LaunchesTo table.arch table.calls program launched → Reports unit table.calls launched ending lines → EndsRequest (Some files) (JudgeOf unit) ending
-ends_report files unit names table program (launch.Launched world) ending lines says table_says meets launches reports =
-    subst (EndsRequest (Some files) (JudgeOf unit)) (sym reports.0) (record { names = names; table = table; says_unit = says; says_table = table_says; program = program; meets = meets; launched = launch.Launched world; launches = launches; ends = refl })
-ends_report files unit names table program (launch.Refused step errno) ending lines says table_says meets launches reports =
-    subst (EndsRequest (Some files) (JudgeOf unit)) (sym reports.0) (record { names = names; table = table; says_unit = says; says_table = table_says; program = program; meets = meets; launched = launch.Refused step errno; launches = launches; ends = refl })
-ends_report files unit names table program (launch.Killed step) ending lines says table_says meets launches reports =
-    subst (EndsRequest (Some files) (JudgeOf unit)) (sym reports.0) (record { names = names; table = table; says_unit = says; says_table = table_says; program = program; meets = meets; launched = launch.Killed step; launches = launches; ends = refl })
+ends_report : (files : Files) (unit : List ℕ) (names : List (List ℕ)) (table : Table) (program : List Insn) (launched : Launch) (ending : Ending) (lines : List (List ℕ)) → SaysUnit files unit names → SaysTable files table → MeetsWanted table names program → LaunchesTo table.arch table.calls program launched → AllLaunch table names (outcome_of launched) → Reports unit table.calls launched ending lines → EndsRequest (Some files) (JudgeOf unit) ending
+ends_report files unit names table program (launch.Launched world) ending lines says table_says meets launches alike reports =
+    subst (EndsRequest (Some files) (JudgeOf unit)) (sym reports.0) (record { names = names; table = table; says_unit = says; says_table = table_says; program = program; meets = meets; launched = launch.Launched world; launches = launches; all_launch = alike; ends = refl })
+ends_report files unit names table program (launch.Refused step errno) ending lines says table_says meets launches alike reports =
+    subst (EndsRequest (Some files) (JudgeOf unit)) (sym reports.0) (record { names = names; table = table; says_unit = says; says_table = table_says; program = program; meets = meets; launched = launch.Refused step errno; launches = launches; all_launch = alike; ends = refl })
+ends_report files unit names table program (launch.Killed step) ending lines says table_says meets launches alike reports =
+    subst (EndsRequest (Some files) (JudgeOf unit)) (sym reports.0) (record { names = names; table = table; says_unit = says; says_table = table_says; program = program; meets = meets; launched = launch.Killed step; launches = launches; all_launch = alike; ends = refl })
 
 ends_answered : (files : Files) (request : Request) (names : List (List ℕ)) (table : Table) (ending : Ending) (lines : List (List ℕ)) → SaysUnit files (unit_asked request) names → SaysTable files table → AnswersThin request names table ending lines → EndsRequest (Some files) request ending
 ends_answered files (FilterOf unit) names table ending lines says table_says said =
     subst (EndsRequest (Some files) (FilterOf unit)) (sym said.0) (names, table, says, table_says)
-ends_answered files (JudgeOf unit) names table ending lines says table_says (program, meets, (launched, launches, reports)) =
-    ends_report files unit names table program launched ending lines says table_says meets launches reports
+ends_answered files (JudgeOf unit) names table ending lines says table_says (program, meets, (launched, launches, alike, reports)) =
+    ends_report files unit names table program launched ending lines says table_says meets launches alike reports
 
 ends_thin : (files : Files) (request : Request) (ending : Ending) (text : List ℕ) → PrintsThin files request ending text → EndsRequest (Some files) request ending
 ends_thin files request _ _ (refuses_the_unit none) = λ accepted. none accepted.0 accepted.2

@@ -7,6 +7,7 @@ use Rattle.kernel_model.specs.declared.outcome.Launch.{Launch}
 use Rattle.kernel_model.specs.declared.outcome.Launch.TheVariants as launch
 use Rattle.kernel_model.specs.declared.table.ThinName.{ThinName}
 use Rattle.kernel_model.specs.Judged.{IsLaunched, IsPlainCall, bare_call}
+use Rattle.sandbox_cli.proofs.KernelTables.{all_launch}
 use Rattle.kernel_model.specs.Launch.{IfLaunched, LaunchesTo, launched_world}
 use Rattle.kernel_model.specs.Plain.{is_plain_name}
 use Rattle.kernel_model.specs.Runs.{IsDenied, Shows}
@@ -20,7 +21,7 @@ use Rattle.sandbox_cli.specs.Prints.{AnswersThin}
 use Rattle.sandbox_cli.specs.Requests.{JudgeOf}
 use Rattle.sandbox_cli.specs.Steps.{lines_of_answer}
 use Rattle.sandbox_cli.specs.ThinFilter.{MeetsWanted}
-use Rattle.sandbox_cli.specs.ThinTable.{Table}
+use Rattle.sandbox_cli.specs.ThinTable.{Table, IsThinTable}
 use Rattle.sandbox_cli.specs.Report.{nothing, is_denied, is_open, Reports}
 use Rattle.sandbox_cli.specs.ReportSteps.{CanBeAsked, named_view, so_far}
 use Rattle.sandbox_cli.specs.Texts.{denied_line, open_line, shown_line}
@@ -88,9 +89,10 @@ told_of unit arch calls program launched (Ok answer) launches is reports = (laun
 told_of unit arch calls program launched (Err error) launches is reports = tt
 
 -- the same, for all that the unit says
-pub reported : (unit : List ℕ) (table : Table) (calls : List NamedCall) (program : List Insn) (result : Result Answer AllocError) → calls ≡ table.calls
+pub reported : (bytes unit : List ℕ) (table : Table) (calls : List NamedCall) (program : List Insn) (result : Result Answer AllocError) → IsThinTable bytes table → calls ≡ table.calls
     → IfOk result (λ answer. (launched : Launch) × LaunchesTo table.arch calls program launched × Reports unit calls launched answer.ending (lines_of_answer answer))
     → IfOk result (λ answer. (names : List (List ℕ)) → MeetsWanted table names program → AnswersThin (JudgeOf unit) names table answer.ending (lines_of_answer answer))
-reported unit table calls program (Ok answer) e (launched, launches, reports) = λ names meets.
-    (program, meets, (launched, subst (λ c. LaunchesTo table.arch c program launched) e launches, subst (λ c. Reports unit c launched answer.ending (lines_of_answer answer)) e reports))
-reported unit table calls program (Err error) e told = tt
+reported bytes unit table calls program (Ok answer) thin e (launched, launches, reports) = λ names meets.
+    let launches_so = subst (λ c. LaunchesTo table.arch c program launched) e launches in
+    (program, meets, (launched, launches_so, all_launch bytes table names program launched thin meets launches_so, subst (λ c. Reports unit c launched answer.ending (lines_of_answer answer)) e reports))
+reported bytes unit table calls program (Err error) thin e told = tt

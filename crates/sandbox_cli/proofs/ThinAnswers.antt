@@ -36,7 +36,7 @@ reports_end unit calls (launch.Killed step) ending lines reports = inr (inr (rep
 
 pub answers_end : (request : Request) (names : List (List ℕ)) (table : Table) (ending : Ending) (lines : List (List ℕ)) → AnswersThin request names table ending lines → EndsUntold request ending
 answers_end (FilterOf unit) names table ending lines said = inl said.0
-answers_end (JudgeOf unit) names table ending lines (program, meets, (launched, launches, reports)) = reports_end unit table.calls launched ending lines reports
+answers_end (JudgeOf unit) names table ending lines (program, meets, (launched, launches, alike, reports)) = reports_end unit table.calls launched ending lines reports
 
 module _ (request : Request) where
   answers_refused : (inputs : Inputs) (file : List ℕ) (answer : Answer) → inputs ≡ RefusesFile file → answer.ending ≡ Refused → lines_of_answer answer ≡ unbuilt_line file ∷ [] → AnswersInputs request inputs answer.ending (lines_of_answer answer)

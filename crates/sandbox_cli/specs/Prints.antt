@@ -5,7 +5,8 @@ use Rattle.std.specs.List.{concat}
 use Rattle.bpf_code.specs.declared.machine.Insn.{Insn}
 use Rattle.kernel_model.specs.declared.outcome.Launch.{Launch}
 use Rattle.kernel_model.specs.declared.outcome.Launch.TheVariants as launch
-use Rattle.kernel_model.specs.Launch.{LaunchesTo}
+use Rattle.kernel_model.specs.declared.outcome.Ending.{Ending as Outcome}
+use Rattle.kernel_model.specs.Launch.{LaunchesTo, outcome_of}
 use Rattle.sandbox_cli.specs.declared.status.Ending.{Ending}
 use Rattle.sandbox_cli.specs.declared.status.Ending.TheVariants.{Done, NoCommand, Refused, ReadFault, WriteFault, OutOfMemory, LaunchRefused}
 use Rattle.sandbox_cli.specs.Requests.{Request, FilterOf, JudgeOf, command_of, unit_asked}
@@ -38,11 +39,15 @@ pub record SaysTable (files : Files) (table : Table) : Type 0 where
   pub file : file_of files table_path ≡ Some bytes
   pub is : IsThinTable bytes table
 
+-- every program that decides every call as the unit says is launched so: all steps are done, or this one is the first that is not
+abbrev pub AllLaunch : Table → List (List ℕ) → Outcome → Type 0
+AllLaunch table names outcome = (program : List Insn) → MeetsWanted table names program → (launched : Launch) → LaunchesTo table.arch table.calls program launched → outcome_of launched ≡ outcome
+
 -- the lines of a command whose inputs are accepted: `filter` prints any program that decides every call as the unit says,
--- `judge` reports the launch of such a program
+-- `judge` reports the launch of such a program, which ends as that of every other
 abbrev pub AnswersThin : Request → List (List ℕ) → Table → Ending → List (List ℕ) → Type 0
 AnswersThin (FilterOf unit) names table ending lines = (ending ≡ Done) × ((program : List Insn) × MeetsWanted table names program × (lines ≡ filter_lines program))
-AnswersThin (JudgeOf unit) names table ending lines = (program : List Insn) × MeetsWanted table names program × ((launched : Launch) × LaunchesTo table.arch table.calls program launched × Reports unit table.calls launched ending lines)
+AnswersThin (JudgeOf unit) names table ending lines = (program : List Insn) × MeetsWanted table names program × ((launched : Launch) × LaunchesTo table.arch table.calls program launched × AllLaunch table names (outcome_of launched) × Reports unit table.calls launched ending lines)
 
 -- a command refuses the first input that is not thin, or answers what both say
 pub data PrintsThin (files : Files) (request : Request) : Ending → List ℕ → Type 0 where
@@ -98,7 +103,7 @@ is_through (launch.Launched world) = true
 is_through (launch.Refused step errno) = false
 is_through (launch.Killed step) = false
 
--- the inputs are accepted, and the launch of a program that decides every call as the unit says ends so
+-- the inputs are accepted, and the launch of a program that decides every call as the unit says, and so of every one, ends so
 pub record Launches (files : Files) (unit : List ℕ) (through : Bool) : Type 0 where
   pub names : List (List ℕ)
   pub table : Table
@@ -108,6 +113,7 @@ pub record Launches (files : Files) (unit : List ℕ) (through : Bool) : Type 0 
   pub meets : MeetsWanted table names program
   pub launched : Launch
   pub launches : LaunchesTo table.arch table.calls program launched
+  pub all_launch : AllLaunch table names (outcome_of launched)
   pub ends : is_through launched ≡ through
 
 -- the inputs are accepted, and where the command makes a launch, it ends so

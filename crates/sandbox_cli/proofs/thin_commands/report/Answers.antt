@@ -25,5 +25,5 @@ answer-requires-clause-by_number c = by_number (table_view c.args.table.now) c.r
 
 pub returns : goal.returns
 returns c = record {
-  answers = reported c.args.unit.now (table_view c.args.table.now) _ c.args.program.now c.answer.result (c.in_ok-calls.ensures ∙ ap (map call_view) c.as_slice.ensures.value) c.answer.ensures;
+  answers = reported c.requires.table.0 c.args.unit.now (table_view c.args.table.now) _ c.args.program.now c.answer.result c.requires.table.1 (c.in_ok-calls.ensures ∙ ap (map call_view) c.as_slice.ensures.value) c.answer.ensures;
 }
