@@ -1,12 +1,13 @@
 -- The numbers of the listed calls, and a program that allows them.
-use Rattle.std.proofs.Common.{◌≡◌, ℕ, zero, suc, ◌≤◌, Bool, true, false, cond, eqb, Some, List, [], ◌∷◌, ◌++◌, length, map, find, refl, sym, ap, ◌∙◌, subst, arith}
-use Rattle.std.specs.Prelude.{◌||◌, ◌&&◌}
+use Rattle.std.proofs.Common.{◌≡◌, ℕ, ◌≤◌, Bool, true, false, cond, eqb, Some, List, [], ◌∷◌, ◌++◌, length, map, find, refl, sym, ap, ◌∙◌, subst, arith}
+use Rattle.std.specs.Prelude.{◌||◌, ◌&&◌, sum_by, All}
 use Rattle.std.specs.Option.{option_map_or}
-use Rattle.std.specs.List.{list_any, dedup, AllPass}
+use Rattle.std.specs.List.{list_any, dedup}
 use Rattle.std.specs.Str.{bytes_eq}
 use Rattle.std.specs.Cmp.{IsEquivalence}
 use Rattle.std.proofs.lemmas.Bool.Decides.{nat_tests}
 use Rattle.std.proofs.lemmas.List.{map-append}
+use Rattle.std.proofs.lemmas.List.Elements.{All-map}
 use Rattle.std.proofs.lemmas.List.Kept.{Contains-dedup_nat, Contains-from_dedup}
 use Rattle.std.proofs.lemmas.Map.Views.{Contains-from_any, list_any-from_Contains}
 use Rattle.bpf_code.specs.declared.machine.CallData.{CallData}
@@ -14,7 +15,7 @@ use Rattle.bpf_code.specs.declared.machine.Insn.{Insn}
 use Rattle.bpf_code.specs.Meaning.{Answers}
 use Rattle.call_rules.specs.declared.actions.TheConstants.{ALLOW, KILL_PROCESS}
 use Rattle.call_rules.specs.Action.{call_action}
-use Rattle.seccomp_compile.specs.Compiled.{is_caseless, CanCompile, Decides}
+use Rattle.seccomp_compile.specs.Compiled.{CanCompile, Decides, HaveFewTests}
 use Rattle.sandbox_cli.specs.declared.thin_lines.ThinCall.{ThinCall}
 use Rattle.sandbox_cli.specs.ThinTable.{Table}
 use Rattle.sandbox_cli.specs.ThinFilter.{is_listed, wanted_action, MeetsWanted}
@@ -54,10 +55,15 @@ pub length-allow : (numbers : List ℕ) → length (map allow numbers) ≡ lengt
 length-allow [] = refl
 length-allow (n ∷ numbers) = omega (arith, length-allow numbers)
 
-caseless : (numbers : List ℕ) → AllPass is_caseless (map allow numbers)
-caseless [] k call below = absurd (omega arith)
-caseless (n ∷ numbers) zero call below = refl
-caseless (n ∷ numbers) (suc k) call below = caseless numbers k call (omega arith)
+no_cases : (numbers : List ℕ) → sum_by (λ call. length call.cases) (map allow numbers) ≡ 0
+no_cases [] = refl
+no_cases (n ∷ numbers) = no_cases numbers
+
+nothing_tested : HaveFewTests []
+nothing_tested k case below = absurd (omega arith)
+
+no_tests : (numbers : List ℕ) → All (λ call. HaveFewTests call.cases) (map allow numbers)
+no_tests numbers = All-map (λ call. HaveFewTests call.cases) allow numbers (λ k number below. nothing_tested)
 
 pub found : (numbers : List ℕ) (input : CallData) → option_map_or (call_action input) (find (λ call. eqb call.number input.nr) (map allow numbers)) KILL_PROCESS ≡ cond (list_any (λ m. eqb input.nr m) numbers) ALLOW KILL_PROCESS
 found [] input = refl
@@ -89,7 +95,7 @@ meets arch names group listed calls numbers program is members decides input fit
     (decides input fits)
 
 pub can_compile : (arch : ℕ) (numbers : List ℕ) → length numbers ≤ 512 → CanCompile (record { arch = arch; calls = map allow numbers; rest = KILL_PROCESS })
-can_compile arch numbers few = record { calls = omega (arith, length-allow numbers); caseless = caseless numbers }
+can_compile arch numbers few = record { calls = omega (arith, length-allow numbers); cases = omega (arith, no_cases numbers); tests = no_tests numbers }
 
 pub meets_same : (table : Table) (names names' : List (List ℕ)) (program : List Insn) → names ≡ names' → MeetsWanted table names program → MeetsWanted table names' program
 meets_same table names names' program e meets input fits = subst (Answers program input) (ap (λ n. wanted_action table n input) e) (meets input fits)

@@ -1,2 +1,4 @@
+pub mod Lengths
+pub mod Emitted
 pub mod Accepted
 pub mod Correct

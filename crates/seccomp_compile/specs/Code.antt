@@ -1,28 +1,73 @@
 -- The instructions of the linear shape.
-use Rattle.std.specs.Prelude.{ℕ, List, [], ◌∷◌, ◌++◌}
+use Rattle.std.specs.Prelude.{ℕ, ◌+◌, ◌*◌, nat_le, if◌then◌else◌, List, [], ◌∷◌, ◌++◌, length}
 use Rattle.bpf_code.specs.declared.machine.Insn.{Insn}
-use Rattle.bpf_code.specs.declared.codes.TheConstants.{LD_W_ABS, JMP_JEQ_K, RET_K}
+use Rattle.bpf_code.specs.declared.codes.TheConstants.{LD_W_ABS, ALU_AND_K, JMP_JA, JMP_JEQ_K, RET_K}
+use Rattle.call_rules.specs.Tested.{Tested}
 use Rattle.call_rules.specs.declared.actions.TheConstants.{KILL_PROCESS}
+use Rattle.call_rules.specs.declared.rules.Case.{Case}
 use Rattle.call_rules.specs.declared.rules.CallRule.{CallRule}
 use Rattle.call_rules.specs.declared.rules.RuleSet.{RuleSet}
-use Rattle.seccomp_compile.specs.declared.linear.TheConstants.{NUMBER_OFFSET, ARCH_OFFSET}
+use Rattle.seccomp_compile.specs.declared.offsets.TheConstants.{NUMBER_OFFSET, ARCH_OFFSET, ARGS_OFFSET, ARG_SIZE}
+use Rattle.seccomp_compile.specs.declared.instructions.TheConstants.{FARTHEST_SKIP}
 
+-- A = the word of the call data at this offset
 abbrev pub load : ℕ → Insn
 load offset = record { code = LD_W_ABS; jt = 0; jf = 0; k = offset }
 
-abbrev pub skip_unless_equal : ℕ → Insn
-skip_unless_equal number = record { code = JMP_JEQ_K; jt = 0; jf = 1; k = number }
+-- A = A and the mask
+abbrev pub mask_by : ℕ → Insn
+mask_by mask = record { code = ALU_AND_K; jt = 0; jf = 0; k = mask }
 
+-- skips so many instructions
+abbrev pub skip : ℕ → Insn
+skip count = record { code = JMP_JA; jt = 0; jf = 0; k = count }
+
+-- skips so many instructions where A is not the number
+abbrev pub skip_unless_equal : ℕ → ℕ → Insn
+skip_unless_equal number count = record { code = JMP_JEQ_K; jt = 0; jf = count; k = number }
+
+-- skips one instruction where A is the number
 abbrev pub skip_if_equal : ℕ → Insn
 skip_if_equal number = record { code = JMP_JEQ_K; jt = 1; jf = 0; k = number }
 
+-- ends with the action
 abbrev pub end : ℕ → Insn
 end action = record { code = RET_K; jt = 0; jf = 0; k = action }
 
--- each call is compared with the number, and ends with its action
+-- the low word of the argument is masked and compared, and so many instructions are skipped where the test fails
+abbrev pub test_code : Tested → ℕ → List Insn
+test_code test count = load (ARGS_OFFSET + ARG_SIZE * test.arg) ∷ mask_by test.mask ∷ skip_unless_equal test.value count ∷ []
+
+-- each test in turn; where one fails, those behind it are skipped, and one instruction behind them all
+abbrev pub tests_code : List Tested → List Insn
+tests_code [] = []
+tests_code (test ∷ tests) = test_code test (length (tests_code tests) + 1) ++ tests_code tests
+
+-- where all tests hold, the case's action ends the program
+abbrev pub case_code : Case → List Insn
+case_code case = tests_code case.tests ++ end case.action ∷ []
+
+-- each case in turn
+abbrev pub cases_code : List Case → List Insn
+cases_code [] = []
+cases_code (case ∷ cases) = case_code case ++ cases_code cases
+
+-- the cases of the call, and where none of them ends the program, the rest of the call does
+abbrev pub body_code : CallRule → List Insn
+body_code call = cases_code call.cases ++ end call.rest ∷ []
+
+-- skips so many instructions where A is not the number; where they are more than a comparison can skip, by a jump
+abbrev pub number_code : ℕ → ℕ → List Insn
+number_code number count = if nat_le count FARTHEST_SKIP then skip_unless_equal number count ∷ [] else skip_if_equal number ∷ skip count ∷ []
+
+-- the number is compared with the call's, and for another number the call is skipped
+abbrev pub call_code : CallRule → List Insn
+call_code call = number_code call.number (length (body_code call)) ++ body_code call
+
+-- each call in turn
 abbrev pub calls_code : List CallRule → List Insn
 calls_code [] = []
-calls_code (call ∷ calls) = skip_unless_equal call.number ∷ end call.rest ∷ calls_code calls
+calls_code (call ∷ calls) = call_code call ++ calls_code calls
 
 -- the architecture is compared, then the number with the calls, and the rest ends the program
 abbrev pub rules_code : RuleSet → List Insn

@@ -1,9 +1,12 @@
 //! The instructions that a compiled program is made of.
 ghost use Rattle.std.specs.Prelude.{◌≡◌};
-ghost use Rattle.seccomp_compile.specs.Code.{load, skip_unless_equal, skip_if_equal, end};
+ghost use Rattle.seccomp_compile.specs.Code.{load, mask_by, skip, skip_unless_equal, skip_if_equal, end};
 
 use bpf_code::Insn;
-use bpf_code::codes::{JMP_JEQ_K, LD_W_ABS, RET_K};
+use bpf_code::codes::{ALU_AND_K, JMP_JA, JMP_JEQ_K, LD_W_ABS, RET_K};
+
+/// How many instructions a comparison can skip, since its offsets have eight bits.
+pub const FARTHEST_SKIP: u32 = 255;
 
 /// A = the word of the call data at this offset.
 pub fn load_word(offset: u32) -> Insn
@@ -17,14 +20,38 @@ pub fn load_word(offset: u32) -> Insn
     }
 }
 
-/// Goes on with the next instruction where A is the number, and behind it where A is not.
-pub fn next_if_equal(number: u32) -> Insn
-    ensures { result ≡ skip_unless_equal number }
+/// A = A and the mask.
+pub fn and_mask(mask: u32) -> Insn
+    ensures { result ≡ mask_by mask }
+{
+    Insn {
+        code: ALU_AND_K,
+        jt: 0,
+        jf: 0,
+        k: mask,
+    }
+}
+
+/// Goes on behind so many instructions.
+pub fn jump(count: u32) -> Insn
+    ensures { result ≡ skip count }
+{
+    Insn {
+        code: JMP_JA,
+        jt: 0,
+        jf: 0,
+        k: count,
+    }
+}
+
+/// Goes on with the next instruction where A is the number, and behind so many where A is not.
+pub fn next_if_equal(number: u32, count: u8) -> Insn
+    ensures { result ≡ skip_unless_equal number count }
 {
     Insn {
         code: JMP_JEQ_K,
         jt: 0,
-        jf: 1,
+        jf: count,
         k: number,
     }
 }
