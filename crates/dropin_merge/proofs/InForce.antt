@@ -1,0 +1,102 @@
+-- The files in force, by the map of winners.
+use Rattle.std.proofs.Common.{◌≡◌, ℕ, ◌<◌, ◌≤◌, Bool, true, false, cond, List, [], ◌∷◌, length, Option, Some, Result, Ok, Err, map, String, Global, refl, sym, ap, ◌∙◌, subst, arith}
+use Rattle.std.specs.Prelude.{◌||◌, nat_lt, IfSome, string_bytes}
+use Rattle.std.specs.List.{list_any}
+use Rattle.std.specs.Map.{values_of}
+use Rattle.std.specs.String.{string_cmp}
+use Rattle.std.specs.BTreeMap.{BTreeMap, IsOrdered}
+use Rattle.std.proofs.lemmas.Bool.Decides.{nat_tests}
+use Rattle.std.proofs.lemmas.List.{length-map}
+use Rattle.host_io.specs.Files.{Files}
+use Rattle.unit_names.specs.Names.{Name}
+use Rattle.dropin_merge.specs.Answers.{IsUnlessFailed}
+use Rattle.dropin_merge.specs.Places.{fragment_paths, dropin_places}
+use Rattle.dropin_merge.specs.Winners.{winners_of}
+use Rattle.dropin_merge.specs.Resolving.{fragment_of, fragment_read, is_overfull, is_crowded, winning_paths, dropins_read, joined_by, files_of, with_fragment, as_resolved, for_unit}
+use Rattle.dropin_merge.specs.Steps.{CollectsWinners}
+use Rattle.dropin_merge.specs.declared.resolved.Resolved.{Resolved}
+use Rattle.dropin_merge.specs.declared.resolved.UnitFile.{UnitFile}
+use Rattle.dropin_merge.specs.declared.errors.ResolveError.{ResolveError}
+use Rattle.dropin_merge.specs.declared.errors.ResolveError.TheVariants.{DropIns}
+use Rattle.dropin_merge.proofs.Reading.{told_from, told_to, failed_on}
+use Rattle.dropin_merge.proofs.Winning.{entry_texts, entries_are_winners}
+
+paths_of_entries : (es : List (String Global × String Global)) → map string_bytes (values_of es) ≡ map (λ winner. winner.1) (map entry_texts es)
+paths_of_entries [] = refl
+paths_of_entries (entry ∷ es) = ap (λ ps. string_bytes entry.1 ∷ ps) (paths_of_entries es)
+
+above : (n : ℕ) → 256 < n → nat_lt 256 n ≡ true
+above n h = grind (arith, nat_tests)
+
+not_above : (n : ℕ) → n ≤ 256 → nat_lt 256 n ≡ false
+not_above n h = grind (arith, nat_tests)
+
+or_true : (a : Bool) → (a || true) ≡ true
+or_true true = refl
+or_true false = refl
+
+module _ (files : Files) (unit : Name) (places : List (List ℕ)) (m : BTreeMap (String Global) (String Global)) (named : places ≡ dropin_places unit) (ordered : IsOrdered string_cmp m) (collected : CollectsWinners files places (Ok m)) where
+  winners_are : map entry_texts m.entries ≡ winners_of files unit
+  winners_are = entries_are_winners files unit m ordered (subst (λ ps. CollectsWinners files ps (Ok m)) named collected).0
+
+  count_is : length (winners_of files unit) ≡ length m.entries
+  count_is = ap length (sym winners_are) ∙ length-map m.entries entry_texts
+
+  pub too_many : (fragment : UnitFile) → 256 < length m.entries → files_of files unit fragment ≡ Err DropIns
+  too_many fragment h =
+      let crowded : is_crowded files unit ≡ true =
+      ap (λ n. list_any (is_overfull files) (dropin_places unit) || nat_lt 256 n) count_is
+      ∙ ap (λ b. list_any (is_overfull files) (dropin_places unit) || b) (above (length m.entries) h)
+      ∙ or_true (list_any (is_overfull files) (dropin_places unit)) in
+      ap (λ b. cond b (Err DropIns) (joined_by (fragment ∷ []) (dropins_read files (winning_paths files unit)))) crowded
+
+  pub in_force : (fragment : UnitFile) → length m.entries ≤ 256 → joined_by (fragment ∷ []) (dropins_read files (map string_bytes (values_of m.entries))) ≡ files_of files unit fragment
+  in_force fragment h =
+      let crowded : is_crowded files unit ≡ false =
+      ap (λ b. b || nat_lt 256 (length (winners_of files unit))) (subst (λ ps. CollectsWinners files ps (Ok m)) named collected).1
+      ∙ ap (nat_lt 256) count_is ∙ not_above (length m.entries) h in
+      ap (λ ps. joined_by (fragment ∷ []) (dropins_read files ps)) (paths_of_entries m.entries ∙ ap (map (λ winner. winner.1)) winners_are)
+      ∙ sym (ap (λ b. cond b (Err DropIns) (joined_by (fragment ∷ []) (dropins_read files (winning_paths files unit)))) crowded)
+
+-- what was answered of the files that are told
+pub refuses_many : (told : Option Files) (unit : Name) (places : List (List ℕ)) (m : BTreeMap (String Global) (String Global)) (fragment : UnitFile) → places ≡ dropin_places unit → IsOrdered string_cmp m
+    → IfSome told (λ files. CollectsWinners files places (Ok m)) → 256 < length m.entries → IfSome told (λ files. files_of files unit fragment ≡ Err DropIns)
+refuses_many told unit places m fragment named ordered collected h =
+    told_to (λ files. files_of files unit fragment ≡ Err DropIns) told
+    (λ files e. too_many files unit places m named ordered (told_from (λ files. CollectsWinners files places (Ok m)) told collected files e) fragment h)
+
+pub reads_winners : (told : Option Files) (unit : Name) (places : List (List ℕ)) (m : BTreeMap (String Global) (String Global)) (fragment : UnitFile) (paths : List (String Global)) (result : Result (List UnitFile) ResolveError) → places ≡ dropin_places unit → IsOrdered string_cmp m
+    → IfSome told (λ files. CollectsWinners files places (Ok m)) → length m.entries ≤ 256 → paths ≡ values_of m.entries
+    → IfSome told (λ files. IsUnlessFailed result (joined_by (fragment ∷ []) (dropins_read files (map string_bytes paths))))
+    → IfSome told (λ files. IsUnlessFailed result (files_of files unit fragment))
+reads_winners told unit places m fragment paths result named ordered collected h given read =
+    told_to (λ files. IsUnlessFailed result (files_of files unit fragment)) told
+    (λ files e.
+    subst (IsUnlessFailed result)
+    (ap (λ ps. joined_by (fragment ∷ []) (dropins_read files (map string_bytes ps))) given ∙ in_force files unit places m named ordered (told_from (λ files. CollectsWinners files places (Ok m)) told collected files e) fragment h)
+    (told_from (λ files. IsUnlessFailed result (joined_by (fragment ∷ []) (dropins_read files (map string_bytes paths)))) told read files e))
+
+-- ---- a unit that is refused
+pub fragment_refused : (told : Option Files) (unit : Name) (paths : List (List ℕ)) (e : ResolveError) → paths ≡ fragment_paths unit
+    → IfSome told (λ files. IsUnlessFailed {T = UnitFile} (Err e) (fragment_read files (fragment_of files paths)))
+    → IfSome told (λ files. IsUnlessFailed {T = Resolved} (Err e) (for_unit files (Some unit)))
+fragment_refused told unit paths e named read =
+    told_to (λ files. IsUnlessFailed {T = Resolved} (Err e) (for_unit files (Some unit))) told
+    (λ files known.
+    failed_on e (fragment_read files (fragment_of files paths)) (for_unit files (Some unit))
+    (λ h. ap (λ r. as_resolved unit (with_fragment files unit r)) (ap (λ ps. fragment_read files (fragment_of files ps)) (sym named) ∙ h))
+    (told_from (λ files. IsUnlessFailed {T = UnitFile} (Err e) (fragment_read files (fragment_of files paths))) told read files known))
+
+pub files_refused : (told : Option Files) (unit : Name) (paths : List (List ℕ)) (fragment : UnitFile) (e : ResolveError) → paths ≡ fragment_paths unit
+    → IfSome told (λ files. IsUnlessFailed {T = UnitFile} (Ok fragment) (fragment_read files (fragment_of files paths)))
+    → IfSome told (λ files. IsUnlessFailed {T = List UnitFile} (Err e) (files_of files unit fragment))
+    → IfSome told (λ files. IsUnlessFailed {T = Resolved} (Err e) (for_unit files (Some unit)))
+files_refused told unit paths fragment e named found read =
+    told_to (λ files. IsUnlessFailed {T = Resolved} (Err e) (for_unit files (Some unit))) told
+    (λ files known.
+    failed_on e (files_of files unit fragment) (for_unit files (Some unit))
+    (λ h.
+    ap (λ r. as_resolved unit (with_fragment files unit r))
+    (ap (λ ps. fragment_read files (fragment_of files ps)) (sym named) ∙ told_from (λ files. IsUnlessFailed {T = UnitFile} (Ok fragment) (fragment_read files (fragment_of files paths))) told found files known)
+    ∙ ap (as_resolved unit) h)
+    (told_from (λ files. IsUnlessFailed {T = List UnitFile} (Err e) (files_of files unit fragment)) told read files known))

@@ -1,0 +1,9 @@
+pub mod Left
+pub mod Listed
+pub mod Ordered
+pub mod Winning
+pub mod Collected
+pub mod Ranked
+pub mod InForce
+pub mod Pathed
+pub mod Reading

@@ -1,0 +1,84 @@
+// The drop-ins of a unit, behind its fragment.
+ghost use Rattle.std.specs.Prelude.{◌≡◌, ◌∷◌, [], IfOk, IfSome, length, map};
+ghost use Rattle.std.specs.List.{Contains};
+ghost use Rattle.std.specs.String.{string_bytes};
+ghost use Rattle.host_io.specs.Files.{bytes_at};
+ghost use Rattle.dropin_merge.specs.Answers.{HasCause, IsDropinPath, IsUnlessFailed};
+ghost use Rattle.dropin_merge.specs.Places.{dropin_places};
+ghost use Rattle.dropin_merge.specs.Resolving.{dropins_read, files_of, joined_by};
+ghost use Rattle.dropin_merge.specs.Steps.{dropin_at, IsLedBy, RefusesAt};
+
+use crate::errors::ResolveError;
+use crate::files::{judge_file, read_file};
+use crate::places::dropin_places;
+use crate::resolved::{UnitFile, UnitFiles};
+use crate::winners::{collect_winners, winning_paths};
+use host_io::Shelf;
+use std::alloc::Global;
+use unit_names::UnitName;
+
+/// The most drop-ins of a unit.
+const MOST_DROPINS: usize = 256;
+
+// What the drop-in at a path says, or none where it is missing or empty.
+fn dropin_at<S: Shelf>(
+    alloc: Global,
+    shelf: &mut S,
+    path: &str,
+) -> Result<Option<UnitFile>, ResolveError>
+    ensures has_the_path { IfOk result (λ found. IfSome found (λ file. file.path ≡ path.now)) }
+    ensures refuses_the_path { RefusesAt (λ p. p ≡ path.now) result }
+    ensures reads_the_dropin { IfSome (S.told shelf.old) (λ files. IsUnlessFailed result (dropin_at path.now (bytes_at files path.now))) }
+    ensures map_stays { S.told shelf.new ≡ S.told shelf.old }
+    ensures fault_rose { HasCause (S.faults shelf.old) (S.faults shelf.new) result }
+{
+    match read_file(alloc, shelf, path)? {
+        Some(bytes) if !bytes.is_empty() => Ok(Some(judge_file(alloc, path, bytes.as_slice())?)),
+        _ => Ok(None),
+    }
+}
+
+// A fragment, and the drop-ins at these paths behind it.
+fn read_dropins<S: Shelf>(
+    alloc: Global,
+    shelf: &mut S,
+    fragment: UnitFile,
+    paths: &[String],
+) -> Result<UnitFiles, ResolveError>
+    ensures has_the_paths { IfOk result (IsLedBy (λ file. Contains (map string_bytes paths.now) file.path) fragment (length paths.now)) }
+    ensures refuses_a_path { RefusesAt (Contains (map string_bytes paths.now)) result }
+    ensures reads_in_order { IfSome (S.told shelf.old) (λ files. IsUnlessFailed result (joined_by (fragment ∷ []) (dropins_read files (map string_bytes paths.now)))) }
+    ensures map_stays { S.told shelf.new ≡ S.told shelf.old }
+    ensures fault_rose { HasCause (S.faults shelf.old) (S.faults shelf.new) result }
+{
+    let mut files = Vec::new(alloc);
+    files.push(fragment)?;
+    for path in paths {
+        if let Some(dropin) = dropin_at(alloc, shelf, path.as_str())? {
+            files.push(dropin)?;
+        }
+    }
+    Ok(UnitFiles::new(files))
+}
+
+/// The files in force of a unit whose fragment this is.
+pub fn read_files<S: Shelf>(
+    alloc: Global,
+    shelf: &mut S,
+    unit: &UnitName,
+    fragment: UnitFile,
+) -> Result<UnitFiles, ResolveError>
+    ensures has_the_dropins { IfOk result (IsLedBy (λ file. IsDropinPath (dropin_places unit.now) file.path) fragment 256) }
+    ensures refuses_a_dropin { RefusesAt (IsDropinPath (dropin_places unit.now)) result }
+    ensures reads_the_files { IfSome (S.told shelf.old) (λ files. IsUnlessFailed result (files_of files unit.now fragment)) }
+    ensures map_stays { S.told shelf.new ≡ S.told shelf.old }
+    ensures fault_rose { HasCause (S.faults shelf.old) (S.faults shelf.new) result }
+{
+    let places = dropin_places(alloc, unit)?;
+    let winners = collect_winners(alloc, shelf, places.as_slice())?;
+    if winners.len() > MOST_DROPINS {
+        return Err(ResolveError::DropIns);
+    }
+    let paths = winning_paths(alloc, winners)?;
+    read_dropins(alloc, shelf, fragment, paths.as_slice())
+}

@@ -1,0 +1,29 @@
+// The names in a folder of drop-ins.
+ghost use Rattle.std.specs.Prelude.{◌≡◌, IfSome};
+ghost use Rattle.host_io.specs.Files.{names_in};
+ghost use Rattle.dropin_merge.specs.Answers.{HasCause};
+ghost use Rattle.dropin_merge.specs.Steps.{ListsPlace, RefusesAt};
+
+use crate::errors::ResolveError;
+use host_io::{Shelf, ShelfError};
+use std::alloc::Global;
+
+/// The names of the files directly in a folder.
+pub fn list_place<S: Shelf>(
+    alloc: Global,
+    shelf: &mut S,
+    place: &str,
+) -> Result<Vec<String>, ResolveError>
+    ensures refuses_no_path { RefusesAt (λ _. ⊥) result }
+    ensures lists_the_folder { IfSome (S.told shelf.old) (λ files. ListsPlace (names_in files place.now) result) }
+    ensures map_stays { S.told shelf.new ≡ S.told shelf.old }
+    ensures fault_rose { HasCause (S.faults shelf.old) (S.faults shelf.new) result }
+{
+    match shelf.list(alloc, place) {
+        Ok(names) => Ok(names),
+        Err(ShelfError::Missing) => Ok(Vec::new(alloc)),
+        Err(ShelfError::TooLarge) => Err(ResolveError::DropIns),
+        Err(ShelfError::Failed) => Err(ResolveError::ReadFault),
+        Err(ShelfError::Memory) => Err(ResolveError::Memory),
+    }
+}

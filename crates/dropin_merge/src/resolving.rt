@@ -1,0 +1,81 @@
+// A unit, resolved over a shelf.
+ghost use Rattle.std.specs.Prelude.{◌≡◌, ◌↔◌, List, ℕ, Some, IfOk, IfSome};
+ghost use Rattle.host_io.specs.Files.{Files};
+ghost use Rattle.unit_names.specs.Names.{Name};
+ghost use Rattle.dropin_merge.specs.Answers.{AreUnitFiles, HasCause, IsUnitPath, IsUnlessFailed, LiesInPlaces, NamesUnit};
+ghost use Rattle.dropin_merge.specs.Ranks.{AreWinners};
+ghost use Rattle.dropin_merge.specs.Resolving.{for_unit, resolved_of};
+ghost use Rattle.dropin_merge.specs.Steps.{RefusesAt};
+ghost use Rattle.dropin_merge.specs.Winners.{winners_of};
+
+use crate::dropins::read_files;
+use crate::errors::ResolveError;
+use crate::fragment::read_fragment;
+use crate::places::fragment_paths;
+use crate::resolved::Resolved;
+use host_io::Shelf;
+use std::alloc::Global;
+use unit_names::{NameError, UnitName};
+
+// A unit with the files in force of its name.
+fn resolve_unit<S: Shelf>(
+    alloc: Global,
+    shelf: &mut S,
+    unit: UnitName,
+) -> Result<Resolved, ResolveError>
+    ensures is_the_unit { IfOk result (λ resolved. resolved.name ≡ unit) }
+    ensures has_its_files { IfOk result (λ resolved. AreUnitFiles unit resolved.files) }
+    ensures refuses_a_file { RefusesAt (IsUnitPath unit) result }
+    ensures resolves_by_the_files { IfSome (S.told shelf.old) (λ files. IsUnlessFailed result (for_unit files (Some unit))) }
+    ensures map_stays { S.told shelf.new ≡ S.told shelf.old }
+    ensures fault_rose { HasCause (S.faults shelf.old) (S.faults shelf.new) result }
+{
+    let paths = fragment_paths(alloc, &unit)?;
+    let fragment = read_fragment(alloc, shelf, paths.as_slice())?;
+    let files = read_files(alloc, shelf, &unit, fragment)?;
+    Ok(Resolved { name: unit, files })
+}
+
+// The unit that a text names.
+fn resolve_text<S: Shelf>(
+    alloc: Global,
+    shelf: &mut S,
+    text: &str,
+) -> Result<Resolved, ResolveError>
+    ensures resolves_by_the_files { IfSome (S.told shelf.old) (λ files. IsUnlessFailed result (resolved_of files text.now)) }
+    ensures names_the_unit { NamesUnit text.now result }
+    ensures lies_in_its_places { LiesInPlaces text.now result }
+    ensures map_stays { S.told shelf.new ≡ S.told shelf.old }
+    ensures fault_rose { HasCause (S.faults shelf.old) (S.faults shelf.new) result }
+{
+    match UnitName::read(alloc, text) {
+        Ok(unit) => resolve_unit(alloc, shelf, unit),
+        Err(NameError::BadName) => Err(ResolveError::BadName),
+        Err(NameError::Memory) => Err(ResolveError::Memory),
+    }
+}
+
+/// Resolves a unit: finds its fragment and its drop-ins, and reads what they say.
+///
+/// systemd.unit(5), Unit File Load Path and Description: the fragment is the first file of the name, or else
+/// of its template, in `etc/systemd/system`, `run/systemd/system` and `usr/lib/systemd/system`. Drop-ins are
+/// the files that end in `.conf` in the folders that the name has, in each of these. Of two with one file name
+/// the one in the more specific folder wins, and then the one in the earlier location. They follow the
+/// fragment in byte order of file names; an empty one contributes nothing and hides the others all the same.
+///
+/// The first of these refuses: `BadName`; `NotFound`; the fragment is `TooLarge` (above 1 MiB); it has zero
+/// bytes (`Masked`); `Text` of the fragment; `DropIns`, where a folder in one location has more than 4,096 files,
+/// or more than 256 drop-ins win; then `TooLarge` and `Text` of each drop-in in order. A file is judged before
+/// the next is read. `ReadFault` comes only where the shelf's count of faults rose. A drop-in that a shelf lists
+/// and then answers `Missing` contributes nothing.
+pub fn resolve<S: Shelf>(alloc: Global, shelf: &mut S, name: &str) -> Result<Resolved, ResolveError>
+    ensures resolves_by_the_files { IfSome (S.told shelf.old) (λ files. IsUnlessFailed result (resolved_of files name.now)) }
+    ensures names_the_unit { NamesUnit name.now result }
+    ensures lies_in_its_places { LiesInPlaces name.now result }
+    ensures map_stays { S.told shelf.new ≡ S.told shelf.old }
+    ensures fault_rose { HasCause (S.faults shelf.old) (S.faults shelf.new) result }
+    // What winning means: of all drop-ins with a file name that the map has, the one of least rank.
+    ensures winning_is_by_rank { (files : Files) (unit : Name) (winners : List (List ℕ × List ℕ)) → (winners_of files unit ≡ winners) ↔ AreWinners files unit winners }
+{
+    resolve_text(alloc, shelf, name)
+}
