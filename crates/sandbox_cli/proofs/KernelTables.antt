@@ -1,6 +1,6 @@
 -- A thin table as the kernel's, and the programs of a thin unit.
 use Rattle.std.proofs.Common.{◌≡◌, ℕ, ◌<◌, ◌==◌, Bool, true, false, cond, List, [], ◌∷◌, ◌++◌, length, get_or, drop, map, refl, sym, ap, ◌∙◌, inl, inr, arith}
-use Rattle.std.specs.Prelude.{◌&&◌, ◌||◌, ◌^◌, not, codes, find, nat_lt, IsTrue, All, Option, Some, None}
+use Rattle.std.specs.Prelude.{◌&&◌, ◌||◌, ◌^◌, not, codes, find, nat_lt, IsTrue, All, Option, Some}
 use Rattle.std.specs.Char.{is_ascii_digit}
 use Rattle.std.specs.Option.{option_map_or}
 use Rattle.std.specs.List.{list_all, list_any}
@@ -25,7 +25,7 @@ use Rattle.kernel_model.proofs.Judged.{bare_data_fits}
 use Rattle.sandbox_cli.specs.declared.thin_lines.ThinCall.{ThinCall}
 use Rattle.sandbox_cli.specs.ThinTable.{Table, IsThinTable, AreCallLines, stand_once, numbers_stand_once, launch_calls}
 use Rattle.sandbox_cli.specs.Numerals.{hex_word, is_hex_digit, number_from, number_of as digits_number}
-use Rattle.sandbox_cli.specs.Prints.{AllLaunch}
+use Rattle.sandbox_cli.specs.JudgePrints.{AllLaunch}
 use Rattle.sandbox_cli.specs.ThinFilter.{is_listed, wanted_action, MeetsWanted}
 use Rattle.sandbox_cli.specs.ThinViews.{call_view}
 use Rattle.sandbox_cli.specs.ThinWords.{is_name, is_name_byte}

@@ -1,4 +1,7 @@
-pub mod ThinAnswers
+pub mod AnswerLines
+pub mod FilterAnswers
+pub mod JudgeAnswers
+pub mod PlainNames
 pub mod KernelTables
 pub mod LineSteps
 pub mod Numbers

@@ -10,18 +10,24 @@ use Rattle.host_io.proofs.Growth.{append_known-nil}
 use Rattle.sandbox_cli.specs.declared.status.Ending.{Ending}
 use Rattle.sandbox_cli.specs.declared.status.Ending.TheVariants.{Done, NoCommand, Refused, ReadFault, WriteFault, OutOfMemory, LaunchRefused}
 use Rattle.sandbox_cli.specs.Endings.{is_whole}
-use Rattle.sandbox_cli.specs.Requests.{Request, FilterOf, JudgeOf, command_of, unit_asked}
+use Rattle.sandbox_cli.specs.Requests.{Request, FilterOf, JudgeOf, command_of}
 use Rattle.sandbox_cli.specs.ThinTable.{Table}
-use Rattle.sandbox_cli.specs.ThinFilter.{MeetsWanted}
 use Rattle.sandbox_cli.specs.Report.{Reports}
-use Rattle.bpf_code.specs.declared.machine.Insn.{Insn}
 use Rattle.kernel_model.specs.declared.outcome.Launch.{Launch}
 use Rattle.kernel_model.specs.declared.outcome.Launch.TheVariants as launch
-use Rattle.kernel_model.specs.Launch.{LaunchesTo, outcome_of}
-use Rattle.sandbox_cli.specs.Prints.{SaysUnit, SaysTable, AllLaunch, AnswersThin, PrintsThin, refuses_the_unit, refuses_the_table, answers, EndsUntold, PrintsCommand, Prints, AcceptsCommand, Accepts, CommandReads, EndsRequest, EndsCommand, EndsBy}
+use Rattle.dropin_merge.specs.Resolving.{resolved_of}
+use Rattle.dropin_merge.specs.declared.errors.ResolveError.{ResolveError}
+use Rattle.dropin_merge.specs.declared.resolved.Resolved.{Resolved}
+use Rattle.sandbox_cli.specs.FilterPrints.{AcceptsFilter, EndsFilter, PrintsFilter}
+use Rattle.sandbox_cli.specs.FilterPrints as filter
+use Rattle.sandbox_cli.specs.Inputs.{SaysTable}
+use Rattle.sandbox_cli.specs.JudgePrints.{AcceptsJudge, EndsJudge, IsLaunchOf, PrintsJudge, SaysUnit}
+use Rattle.sandbox_cli.specs.JudgePrints as judge
+use Rattle.sandbox_cli.specs.PlainSettings.{unbuilt_key}
+use Rattle.sandbox_cli.specs.Prints.{EndsUntold, PrintsCommand, PrintsRequest, Prints, AcceptsCommand, Accepts, CommandReads, EndsRequest, EndsCommand, EndsBy}
 use Rattle.sandbox_cli.specs.Runs.{WroteWhole, WrotePrefix, HasFaultCause, Completes}
 use Rattle.sandbox_cli.specs.Steps.{ending_of_put}
-use Rattle.sandbox_cli.proofs.ThinAnswers.{answers_end}
+use Rattle.sandbox_cli.proofs.JudgeAnswers.{answers_end}
 
 module _ (admits : Ending → List ℕ → Type 0) (old new : Option (List ℕ)) where
   pub wrote_nothing : new ≡ old → WrotePrefix admits old new
@@ -45,24 +51,40 @@ module _ (admits : Ending → List ℕ → Type 0) (old new : Option (List ℕ))
   whole_by_put (Err Memory) ending text admitted takes whole = cc
 
 -- what is printed ends as the inputs say
-ends_report : (files : Files) (unit : List ℕ) (names : List (List ℕ)) (table : Table) (program : List Insn) (launched : Launch) (ending : Ending) (lines : List (List ℕ)) → SaysUnit files unit names → SaysTable files table → MeetsWanted table names program → LaunchesTo table.arch table.calls program launched → AllLaunch table names (outcome_of launched) → Reports unit table.calls launched ending lines → EndsRequest (Some files) (JudgeOf unit) ending
-ends_report files unit names table program (launch.Launched world) ending lines says table_says meets launches alike reports =
-    subst (EndsRequest (Some files) (JudgeOf unit)) (sym reports.0) (record { names = names; table = table; says_unit = says; says_table = table_says; program = program; meets = meets; launched = launch.Launched world; launches = launches; all_launch = alike; ends = refl })
-ends_report files unit names table program (launch.Refused step errno) ending lines says table_says meets launches alike reports =
-    subst (EndsRequest (Some files) (JudgeOf unit)) (sym reports.0) (record { names = names; table = table; says_unit = says; says_table = table_says; program = program; meets = meets; launched = launch.Refused step errno; launches = launches; all_launch = alike; ends = refl })
-ends_report files unit names table program (launch.Killed step) ending lines says table_says meets launches alike reports =
-    subst (EndsRequest (Some files) (JudgeOf unit)) (sym reports.0) (record { names = names; table = table; says_unit = says; says_table = table_says; program = program; meets = meets; launched = launch.Killed step; launches = launches; all_launch = alike; ends = refl })
+ends_report : (files : Files) (unit : List ℕ) (names : List (List ℕ)) (table : Table) (launched : Launch) (ending : Ending) (lines : List (List ℕ)) → SaysUnit files unit names → SaysTable files table → IsLaunchOf table names launched → Reports unit table.calls launched ending lines → EndsJudge files unit ending
+ends_report files unit names table (launch.Launched world) ending lines says table_says is_launch reports =
+    subst (EndsJudge files unit) (sym reports.0) (record { names = names; table = table; says_unit = says; says_table = table_says; launched = launch.Launched world; is_launch = is_launch; ends = refl })
+ends_report files unit names table (launch.Refused step errno) ending lines says table_says is_launch reports =
+    subst (EndsJudge files unit) (sym reports.0) (record { names = names; table = table; says_unit = says; says_table = table_says; launched = launch.Refused step errno; is_launch = is_launch; ends = refl })
+ends_report files unit names table (launch.Killed step) ending lines says table_says is_launch reports =
+    subst (EndsJudge files unit) (sym reports.0) (record { names = names; table = table; says_unit = says; says_table = table_says; launched = launch.Killed step; is_launch = is_launch; ends = refl })
 
-ends_answered : (files : Files) (request : Request) (names : List (List ℕ)) (table : Table) (ending : Ending) (lines : List (List ℕ)) → SaysUnit files (unit_asked request) names → SaysTable files table → AnswersThin request names table ending lines → EndsRequest (Some files) request ending
-ends_answered files (FilterOf unit) names table ending lines says table_says said =
-    subst (EndsRequest (Some files) (FilterOf unit)) (sym said.0) (names, table, says, table_says)
-ends_answered files (JudgeOf unit) names table ending lines says table_says (program, meets, (launched, launches, alike, reports)) =
-    ends_report files unit names table program launched ending lines says table_says meets launches alike reports
+ends_judge : (files : Files) (unit : List ℕ) (ending : Ending) (text : List ℕ) → PrintsJudge files unit ending text → EndsJudge files unit ending
+ends_judge files unit _ _ (judge.refuses_the_unit none) = λ accepted. none accepted.0 accepted.2
+ends_judge files unit _ _ (judge.refuses_the_table names says none) = λ accepted. none accepted.1 accepted.3
+ends_judge files unit _ _ (judge.answers names table ending lines says table_says (launched, is_launch, reports)) = ends_report files unit names table launched ending lines says table_says is_launch reports
 
-ends_thin : (files : Files) (request : Request) (ending : Ending) (text : List ℕ) → PrintsThin files request ending text → EndsRequest (Some files) request ending
-ends_thin files request _ _ (refuses_the_unit none) = λ accepted. none accepted.0 accepted.2
-ends_thin files request _ _ (refuses_the_table names says none) = λ accepted. none accepted.1 accepted.3
-ends_thin files request _ _ (answers names table ending lines says table_says said) = ends_answered files request names table ending lines says table_says said
+-- the refusal of a unit leaves nothing to accept
+no_unit : (files : Files) (unit : List ℕ) (refusal : ResolveError) → resolved_of files unit ≡ Err refusal → AcceptsFilter files unit → ⊥
+no_unit files unit refusal refuses accepts = let same : Ok accepts.resolved ≡ Err refusal = sym accepts.resolves ∙ refuses in cc
+
+-- a unit and a table have one reading
+same_unit : (files : Files) (unit : List ℕ) (resolved : Resolved) → resolved_of files unit ≡ Ok resolved → (accepts : AcceptsFilter files unit) → accepts.resolved ≡ resolved
+same_unit files unit resolved resolves accepts = let same : Ok accepts.resolved ≡ Ok resolved = sym accepts.resolves ∙ resolves in cc
+
+no_setting : (files : Files) (unit key : List ℕ) (resolved : Resolved) → resolved_of files unit ≡ Ok resolved → unbuilt_key resolved ≡ Some key → AcceptsFilter files unit → ⊥
+no_setting files unit key resolved resolves unbuilt accepts =
+    let same : None ≡ Some key = sym accepts.built ∙ ap unbuilt_key (same_unit files unit resolved resolves accepts) ∙ unbuilt in cc
+
+ends_filter : (files : Files) (unit : List ℕ) (ending : Ending) (text : List ℕ) → PrintsFilter files unit ending text → EndsFilter files unit ending
+ends_filter files unit _ _ (filter.refuses_the_unit refusal refuses) = no_unit files unit refusal refuses
+ends_filter files unit _ _ (filter.refuses_the_table resolved resolves none) = λ accepts. none accepts.table accepts.says_table
+ends_filter files unit _ _ (filter.refuses_a_setting resolved table key resolves says unbuilt) = no_setting files unit key resolved resolves unbuilt
+ends_filter files unit _ _ (filter.prints accepts lines are) = accepts
+
+ends_told : (files : Files) (request : Request) (ending : Ending) (text : List ℕ) → PrintsRequest (Some files) request ending text → EndsRequest (Some files) request ending
+ends_told files (FilterOf unit) ending text prints = ends_filter files unit ending text prints
+ends_told files (JudgeOf unit) ending text prints = ends_judge files unit ending text prints
 
 ends_untold : (request : Request) (ending : Ending) → EndsUntold request ending → EndsRequest None request ending
 ends_untold request ending (inl e) = (λ n. (let f : Done ≡ NoCommand = sym e ∙ n in cc), λ n. (let f : Done ≡ LaunchRefused = sym e ∙ n in cc))
@@ -78,15 +100,25 @@ whole_untold request ending (inl e) = whole_as ending Done e refl
 whole_untold request ending (inr (inl e)) = whole_as ending Refused e refl
 whole_untold request ending (inr (inr (e, launched))) = whole_as ending LaunchRefused e refl
 
-whole_thin : (files : Files) (request : Request) (ending : Ending) (text : List ℕ) → PrintsThin files request ending text → IsTrue (is_whole ending)
-whole_thin files request _ _ (refuses_the_unit none) = refl
-whole_thin files request _ _ (refuses_the_table names says none) = refl
-whole_thin files request _ _ (answers names table ending lines says table_says said) = whole_untold request ending (answers_end request names table ending lines said)
+whole_judge : (files : Files) (unit : List ℕ) (ending : Ending) (text : List ℕ) → PrintsJudge files unit ending text → IsTrue (is_whole ending)
+whole_judge files unit _ _ (judge.refuses_the_unit none) = refl
+whole_judge files unit _ _ (judge.refuses_the_table names says none) = refl
+whole_judge files unit _ _ (judge.answers names table ending lines says table_says said) = whole_untold (JudgeOf unit) ending (answers_end unit names table ending lines said)
+
+whole_filter : (files : Files) (unit : List ℕ) (ending : Ending) (text : List ℕ) → PrintsFilter files unit ending text → IsTrue (is_whole ending)
+whole_filter files unit _ _ (filter.refuses_the_unit refusal refuses) = refl
+whole_filter files unit _ _ (filter.refuses_the_table resolved resolves none) = refl
+whole_filter files unit _ _ (filter.refuses_a_setting resolved table key resolves says unbuilt) = refl
+whole_filter files unit _ _ (filter.prints accepts lines are) = refl
+
+whole_told : (files : Files) (request : Request) (ending : Ending) (text : List ℕ) → PrintsRequest (Some files) request ending text → IsTrue (is_whole ending)
+whole_told files (FilterOf unit) ending text prints = whole_filter files unit ending text prints
+whole_told files (JudgeOf unit) ending text prints = whole_judge files unit ending text prints
 
 whole_command : (command : Option Request) (told : Option Files) (ending : Ending) (text : List ℕ) → PrintsCommand command told ending text → IsTrue (is_whole ending)
 whole_command None told ending text prints = whole_as ending NoCommand prints.0 refl
 whole_command (Some request) None ending text prints = whole_untold request ending prints
-whole_command (Some request) (Some files) ending text prints = whole_thin files request ending text prints
+whole_command (Some request) (Some files) ending text prints = whole_told files request ending text prints
 
 pub prints_whole : (words : List (List ℕ)) (told : Option Files) (ending : Ending) (text : List ℕ) → Prints words told ending text → IsTrue (is_whole ending)
 prints_whole words told ending text prints = whole_command (command_of words) told ending text prints
@@ -95,22 +127,25 @@ ends_command : (command : Option Request) (told : Option Files) (ending : Ending
 ends_command None told ending text prints =
     let is = prints.0 in (λ e. let f : NoCommand ≡ Done = sym is ∙ e in cc, λ e. let f : NoCommand ≡ Refused = sym is ∙ e in cc, λ e. let f : NoCommand ≡ ReadFault = sym is ∙ e in cc, λ e. let f : NoCommand ≡ LaunchRefused = sym is ∙ e in cc)
 ends_command (Some request) None ending text prints = ends_untold request ending prints
-ends_command (Some request) (Some files) ending text prints = ends_thin files request ending text prints
+ends_command (Some request) (Some files) ending text prints = ends_told files request ending text prints
 
 ends_write_fault : (command : Option Request) (told : Option Files) → EndsCommand command told WriteFault
 ends_write_fault None told = (λ e. cc, λ e. cc, λ e. cc, λ e. cc)
 ends_write_fault (Some request) None = (λ e. cc, λ e. cc)
-ends_write_fault (Some request) (Some files) = tt
+ends_write_fault (Some (FilterOf unit)) (Some files) = tt
+ends_write_fault (Some (JudgeOf unit)) (Some files) = tt
 
 ends_out_of_memory : (command : Option Request) (told : Option Files) → EndsCommand command told OutOfMemory
 ends_out_of_memory None told = (λ e. cc, λ e. cc, λ e. cc, λ e. cc)
 ends_out_of_memory (Some request) None = (λ e. cc, λ e. cc)
-ends_out_of_memory (Some request) (Some files) = tt
+ends_out_of_memory (Some (FilterOf unit)) (Some files) = tt
+ends_out_of_memory (Some (JudgeOf unit)) (Some files) = tt
 
 ends_read_fault : (command : Option Request) (told : Option Files) → CommandReads command → EndsCommand command told ReadFault
 ends_read_fault None told reads = absurd reads
 ends_read_fault (Some request) None reads = (λ e. cc, λ e. cc)
-ends_read_fault (Some request) (Some files) reads = reads
+ends_read_fault (Some (FilterOf unit)) (Some files) reads = reads
+ends_read_fault (Some (JudgeOf unit)) (Some files) reads = reads
 
 module _ (words : List (List ℕ)) (told : Option Files) where
   pub ends_by_put : (put : Result (Unit {0}) SinkError) (ending : Ending) (text : List ℕ) → Prints words told ending text → EndsBy words told (ending_of_put put ending)
@@ -153,16 +188,29 @@ module _ (shelf_before shelf_now sink_before sink_now : ℕ) (old new : Option (
   }
 
 -- inputs that are accepted and no fault
-completes_command : (command : Option Request) (told : Option Files) (ending : Ending) (shelf_before shelf_now sink_before sink_now : ℕ) (old new : Option (List ℕ)) → EndsCommand command told ending → HasFaultCause ending shelf_before shelf_now sink_before sink_now old new → Completes (AcceptsCommand command told) ending shelf_before shelf_now sink_before sink_now
+completes_filter : (files : Files) (unit : List ℕ) (ending : Ending) (a b s t : ℕ) (old new : Option (List ℕ)) → EndsFilter files unit ending → HasFaultCause ending a b s t old new → Completes (AcceptsFilter files unit) ending a b s t
+completes_filter files unit Done a b s t old new ends causes accepted shelf sink = inl refl
+completes_filter files unit NoCommand a b s t old new ends causes accepted shelf sink = absurd ends
+completes_filter files unit Refused a b s t old new ends causes accepted shelf sink = absurd (ends accepted)
+completes_filter files unit ReadFault a b s t old new ends causes accepted shelf sink = absurd (shelf (causes.read_fault refl))
+completes_filter files unit WriteFault a b s t old new ends causes accepted shelf sink = absurd (sink (causes.write_fault refl))
+completes_filter files unit OutOfMemory a b s t old new ends causes accepted shelf sink = inr (inr refl)
+completes_filter files unit LaunchRefused a b s t old new ends causes accepted shelf sink = absurd ends
+
+completes_judge : (files : Files) (unit : List ℕ) (ending : Ending) (a b s t : ℕ) (old new : Option (List ℕ)) → EndsJudge files unit ending → HasFaultCause ending a b s t old new → Completes (AcceptsJudge files unit) ending a b s t
+completes_judge files unit Done a b s t old new ends causes accepted shelf sink = inl refl
+completes_judge files unit NoCommand a b s t old new ends causes accepted shelf sink = absurd ends
+completes_judge files unit Refused a b s t old new ends causes accepted shelf sink = absurd (ends accepted)
+completes_judge files unit ReadFault a b s t old new ends causes accepted shelf sink = absurd (shelf (causes.read_fault refl))
+completes_judge files unit WriteFault a b s t old new ends causes accepted shelf sink = absurd (sink (causes.write_fault refl))
+completes_judge files unit OutOfMemory a b s t old new ends causes accepted shelf sink = inr (inr refl)
+completes_judge files unit LaunchRefused a b s t old new ends causes accepted shelf sink = inr (inl refl)
+
+completes_command : (command : Option Request) (told : Option Files) (ending : Ending) (a b s t : ℕ) (old new : Option (List ℕ)) → EndsCommand command told ending → HasFaultCause ending a b s t old new → Completes (AcceptsCommand command told) ending a b s t
 completes_command None told ending a b s t old new ends causes accepted shelf sink = absurd accepted
 completes_command (Some request) None ending a b s t old new ends causes accepted shelf sink = absurd accepted
-completes_command (Some request) (Some files) Done a b s t old new ends causes accepted shelf sink = inl refl
-completes_command (Some request) (Some files) NoCommand a b s t old new ends causes accepted shelf sink = absurd ends
-completes_command (Some request) (Some files) Refused a b s t old new ends causes accepted shelf sink = absurd (ends accepted)
-completes_command (Some request) (Some files) ReadFault a b s t old new ends causes accepted shelf sink = absurd (shelf (causes.read_fault refl))
-completes_command (Some request) (Some files) WriteFault a b s t old new ends causes accepted shelf sink = absurd (sink (causes.write_fault refl))
-completes_command (Some request) (Some files) OutOfMemory a b s t old new ends causes accepted shelf sink = inr (inr refl)
-completes_command (Some request) (Some files) LaunchRefused a b s t old new ends causes accepted shelf sink = inr (inl refl)
+completes_command (Some (FilterOf unit)) (Some files) ending a b s t old new ends causes accepted shelf sink = completes_filter files unit ending a b s t old new ends causes accepted shelf sink
+completes_command (Some (JudgeOf unit)) (Some files) ending a b s t old new ends causes accepted shelf sink = completes_judge files unit ending a b s t old new ends causes accepted shelf sink
 
 pub completes_by : (words : List (List ℕ)) (told : Option Files) (ending : Ending) (shelf_before shelf_now sink_before sink_now : ℕ) (old new : Option (List ℕ)) → EndsBy words told ending → HasFaultCause ending shelf_before shelf_now sink_before sink_now old new → Completes (Accepts words told) ending shelf_before shelf_now sink_before sink_now
 completes_by words told ending a b s t old new ends causes =

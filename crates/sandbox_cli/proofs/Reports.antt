@@ -7,7 +7,6 @@ use Rattle.kernel_model.specs.declared.outcome.Launch.{Launch}
 use Rattle.kernel_model.specs.declared.outcome.Launch.TheVariants as launch
 use Rattle.kernel_model.specs.declared.table.ThinName.{ThinName}
 use Rattle.kernel_model.specs.Judged.{IsLaunched, IsPlainCall, bare_call}
-use Rattle.sandbox_cli.proofs.KernelTables.{all_launch}
 use Rattle.kernel_model.specs.Launch.{IfLaunched, LaunchesTo, launched_world}
 use Rattle.kernel_model.specs.Plain.{is_plain_name}
 use Rattle.kernel_model.specs.Runs.{IsDenied, Shows}
@@ -17,14 +16,14 @@ use Rattle.kernel_model.proofs.Tables.{plain_names_are_plain_calls}
 use Rattle.bpf_code.specs.declared.machine.Insn.{Insn}
 use Rattle.sandbox_cli.specs.declared.answer.Answer.{Answer}
 use Rattle.sandbox_cli.specs.declared.judge.Report.{Report}
-use Rattle.sandbox_cli.specs.Prints.{AnswersThin}
-use Rattle.sandbox_cli.specs.Requests.{JudgeOf}
+use Rattle.sandbox_cli.specs.JudgePrints.{AnswersJudge}
 use Rattle.sandbox_cli.specs.Steps.{lines_of_answer}
 use Rattle.sandbox_cli.specs.ThinFilter.{MeetsWanted}
 use Rattle.sandbox_cli.specs.ThinTable.{Table, IsThinTable}
 use Rattle.sandbox_cli.specs.Report.{nothing, is_denied, is_open, Reports}
 use Rattle.sandbox_cli.specs.ReportSteps.{CanBeAsked, named_view, so_far}
 use Rattle.sandbox_cli.specs.Texts.{denied_line, open_line, shown_line}
+use Rattle.sandbox_cli.proofs.KernelTables.{all_launch}
 
 abbrev pub lines_now : List (Vec ℕ Global) → List (List ℕ)
 lines_now lines = map (λ line. line.items) lines
@@ -91,8 +90,8 @@ told_of unit arch calls program launched (Err error) launches is reports = tt
 -- the same, for all that the unit says
 pub reported : (bytes unit : List ℕ) (table : Table) (calls : List NamedCall) (program : List Insn) (result : Result Answer AllocError) → IsThinTable bytes table → calls ≡ table.calls
     → IfOk result (λ answer. (launched : Launch) × LaunchesTo table.arch calls program launched × Reports unit calls launched answer.ending (lines_of_answer answer))
-    → IfOk result (λ answer. (names : List (List ℕ)) → MeetsWanted table names program → AnswersThin (JudgeOf unit) names table answer.ending (lines_of_answer answer))
+    → IfOk result (λ answer. (names : List (List ℕ)) → MeetsWanted table names program → AnswersJudge unit names table answer.ending (lines_of_answer answer))
 reported bytes unit table calls program (Ok answer) thin e (launched, launches, reports) = λ names meets.
     let launches_so = subst (λ c. LaunchesTo table.arch c program launched) e launches in
-    (program, meets, (launched, launches_so, all_launch bytes table names program launched thin meets launches_so, subst (λ c. Reports unit c launched answer.ending (lines_of_answer answer)) e reports))
+    (launched, record { program = program; meets = meets; launches = launches_so; all_launch = all_launch bytes table names program launched thin meets launches_so }, subst (λ c. Reports unit c launched answer.ending (lines_of_answer answer)) e reports)
 reported bytes unit table calls program (Err error) thin e told = tt

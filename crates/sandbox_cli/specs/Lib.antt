@@ -1,6 +1,7 @@
 pub mod Endings
 pub mod Requests
 pub mod Texts
+pub mod Refusals
 pub mod Report
 pub mod ThinWords
 pub mod ThinUnit
@@ -12,7 +13,13 @@ pub mod ThinViews
 pub mod ThinChecks
 pub mod ThinFilter
 pub mod ThinNumbers
+pub mod Inputs
+pub mod PlainSettings
+pub mod PlainSteps
+pub mod FilterPrints
+pub mod JudgePrints
 pub mod Prints
 pub mod Runs
 pub mod Steps
+pub mod FilterSteps
 pub mod ReportSteps

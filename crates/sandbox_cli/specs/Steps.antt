@@ -12,9 +12,11 @@ use Rattle.sandbox_cli.specs.declared.answer.Failure.{Failure}
 use Rattle.sandbox_cli.specs.declared.answer.Failure.TheVariants as failure
 use Rattle.sandbox_cli.specs.declared.status.Ending.{Ending}
 use Rattle.sandbox_cli.specs.declared.status.Ending.TheVariants.{Refused, WriteFault, OutOfMemory}
-use Rattle.sandbox_cli.specs.Prints.{file_of, unit_path, table_path, AnswersThin, EndsUntold}
-use Rattle.sandbox_cli.specs.Requests.{Request, unit_asked}
-use Rattle.sandbox_cli.specs.Texts.{unbuilt_line}
+use Rattle.sandbox_cli.specs.Inputs.{file_of, table_path}
+use Rattle.sandbox_cli.specs.JudgePrints.{AnswersJudge, unit_path}
+use Rattle.sandbox_cli.specs.Prints.{EndsUntold}
+use Rattle.sandbox_cli.specs.Refusals.{unbuilt_line}
+use Rattle.sandbox_cli.specs.Requests.{JudgeOf}
 use Rattle.sandbox_cli.specs.ThinTable.{Table}
 use Rattle.sandbox_cli.specs.ThinUnitReading.{unit_of}
 use Rattle.sandbox_cli.specs.ThinTableReading.{table_of}
@@ -35,7 +37,7 @@ pub record HasReadCause {T : Type 0} (before now : ℕ) (result : Result T Failu
   pub later : before ≤ now
   pub failed : IsErrOf result failure.ReadFault → Rose before now
 
--- what the inputs of a filter say, or the file that is refused
+-- what the inputs of `judge` say, or the file that is refused
 pub data Inputs : Type 0 where
   RefusesFile : (file : List ℕ) → Inputs
   Accepted : (names : List (List ℕ)) (table : Table) → Inputs
@@ -52,13 +54,13 @@ abbrev pub inputs_of : Files → List ℕ → Inputs
 inputs_of files unit = with_unit files unit (option_and_then unit_of (file_of files (unit_path unit)))
 
 -- the lines that are answered to these inputs
-abbrev pub AnswersInputs : Request → Inputs → Ending → List (List ℕ) → Type 0
-AnswersInputs request (RefusesFile file) ending lines = (ending ≡ Refused) × (lines ≡ unbuilt_line file ∷ [])
-AnswersInputs request (Accepted names table) ending lines = AnswersThin request names table ending lines
+abbrev pub AnswersInputs : List ℕ → Inputs → Ending → List (List ℕ) → Type 0
+AnswersInputs unit (RefusesFile file) ending lines = (ending ≡ Refused) × (lines ≡ unbuilt_line file ∷ [])
+AnswersInputs unit (Accepted names table) ending lines = AnswersJudge unit names table ending lines
 
-abbrev pub AnswersUnit : Request → Option Files → Answer → Type 0
-AnswersUnit request None answer = EndsUntold request answer.ending
-AnswersUnit request (Some files) answer = AnswersInputs request (inputs_of files (unit_asked request)) answer.ending (lines_of_answer answer)
+abbrev pub AnswersUnit : List ℕ → Option Files → Answer → Type 0
+AnswersUnit unit None answer = EndsUntold (JudgeOf unit) answer.ending
+AnswersUnit unit (Some files) answer = AnswersInputs unit (inputs_of files unit) answer.ending (lines_of_answer answer)
 
 -- how a run ends whose lines were put so
 abbrev pub ending_of_put : Result (Unit {0}) SinkError → Ending → Ending

@@ -4,7 +4,6 @@ use Rattle.std.specs.Fmt.{decimal}
 use Rattle.std.specs.Int.{w16, w32, to_le_bytes}
 use Rattle.std.specs.List.{concat}
 use Rattle.bpf_code.specs.declared.machine.Insn.{Insn}
-use Rattle.text_forms.specs.Escaped.{escaped_word}
 
 abbrev pub hex_digit : ℕ → ℕ
 hex_digit n = cond (nat_lt n 10) (48 + n) (87 + n)
@@ -24,9 +23,9 @@ filter_lines program = (codes "filter calls " ++ decimal (length program) ++ 10 
 abbrev pub filter_text : List Insn → List ℕ
 filter_text program = concat (filter_lines program)
 
--- an input that this program does not read yet
-abbrev pub unbuilt_line : List ℕ → List ℕ
-unbuilt_line file = codes "refused " ++ escaped_word file ++ codes " unbuilt" ++ 10 ∷ []
+-- no filter
+abbrev pub no_filter_lines : List (List ℕ)
+no_filter_lines = (codes "filters 0" ++ 10 ∷ []) ∷ []
 
 -- the first line of a report
 abbrev pub unit_line : List ℕ → List ℕ

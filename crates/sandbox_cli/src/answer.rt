@@ -1,9 +1,13 @@
 //! What a run answers before anything is printed, or why nothing was answered.
-ghost use Rattle.std.specs.Prelude.{◌≡◌};
+ghost use Rattle.std.specs.Prelude.{◌≡◌, ◌∷◌, [], IfOk};
 ghost use Rattle.sandbox_cli.specs.declared.answer.Failure.TheVariants.{Memory};
+ghost use Rattle.sandbox_cli.specs.declared.status.Ending.TheVariants.{Refused};
+ghost use Rattle.sandbox_cli.specs.Refusals.{unbuilt_line};
+ghost use Rattle.sandbox_cli.specs.Steps.{lines_of_answer};
 
+use crate::refusals;
 use crate::status::Ending;
-use std::alloc::{AllocError, AllocFailed};
+use std::alloc::{AllocError, AllocFailed, Global};
 
 /// Why no answer was found.
 #[derive(Clone, Copy, Debug, PartialEq, Eq)]
@@ -35,4 +39,24 @@ impl<T: Drop> From<AllocFailed<T>> for Failure {
 pub struct Answer {
     pub ending: Ending,
     pub lines: Vec<Vec<u8>>,
+}
+
+impl Answer {
+    /// The answer of one line.
+    pub fn of_line(alloc: Global, ending: Ending, line: Vec<u8>) -> Result<Answer, AllocError>
+        ensures ending { IfOk result (λ answer. answer.ending ≡ ending) }
+        ensures lines { IfOk result (λ answer. lines_of_answer answer ≡ line.items ∷ []) }
+    {
+        let mut lines = Vec::new(alloc);
+        lines.push(line)?;
+        Ok(Answer { ending, lines })
+    }
+
+    /// The answer that refuses a file which this program does not read yet.
+    pub fn of_refused_file(alloc: Global, file: &str) -> Result<Answer, AllocError>
+        ensures ending { IfOk result (λ answer. answer.ending ≡ Refused) }
+        ensures lines { IfOk result (λ answer. lines_of_answer answer ≡ unbuilt_line file.now ∷ []) }
+    {
+        Answer::of_line(alloc, Ending::Refused, refusals::unbuilt(alloc, file)?)
+    }
 }

@@ -9,6 +9,9 @@ use std::alloc::Global;
 /// The most bytes of a file: 1 MiB.
 const MOST_BYTES: u64 = 1_048_576;
 
+/// Where the table of system calls is.
+pub const TABLE_PATH: &str = "calls.txt";
+
 /// The bytes of a file, or none where it is missing or too large.
 pub fn read_file<S: Shelf>(
     alloc: Global,

@@ -1,10 +1,9 @@
 //! The lines that are printed.
 ghost use Rattle.std.specs.Prelude.{◌≡◌, ◌<◌, ◌++◌, map, flat_map, IfOk, OnOk};
-ghost use Rattle.sandbox_cli.specs.Texts.{denied_line, filter_lines, hex_byte, hex_digit, insn_line, killed_step_line, open_line, refused_step_line, shown_line, summary_line, unbuilt_line, unit_line, words_line};
+ghost use Rattle.sandbox_cli.specs.Texts.{denied_line, filter_lines, hex_byte, hex_digit, insn_line, killed_step_line, no_filter_lines, open_line, refused_step_line, shown_line, summary_line, unit_line, words_line};
 
 use bpf_code::Insn;
 use std::alloc::{AllocError, Global};
-use text_forms::push_word;
 
 fn lower_digit(n: u8) -> u8
     requires { n < 16 }
@@ -62,14 +61,13 @@ pub fn filter(alloc: Global, program: &[Insn]) -> Result<Vec<Vec<u8>>, AllocErro
     Ok(lines)
 }
 
-/// The line of an input that this program does not read yet.
-pub fn unbuilt(alloc: Global, file: &str) -> Result<Vec<u8>, AllocError>
-    ensures names_the_file { IfOk result (λ line. line.items ≡ unbuilt_line file.now) }
+/// The line of a unit without filters.
+pub fn no_filter(alloc: Global) -> Result<Vec<Vec<u8>>, AllocError>
+    ensures { IfOk result (λ lines. map (λ line. line.items) lines.items ≡ no_filter_lines) }
 {
-    let mut line = b"refused ".to_vec(alloc)?;
-    push_word(&mut line, file)?;
-    line.extend_from_slice(b" unbuilt\n")?;
-    Ok(line)
+    let mut lines = Vec::new(alloc);
+    lines.push(b"filters 0\n".to_vec(alloc)?)?;
+    Ok(lines)
 }
 
 /// The first line of a report.

@@ -10,14 +10,16 @@ mod command;
 mod files;
 mod filter;
 mod judge;
+mod judge_command;
 mod lines;
 mod numerals;
+mod plain_settings;
 mod process;
+mod refusals;
 mod running;
 mod status;
 #[cfg(test)]
 mod tests;
-mod thin_commands;
 mod thin_filter;
 mod thin_kernel;
 mod thin_lines;

@@ -1,33 +1,35 @@
 //! The top call: it does what the words ask for and prints it.
-ghost use Rattle.std.specs.Prelude.{◌≡◌, ◌∷◌, [], map, IfOk, IsTrue, IsErrOf};
+ghost use Rattle.std.specs.Prelude.{◌≡◌, map, IfOk, IsTrue, IsErrOf};
 ghost use Rattle.std.specs.List.{concat};
 ghost use Rattle.host_io.specs.Writing.{TakesWhole, HasCause};
 ghost use Rattle.sandbox_cli.specs.Endings.{is_whole};
-ghost use Rattle.sandbox_cli.specs.Prints.{Accepts, CommandReads, EndsBy, Prints};
-ghost use Rattle.sandbox_cli.specs.Requests.{command_of};
+ghost use Rattle.sandbox_cli.specs.Prints.{Accepts, CommandReads, EndsBy, Prints, PrintsRequest, ReadsFiles};
+ghost use Rattle.sandbox_cli.specs.Requests.{command_of, request_of};
 ghost use Rattle.sandbox_cli.specs.Runs.{Completes, HasFaultCause, WroteWhole, WrotePrefix};
-ghost use Rattle.sandbox_cli.specs.Steps.{HasReadCause, ending_of_put, lines_of_answer, text_of_answer};
-ghost use Rattle.sandbox_cli.specs.Texts.{words_line};
+ghost use Rattle.sandbox_cli.specs.Steps.{HasReadCause, ending_of_put, text_of_answer};
 
 use crate::answer::{Answer, Failure};
-use crate::command::parse;
-use crate::lines;
+use crate::command::{Command, parse};
 use crate::status::{Ending, Status};
-use crate::thin_commands::answer_to_thin_command;
+use crate::{filter, judge_command, lines};
 use host_io::{Shelf, Sink, SinkError, write_whole};
-use std::alloc::{AllocError, Global};
+use std::alloc::Global;
 
-// The answer to words that are no command.
-fn no_command(alloc: Global) -> Result<Answer, AllocError>
-    ensures ending { IfOk result (λ answer. answer.ending ≡ Ending.NoCommand) }
-    ensures lines { IfOk result (λ answer. lines_of_answer answer ≡ words_line ∷ []) }
+// The answer to a command.
+fn answer_to_command<S: Shelf>(
+    alloc: Global,
+    shelf: &mut S,
+    command: Command,
+) -> Result<Answer, Failure>
+    ensures prints { IfOk result (λ answer. PrintsRequest (S.told shelf.old) (request_of command.entry) answer.ending (text_of_answer answer)) }
+    ensures reads_for_a_unit { IsErrOf result Failure.ReadFault → ReadsFiles (request_of command.entry) }
+    ensures map_stays { S.told shelf.new ≡ S.told shelf.old }
+    ensures fault_rose { HasReadCause (S.faults shelf.old) (S.faults shelf.new) result }
 {
-    let mut lines = Vec::new(alloc);
-    lines.push(lines::no_command(alloc)?)?;
-    Ok(Answer {
-        ending: Ending::NoCommand,
-        lines,
-    })
+    match command {
+        Command::Filter(unit) => filter::answer(alloc, shelf, unit),
+        Command::Judge(unit) => judge_command::answer(alloc, shelf, unit),
+    }
 }
 
 // The answer to the words.
@@ -38,8 +40,8 @@ fn answer_to<S: Shelf>(alloc: Global, words: &[&str], shelf: &mut S) -> Result<A
     ensures fault_rose { HasReadCause (S.faults shelf.old) (S.faults shelf.new) result }
 {
     match parse(words) {
-        None => Ok(no_command(alloc)?),
-        Some(command) => answer_to_thin_command(alloc, shelf, command),
+        None => Ok(Answer::of_line(alloc, Ending::NoCommand, lines::no_command(alloc)?)?),
+        Some(command) => answer_to_command(alloc, shelf, command),
     }
 }
 

@@ -14,36 +14,27 @@ const TABLE: &str =
 const PRINTED: &str =
     "filter calls 15\n2000000004000000\n150001003e0000c0\n0600000000000080\n2000000000000000\n1500000100000000\n060000000000ff7f\n1500000127000000\n060000000000ff7f\n150000013b000000\n060000000000ff7f\n150000013c000000\n060000000000ff7f\n15000001e7000000\n060000000000ff7f\n0600000000000080\nfilters 1\n";
 
-const UNIT_REFUSED: &str = "refused etc/systemd/system/web.service unbuilt\n";
-
 const TABLE_REFUSED: &str = "refused calls.txt unbuilt\n";
+
+const FRAGMENT: &str = "etc/systemd/system/web.service";
+
+const DROP_IN: &str = "run/systemd/system/web.service.d/10-a.conf";
 
 fn file(alloc: Global, path: &str, bytes: &[u8]) -> Result<(String, Vec<u8>), AllocError> {
     Ok((String::from_str(alloc, path)?, bytes.to_vec(alloc)?))
 }
 
-// Runs `filter UNIT` over these two files, and gives the status and what was printed.
-fn filtered(
-    rt: &impl Abort,
-    alloc: Global,
-    unit: &str,
-    unit_bytes: &[u8],
-    table_bytes: &[u8],
-) -> Result<(u8, Vec<u8>), AllocError> {
-    printed(rt, alloc, &["filter", unit], unit_bytes, table_bytes)
-}
-
-// Runs these words over these two files, and gives the status and what was printed.
+// Runs these words over these files, and gives the status and what was printed.
 fn printed(
     rt: &impl Abort,
     alloc: Global,
     words: &[&str],
-    unit_bytes: &[u8],
-    table_bytes: &[u8],
+    texts: &[(&str, &[u8])],
 ) -> Result<(u8, Vec<u8>), AllocError> {
     let mut files = Vec::new(alloc);
-    files.push(file(alloc, "etc/systemd/system/web.service", unit_bytes)?)?;
-    files.push(file(alloc, "calls.txt", table_bytes)?)?;
+    for (path, bytes) in texts {
+        files.push(file(alloc, path, bytes)?)?;
+    }
     assert!(rt; are_files(files.as_slice()));
     let mut shelf = MemShelf::new(files, Vec::new(alloc));
     let mut sink = MemSink::new(alloc, 7, Vec::new(alloc));
@@ -51,86 +42,145 @@ fn printed(
     Ok((status.code, sink.taken().to_vec(alloc)?))
 }
 
+// What `filter` prints of a unit with this fragment and this drop-in, worked out by hand.
 #[test]
-fn a_filter_is_printed_or_its_first_input_is_refused(rt: HostRuntime) -> Result<(), Fail> {
+fn a_filter_is_printed_or_the_first_refusal(rt: HostRuntime) -> Result<(), Fail> {
     let alloc = rt.alloc();
-    let user = "[Service]\nExecStart=/usr/bin/web\nSystemCallFilter=read\nUser=web\n";
-    let cr_lf = "[Service]\r\nExecStart=/usr/bin/web\r\nSystemCallFilter=read\r\n";
-    let spaces = "[Service]\nExecStart=/usr/bin/web\nSystemCallFilter=read  write\n";
-    let group = "[Service]\nExecStart=/usr/bin/web\nSystemCallFilter=@default\n";
-    let relative = "[Service]\nExecStart=web\nSystemCallFilter=read\n";
-    let unknown = "[Service]\nExecStart=/usr/bin/web\nSystemCallFilter=nosuch read\n";
-    for (shows, unit, unit_text, table_text, code, want) in [
-        ("the program", "web.service", UNIT, TABLE, 0, PRINTED),
+    let default_alone = PRINTED.replace(alloc, "15\n2", "13\n2")?;
+    let default_alone = default_alone.replace(alloc, "1500000100000000\n060000000000ff7f\n", "")?;
+    let write = PRINTED.replace(alloc, "1500000100000000", "1500000101000000")?;
+    for (shows, unit, fragment, drop_in, table, code, want) in [
+        ("the program", "web.service", UNIT, "", TABLE, 0, PRINTED),
         (
-            "an unknown name is skipped",
+            "a name that the table lacks is skipped",
             "web.service",
-            unknown,
+            "[Service]\nExecStart=/usr/bin/web\nSystemCallFilter=nosuch read\n",
+            "",
             TABLE,
             0,
             PRINTED,
         ),
-        ("a fourth line", "web.service", user, TABLE, 3, UNIT_REFUSED),
         (
-            "ends of CR LF",
+            "a continued line has a space in it",
             "web.service",
-            cr_lf,
-            TABLE,
-            3,
-            UNIT_REFUSED,
-        ),
-        ("two spaces", "web.service", spaces, TABLE, 3, UNIT_REFUSED),
-        (
-            "a name out of form",
-            "web.service",
-            group,
-            TABLE,
-            3,
-            UNIT_REFUSED,
-        ),
-        (
-            "a program without its slash",
-            "web.service",
-            relative,
-            TABLE,
-            3,
-            UNIT_REFUSED,
-        ),
-        (
-            "the unit comes first",
-            "web.service",
-            user,
+            "[Service]\nExecStart=/usr/bin/web\nSystemCallFilter=re\\\nad\n",
             "",
-            3,
-            UNIT_REFUSED,
+            TABLE,
+            0,
+            default_alone.as_str(),
         ),
-        ("no table", "web.service", UNIT, "", 3, TABLE_REFUSED),
+        (
+            "a drop-in resets and sets",
+            "web.service",
+            UNIT,
+            "[Service]\nSystemCallFilter=\nSystemCallFilter=write\n",
+            TABLE,
+            0,
+            write.as_str(),
+        ),
+        (
+            "a specifier in the program, and other keys",
+            "web.service",
+            "[Unit]\nUser=a\n[Service]\nExecStart=/usr/bin/%p --port 80\nRestart=always\nUser=b\n",
+            "[Service]\nUser=\n",
+            TABLE,
+            0,
+            "filters 0\n",
+        ),
+        (
+            "a masked unit",
+            "web.service",
+            "",
+            "",
+            TABLE,
+            3,
+            "refused web.service masked\n",
+        ),
         (
             "a missing unit",
             "no.service",
             UNIT,
+            "",
             TABLE,
             3,
-            "refused etc/systemd/system/no.service unbuilt\n",
+            "refused no.service not-found\n",
         ),
         (
-            "a name that is not thin, escaped",
+            "no name of a service, escaped",
             "a b%.service",
             UNIT,
+            "",
             TABLE,
             3,
-            "refused etc/systemd/system/a%20b%25.service unbuilt\n",
+            "refused a%20b%25.service bad-name\n",
+        ),
+        (
+            "a header that does not end, before a refused table",
+            "web.service",
+            "[Service\nExecStart=/usr/bin/web\n",
+            "",
+            "",
+            3,
+            "refused etc/systemd/system/web.service line 1 header\n",
+        ),
+        (
+            "a drop-in that is no text",
+            "web.service",
+            UNIT,
+            "[Service]\nUser=\0\n",
+            TABLE,
+            3,
+            "refused run/systemd/system/web.service.d/10-a.conf not-text\n",
+        ),
+        (
+            "a setting that is not read yet, the first in byte order",
+            "web.service",
+            "[Service]\nExecStart=/usr/bin/web\nUser=web\nGroup=web\n",
+            "",
+            TABLE,
+            3,
+            "refused web.service unbuilt Group\n",
+        ),
+        (
+            "a filter that says more than names",
+            "web.service",
+            "[Service]\nExecStart=/usr/bin/web\nSystemCallFilter=~write\n",
+            "",
+            TABLE,
+            3,
+            "refused web.service unbuilt SystemCallFilter\n",
+        ),
+        (
+            "no command",
+            "web.service",
+            "[Service]\nSystemCallFilter=read\n",
+            "",
+            TABLE,
+            3,
+            "refused web.service unbuilt ExecStart\n",
+        ),
+        (
+            "the table is refused before a setting",
+            "web.service",
+            "[Service]\nExecStart=web\n",
+            "",
+            "abi",
+            3,
+            TABLE_REFUSED,
         ),
     ] {
-        let (status, taken) = filtered(
+        let (status, taken) = printed(
             &rt,
             alloc,
-            unit,
-            unit_text.as_bytes(),
-            table_text.as_bytes(),
+            &["filter", unit],
+            &[
+                (FRAGMENT, fragment.as_bytes()),
+                (DROP_IN, drop_in.as_bytes()),
+                ("calls.txt", table.as_bytes()),
+            ],
         )?;
-        assert_eq!(rt; status, code, "{shows}");
-        assert_eq!(rt; taken.as_slice(), want.as_bytes(), "{shows}");
+        assert!(rt; status == code, "{shows}: status {status}");
+        assert!(rt; taken.as_slice() == want.as_bytes(), "{shows}");
     }
     Ok(())
 }
@@ -164,8 +214,7 @@ fn a_unit_is_judged_or_its_launch_is_refused(rt: HostRuntime) -> Result<(), Fail
             &rt,
             alloc,
             &["judge", unit],
-            UNIT.as_bytes(),
-            table.as_bytes(),
+            &[(FRAGMENT, UNIT.as_bytes()), ("calls.txt", table.as_bytes())],
         )?;
         assert!(rt; status == code, "{shows}: status {status}");
         assert!(rt; text.as_slice() == want.as_bytes(), "{shows}");
@@ -174,16 +223,25 @@ fn a_unit_is_judged_or_its_launch_is_refused(rt: HostRuntime) -> Result<(), Fail
 }
 
 #[test]
-fn bytes_that_are_no_text_and_files_too_large_are_refused(rt: HostRuntime) -> Result<(), Fail> {
+fn files_above_one_mebibyte_are_refused(rt: HostRuntime) -> Result<(), Fail> {
     let alloc = rt.alloc();
     let large = vec![in alloc; b'a'; 1_048_577]?;
-    for bytes in [b"\xff\xfe".as_slice(), large.as_slice()] {
-        let (status, taken) = filtered(&rt, alloc, "web.service", bytes, TABLE.as_bytes())?;
+    for (fragment, table, want) in [
+        (
+            large.as_slice(),
+            TABLE.as_bytes(),
+            "refused etc/systemd/system/web.service too-large\n",
+        ),
+        (UNIT.as_bytes(), large.as_slice(), TABLE_REFUSED),
+    ] {
+        let (status, taken) = printed(
+            &rt,
+            alloc,
+            &["filter", "web.service"],
+            &[(FRAGMENT, fragment), ("calls.txt", table)],
+        )?;
         assert_eq!(rt; status, 3);
-        assert_eq!(rt; taken.as_slice(), UNIT_REFUSED.as_bytes());
-        let (status, taken) = filtered(&rt, alloc, "web.service", UNIT.as_bytes(), bytes)?;
-        assert_eq!(rt; status, 3);
-        assert_eq!(rt; taken.as_slice(), TABLE_REFUSED.as_bytes());
+        assert_eq!(rt; taken.as_slice(), want.as_bytes());
     }
     Ok(())
 }
@@ -215,7 +273,7 @@ fn faulty(
     put: u64,
 ) -> Result<(u8, Vec<u8>), AllocError> {
     let mut files = Vec::new(alloc);
-    files.push(file(alloc, "etc/systemd/system/web.service", UNIT.as_bytes())?)?;
+    files.push(file(alloc, FRAGMENT, UNIT.as_bytes())?)?;
     files.push(file(alloc, "calls.txt", TABLE.as_bytes())?)?;
     assert!(rt; are_files(files.as_slice()));
     let mut calls = Vec::new(alloc);
@@ -228,28 +286,22 @@ fn faulty(
     Ok((status.code, sink.taken().to_vec(alloc)?))
 }
 
+// The fragment is read, two folders are listed in three places each, and then calls.txt is read.
 #[test]
 fn a_read_fault_prints_nothing(rt: HostRuntime) -> Result<(), Fail> {
-    for call in [1, 2] {
+    for call in 1..9 {
         let (status, taken) = faulty(&rt, rt.alloc(), call, 0)?;
-        assert_eq!(rt; status, 4);
-        assert!(rt; taken.is_empty());
+        assert_eq!(rt; status, 4, "call {call}");
+        assert!(rt; taken.is_empty(), "call {call}");
     }
-    let mut failing = Vec::new(rt.alloc());
-    failing.push(1)?;
-    let mut shelf = MemShelf::new(Vec::new(rt.alloc()), failing);
-    let mut sink = MemSink::new(rt.alloc(), 100, Vec::new(rt.alloc()));
-    let status = run(
-        rt.alloc(),
-        &["filter", "Web.service"],
-        &mut shelf,
-        &mut sink,
-    );
-    assert_eq!(rt;
-        status.code,
-        3,
-        "a name that is not thin is refused without a read"
-    );
+    for words in [["filter", "web"], ["judge", "Web.service"]] {
+        let mut failing = Vec::new(rt.alloc());
+        failing.push(1)?;
+        let mut shelf = MemShelf::new(Vec::new(rt.alloc()), failing);
+        let mut sink = MemSink::new(rt.alloc(), 100, Vec::new(rt.alloc()));
+        let status = run(rt.alloc(), &words, &mut shelf, &mut sink);
+        assert_eq!(rt; status.code, 3, "a refused name is not looked for");
+    }
     Ok(())
 }
 

@@ -22,7 +22,8 @@ fn has_thin_bytes(text: &[u8]) -> bool
     text.iter().all(|b| is_thin_byte(*b))
 }
 
-fn is_thin_program(text: &[u8]) -> bool
+/// Whether this is a thin program: a slash, and at most 99 ASCII letters, digits and slashes.
+pub fn is_thin_program(text: &[u8]) -> bool
     ensures { result ≡ is_program text.now }
 {
     match text.split_first() {

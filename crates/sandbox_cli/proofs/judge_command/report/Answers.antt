@@ -5,7 +5,7 @@ use Rattle.kernel_model.specs.Table.{IsTable}
 use Rattle.sandbox_cli.specs.ThinViews.{call_view, table_view}
 use Rattle.sandbox_cli.proofs.KernelTables.{calls_named, is_kernel_table, has_launch, by_number}
 use Rattle.sandbox_cli.proofs.Reports.{reported}
-use Rattle.sandbox_cli.proofs.thin_commands.report.Goals as goal
+use Rattle.sandbox_cli.proofs.judge_command.report.Goals as goal
 
 pub calls-requires : goal.calls-requires
 calls-requires c = record {

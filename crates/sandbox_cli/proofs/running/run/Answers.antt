@@ -30,3 +30,9 @@ returns-in-Ok-clause-completes g c =
     (ends_by_put (map (λ word. word.now) c.args.words.now) (g.S.Shelf.told c.args.shelf.now) c.write_lines-put.result c.in-Ok.answer.ending (text_of_answer c.in-Ok.answer) c.in-Ok.ensures.prints)
     (causes_by_put (g.S.Shelf.faults c.args.shelf.now) (g.S.Shelf.faults c.answer_to.new.shelf) (g.K.Sink.faults c.args.out.now) (g.K.Sink.faults c.write_lines-put.new.out) (g.K.Sink.taken c.args.out.now) (g.K.Sink.taken c.write_lines-put.new.out)
     c.write_lines-put.result c.in-Ok.answer.ending (prints_whole (map (λ word. word.now) c.args.words.now) (g.S.Shelf.told c.args.shelf.now) c.in-Ok.answer.ending (text_of_answer c.in-Ok.answer) c.in-Ok.ensures.prints) c.in-Ok.ensures.fault_rose.later c.write_lines-put.ensures.fault_rose))
+
+pub returns-in-Ok-clause-faults_have_causes : goal.returns-in-Ok-clause-faults_have_causes
+returns-in-Ok-clause-faults_have_causes g c =
+    rw (c.of-in-Ok.ensures.is_the_ending, c.ending_after.ensures)
+    (causes_by_put (g.S.Shelf.faults c.args.shelf.now) (g.S.Shelf.faults c.answer_to.new.shelf) (g.K.Sink.faults c.args.out.now) (g.K.Sink.faults c.write_lines-put.new.out) (g.K.Sink.taken c.args.out.now) (g.K.Sink.taken c.write_lines-put.new.out)
+    c.write_lines-put.result c.in-Ok.answer.ending (prints_whole (map (λ word. word.now) c.args.words.now) (g.S.Shelf.told c.args.shelf.now) c.in-Ok.answer.ending (text_of_answer c.in-Ok.answer) c.in-Ok.ensures.prints) c.in-Ok.ensures.fault_rose.later c.write_lines-put.ensures.fault_rose)
