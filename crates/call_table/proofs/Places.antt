@@ -1,0 +1,139 @@
+-- The first place of a list that passes a test.
+use Rattle.std.proofs.Common.{subst, map, ◌≡◌, ℕ, zero, suc, ◌<◌, ◌≤◌, Bool, true, false, cond, ltb, List, [], ◌∷◌, ◌++◌, length, get_or, Option, Some, None, ◌⊎◌, ⊎_elim, inl, inr, refl, sym, ap, ◌∙◌, arith, length-append}
+use Rattle.std.specs.Prelude.{◌||◌, find, slice_get, IfSome}
+use Rattle.std.specs.List.{position, position_or_len, list_any, All}
+use Rattle.std.proofs.lemmas.Bool.Decides.{nat_tests}
+use Rattle.std.proofs.lemmas.List.{get_or_append_left, get_or_push}
+use Rattle.std.proofs.lemmas.List.Sums.{position_or_len_is, fails_before_first}
+use Rattle.std.proofs.lemmas.List.Folds.{find_at, list_any_none}
+use Rattle.std.proofs.lemmas.List.Quantifiers.{position-Some}
+use Rattle.std.proofs.lemmas.Option.{slice_get-get_or}
+use Rattle.call_table.proofs.Mapped.{place_of_map}
+
+pub place_found : {X : Type 0} (p : X → Bool) (xs : List X) (i : ℕ) (d : X) → i < length xs → ((k : ℕ) → k < i → p (get_or xs k d) ≡ false) → p (get_or xs i d) ≡ true → position p xs ≡ Some i
+place_found p xs i d h before here =
+    let there = position_or_len_is p xs i d (omega arith) before (λ _. here) in
+    let below : ltb i (length xs) ≡ true = grind (arith, nat_tests) in
+    ap (λ n. cond (ltb n (length xs)) (Some n) None) there ∙ ap (λ b. cond b (Some i) None) below
+
+pub place_nowhere : {X : Type 0} (p : X → Bool) (xs : List X) (d : X) → ((k : ℕ) → k < length xs → p (get_or xs k d) ≡ false) → position p xs ≡ None
+place_nowhere p xs d none =
+    let n = length xs in
+    let there = position_or_len_is p xs n d (omega arith) none (λ h. absurd (omega arith)) in
+    let past : ltb n n ≡ false = grind (arith, nat_tests) in
+    ap (λ m. cond (ltb m n) (Some m) None) there ∙ ap (λ b. cond b (Some n) None) past
+
+pub place_is : {X : Type 0} (p : X → Bool) (xs : List X) (i : ℕ) → position p xs ≡ Some i → (position_or_len p xs ≡ i) × (i < length xs)
+place_is p xs i = by (ltb (position_or_len p xs) (length xs)) refl
+  where
+    by : (b : Bool) → ltb (position_or_len p xs) (length xs) ≡ b → cond b (Some (position_or_len p xs)) None ≡ Some i → (position_or_len p xs ≡ i) × (i < length xs)
+    by true h e =
+        let same : position_or_len p xs ≡ i = cc in
+        let below : position_or_len p xs < length xs = grind (arith, nat_tests) in
+        (same, omega arith)
+    by false h e = cc
+
+no_place : {X : Type 0} (p : X → Bool) (xs : List X) → position p xs ≡ None → length xs ≤ position_or_len p xs
+no_place p xs = by (ltb (position_or_len p xs) (length xs)) refl
+  where
+    by : (b : Bool) → ltb (position_or_len p xs) (length xs) ≡ b → cond b (Some (position_or_len p xs)) None ≡ None → length xs ≤ position_or_len p xs
+    by true h e = cc
+    by false h e = grind (arith, nat_tests)
+
+get_past : {X : Type 0} (xs : List X) (i : ℕ) → length xs ≤ i → slice_get xs i ≡ None
+get_past [] i h = refl
+get_past (x ∷ xs) zero h = absurd (omega arith)
+get_past (x ∷ xs) (suc i) h = get_past xs i (omega arith)
+
+-- what is found at a place
+pub found_at_place : {X : Type 0} (p : X → Bool) (xs : List X) (i : ℕ) (d : X) → position p xs ≡ Some i → find p xs ≡ Some (get_or xs i d)
+found_at_place p xs i d e =
+    let at = place_is p xs i e in
+    find_at p xs ∙ ap (slice_get xs) at.0 ∙ slice_get-get_or xs i d at.1
+
+pub found_nowhere : {X : Type 0} (p : X → Bool) (xs : List X) → position p xs ≡ None → find p xs ≡ None
+found_nowhere p xs e = find_at p xs ∙ get_past xs (position_or_len p xs) (no_place p xs e)
+
+pub any_nowhere : {X : Type 0} (p : X → Bool) (xs : List X) → position p xs ≡ None → list_any p xs ≡ false
+any_nowhere p xs e =
+    let past = no_place p xs e in
+    list_any_none p xs (λ k d h. fails_before_first p xs k d (omega arith))
+
+pub or_false : (a b : Bool) → (a || b) ≡ false → (a ≡ false) × (b ≡ false)
+or_false true b h = cc
+or_false false b h = (refl, h)
+
+pub fails : {X : Type 0} (p : X → Bool) (xs : List X) (k : ℕ) (d : X) → list_any p xs ≡ false → k < length xs → p (get_or xs k d) ≡ false
+fails p [] k d h lt = absurd (omega arith)
+fails p (x ∷ xs) zero d h lt = (or_false (p x) (list_any p xs) h).0
+fails p (x ∷ xs) (suc k) d h lt = fails p xs k d (or_false (p x) (list_any p xs) h).1 (omega arith)
+
+pub nowhere_any : {X : Type 0} (p : X → Bool) (xs : List X) → list_any p xs ≡ false → position p xs ≡ None
+nowhere_any p [] h = refl
+nowhere_any p (x ∷ xs) h = place_nowhere p (x ∷ xs) x (λ k lt. fails p (x ∷ xs) k x h lt)
+
+pub some_place : {X : Type 0} (p : X → Bool) (xs : List X) (i : ℕ) → position p xs ≡ Some i → list_any p xs ≡ true
+some_place p [] i e = cc
+some_place p (x ∷ xs) i e = by (list_any p (x ∷ xs)) refl
+  where
+    by : (b : Bool) → list_any p (x ∷ xs) ≡ b → list_any p (x ∷ xs) ≡ true
+    by true h = h
+    by false h = let none = nowhere_any p (x ∷ xs) h in cc
+
+-- a place stays where more follows, and a first one is at the end
+pub place_stays : {X : Type 0} (p : X → Bool) (xs ys : List X) (i : ℕ) (d : X) → position p xs ≡ Some i → position p (xs ++ ys) ≡ Some i
+place_stays p xs ys i d e =
+    let at = position-Some p xs i d e in
+    let long = length-append xs ys in
+    let lt : i < length xs = at.0 in
+    place_found p (xs ++ ys) i d (omega (arith, long)) (λ k h. ap p (get_or_append_left xs ys d k (omega arith)) ∙ at.2 k h) (ap p (get_or_append_left xs ys d i lt) ∙ at.1)
+
+pub place_at_end : {X : Type 0} (p : X → Bool) (xs : List X) (y : X) → list_any p xs ≡ false → p y ≡ true → position p (xs ++ y ∷ []) ≡ Some (length xs)
+place_at_end p xs y none here =
+    let long = length-append xs (y ∷ []) in
+    place_found p (xs ++ y ∷ []) (length xs) y (omega (arith, long)) (λ k h. ap p (get_or_append_left xs (y ∷ []) y k h) ∙ fails p xs k y none h) (ap p (get_or_push xs y y (length xs) refl) ∙ here)
+
+-- an element of a longer list
+pub get_push_cases : {X : Type 0} (xs : List X) (y z : X) (i : ℕ) → slice_get (xs ++ y ∷ []) i ≡ Some z → (slice_get xs i ≡ Some z) ⊎ ((i ≡ length xs) × (y ≡ z))
+get_push_cases [] y z zero e = inr (refl, cc)
+get_push_cases [] y z (suc i) e = cc
+get_push_cases (x ∷ xs) y z zero e = inl e
+get_push_cases (x ∷ xs) y z (suc i) e = ⊎_elim (λ h. inl h) (λ h. inr (ap suc h.0, h.1)) (get_push_cases xs y z i e)
+
+-- the same of elements that are found by their names
+pub found_by_names : {X Y : Type 0} (name_of : X → Y) (names : List Y) (xs : List X) (p : Y → Bool) (i : ℕ) (d : X) → names ≡ map name_of xs → position p names ≡ Some i → (i < length xs) × (find (λ x. p (name_of x)) xs ≡ Some (get_or xs i d))
+found_by_names name_of names xs p i d named e =
+    let place : position (λ x. p (name_of x)) xs ≡ Some i = sym (place_of_map name_of p xs) ∙ ap (position p) (sym named) ∙ e in
+    ((place_is (λ x. p (name_of x)) xs i place).1, found_at_place (λ x. p (name_of x)) xs i d place)
+
+pub nowhere_by_names : {X Y : Type 0} (name_of : X → Y) (names : List Y) (xs : List X) (p : Y → Bool) → names ≡ map name_of xs → position p names ≡ None → find (λ x. p (name_of x)) xs ≡ None
+nowhere_by_names name_of names xs p named e = found_nowhere (λ x. p (name_of x)) xs (sym (place_of_map name_of p xs) ∙ ap (position p) (sym named) ∙ e)
+
+-- an element that is found is one of the list
+pub found_any : {X : Type 0} (p : X → Bool) (xs : List X) (x : X) → find p xs ≡ Some x → list_any p xs ≡ true
+found_any p [] x e = cc
+found_any {X} p (y ∷ xs) x e = by (p y) (found_any p xs x) e
+  where
+    by : (b : Bool) → (find p xs ≡ Some x → list_any p xs ≡ true) → cond b (Some y) (find p xs) ≡ Some x → (b || list_any p xs) ≡ true
+    by true later e = refl
+    by false later e = later e
+
+pub missing_any : {X : Type 0} (p : X → Bool) (xs : List X) → find p xs ≡ None → list_any p xs ≡ false
+missing_any p [] e = refl
+missing_any p (y ∷ xs) e = by (p y) (missing_any p xs) e
+  where
+    by : (b : Bool) → (find p xs ≡ None → list_any p xs ≡ false) → cond b (Some y) (find p xs) ≡ None → (b || list_any p xs) ≡ false
+    by true later e = cc
+    by false later e = later e
+
+pub found_holds : {X : Type 0} (P : X → Type 0) (p : X → Bool) (xs : List X) (x : X) → All P xs → find p xs ≡ Some x → P x
+found_holds P p [] x all e = cc
+found_holds P p (y ∷ xs) x all e = by (p y) (found_holds P p xs x (λ k d lt. all (suc k) d (omega arith))) e
+  where
+    by : (b : Bool) → (find p xs ≡ Some x → P x) → cond b (Some y) (find p xs) ≡ Some x → P x
+    by true later e = let same : y ≡ x = cc in subst P same (all 0 y (omega arith))
+    by false later e = later e
+
+pub place_within : {X : Type 0} (p : X → Bool) (xs : List X) (r : Option ℕ) → r ≡ position p xs → IfSome r (λ i. i < length xs)
+place_within p xs None e = tt
+place_within p xs (Some i) e = (place_is p xs i (sym e)).1

@@ -1,0 +1,82 @@
+-- What one more line does to what has been read.
+use Rattle.std.proofs.Common.{◌≡◌, ℕ, Option, Some, None, Err, List, [], ◌∷◌, ◌++◌, length, refl, sym, ap, ◌∙◌, suc, ◌+◌, map, ◌<◌, get_or, take, drop}
+use Rattle.std.proofs.Math.Seq.{drop-cons}
+use Rattle.std.proofs.lemmas.List.{take-append-drop, take_more, map-append, get_or_default}
+use Rattle.std.specs.Prelude.{slice_get}
+use Rattle.std.specs.Option.{option_map}
+use Rattle.std.specs.List.{filter_map, cons_option}
+use Rattle.std.proofs.lemmas.List.Elements.{filter_map-append}
+use Rattle.call_table.specs.declared.listed.GroupLine.{GroupLine}
+use Rattle.call_table.specs.declared.causes.CallsCause.{CallsCause}
+use Rattle.call_table.specs.declared.causes.CallsError.{CallsError}
+use Rattle.call_table.specs.declared.causes.CallsError.TheVariants.{NotText, Line as AtLine, NoAbi, NoCall, Memory}
+use Rattle.call_table.specs.Before.{with_before}
+use Rattle.call_table.specs.Lines.{Line}
+use Rattle.call_table.specs.Table.{Table}
+use Rattle.call_table.specs.Faults.{cause_of}
+use Rattle.call_table.specs.Reading.{line_kind, call_of, family_of, group_of, calls_of, with_group, groups_behind, groups_of, table_behind, at_line, fault_at, fault_of}
+use Rattle.call_table.specs.Progress.{Steps, with_kind, HasRead, ReadsRest}
+use Rattle.call_table.proofs.Befores.{with_before-append, given-append}
+
+groups_behind-append : (groups : List GroupLine) (places more : List (List Line × Line)) → groups_behind groups (places ++ more) ≡ groups_behind (groups_behind groups places) more
+groups_behind-append groups [] more = refl
+groups_behind-append groups (place ∷ places) more = groups_behind-append (with_group groups place) places more
+
+-- the groups of some lines and one more
+pub groups_more : (lines : List Line) (line : Line) → groups_of (lines ++ line ∷ []) ≡ groups_of lines ++ cons_option (group_of (calls_of lines) (groups_of lines) (line_kind line)) []
+groups_more lines line = ap (groups_behind []) (with_before-append [] lines (line ∷ [])) ∙ groups_behind-append [] (with_before [] lines) ((lines, line) ∷ [])
+
+table_more : (arch : ℕ) (lines : List Line) (line : Line) → with_kind (table_behind arch lines) (line_kind line) ≡ table_behind arch (lines ++ line ∷ [])
+table_more arch lines line =
+    let calls = filter_map-append (λ (l : Line). call_of (line_kind l)) lines (line ∷ []) in
+    let families = filter_map-append (λ (l : Line). family_of (line_kind l)) lines (line ∷ []) in
+    let groups = groups_more lines line in
+    sym (λ i. record { arch = arch; calls = calls i; families = families i; groups = groups i })
+
+no_more : (faults : List CallsError) (o : Option CallsError) → slice_get faults 0 ≡ None → o ≡ None → slice_get (faults ++ cons_option o []) 0 ≡ None
+no_more [] o e f = ap (λ o. slice_get (cons_option o []) 0) f
+no_more (fault ∷ faults) o e f = e
+
+-- the fault of a line, by the table of what was read
+fault_known : (arch : ℕ) (lines : List Line) (line : Line) (table : Table) (cause : Option CallsCause) → HasRead arch lines table → cause_of table (line_kind line) ≡ cause → fault_at arch (lines, line) ≡ option_map (at_line line.number) cause
+fault_known arch lines line table cause h e = ap (λ (t : Table). option_map (at_line line.number) (cause_of t (line_kind line))) (sym h.read) ∙ ap (option_map (at_line line.number)) e
+
+pub reads_more : (arch : ℕ) (lines : List Line) (line : Line) (table next : Table) → HasRead arch lines table → cause_of table (line_kind line) ≡ None → next ≡ with_kind table (line_kind line) → HasRead arch (lines ++ line ∷ []) next
+reads_more arch lines line table next h none made = record {
+  faultless = ap (λ faults. slice_get faults 0) (given-append (fault_at arch) lines (line ∷ [])) ∙ no_more (filter_map (fault_at arch) (with_before [] lines)) (fault_at arch (lines, line)) h.faultless (fault_known arch lines line table None h none);
+  read = made ∙ ap (λ (t : Table). with_kind t (line_kind line)) h.read ∙ table_more arch lines line;
+}
+
+first-append : (xs ys : List CallsError) → slice_get xs 0 ≡ None → slice_get (xs ++ ys) 0 ≡ slice_get ys 0
+first-append [] ys e = refl
+first-append (x ∷ xs) ys e = cc
+
+-- the first line with a fault decides
+first_fault : (arch : ℕ) (front : List Line) (line : Line) (rest : List Line) (fault : CallsError) → fault_of arch front ≡ None → fault_at arch (front, line) ≡ Some fault → fault_of arch (front ++ line ∷ rest) ≡ Some fault
+first_fault arch front line rest fault none e =
+    ap (λ faults. slice_get faults 0) (given-append (fault_at arch) front (line ∷ rest))
+    ∙ first-append (filter_map (fault_at arch) (with_before [] front)) (filter_map (fault_at arch) (with_before front (line ∷ rest))) none
+    ∙ ap (λ o. slice_get (cons_option o (filter_map (fault_at arch) (with_before (front ++ line ∷ []) rest))) 0) e
+
+pub stops : (arch : ℕ) (lines front : List Line) (line : Line) (rest : List Line) (table next : Table) (error : CallsError) → lines ≡ front ++ line ∷ rest → HasRead arch front table
+    → Steps (cause_of table (line_kind line)) line.number next (Err error) → ReadsRest arch lines (Err error)
+stops arch lines front line rest table next Memory split h t = tt
+stops arch lines front line rest table next NotText split h t = absurd t
+stops arch lines front line rest table next NoAbi split h t = absurd t
+stops arch lines front line rest table next (NoCall name) split h t = absurd t
+stops arch lines front line rest table next (AtLine number cause) split h t =
+    ap (fault_of arch) split
+    ∙ first_fault arch front line rest (AtLine number cause) h.faultless (fault_known arch front line table (Some cause) h t.1 ∙ ap (λ n. Some (AtLine n cause)) (sym t.0))
+
+-- a list at one of its places
+pub split_at : {X : Type 0} (xs : List X) (i : ℕ) (x : X) → i < length xs → x ≡ get_or xs i x → xs ≡ take i xs ++ x ∷ drop (suc i) xs
+split_at xs i x lt is = sym (take-append-drop i xs) ∙ ap (λ ls. take i xs ++ ls) (drop-cons xs i x lt ∙ ap (λ l. l ∷ drop (suc i) xs) (sym is))
+
+-- what a list is made into, at one of its places
+pub split_made : {X Y : Type 0} (f : X → Y) (xs : List X) (i : ℕ) (d : X) → i < length xs → map f xs ≡ map f (take i xs) ++ f (get_or xs i d) ∷ map f (drop (suc i) xs)
+split_made f xs i d lt =
+    let x = get_or xs i d in
+    ap (map f) (split_at xs i x lt (get_or_default xs i d x lt)) ∙ map-append f (take i xs) (x ∷ drop (suc i) xs)
+
+pub take_made : {X Y : Type 0} (f : X → Y) (xs : List X) (i : ℕ) (d : X) → i < length xs → map f (take (i + 1) xs) ≡ map f (take i xs) ++ f (get_or xs i d) ∷ []
+take_made f xs i d lt = ap (map f) (take_more xs i d lt) ∙ map-append f (take i xs) (get_or xs i d ∷ [])

@@ -1,0 +1,28 @@
+use Rattle.std.proofs.Common.{[], take, drop, suc, map, sym, subst, get_or, List}
+use Rattle.std.proofs.lemmas.Result.{err_from_is_err_and}
+use Rattle.call_table.specs.declared.words.Line.{Line as ReadLine}
+use Rattle.call_table.specs.Lines.{Line}
+use Rattle.call_table.specs.Views.{line_view}
+use Rattle.call_table.specs.Progress.{HasRead, with_kind}
+use Rattle.call_table.specs.Reading.{line_kind}
+use Rattle.call_table.proofs.Steps.{stops, reads_more, split_made, take_made}
+use Rattle.call_table.proofs.reader.read_rest.Goals as goal
+
+abbrev no_line : ReadLine
+no_line = record { number = 0; text = record { ref_ptr = (0, 0); now = [] } }
+
+pub returns-in_err-draft : goal.returns-in_err-draft
+returns-in_err-draft c =
+    let p = err_from_is_err_and c.from_residual.result c.from_residual.ensures.1 in
+    let i = c.loop-line.line-index in
+    let lines = c.args.lines.now in
+    rw (p.1, p.2)
+    (stops c.args.arch (map line_view lines) (map line_view (take i lines)) (line_view (get_or lines i no_line)) (map line_view (drop (suc i) lines)) c.loop-line.draft (with_kind c.loop-line.draft (line_kind (line_view (get_or lines i no_line)))) c.in_err-draft.field-0.0
+    (split_made line_view lines i no_line c.loop-line-test.true) c.loop-line.invariant c.in_err-draft.ensures)
+
+pub loop-line-preserved : goal.loop-line-preserved
+loop-line-preserved c =
+    let i = c.loop-line.line-index in
+    let lines = c.args.lines.now in
+    subst (λ (ls : List Line). HasRead c.args.arch ls c.in_ok-draft.draft) (sym (take_made line_view lines i no_line c.loop-line-test.true))
+    (reads_more c.args.arch (map line_view (take i lines)) (line_view (get_or lines i no_line)) c.loop-line.draft c.in_ok-draft.draft c.loop-line.invariant c.in_ok-draft.ensures.0 c.in_ok-draft.ensures.1)

@@ -1,0 +1,28 @@
+-- The lines of calls.txt that count, and their words.
+use Rattle.std.specs.Prelude.{ℕ, ◌==◌, not, Bool, true, List, [], ◌∷◌, length, map, filter}
+use Rattle.std.specs.List.{slice_split, enumerate_from}
+
+-- a line of the file, with its number
+pub record Line : Type 0 where
+  pub number : ℕ
+  pub text : List ℕ
+
+abbrev pub line_of : ℕ × List ℕ → Line
+line_of line = record { number = line.0; text = line.1 }
+
+-- an empty line, and one whose first character is `#`, is passed over
+abbrev pub is_skipped : List ℕ → Bool
+is_skipped [] = true
+is_skipped (byte ∷ text) = byte == 35
+
+-- the lines that are not passed over, which keep their numbers
+abbrev pub counted_from : ℕ → List (List ℕ) → List Line
+counted_from number texts = filter (λ line. not (is_skipped line.text)) (map line_of (enumerate_from number texts))
+
+-- the lines of a file, which is cut at each LF, from number 1 on
+abbrev pub lines_of : List ℕ → List Line
+lines_of text = counted_from 1 (slice_split (λ byte. byte == 10) text)
+
+-- the words of a line: what stands between spaces
+abbrev pub words_of : List ℕ → List (List ℕ)
+words_of text = filter (λ word. not (length word == 0)) (slice_split (λ byte. byte == 32) text)

@@ -1,0 +1,45 @@
+-- Which calls the words of a group stand for.
+use Rattle.std.specs.Prelude.{◌≡◌, ℕ, ◌==◌, Bool, true, false, Option, Some, None, List, map, filter}
+use Rattle.std.specs.List.{list_any, list_all, enumerate_from}
+use Rattle.std.specs.Option.{option_map_or}
+use Rattle.std.specs.Str.{bytes_eq}
+use Rattle.call_table.specs.Names.{behind_at}
+use Rattle.call_table.specs.Lookups.{has_name, group_named}
+use Rattle.call_table.specs.declared.listed.CallLine.{CallLine}
+use Rattle.call_table.specs.declared.listed.GroupLine.{GroupLine}
+
+-- the position is one of the group's members
+abbrev pub has_member : ℕ → GroupLine → Bool
+has_member position group = list_any (λ member. member == position) group.members
+
+abbrev pub stands_for_by : List GroupLine → List ℕ → ℕ × CallLine → Option (List ℕ) → Bool
+stands_for_by groups word call None = has_name word call.1
+stands_for_by groups word call (Some name) = option_map_or (has_member call.0) (group_named name groups) false
+
+-- `@NAME` stands for the members of the group of that name, any other word for the call of that name
+abbrev pub stands_for : List GroupLine → List ℕ → ℕ × CallLine → Bool
+stands_for groups word call = stands_for_by groups word call (behind_at word)
+
+-- some word stands for the call
+abbrev pub is_member : List GroupLine → List (List ℕ) → ℕ × CallLine → Bool
+is_member groups words call = list_any (λ word. stands_for groups word call) words
+
+-- members are positions in calls, from 0, ascending, each once: those that some word stands for
+abbrev pub members_of : List CallLine → List GroupLine → List (List ℕ) → List ℕ
+members_of calls groups words = map (λ call. call.0) (filter (is_member groups words) (enumerate_from 0 calls))
+
+abbrev pub has_group : List ℕ → GroupLine → Bool
+has_group name group = bytes_eq name group.name
+
+abbrev pub is_known_by : List CallLine → List GroupLine → List ℕ → Option (List ℕ) → Bool
+is_known_by calls groups word None = list_any (has_name word) calls
+is_known_by calls groups word (Some name) = list_any (has_group name) groups
+
+-- the word names one of these calls, or behind `@` one of these groups
+abbrev pub is_known : List CallLine → List GroupLine → List ℕ → Bool
+is_known calls groups word = is_known_by calls groups word (behind_at word)
+
+-- the members of a group line, where each of its words is known
+abbrev pub FindsMembers : List CallLine → List GroupLine → List (List ℕ) → Option (List ℕ) → Type 0
+FindsMembers calls groups words None = list_all (is_known calls groups) words ≡ false
+FindsMembers calls groups words (Some members) = (list_all (is_known calls groups) words ≡ true) × (members ≡ members_of calls groups words)

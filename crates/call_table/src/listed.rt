@@ -1,0 +1,54 @@
+// The lines of a table: a call or a family, and a group of calls.
+ghost use Rattle.std.specs.Prelude.{◌≡◌};
+
+use crate::names::Name;
+use std::marker::Model;
+
+/// A call or a family of sockets.
+#[derive(Debug, Drop)]
+pub struct CallLine {
+    pub name: Name,
+    /// The number of the system call, or of the address family (socket(2)).
+    pub number: u32,
+    /// The capability that every use asks for, by its number (capabilities(7)).
+    pub cap: Option<u8>,
+}
+
+/// Members of a group, which contracts see as a list of positions in the table's calls, from 0.
+#[derive(Debug, Drop)]
+pub struct Members {
+    positions: Vec<usize>,
+}
+
+impl Model for Members {
+    ghost use Rattle.std.specs.Prelude.{List, ℕ};
+
+    ghost Value = { List ℕ };
+
+    ghost view = { λ members. members.positions.items };
+}
+
+impl Members {
+    /// The members at these positions.
+    pub fn new(positions: Vec<usize>) -> Self
+        ensures { result ≡ positions.items }
+    {
+        Members { positions }
+    }
+
+    /// The positions of the members.
+    pub fn list(&self) -> &[usize]
+        ensures { result.now ≡ self.now }
+    {
+        &self.positions
+    }
+}
+
+/// A group of calls.
+#[derive(Debug, Drop)]
+pub struct GroupLine {
+    /// The name, without the `@` of the line.
+    pub name: Name,
+    /// Positions in the table's calls, from 0, ascending, each once.
+    pub members: Members,
+}

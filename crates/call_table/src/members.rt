@@ -1,0 +1,110 @@
+// Which calls the words of a group stand for.
+ghost use Rattle.std.specs.Prelude.{◌≡◌, ◌==◌, ◌<◌, ◌||◌, ℕ, IsTrue, true, false, map, filter, length, slice_index_or, IfOk};
+ghost use Rattle.std.specs.List.{list_any, list_all, All, enumerate_from};
+ghost use Rattle.call_table.specs.Members.{stands_for, is_member, is_known, FindsMembers};
+ghost use Rattle.call_table.specs.Facts.{AreGroups};
+ghost use Rattle.call_table.specs.Marks.{Marks};
+
+use crate::call_lines::CallLines;
+use crate::group_lines::GroupLines;
+use crate::listed::Members;
+use crate::names::behind_at;
+use std::alloc::{AllocError, Global};
+
+// Marks these positions.
+fn mark_all(marks: &mut [bool], positions: &[usize])
+    requires { All (λ position. position < length marks.old) positions.now }
+    ensures { (at : ℕ) → at < length marks.old
+        → slice_index_or marks.new at false ≡ (slice_index_or marks.old at false || list_any (λ position. position == at) positions.now) }
+{
+    for position in positions {
+        marks[*position] = true;
+    }
+}
+
+// Marks the calls that a word stands for, or answers false where it names nothing.
+fn mark_word(marks: &mut [bool], calls: &CallLines, groups: &GroupLines, word: &str) -> bool
+    requires as_many { length marks.old ≡ length calls.now }
+    requires groups { AreGroups (length calls.now) groups.now }
+    ensures known { result ≡ is_known calls.now groups.now word.now }
+    ensures marks { IsTrue result → Marks calls.now (λ call. stands_for groups.now word.now call) marks.old marks.new }
+{
+    match behind_at(word) {
+        Some(name) => match groups.find(name) {
+            Some(group) => {
+                mark_all(marks, group.members.list());
+                true
+            }
+            None => false,
+        },
+        None => match calls.place_named(word) {
+            Some(position) => {
+                marks[position] = true;
+                true
+            }
+            None => false,
+        },
+    }
+}
+
+// Marks the calls that the words stand for, or answers false where one names nothing.
+fn mark_words(marks: &mut [bool], calls: &CallLines, groups: &GroupLines, words: &[&str]) -> bool
+    requires as_many { length marks.old ≡ length calls.now }
+    requires groups { AreGroups (length calls.now) groups.now }
+    ensures known { result ≡ list_all (λ word. is_known calls.now groups.now word.now) words.now }
+    ensures marks { IsTrue result → Marks calls.now (is_member groups.now (map (λ word. word.now) words.now)) marks.old marks.new }
+{
+    for word in words {
+        if !mark_word(marks, calls, groups, word) {
+            return false;
+        }
+    }
+    true
+}
+
+// The positions that are marked, ascending.
+fn marked(alloc: Global, marks: &[bool]) -> Result<Vec<usize>, AllocError>
+    ensures { IfOk result (λ positions. positions.items ≡ map (λ mark. mark.0) (filter (λ mark. mark.1) (enumerate_from 0 marks.now))) }
+{
+    let mut positions = Vec::new(alloc);
+    for (at, mark) in marks.iter().enumerate() {
+        if *mark {
+            positions.push(at)?;
+        }
+    }
+    Ok(positions)
+}
+
+// The members among calls of which none is marked yet.
+fn members_among(
+    alloc: Global,
+    marks: &mut [bool],
+    calls: &CallLines,
+    groups: &GroupLines,
+    words: &[&str],
+) -> Result<Option<Members>, AllocError>
+    requires as_many { length marks.old ≡ length calls.now }
+    requires unmarked { (at : ℕ) → slice_index_or marks.old at false ≡ false }
+    requires groups { AreGroups (length calls.now) groups.now }
+    ensures { IfOk result (FindsMembers calls.now groups.now (map (λ word. word.now) words.now)) }
+{
+    if mark_words(marks, calls, groups, words) {
+        Ok(Some(Members::new(marked(alloc, marks)?)))
+    } else {
+        Ok(None)
+    }
+}
+
+/// The calls that the words stand for, or `None` where a word names neither an earlier call nor an earlier group.
+pub fn find_members(
+    alloc: Global,
+    calls: &CallLines,
+    groups: &GroupLines,
+    words: &[&str],
+) -> Result<Option<Members>, AllocError>
+    requires { AreGroups (length calls.now) groups.now }
+    ensures { IfOk result (FindsMembers calls.now groups.now (map (λ word. word.now) words.now)) }
+{
+    let mut marks = vec![in alloc; false; calls.len()]?;
+    members_among(alloc, &mut marks, calls, groups, words)
+}
