@@ -7,5 +7,5 @@ use Rattle.unit_values.specs.declared.value.Value.{Value}
 
 -- its value or its note is added, if it has one
 abbrev pub AddsGiven : Option Value → Option FileNote → List Value → List Value → List FileNote → List FileNote → Result (Unit {0}) AllocError → Type 0
-AddsGiven value note old new noted notes (Ok u) = (new ≡ old ++ cons_option value []) × (notes ≡ noted ++ cons_option note [])
-AddsGiven value note old new noted notes (Err error) = Unit {0}
+AddsGiven value remark old new noted notes (Ok u) = (new ≡ old ++ cons_option value []) × (notes ≡ noted ++ cons_option remark [])
+AddsGiven value remark old new noted notes (Err error) = Unit {0}
