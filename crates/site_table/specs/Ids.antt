@@ -1,0 +1,34 @@
+-- Ids of users and groups (credentials(7)): 0 to 4,294,967,294; the number above stands for none in the calls that set ids.
+use Rattle.std.specs.Prelude.{ℕ, ℤ, pos, negsuc, nat_le, Bool, false, cond, not, is_some, List, Option, Some, None, option_and_then}
+use Rattle.std.specs.List.{list_all, filter_map}
+use Rattle.std.specs.Option.{option_map_or}
+use Rattle.toml.specs.Data.{Data, as_integer}
+use Rattle.site_table.specs.Tree.{number_at, elements_at}
+
+-- the greatest id
+abbrev pub greatest_id : ℕ
+greatest_id = 4294967294
+
+abbrev pub id_of : ℤ → Option ℕ
+id_of (pos number) = cond (nat_le number greatest_id) (Some number) None
+id_of (negsuc number) = None
+
+-- the id at a key, if there is a number in range
+abbrev pub id_at : List ℕ → Data → Option ℕ
+id_at key value = option_and_then id_of (number_at key value)
+
+-- a number out of range stands at a key
+abbrev pub is_out_of_range : List ℕ → Data → Bool
+is_out_of_range key value = option_map_or (λ number. not (is_some (id_of number))) (number_at key value) false
+
+-- the id that a part of the tree is, if it is a number in range
+abbrev pub as_id : Data → Option ℕ
+as_id value = option_and_then id_of (as_integer value)
+
+-- the ids of the array at a key
+abbrev pub ids_at : List ℕ → Data → List ℕ
+ids_at key value = filter_map as_id (elements_at key value)
+
+-- each element of the array at a key is an id
+abbrev pub are_ids : List ℕ → Data → Bool
+are_ids key value = list_all (λ one. is_some (as_id one)) (elements_at key value)

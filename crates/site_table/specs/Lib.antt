@@ -1,0 +1,15 @@
+pub mod Tree
+pub mod Keys
+pub mod Kinds
+pub mod Ids
+pub mod Caps
+pub mod Paths
+pub mod Rows
+pub mod Owners
+pub mod Order
+pub mod Table
+pub mod Reading
+pub mod Texts
+pub mod ByText
+pub mod RowSteps
+pub mod OwnerSteps

@@ -1,0 +1,74 @@
+-- What the steps of reading a row answer.
+use Rattle.std.specs.Prelude.{◌≡◌, ⊤, ℕ, ◌||◌, ◌&&◌, codes, cond, Bool, true, false, not, List, [], ◌∷◌, drop, Option, Some, None, option_map, Result, Ok, Err}
+use Rattle.std.specs.Option.{option_map_or}
+use Rattle.std.specs.List.{list_any}
+use Rattle.std.specs.Str.{bytes_eq}
+use Rattle.site_table.specs.Kinds.{is_dir}
+use Rattle.toml.specs.Data.{Data}
+use Rattle.abs_path.specs.Paths.{Path, tail_of}
+use Rattle.site_table.specs.declared.row.Row.{Row}
+use Rattle.site_table.specs.declared.error.RowCause.{RowCause}
+use Rattle.site_table.specs.declared.error.RowCause.TheVariants.{Duplicate, NoParent}
+use Rattle.site_table.specs.declared.error.SiteError.{SiteError}
+use Rattle.site_table.specs.declared.error.SiteError.TheVariants.{NotToml, Top, TooMany, Row as BadRow, User as BadUser, Group as BadGroup, Memory}
+use Rattle.site_table.specs.Paths.{parent_of, root, proc}
+use Rattle.site_table.specs.Rows.{first_of, own_causes, row_of, kind_of, path_of}
+use Rattle.site_table.specs.Order.{has_row, row_placed, plain_dir}
+use Rattle.site_table.specs.Texts.{has_text}
+
+-- the same as `is_always_dir`, by the text, which is empty for the root
+abbrev pub is_always_dir_text : List ℕ → Bool
+is_always_dir_text text = bytes_eq text [] || bytes_eq text (codes "/proc")
+
+-- the row is a directory whose path has this text
+abbrev pub is_folder_at : List ℕ → Data → Bool
+is_folder_at text row = option_map_or is_dir (kind_of row) false && option_map_or (λ path. bytes_eq text (tail_of path)) (path_of row) false
+
+-- one of the rows is
+abbrev pub has_folder : List Data → List ℕ → Bool
+has_folder rows text = list_any (is_folder_at text) rows
+
+-- the texts have one more, where the row is a directory with a path
+abbrev pub TakesFolder : List (List ℕ) → Data → List (List ℕ) → Type 0
+TakesFolder old row new = (text : List ℕ) → has_text new text ≡ (has_text old text || is_folder_at text row)
+
+-- rows with a directory of this path, unless there is a row of the path
+abbrev pub dir_placed : Path → List Row → List Row
+dir_placed path rows = cond (has_row rows path) rows (row_placed (plain_dir path) rows)
+
+-- rows with `/` and `/proc` among them
+abbrev pub fixed_placed : List Row → List Row
+fixed_placed rows = dir_placed proc (dir_placed root rows)
+
+-- what a row with good keys and a path says, or its first cause
+abbrev pub SaysFile : Data → Result Row RowCause → Type 0
+SaysFile row (Ok said) = (first_of (drop 2 (own_causes row)) ≡ None) × (said ≡ row_of row)
+SaysFile row (Err cause) = first_of (drop 2 (own_causes row)) ≡ Some cause
+
+-- the refusal of a row of this number, for this cause
+abbrev pub IsRefused : ℕ → Option RowCause → SiteError → Type 0
+IsRefused number cause Memory = ⊤
+IsRefused number cause NotToml = ⊥
+IsRefused number cause Top = ⊥
+IsRefused number cause TooMany = ⊥
+IsRefused number cause (BadRow told why) = (told ≡ number) × (cause ≡ Some why)
+IsRefused number cause (BadUser told) = ⊥
+IsRefused number cause (BadGroup told) = ⊥
+
+-- what a row says by itself, or its first own cause
+abbrev pub SaysRow : ℕ → Data → Result Row SiteError → Type 0
+SaysRow number row (Ok said) = (first_of (own_causes row) ≡ None) × (said ≡ row_of row)
+SaysRow number row (Err error) = IsRefused number (first_of (own_causes row)) error
+
+-- the path is the root's, or the text of its folder is one of these or that of a folder that is always there
+abbrev pub stands_in : List (List ℕ) → Path → Bool
+stands_in folders path = option_map_or (λ text. is_always_dir_text text || has_text folders text) (option_map tail_of (parent_of path)) true
+
+-- what may be wrong with the place of a row among others
+abbrev pub causes_among : List (List ℕ) → List Row → Path → List (Bool × RowCause)
+causes_among folders rows path = (has_row rows path, Duplicate) ∷ (not (stands_in folders path), NoParent) ∷ []
+
+-- the row is placed among the others, or refused
+abbrev pub Places : ℕ → List (List ℕ) → List Row → Row → List Row → Result (Unit {0}) SiteError → Type 0
+Places number folders rows row placed (Ok done) = (first_of (causes_among folders rows row.path) ≡ None) × (placed ≡ row_placed row rows)
+Places number folders rows row placed (Err error) = IsRefused number (first_of (causes_among folders rows row.path)) error

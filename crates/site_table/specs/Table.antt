@@ -1,0 +1,99 @@
+-- A site: what its table holds, what holds of each, and what is found in it.
+use Rattle.std.specs.Prelude.{◌≡◌, ◌≢◌, ◌≤◌, ℕ, true, false, List, [], ◌∷◌, map, length, find, position, Option, Some, None, option_map, IfSome, IsSome, ◌==◌}
+use Rattle.std.specs.List.{AllByRecursion}
+use Rattle.std.specs.Str.{bytes_eq}
+use Rattle.abs_path.specs.Paths.{Path, text_of, is_normal}
+use Rattle.abs_path.specs.Prefix.{is_same}
+use Rattle.abs_path.specs.ByteOrder.{AreAscending}
+use Rattle.cap_sets.specs.Sets.{none}
+use Rattle.site_table.specs.declared.kinds.RowKind.{RowKind}
+use Rattle.site_table.specs.declared.kinds.RowKind.TheVariants.{Dir, Exe}
+use Rattle.site_table.specs.declared.row.Row.{Row}
+use Rattle.site_table.specs.declared.accounts.User.{User}
+use Rattle.site_table.specs.declared.accounts.Group.{Group}
+use Rattle.site_table.specs.Ids.{greatest_id}
+use Rattle.site_table.specs.Paths.{parent_of, root, proc}
+
+pub record Site : Type 0 where
+  pub dynamic_uid : ℕ
+  pub rows : List Row
+  pub users : List User
+  pub groups : List Group
+
+abbrev pub site_with : ℕ → List Row → List User → List Group → Site
+site_with uid rows users groups = record { dynamic_uid = uid; rows = rows; users = users; groups = groups }
+
+-- the row of a path
+abbrev pub row_at : List Row → Path → Option Row
+row_at rows path = find (λ row. is_same row.path path) rows
+
+-- the place of the row of a path
+abbrev pub place_of : List Row → Path → Option ℕ
+place_of rows path = position (λ row. is_same row.path path) rows
+
+-- the kind of the row of a path
+abbrev pub kind_at : List Row → Path → Option RowKind
+kind_at rows path = option_map (λ row. row.kind) (row_at rows path)
+
+-- the user of a name
+abbrev pub user_named : List User → List ℕ → Option User
+user_named users name = find (λ user. bytes_eq user.name name) users
+
+-- the first user with this uid
+abbrev pub user_with : List User → ℕ → Option User
+user_with users uid = find (λ user. user.uid == uid) users
+
+-- the group of a name
+abbrev pub group_named : List Group → List ℕ → Option Group
+group_named groups name = find (λ group. bytes_eq group.name name) groups
+
+-- an id, where there is one, is in range
+abbrev pub IsIdIfSome : Option ℕ → Type 0
+IsIdIfSome id = IfSome id (λ number. number ≤ greatest_id)
+
+-- what holds of each row of a table
+pub record IsRowOf (rows : List Row) (row : Row) : Type 0 where
+  pub normal : is_normal row.path ≡ true
+  pub short : length (text_of row.path) ≤ 250
+  pub parent : IfSome (parent_of row.path) (λ path. kind_at rows path ≡ Some Dir)
+  pub setuid : IsIdIfSome row.setuid
+  pub setgid : IsIdIfSome row.setgid
+  pub exe_alone : row.kind ≢ Exe → (row.setuid ≡ None) × (row.setgid ≡ None) × (row.caps ≡ none) × (row.effective ≡ false)
+  pub owner_or_caps : IsSome row.setuid → row.caps ≡ none
+  pub effective_caps : row.effective ≡ true → row.caps ≢ none
+
+-- the path of each row is normal
+abbrev pub AreNormal : List Row → Type 0
+AreNormal rows = AllByRecursion (λ row. is_normal row.path ≡ true) rows
+
+-- what holds of each user
+pub record IsUser (user : User) : Type 0 where
+  pub name : user.name ≢ []
+  pub uid : user.uid ≤ greatest_id
+  pub gid : user.gid ≤ greatest_id
+  pub groups : AllByRecursion (λ gid. gid ≤ greatest_id) user.groups
+
+-- what holds of each group
+pub record IsGroup (group : Group) : Type 0 where
+  pub name : group.name ≢ []
+  pub gid : group.gid ≤ greatest_id
+
+-- no two are equal
+abbrev pub AreDistinct : List (List ℕ) → Type 0
+AreDistinct [] = Unit {0}
+AreDistinct (name ∷ names) = AllByRecursion (λ other. name ≢ other) names × AreDistinct names
+
+-- what holds of each site
+pub record IsSite (site : Site) : Type 0 where
+  pub dynamic_uid : site.dynamic_uid ≤ greatest_id
+  pub ascending : AreAscending (map (λ row. row.path) site.rows)
+  pub root : kind_at site.rows root ≡ Some Dir
+  pub proc : kind_at site.rows proc ≡ Some Dir
+  pub each_row : AllByRecursion (IsRowOf site.rows) site.rows
+  pub each_user : AllByRecursion IsUser site.users
+  pub each_group : AllByRecursion IsGroup site.groups
+  pub user_names : AreDistinct (map (λ user. user.name) site.users)
+  pub group_names : AreDistinct (map (λ group. group.name) site.groups)
+  pub few_rows : length site.rows ≤ 2050
+  pub few_users : length site.users ≤ 512
+  pub few_groups : length site.groups ≤ 512

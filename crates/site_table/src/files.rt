@@ -1,0 +1,149 @@
+//! What a row of the file says by itself.
+
+ghost use Rattle.std.specs.Prelude.{◌≡◌, ◌&&◌, ◌||◌, not, false, Some, map};
+ghost use Rattle.toml.specs.Data.{get};
+ghost use Rattle.toml.specs.View.{view};
+ghost use Rattle.site_table.specs.Kinds.{is_dir, is_exe};
+ghost use Rattle.site_table.specs.Rows.{path_of, kind_of, cap_names, has, has_exe_key, is_always_dir, has_wrong_number, has_wrong_caps, has_both};
+ghost use Rattle.site_table.specs.RowSteps.{is_always_dir_text, SaysFile, SaysRow};
+ghost use Rattle.std.specs.Option.{option_map_or};
+
+use crate::caps::{are_caps, caps_of};
+use crate::error::{RowCause, SiteError};
+use crate::ids::{id_at, is_out_of_range};
+use crate::keys::{ROW_KEYS, has_keys};
+use crate::kinds::RowKind;
+use crate::paths::{path_of, tail};
+use crate::row::Row;
+use crate::tree::{elements_at, flag_at, text_at};
+use abs_path::AbsPath;
+use std::alloc::Global;
+use toml::Value;
+
+fn has(row: &Value, key: &str) -> bool
+    ensures { result ≡ has key.now (view row.now) }
+{
+    row.get(key).is_some()
+}
+
+fn kind_of(row: &Value) -> Option<RowKind>
+    ensures { result ≡ kind_of (view row.now) }
+{
+    match text_at(row, "kind") {
+        Some(name) => RowKind::named(name),
+        None => None,
+    }
+}
+
+// a key that only an executable may have
+fn has_exe_key(row: &Value) -> bool
+    ensures { result ≡ has_exe_key (view row.now) }
+{
+    has(row, "setuid") || has(row, "setgid") || has(row, "caps") || has(row, "effective")
+}
+
+/// Whether the row is of kind dir, whatever else is in it.
+pub fn is_dir(row: &Value) -> bool
+    ensures { result ≡ option_map_or is_dir (kind_of (view row.now)) false }
+{
+    match kind_of(row) {
+        Some(RowKind::Dir) => true,
+        Some(RowKind::File) => false,
+        Some(RowKind::Exe) => false,
+        None => false,
+    }
+}
+
+/// Whether the text is that of `/` or `/proc`, which are directories whether or not they are listed.
+/// The text of `/` is here the empty one.
+pub fn is_always_dir_text(text: &str) -> bool
+    ensures { result ≡ is_always_dir_text text.now }
+{
+    text == "" || text == "/proc"
+}
+
+// the same of a path
+fn is_always_dir(path: &AbsPath) -> bool
+    ensures { result ≡ is_always_dir path.now }
+{
+    is_always_dir_text(tail(path))
+}
+
+// whether the row at this path may be of this kind
+fn may_be(kind: RowKind, path: &AbsPath, row: &Value) -> bool
+    ensures { result ≡ ((is_exe kind || not (has_exe_key (view row.now)))
+        && (is_dir kind || not (is_always_dir path.now))) }
+{
+    match kind {
+        RowKind::Dir => !has_exe_key(row),
+        RowKind::File => !has_exe_key(row) && !is_always_dir(path),
+        RowKind::Exe => !is_always_dir(path),
+    }
+}
+
+fn has_wrong_number(row: &Value) -> bool
+    ensures { result ≡ has_wrong_number (view row.now) }
+{
+    is_out_of_range(row, "setuid") || is_out_of_range(row, "setgid")
+}
+
+// an unknown capability, or `effective` without capabilities
+fn has_wrong_caps(row: &Value) -> bool
+    ensures { result ≡ has_wrong_caps (view row.now) }
+{
+    let names = elements_at(row, "caps");
+    !are_caps(names) || (has(row, "effective") && names.is_empty())
+}
+
+// an owner's uid beside capabilities
+fn has_both(row: &Value) -> bool
+    ensures { result ≡ has_both (view row.now) }
+{
+    has(row, "setuid") && !elements_at(row, "caps").is_empty()
+}
+
+// what the row says of the file at its path
+fn read_file(path: AbsPath, row: &Value) -> Result<Row, RowCause>
+    requires { path_of (view row.now) ≡ Some path }
+    ensures { SaysFile (view row.now) result }
+{
+    let Some(kind) = kind_of(row) else {
+        return Err(RowCause::Kind);
+    };
+    if !may_be(kind, &path, row) {
+        return Err(RowCause::Kind);
+    }
+    if has_wrong_number(row) {
+        return Err(RowCause::Number);
+    }
+    if has_wrong_caps(row) {
+        return Err(RowCause::Caps);
+    }
+    if has_both(row) {
+        return Err(RowCause::Both);
+    }
+    Ok(Row {
+        path,
+        kind,
+        setuid: id_at(row, "setuid"),
+        setgid: id_at(row, "setgid"),
+        caps: caps_of(elements_at(row, "caps")),
+        effective: flag_at(row, "effective").unwrap_or(false),
+    })
+}
+
+/// What the row of this number says, or the first cause by which it is wrong by itself.
+pub fn read_row(alloc: Global, number: u64, row: &Value) -> Result<Row, SiteError>
+    ensures { SaysRow number (view row.now) result }
+{
+    if !has_keys(&ROW_KEYS, row) {
+        return Err(SiteError::Row(number, RowCause::Key));
+    }
+    let Some(path) = path_of(alloc, row)? else {
+        return Err(SiteError::Row(number, RowCause::Path));
+    };
+    match read_file(path, row) {
+        Ok(row) => Ok(row),
+        Err(cause) => Err(SiteError::Row(number, cause)),
+    }
+}

@@ -1,0 +1,83 @@
+//! Ids of users and groups.
+
+ghost use Rattle.std.specs.Prelude.{◌≡◌, ◌≤◌, IfOk, IfSome, map, is_some};
+ghost use Rattle.std.specs.List.{filter_map, list_all};
+ghost use Rattle.toml.specs.View.{view};
+ghost use Rattle.site_table.specs.Ids.{id_of, id_at, is_out_of_range, as_id, ids_at, are_ids};
+
+use crate::texts::Ids;
+use crate::tree::{elements_at, number_at};
+use std::alloc::{AllocError, Global};
+use toml::Value;
+
+/// The greatest id. The number above stands for none in setresuid(2) and the like.
+const GREATEST_ID: i64 = 4_294_967_294;
+
+fn id_of(number: i64) -> Option<u32>
+    ensures { result ≡ id_of number }
+{
+    if 0 <= number && number <= GREATEST_ID {
+        Some(number as u32)
+    } else {
+        None
+    }
+}
+
+/// The id at a key, if there is a number in range.
+pub fn id_at(value: &Value, key: &str) -> Option<u32>
+    ensures { result ≡ id_at key.now (view value.now) }
+{
+    match number_at(value, key) {
+        Some(number) => id_of(number),
+        None => None,
+    }
+}
+
+/// Whether a number out of range stands at a key.
+pub fn is_out_of_range(value: &Value, key: &str) -> bool
+    ensures { result ≡ is_out_of_range key.now (view value.now) }
+{
+    match number_at(value, key) {
+        Some(number) => id_of(number).is_none(),
+        None => false,
+    }
+}
+
+fn as_id(value: &Value) -> Option<u32>
+    ensures { result ≡ as_id (view value.now) }
+{
+    match value.as_integer() {
+        Some(number) => id_of(number),
+        None => None,
+    }
+}
+
+fn ids(alloc: Global, values: &[Value]) -> Result<Vec<u32>, AllocError>
+    ensures { IfOk result (λ ids. ids.items ≡ filter_map (λ value. as_id (view value)) values.now) }
+{
+    values
+        .iter()
+        .filter_map(|value| as_id(value))
+        .collect(alloc)
+}
+
+fn all_ids(values: &[Value]) -> bool
+    ensures { result ≡ list_all (λ value. is_some (as_id (view value))) values.now }
+{
+    values.iter().all(|value| as_id(value).is_some())
+}
+
+/// The ids of the array at a key.
+pub fn ids_at(alloc: Global, value: &Value, key: &str) -> Result<Ids, AllocError>
+    ensures { IfOk result (λ ids. ids ≡ ids_at key.now (view value.now)) }
+{
+    let ids = ids(alloc, elements_at(value, key))?;
+    Ok(Ids::new(ids))
+}
+
+/// Whether each element of the array at a key is an id.
+pub fn are_ids(value: &Value, key: &str) -> bool
+    ensures { result ≡ are_ids key.now (view value.now) }
+{
+    all_ids(elements_at(value, key))
+}

@@ -1,0 +1,29 @@
+//! The kinds of rows.
+
+ghost use Rattle.std.specs.Prelude.{◌≡◌};
+ghost use Rattle.site_table.specs.Kinds.{kind_named};
+
+/// What a row of a site is.
+#[derive(Clone, Copy, Debug, PartialEq, Eq)]
+pub enum RowKind {
+    /// A directory.
+    Dir,
+    /// A file that nothing executes.
+    File,
+    /// An executable file.
+    Exe,
+}
+
+impl RowKind {
+    // the kind of this name
+    pub(crate) fn named(name: &str) -> Option<RowKind>
+        ensures { result ≡ kind_named name.now }
+    {
+        match name {
+            "dir" => Some(RowKind::Dir),
+            "file" => Some(RowKind::File),
+            "exe" => Some(RowKind::Exe),
+            _ => None,
+        }
+    }
+}

@@ -1,0 +1,97 @@
+//! A site, from its bytes to its table.
+
+ghost use Rattle.std.specs.Prelude.{◌≡◌, ◌≢◌, Ok, Err, IfOk, IfErr, nat_lt, ◌||◌, length};
+ghost use Rattle.toml.specs.View.{view};
+ghost use Rattle.site_table.specs.declared.error.SiteError.TheVariants.{Memory};
+ghost use Rattle.site_table.specs.Reading.{IsUnlessMemory, unless_fault, faults_of, site_in, site_of, SaysTop, is_too_large};
+
+use crate::error::SiteError;
+use crate::ids::id_at;
+use crate::keys::{TOP_KEYS, has_keys};
+use crate::owners::{read_groups, read_users};
+use crate::rows::read_rows;
+use crate::table::SiteTable;
+use crate::tree::elements_at;
+use std::alloc::Global;
+use toml::Value;
+
+/// The most rows that a site may list.
+const MOST_ROWS: usize = 2048;
+/// The most users that it may list.
+const MOST_USERS: usize = 512;
+/// The most groups that it may list.
+const MOST_GROUPS: usize = 512;
+
+// the dynamic uid, where the top keys are right
+fn read_top(site: &Value) -> Option<u32>
+    ensures { SaysTop (view site.now) result }
+{
+    if has_keys(&TOP_KEYS, site) {
+        id_at(site, "dynamic_uid")
+    } else {
+        None
+    }
+}
+
+// whether there are more rows, users or groups than a site may have
+fn is_too_large(site: &Value) -> bool
+    ensures { result ≡ is_too_large (view site.now) }
+{
+    elements_at(site, "row").len() > MOST_ROWS
+        || elements_at(site, "user").len() > MOST_USERS
+        || elements_at(site, "group").len() > MOST_GROUPS
+}
+
+// what the tree of a site says
+fn read_tree(alloc: Global, site: &Value) -> Result<SiteTable, SiteError>
+    ensures { IsUnlessMemory (λ table. table) result
+        (unless_fault (faults_of (view site.now)) (site_in (view site.now))) }
+{
+    let Some(dynamic_uid) = read_top(site) else {
+        return Err(SiteError::Top);
+    };
+    if is_too_large(site) {
+        return Err(SiteError::TooMany);
+    }
+    let rows = read_rows(alloc, elements_at(site, "row"))?;
+    let users = read_users(alloc, elements_at(site, "user"))?;
+    let groups = read_groups(alloc, elements_at(site, "group"))?;
+    Ok(SiteTable::new(dynamic_uid, rows, users, groups))
+}
+
+// what the bytes of a site say
+fn read_bytes(alloc: Global, bytes: &[u8]) -> Result<SiteTable, SiteError>
+    ensures { IsUnlessMemory (λ table. table) result (site_of bytes.now) }
+{
+    match toml::table_from_slice(alloc, bytes) {
+        Ok(table) => read_tree(alloc, &Value::Table(table)),
+        Err(error) => {
+            if error.is_memory() {
+                Err(SiteError::Memory)
+            } else {
+                Err(SiteError::NotToml)
+            }
+        }
+    }
+}
+
+/// Reads the description of a site.
+///
+/// The top keys are `dynamic_uid`, a number, and the arrays of tables `row`, `user` and `group`, each
+/// of which may be missing. A row has a `path` and a `kind`, which is `dir`, `file` or `exe`; an exe may
+/// have `setuid` and `setgid`, its owner's uid and its group's gid, and `caps`, a list of names of
+/// capabilities, with a boolean `effective`. A user has `name`, `uid`, `gid` and may have `groups`, a
+/// list of gids; a group has `name` and `gid`. Ids are 0 to 4,294,967,294.
+///
+/// `/` and `/proc` are rows of kind dir also where they are not listed, and each row stands in a folder
+/// that is a row of kind dir, listed before or after it.
+///
+/// `NotToml` comes where the bytes are no TOML. Then the first in this order is told: `Top`, `TooMany`,
+/// the first row with a fault, the first user and the first group with one. `Memory` may come at any
+/// bytes.
+pub fn read_site(alloc: Global, bytes: &[u8]) -> Result<SiteTable, SiteError>
+    ensures reads_the_site { IfOk result (λ site. site_of bytes.now ≡ Ok site) }
+    ensures first_fault { IfErr result (λ error. error ≢ Memory → site_of bytes.now ≡ Err error) }
+{
+    read_bytes(alloc, bytes)
+}

@@ -1,0 +1,127 @@
+//! The rows of a site: each by itself, and then its place among the others.
+
+ghost use Rattle.std.specs.Prelude.{◌≡◌, ◌||◌, ℕ, List, [], true, cond, map, OnOk, IfOk};
+ghost use Rattle.std.specs.List.{list_any};
+ghost use Rattle.toml.specs.Data.{Data};
+ghost use Rattle.toml.specs.View.{view};
+ghost use Rattle.site_table.specs.Paths.{proc};
+ghost use Rattle.site_table.specs.Order.{with_fixed, rows_in_order};
+ghost use Rattle.site_table.specs.Reading.{IsUnlessMemory, unless_fault, row_faults};
+ghost use Rattle.site_table.specs.Rows.{row_of, kind_of};
+ghost use Rattle.site_table.specs.RowSteps.{Places, stands_in, has_folder, TakesFolder, fixed_placed};
+ghost use Rattle.site_table.specs.Texts.{has_text};
+
+use crate::error::{RowCause, SiteError};
+use crate::files::{is_always_dir_text, is_dir, read_row};
+use crate::order::OrderedRows;
+use crate::paths::{parent, path_of, tail};
+use crate::row::Row;
+use crate::seen::Seen;
+use abs_path::{AbsPath, PathError};
+use std::alloc::{AllocError, Global};
+use toml::Value;
+
+// takes up the text of the row's path, where the row is a directory
+fn add_folder(alloc: Global, folders: &mut Seen, row: &Value) -> Result<(), AllocError>
+    ensures { OnOk result (TakesFolder folders.old (view row.now) folders.new) }
+{
+    if !is_dir(row) {
+        return Ok(());
+    }
+    match path_of(alloc, row)? {
+        Some(path) => folders.add(alloc, tail(&path)),
+        None => Ok(()),
+    }
+}
+
+// the texts of the paths of the directories that are listed
+fn listed_folders(alloc: Global, rows: &[Value]) -> Result<Seen, AllocError>
+    ensures { IfOk result (λ folders. (text : List ℕ)
+        → has_text folders text ≡ has_folder (map view rows.now) text) }
+{
+    let mut folders = Seen::new(alloc);
+    'rows: for row in rows {
+        add_folder(alloc, &mut folders, row)?;
+    }
+    Ok(folders)
+}
+
+// whether the path is the root, or stands in a folder
+fn stands_in(folders: &Seen, path: &AbsPath) -> bool
+    ensures { result ≡ stands_in folders.now path.now }
+{
+    match parent(path) {
+        Some(folder) => is_always_dir_text(folder) || folders.has(folder),
+        None => true,
+    }
+}
+
+// puts the row of this number in its place
+fn place(
+    alloc: Global,
+    number: u64,
+    folders: &Seen,
+    ordered: &mut OrderedRows,
+    row: Row,
+) -> Result<(), SiteError>
+    ensures { Places number folders.now ordered.old row ordered.new result }
+{
+    if ordered.has(&row.path) {
+        return Err(SiteError::Row(number, RowCause::Duplicate));
+    }
+    if !stands_in(folders, &row.path) {
+        return Err(SiteError::Row(number, RowCause::NoParent));
+    }
+    ordered.put(alloc, row)?;
+    Ok(())
+}
+
+// the listed rows in their order
+fn listed_rows(alloc: Global, rows: &[Value]) -> Result<OrderedRows, SiteError>
+    ensures { IsUnlessMemory (λ ordered. ordered) result
+        (unless_fault (row_faults (map view rows.now)) (rows_in_order (map row_of (map view rows.now)))) }
+{
+    let folders = listed_folders(alloc, rows)?;
+    let mut ordered = OrderedRows::new(alloc);
+    'rows: for (at, value) in rows.iter().enumerate() {
+        let number = at as u64 + 1;
+        let row = read_row(alloc, number, value)?;
+        place(alloc, number, &folders, &mut ordered, row)?;
+    }
+    Ok(ordered)
+}
+
+// the folder of the processes (proc(5))
+fn proc_path(alloc: Global) -> Result<AbsPath, AllocError>
+    ensures { IfOk result (λ path. path ≡ proc) }
+{
+    match AbsPath::read(alloc, "/proc") {
+        Ok(path) => Ok(path),
+        Err(PathError::Memory) => Err(AllocError),
+        Err(PathError::TooLong) => unreachable!(),
+        Err(PathError::HasNul) => unreachable!(),
+        Err(PathError::Relative) => unreachable!(),
+        Err(PathError::DotDot) => unreachable!(),
+    }
+}
+
+// the rows, with `/` and `/proc` among them
+fn complete(alloc: Global, mut ordered: OrderedRows) -> Result<Vec<Row>, AllocError>
+    ensures { IfOk result (λ rows. rows.items ≡ fixed_placed ordered) }
+{
+    ordered.put_dir(alloc, AbsPath::root(alloc))?;
+    let proc = proc_path(alloc)?;
+    ordered.put_dir(alloc, proc)?;
+    ordered.list(alloc)
+}
+
+/// The rows that the elements of the tree describe, in byte order of their paths, with `/` and `/proc`
+/// among them; or the first fault of the first row that has one.
+pub fn read_rows(alloc: Global, rows: &[Value]) -> Result<Vec<Row>, SiteError>
+    ensures { IsUnlessMemory (λ read. read.items) result
+        (unless_fault (row_faults (map view rows.now))
+        (rows_in_order (with_fixed (map row_of (map view rows.now))))) }
+{
+    let ordered = listed_rows(alloc, rows)?;
+    Ok(complete(alloc, ordered)?)
+}

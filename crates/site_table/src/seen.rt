@@ -1,0 +1,51 @@
+//! A set of texts that have been seen.
+
+ghost use Rattle.std.specs.Prelude.{◌≡◌, ◌||◌, ℕ, List, [], OnOk};
+ghost use Rattle.std.specs.Str.{bytes_eq};
+ghost use Rattle.site_table.specs.Texts.{has_text};
+
+use std::alloc::{AllocError, Global};
+use std::collections::BTreeSet;
+use std::marker::Model;
+
+/// A set of texts, which contracts see by what it has.
+#[derive(Drop)]
+pub struct Seen {
+    texts: BTreeSet<String>,
+}
+
+impl Model for Seen {
+    ghost use Rattle.std.specs.Prelude.{ℕ, List, map, string_bytes};
+
+    ghost Value = { List (List ℕ) };
+
+    ghost view = { λ seen. map string_bytes seen.texts.keys };
+}
+
+impl Seen {
+    /// No text.
+    pub fn new(alloc: Global) -> Seen
+        ensures { result ≡ [] }
+    {
+        Seen {
+            texts: BTreeSet::new(alloc),
+        }
+    }
+
+    /// Whether the text is among them.
+    pub fn has(&self, text: &str) -> bool
+        ensures { result ≡ has_text self.now text.now }
+    {
+        self.texts.contains(text)
+    }
+
+    /// Takes a text up.
+    pub fn add(&mut self, alloc: Global, text: &str) -> Result<(), AllocError>
+        ensures { OnOk result ((other : List ℕ)
+            → has_text self.new other ≡ (has_text self.old other || bytes_eq other text.now)) }
+    {
+        let copy = String::from_str(alloc, text)?;
+        self.texts.insert(copy)?;
+        Ok(())
+    }
+}

@@ -1,0 +1,136 @@
+//! The type of a site, and what is found in it.
+//!
+//! A contract sees a site as its dynamic uid and the lists of its rows, users and groups.
+
+ghost use Rattle.std.specs.Prelude.{◌≡◌, ◌++◌, ◌<◌, ◌≤◌, length, slice_get, Some, option_copied};
+ghost use Rattle.abs_path.specs.Paths.{parts_of};
+ghost use Rattle.abs_path.specs.Prefix.{IsRest};
+ghost use Rattle.site_table.specs.Table.{IsSite, site_with, place_of, user_named, user_with, group_named};
+
+use crate::accounts::{Group, User};
+use crate::find::find_row;
+use crate::row::Row;
+use abs_path::AbsPath;
+use std::marker::Model;
+
+/// The files, users and groups of a site.
+///
+/// The rows stand in byte order of their paths, `/` and `/proc` among them, and are numbered from 0
+/// in that order. Users and groups stand in the order of the file. A row is found by binary search, a
+/// user or a group, of which there are at most 512, by going through them.
+#[derive(Drop)]
+pub struct SiteTable {
+    dynamic_uid: u32,
+    rows: Vec<Row>,
+    users: Vec<User>,
+    groups: Vec<Group>,
+}
+
+impl Model for SiteTable {
+    ghost use Rattle.site_table.specs.Table.{Site, IsSite, site_with};
+
+    ghost Value = { Site };
+
+    ghost view = { λ site.
+        site_with site.dynamic_uid site.rows.items site.users.items site.groups.items };
+
+    ghost invariant = { λ site.
+        IsSite (site_with site.dynamic_uid site.rows.items site.users.items site.groups.items) };
+}
+
+impl SiteTable {
+    // the table of what has been read
+    pub(crate) fn new(
+        dynamic_uid: u32,
+        rows: Vec<Row>,
+        users: Vec<User>,
+        groups: Vec<Group>,
+    ) -> SiteTable
+        requires { IsSite (site_with dynamic_uid rows.items users.items groups.items) }
+        ensures { result ≡ site_with dynamic_uid rows.items users.items groups.items }
+    {
+        SiteTable {
+            dynamic_uid,
+            rows,
+            users,
+            groups,
+        }
+    }
+
+    /// The uid and gid of services with a dynamic user, systemd.exec(5), DynamicUser=.
+    pub fn dynamic_uid(&self) -> u32
+        ensures dynamic_uid { result ≡ self.now.dynamic_uid }
+        ensures holds_of_each_site { IsSite self.now }
+    {
+        self.dynamic_uid
+    }
+
+    /// How many rows there are, `/` and `/proc` among them.
+    pub fn len(&self) -> usize
+        ensures number_of_rows { result ≡ length self.now.rows }
+    {
+        self.rows.len()
+    }
+
+    /// The rows in byte order of their paths.
+    pub fn rows(&self) -> &[Row]
+        ensures rows { result.now ≡ self.now.rows }
+        ensures holds_of_each_site { IsSite self.now }
+    {
+        &self.rows
+    }
+
+    /// The row of this number, below `len`.
+    pub fn row(&self, at: usize) -> &Row
+        requires in_range { at < length self.now.rows }
+        ensures row { slice_get self.now.rows at ≡ Some result.now }
+    {
+        &self.rows[at]
+    }
+
+    /// The number of the row whose path is `front` with `rest` behind it, in the form that
+    /// `AbsPath::rest` answers; None where there is no such row. No path is built.
+    pub fn find(&self, front: &AbsPath, rest: &str) -> Option<usize>
+        requires { IsRest rest.now }
+        ensures place_of_the_path { result ≡ place_of self.now.rows (front.now ++ parts_of rest.now) }
+    {
+        find_row(&self.rows, front, rest)
+    }
+
+    /// The user of this name.
+    pub fn user(&self, name: &str) -> Option<&User>
+        ensures user_of_the_name { option_copied result ≡ user_named self.now.users name.now }
+    {
+        self.users.iter().find(|user| user.name.as_str() == name)
+    }
+
+    /// The first user in the file with this uid.
+    pub fn user_of(&self, uid: u32) -> Option<&User>
+        ensures first_user_with_the_uid { option_copied result ≡ user_with self.now.users uid }
+    {
+        self.users.iter().find(|user| user.uid == uid)
+    }
+
+    /// The group of this name.
+    pub fn group(&self, name: &str) -> Option<&Group>
+        ensures group_of_the_name { option_copied result ≡ group_named self.now.groups name.now }
+    {
+        self.groups.iter().find(|group| group.name.as_str() == name)
+    }
+
+    /// The users in the order of the file.
+    pub fn users(&self) -> &[User]
+        ensures users { result.now ≡ self.now.users }
+        ensures holds_of_each_site { IsSite self.now }
+    {
+        &self.users
+    }
+
+    /// The groups in the order of the file.
+    pub fn groups(&self) -> &[Group]
+        ensures groups { result.now ≡ self.now.groups }
+        ensures holds_of_each_site { IsSite self.now }
+    {
+        &self.groups
+    }
+}

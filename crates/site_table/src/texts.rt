@@ -1,0 +1,68 @@
+//! Names and lists of ids, which contracts see as bytes and as numbers.
+
+ghost use Rattle.std.specs.Prelude.{◌≡◌, IfOk};
+
+use std::alloc::{AllocError, Global};
+use std::marker::Model;
+
+/// The name of a user or a group.
+#[derive(Debug, Drop)]
+pub struct Name {
+    text: String,
+}
+
+impl Model for Name {
+    ghost use Rattle.std.specs.Prelude.{List, ℕ, string_bytes};
+
+    ghost Value = { List ℕ };
+
+    ghost view = { λ name. string_bytes name.text };
+}
+
+impl Name {
+    /// A copy of a text.
+    pub fn new(alloc: Global, text: &str) -> Result<Name, AllocError>
+        ensures same_text { IfOk result (λ name. name ≡ text.now) }
+    {
+        Ok(Name {
+            text: String::from_str(alloc, text)?,
+        })
+    }
+
+    /// The text.
+    pub fn as_str(&self) -> &str
+        ensures same_text { result.now ≡ self.now }
+    {
+        self.text.as_str()
+    }
+}
+
+/// Ids of users or groups, in order.
+#[derive(Debug, Drop)]
+pub struct Ids {
+    items: Vec<u32>,
+}
+
+impl Model for Ids {
+    ghost use Rattle.std.specs.Prelude.{List, ℕ};
+
+    ghost Value = { List ℕ };
+
+    ghost view = { λ ids. ids.items.items };
+}
+
+impl Ids {
+    /// The ids of a list.
+    pub fn new(items: Vec<u32>) -> Ids
+        ensures same_ids { result ≡ items.items }
+    {
+        Ids { items }
+    }
+
+    /// The ids in their order.
+    pub fn list(&self) -> &[u32]
+        ensures same_ids { result.now ≡ self.now }
+    {
+        &self.items
+    }
+}
