@@ -1,0 +1,13 @@
+pub mod Chosen
+pub mod Counted
+pub mod Fronts
+pub mod LowWords
+pub mod Mapped
+pub mod Ordered
+pub mod RulesOf
+pub mod Suited
+pub mod SuitedFamilies
+pub mod SuitedModes
+pub mod SuitedNamespaces
+pub mod SuitedSimple
+pub mod Walked

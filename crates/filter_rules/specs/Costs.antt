@@ -1,0 +1,63 @@
+-- How large the rules of a filter may be.
+use Rattle.std.specs.Prelude.{◌≡◌, ℕ, ◌≤◌, ◌⊎◌, List, [], ◌∷◌, length, sum_by}
+use Rattle.std.specs.List.{All}
+use Rattle.call_rules.specs.declared.rules.Case.{Case}
+use Rattle.call_rules.specs.declared.rules.CallRule.{CallRule}
+use Rattle.call_rules.specs.declared.rules.RuleSet.{RuleSet}
+use Rattle.filter_rules.specs.Choices.{whole}
+use Rattle.filter_rules.specs.declared.names.FilterName.{FilterName}
+use Rattle.filter_rules.specs.declared.names.FilterName.TheVariants.{Families, MemoryDenyWriteExecute, Realtime, Suid, Namespaces, Hostname, Modules, Logs, Clock, Devices, Personality, Calls}
+
+-- how many cases all calls have together, and how many tests all cases
+abbrev pub case_count : RuleSet → ℕ
+case_count rules = sum_by (λ call. length call.cases) rules.calls
+
+abbrev pub test_count : RuleSet → ℕ
+test_count rules = sum_by (λ call. sum_by (λ case. length case.tests) call.cases) rules.calls
+
+-- calls with a rule, cases over all of them, tests over all cases
+pub record Costs : Type 0 where
+  pub calls : ℕ
+  pub cases : ℕ
+  pub tests : ℕ
+
+abbrev pub costs : ℕ → ℕ → ℕ → Costs
+costs calls cases tests = record { calls = calls; cases = cases; tests = tests }
+
+-- the most that the rules of a filter cost: a table has at most 512 calls and 128 families
+abbrev pub most_costs : FilterName → Costs
+most_costs Families = costs 1 128 128
+most_costs MemoryDenyWriteExecute = costs 4 4 4
+most_costs Realtime = costs 1 3 3
+most_costs Suid = costs 10 20 40
+most_costs Namespaces = costs 3 24 24
+most_costs Hostname = costs 2 0 0
+most_costs Modules = costs 512 0 0
+most_costs Logs = costs 1 0 0
+most_costs Clock = costs 512 0 0
+most_costs Devices = costs 512 0 0
+most_costs Personality = costs 1 2 2
+most_costs Calls = costs 512 0 0
+
+pub record KeepsWithin (most : Costs) (rules : RuleSet) : Type 0 where
+  pub calls : length rules.calls ≤ most.calls
+  pub cases : case_count rules ≤ most.cases
+  pub tests : test_count rules ≤ most.tests
+
+-- no case has more than two tests
+abbrev pub HaveFewTests : List Case → Type 0
+HaveFewTests cases = All (λ case. length case.tests ≤ 2) cases
+
+-- rules that can be compiled
+pub record CanCompile (rules : RuleSet) : Type 0 where
+  pub calls : length rules.calls ≤ 512
+  pub cases : case_count rules ≤ 128
+  pub tests : All (λ call. HaveFewTests call.cases) rules.calls
+
+-- each case has one test, of all of the low 32 bits of this argument
+abbrev pub AreWhole : ℕ → List Case → Type 0
+AreWhole at cases = All (λ case. (value : ℕ) × (case.tests ≡ whole at value ∷ [])) cases
+
+-- few cases, or one value of one argument for each
+abbrev pub HasShortCases : CallRule → Type 0
+HasShortCases call = (length call.cases ≤ 8) ⊎ ((at : ℕ) × AreWhole at call.cases)

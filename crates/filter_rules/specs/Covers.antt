@@ -1,0 +1,27 @@
+-- Which calls a word of a filter speaks of (systemd.exec(5), SystemCallFilter=).
+use Rattle.std.specs.Prelude.{ℕ, Bool, false, Option, Some, None, List, slice_get}
+use Rattle.std.specs.Option.{option_map_or}
+use Rattle.std.specs.List.{list_any}
+use Rattle.std.specs.Str.{bytes_eq}
+use Rattle.call_table.specs.Names.{behind_at}
+use Rattle.call_table.specs.Lookups.{has_name, group_named}
+use Rattle.call_table.specs.Table.{Table}
+use Rattle.call_table.specs.declared.listed.CallLine.{CallLine}
+use Rattle.call_table.specs.declared.listed.GroupLine.{GroupLine}
+
+-- the call at this position has the name
+abbrev pub is_named : List CallLine → List ℕ → ℕ → Bool
+is_named calls name position = option_map_or (has_name name) (slice_get calls position) false
+
+-- a member of the group has the name
+abbrev pub has_member_named : List CallLine → List ℕ → GroupLine → Bool
+has_member_named calls name group = list_any (is_named calls name) group.members
+
+abbrev pub covers_by : Table → List ℕ → List ℕ → Option (List ℕ) → Bool
+covers_by table word name None = bytes_eq word name
+covers_by table word name (Some group) = option_map_or (has_member_named table.calls name) (group_named group table.groups) false
+
+-- `@NAME` covers the names of the members of that group, and none where the table has no such group; any other
+-- word covers itself
+unfoldable pub covers : Table → List ℕ → List ℕ → Bool
+covers table word name = covers_by table word name (behind_at word)

@@ -1,0 +1,28 @@
+-- RestrictAddressFamilies=: what the rules do to a call of a name.
+use Rattle.std.specs.Prelude.{ℕ, if◌then◌else◌, Option, Some, None, List, filter, map, codes, option_and_then}
+use Rattle.std.specs.Str.{bytes_eq}
+use Rattle.call_table.specs.Table.{Table}
+use Rattle.call_table.specs.declared.listed.CallLine.{CallLine}
+use Rattle.call_rules.specs.Tested.{Tested}
+use Rattle.filter_rules.specs.declared.choice.Choice.{Choice}
+use Rattle.filter_rules.specs.declared.mentions.Mode.{Mode}
+use Rattle.filter_rules.specs.declared.mentions.Mode.TheVariants.{Allow, Deny}
+use Rattle.filter_rules.specs.declared.mentions.FamilyMention.{FamilyMention}
+use Rattle.filter_rules.specs.declared.mentions.FamilyList.{FamilyList}
+use Rattle.filter_rules.specs.Actions.{allow, errno, eafnosupport}
+use Rattle.filter_rules.specs.Choices.{whole}
+use Rattle.filter_rules.specs.Families.{is_listed_family}
+
+-- a test for each family of the table that is on the list
+abbrev pub family_tests : List FamilyMention → List CallLine → List Tested
+family_tests mentions families = map (λ family. whole 0 family.number) (filter (λ family. is_listed_family mentions family.number) families)
+
+abbrev pub family_choice : Mode → List Tested → Choice
+family_choice Allow tests = record { given = None; any = tests; action = allow; rest = errno eafnosupport }
+family_choice Deny tests = record { given = None; any = tests; action = errno eafnosupport; rest = allow }
+
+abbrev pub socket_choice : Table → FamilyList → Choice
+socket_choice table list = family_choice list.mode (family_tests list.mentions table.families)
+
+abbrev pub families_choice : Table → Option FamilyList → List ℕ → Option Choice
+families_choice table families name = if bytes_eq name (codes "socket") then option_and_then (λ list. Some (socket_choice table list)) families else None

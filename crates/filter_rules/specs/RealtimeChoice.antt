@@ -1,0 +1,8 @@
+-- RestrictRealtime=: what the rules do to a call of a name.
+use Rattle.std.specs.Prelude.{ℕ, if◌then◌else◌, Option, Some, None, List, [], ◌∷◌, codes}
+use Rattle.std.specs.Str.{bytes_eq}
+use Rattle.filter_rules.specs.declared.choice.Choice.{Choice}
+use Rattle.filter_rules.specs.Choices.{whole, allowed_where}
+
+abbrev pub realtime_choice : List ℕ → Option Choice
+realtime_choice name = if bytes_eq name (codes "sched_setscheduler") then Some (allowed_where (whole 1 0 ∷ whole 1 3 ∷ whole 1 5 ∷ [])) else None

@@ -1,0 +1,73 @@
+-- What the settings say of every call: by the filter's name, by the names of the table and by the low 32 bits of
+-- the arguments.
+use Rattle.std.specs.Prelude.{ℕ, ◌==◌, not, if◌then◌else◌, Bool, List, is_some}
+use Rattle.std.specs.Option.{option_map_or}
+use Rattle.std.specs.List.{list_all}
+use Rattle.bpf_code.specs.declared.machine.CallData.{CallData}
+use Rattle.call_table.specs.Table.{Table}
+use Rattle.call_table.specs.Lookups.{numbered}
+use Rattle.filter_rules.specs.declared.settings.FilterSettings.{FilterSettings}
+use Rattle.filter_rules.specs.declared.names.FilterName.{FilterName}
+use Rattle.filter_rules.specs.declared.names.FilterName.TheVariants.{Families, MemoryDenyWriteExecute, Realtime, Suid, Namespaces, Hostname, Modules, Logs, Clock, Devices, Personality, Calls}
+use Rattle.filter_rules.specs.Actions.{allow, kill_process, eperm, eafnosupport, unless_refused}
+use Rattle.filter_rules.specs.Families.{refuses_family}
+use Rattle.filter_rules.specs.Mapping.{refuses_mapping}
+use Rattle.filter_rules.specs.Realtime.{refuses_policy}
+use Rattle.filter_rules.specs.Suid.{refuses_mode}
+use Rattle.filter_rules.specs.Namespaces.{refuses_namespace}
+use Rattle.filter_rules.specs.NamespaceTypes.{all_types, permits}
+use Rattle.filter_rules.specs.Blocked.{is_blocked, hostname_words, modules_words, logs_words, clock_words, devices_words}
+use Rattle.filter_rules.specs.Personality.{refuses_personality}
+use Rattle.filter_rules.specs.Calls.{call_action, rest_action}
+
+-- which filters the settings ask for
+abbrev pub is_on : FilterSettings → FilterName → Bool
+is_on settings Families = is_some settings.families
+is_on settings MemoryDenyWriteExecute = settings.memory_deny_write_execute
+is_on settings Realtime = settings.restrict_realtime
+is_on settings Suid = settings.restrict_suid_sgid
+is_on settings Namespaces = not (list_all (permits settings.namespaces) all_types)
+is_on settings Hostname = settings.protect_hostname
+is_on settings Modules = settings.protect_kernel_modules
+is_on settings Logs = settings.protect_kernel_logs
+is_on settings Clock = settings.protect_clock
+is_on settings Devices = settings.private_devices
+is_on settings Personality = settings.lock_personality
+is_on settings Calls = is_some settings.calls
+
+-- what a filter does to a call of this name
+abbrev pub named_action : FilterName → FilterSettings → Table → List ℕ → CallData → ℕ
+named_action Families settings table name input = unless_refused eafnosupport (refuses_family settings.families name input)
+named_action MemoryDenyWriteExecute settings table name input = unless_refused eperm (refuses_mapping name input)
+named_action Realtime settings table name input = unless_refused eperm (refuses_policy name input)
+named_action Suid settings table name input = unless_refused eperm (refuses_mode name input)
+named_action Namespaces settings table name input = unless_refused eperm (refuses_namespace settings.namespaces name input)
+named_action Hostname settings table name input = unless_refused eperm (is_blocked table hostname_words name)
+named_action Modules settings table name input = unless_refused eperm (is_blocked table modules_words name)
+named_action Logs settings table name input = unless_refused eperm (is_blocked table logs_words name)
+named_action Clock settings table name input = unless_refused eperm (is_blocked table clock_words name)
+named_action Devices settings table name input = unless_refused eperm (is_blocked table devices_words name)
+named_action Personality settings table name input = unless_refused eperm (refuses_personality name input)
+named_action Calls settings table name input = call_action table settings.calls settings.default_action name
+
+-- what a filter does to a number without a name
+abbrev pub unnamed_action : FilterName → FilterSettings → ℕ
+unnamed_action Families settings = allow
+unnamed_action MemoryDenyWriteExecute settings = allow
+unnamed_action Realtime settings = allow
+unnamed_action Suid settings = allow
+unnamed_action Namespaces settings = allow
+unnamed_action Hostname settings = allow
+unnamed_action Modules settings = allow
+unnamed_action Logs settings = allow
+unnamed_action Clock settings = allow
+unnamed_action Devices settings = allow
+unnamed_action Personality settings = allow
+unnamed_action Calls settings = rest_action settings.calls settings.default_action
+
+-- another architecture than the table's ends the process; else the name of the number decides
+abbrev pub wanted_action : FilterName → FilterSettings → Table → CallData → ℕ
+wanted_action filter settings table input =
+    if input.arch == table.arch
+    then option_map_or (λ call. named_action filter settings table call.name input) (numbered input.nr table.calls) (unnamed_action filter settings)
+    else kill_process

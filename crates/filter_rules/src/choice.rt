@@ -1,0 +1,125 @@
+//! What a filter does to one call: an action where some test holds, and another for the rest.
+ghost use Rattle.std.specs.Prelude.{◌≡◌, ◌≤◌, map, IfOk};
+ghost use Rattle.filter_rules.specs.Choices.{bits, whole, always, refused_where, allowed_where, case_with, rule_with};
+
+use call_rules::actions::ALLOW;
+use call_rules::{CallRule, Case, Cases, Test, Tests};
+use std::alloc::{AllocError, Global};
+
+/// SECCOMP_RET_ERRNO with EPERM: the call is not made, and is not permitted (seccomp(2), errno(3)).
+pub const NOT_PERMITTED: u32 = 0x0005_0001;
+
+/// One action where some test holds, and another for the rest.
+#[derive(Drop)]
+pub struct Choice {
+    /// A test without which none of the others counts.
+    pub given: Option<Test>,
+    pub any: Tests,
+    /// The action where one of them holds.
+    pub action: u32,
+    pub rest: u32,
+}
+
+/// The test that these bits are set in the argument, which counts from 0.
+pub fn bits(arg: u8, mask: u32) -> Test
+    requires { arg ≤ 5 }
+    ensures { result ≡ bits arg mask }
+{
+    Test::new(arg, mask, mask)
+}
+
+/// The test that the argument is this value.
+pub fn whole(arg: u8, value: u32) -> Test
+    requires { arg ≤ 5 }
+    ensures { result ≡ whole arg value }
+{
+    Test::new(arg, 0xffff_ffff, value)
+}
+
+/// This action whatever the arguments are.
+pub fn always(alloc: Global, action: u32) -> Choice
+    ensures { result ≡ always action }
+{
+    Choice {
+        given: None,
+        any: Tests::new(Vec::new(alloc)),
+        action,
+        rest: action,
+    }
+}
+
+// A copy of some tests.
+fn tests_of(alloc: Global, tests: &[Test]) -> Result<Tests, AllocError>
+    ensures { IfOk result (λ copy. copy ≡ tests.now) }
+{
+    let mut copy = Vec::new(alloc);
+    copy.extend_from_slice(tests)?;
+    Ok(Tests::new(copy))
+}
+
+/// Not permitted where one of these tests holds.
+pub fn refused_where(alloc: Global, tests: &[Test]) -> Result<Choice, AllocError>
+    ensures { IfOk result (λ choice. choice ≡ refused_where tests.now) }
+{
+    let any = tests_of(alloc, tests)?;
+    Ok(Choice {
+        given: None,
+        any,
+        action: NOT_PERMITTED,
+        rest: ALLOW,
+    })
+}
+
+/// Permitted only where one of these tests holds.
+pub fn allowed_where(alloc: Global, tests: &[Test]) -> Result<Choice, AllocError>
+    ensures { IfOk result (λ choice. choice ≡ allowed_where tests.now) }
+{
+    let any = tests_of(alloc, tests)?;
+    Ok(Choice {
+        given: None,
+        any,
+        action: ALLOW,
+        rest: NOT_PERMITTED,
+    })
+}
+
+fn case_with(
+    alloc: Global,
+    given: Option<Test>,
+    action: u32,
+    test: Test,
+) -> Result<Case, AllocError>
+    ensures { IfOk result (λ case. case ≡ case_with given action test) }
+{
+    let mut tests = Vec::new(alloc);
+    if let Some(given) = given {
+        tests.push(given)?;
+    }
+    tests.push(test)?;
+    Ok(Case {
+        tests: Tests::new(tests),
+        action,
+    })
+}
+
+fn cases_of(alloc: Global, choice: &Choice) -> Result<Cases, AllocError>
+    ensures { IfOk result (λ cases. cases ≡ map (case_with choice.now.given choice.now.action) choice.now.any) }
+{
+    let mut cases = Vec::new(alloc);
+    for test in choice.any.list() {
+        cases.push(case_with(alloc, choice.given, choice.action, *test)?)?;
+    }
+    Ok(Cases::new(cases))
+}
+
+/// The rule that chooses so for the call of a number.
+pub fn rule_with(alloc: Global, number: u32, choice: &Choice) -> Result<CallRule, AllocError>
+    ensures { IfOk result (λ rule. rule ≡ rule_with number choice.now) }
+{
+    let cases = cases_of(alloc, choice)?;
+    Ok(CallRule {
+        number,
+        cases,
+        rest: choice.rest,
+    })
+}

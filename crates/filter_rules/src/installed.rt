@@ -1,0 +1,94 @@
+//! The filters that are on, in the order in which they are installed.
+ghost use Rattle.std.specs.Prelude.{◌≡◌, map, filter, IfOk};
+ghost use Rattle.std.specs.List.{All};
+ghost use Rattle.bpf_code.specs.declared.machine.CallData.{CallData};
+ghost use Rattle.call_rules.specs.Action.{case_action};
+ghost use Rattle.filter_rules.specs.Costs.{CanCompile, KeepsWithin, HasShortCases, most_costs};
+ghost use Rattle.filter_rules.specs.Known.{HasKnownFamilies};
+ghost use Rattle.filter_rules.specs.Names.{all_filters};
+ghost use Rattle.filter_rules.specs.Order.{Ascends};
+ghost use Rattle.filter_rules.specs.Rules.{AreRulesOf};
+ghost use Rattle.filter_rules.specs.Wanted.{is_on, wanted_action};
+
+use crate::names::{FilterName, all_filters};
+use crate::namespaces::forbids_a_type;
+use crate::order::ascending;
+use crate::rules::rule_set;
+use crate::settings::FilterSettings;
+use call_rules::RuleSet;
+use call_table::{CallLine, CallTable};
+use std::alloc::{AllocError, Global};
+
+/// A filter and its rules.
+#[derive(Drop)]
+pub struct Filter {
+    pub name: FilterName,
+    pub rules: RuleSet,
+}
+
+// Whether the settings ask for the filter.
+fn is_on(settings: &FilterSettings, filter: FilterName) -> bool
+    ensures { result ≡ is_on settings.now filter }
+{
+    match filter {
+        FilterName::Families => settings.families.is_some(),
+        FilterName::MemoryDenyWriteExecute => settings.memory_deny_write_execute,
+        FilterName::Realtime => settings.restrict_realtime,
+        FilterName::Suid => settings.restrict_suid_sgid,
+        FilterName::Namespaces => forbids_a_type(settings.namespaces),
+        FilterName::Hostname => settings.protect_hostname,
+        FilterName::Modules => settings.protect_kernel_modules,
+        FilterName::Logs => settings.protect_kernel_logs,
+        FilterName::Clock => settings.protect_clock,
+        FilterName::Devices => settings.private_devices,
+        FilterName::Personality => settings.lock_personality,
+        FilterName::Calls => settings.calls.is_some(),
+    }
+}
+
+// Those of these filters that are on.
+fn filters_among(
+    alloc: Global,
+    table: &CallTable,
+    settings: &FilterSettings,
+    calls: &[&CallLine],
+    names: &[FilterName],
+) -> Result<Vec<Filter>, AllocError>
+    requires known_families { HasKnownFamilies table.now settings.now }
+    requires ascends { Ascends table.now.calls (map (λ call. call.now) calls.now) }
+    ensures on { IfOk result (λ filters. map (λ made. made.name) filters.items ≡ filter (is_on settings.now) names.now) }
+    ensures rules { IfOk result (λ filters. All (λ made. AreRulesOf made.name settings.now table.now made.rules) filters.items) }
+{
+    let mut filters = Vec::new(alloc);
+    for name in names {
+        if is_on(settings, *name) {
+            let rules = rule_set(alloc, table, settings, *name, calls)?;
+            filters.push(Filter { name: *name, rules })?;
+        }
+    }
+    Ok(filters)
+}
+
+/// The filters that the settings ask for, with their rules (systemd.exec(5), Sandboxing and System Call Filtering).
+///
+/// Each family that is listed is one of the table, as where its word was looked up there. Where it is, want of
+/// memory is the only error.
+pub fn filters(
+    alloc: Global,
+    table: &CallTable,
+    settings: &FilterSettings,
+) -> Result<Vec<Filter>, AllocError>
+    requires known_families { HasKnownFamilies table.now settings.now }
+    // Exactly the filters that are on, in the order in which they are installed.
+    ensures exactly_those_on { IfOk result (λ filters. map (λ made. made.name) filters.items ≡ filter (is_on settings.now) all_filters) }
+    // What the settings say by names and words is what the rules say by numbers and tests.
+    ensures do_as_wanted { IfOk result (λ filters. All (λ made. (input : CallData) → case_action made.rules input ≡ wanted_action made.name settings.now table.now input) filters.items) }
+    // Within the condition of a compiler, and within what the filter may cost.
+    ensures can_be_compiled { IfOk result (λ filters. All (λ made. CanCompile made.rules) filters.items) }
+    ensures keep_within_costs { IfOk result (λ filters. All (λ made. KeepsWithin (most_costs made.name) made.rules) filters.items) }
+    // At most eight cases for a call, or one test each of one whole argument.
+    ensures cases_are_short { IfOk result (λ filters. All (λ made. All HasShortCases made.rules.calls) filters.items) }
+{
+    let calls = ascending(alloc, table)?;
+    filters_among(alloc, table, settings, calls.as_slice(), all_filters())
+}

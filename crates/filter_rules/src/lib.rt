@@ -1,0 +1,39 @@
+//! The filters that a unit's settings ask for, as rules by number.
+//!
+//! A setting speaks of the names of system calls, of address families and of types of namespaces; a filter
+//! tests numbers. [`filters`] makes for each setting that is on the rules that decide every call as the setting
+//! says (systemd.exec(5)). It stands on `call_table` for names and numbers, and on `call_rules` for what rules
+//! mean; the readers of unit files fill [`FilterSettings`].
+//!
+//! `filters(alloc, &table, &settings)?` has one [`Filter`] for each setting that is on, in the order in which
+//! filters are installed.
+#![tactic(auto)]
+
+mod blocked;
+mod calls;
+mod choice;
+mod covers;
+mod families;
+mod installed;
+mod known;
+mod mapping;
+mod mentions;
+mod names;
+mod namespace_types;
+mod namespaces;
+mod order;
+mod personality;
+mod realtime;
+mod rules;
+mod settings;
+mod suid;
+
+pub use installed::{Filter, filters};
+pub use known::has_known_families;
+pub use mentions::{CallList, FamilyList, FamilyMention, FamilyMentions, Mention, Mentions, Mode};
+pub use names::{ALL_FILTERS, FilterName};
+pub use namespace_types::{ALL_NAMESPACE_TYPES, NamespaceType, NamespaceTypes};
+pub use settings::FilterSettings;
+
+#[cfg(test)]
+mod tests;

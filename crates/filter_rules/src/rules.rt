@@ -1,0 +1,125 @@
+//! The rules of a filter, made by walking the calls of the table: each call is asked for by its name.
+ghost use Rattle.std.specs.Prelude.{◌≡◌, map, IfOk};
+ghost use Rattle.std.specs.List.{filter_map};
+ghost use Rattle.filter_rules.specs.Known.{HasKnownFamilies};
+ghost use Rattle.filter_rules.specs.Order.{Ascends};
+ghost use Rattle.filter_rules.specs.Wanted.{unnamed_action};
+ghost use Rattle.filter_rules.specs.Rules.{choice_of, rule_for, AreRulesOf};
+
+use crate::blocked::{
+    blocked_choice, clock_words, devices_words, hostname_words, logs_words, modules_words,
+};
+use crate::calls::{calls_choice, rest_action};
+use crate::choice::{Choice, rule_with};
+use crate::families::families_choice;
+use crate::mapping::mapping_choice;
+use crate::names::FilterName;
+use crate::namespaces::namespaces_choice;
+use crate::personality::personality_choice;
+use crate::realtime::realtime_choice;
+use crate::settings::FilterSettings;
+use crate::suid::suid_choice;
+use call_rules::actions::ALLOW;
+use call_rules::{CallRule, CallRules, RuleSet};
+use call_table::{CallLine, CallTable};
+use std::alloc::{AllocError, Global};
+
+// What the filter does to a call of this name, where it has a rule for it.
+fn choice_of(
+    alloc: Global,
+    table: &CallTable,
+    settings: &FilterSettings,
+    filter: FilterName,
+    name: &str,
+) -> Result<Option<Choice>, AllocError>
+    ensures { IfOk result (λ choice. choice ≡ choice_of filter settings.now table.now name.now) }
+{
+    match filter {
+        FilterName::Families => families_choice(alloc, table, &settings.families, name),
+        FilterName::MemoryDenyWriteExecute => mapping_choice(alloc, name),
+        FilterName::Realtime => realtime_choice(alloc, name),
+        FilterName::Suid => suid_choice(alloc, name),
+        FilterName::Namespaces => namespaces_choice(alloc, settings.namespaces, name),
+        FilterName::Hostname => Ok(blocked_choice(alloc, table, hostname_words(), name)),
+        FilterName::Modules => Ok(blocked_choice(alloc, table, modules_words(), name)),
+        FilterName::Logs => Ok(blocked_choice(alloc, table, logs_words(), name)),
+        FilterName::Clock => Ok(blocked_choice(alloc, table, clock_words(), name)),
+        FilterName::Devices => Ok(blocked_choice(alloc, table, devices_words(), name)),
+        FilterName::Personality => personality_choice(alloc, name),
+        FilterName::Calls => Ok(calls_choice(
+            alloc,
+            table,
+            &settings.calls,
+            settings.default_action,
+            name,
+        )),
+    }
+}
+
+// What the filter does to a number without a name.
+fn unnamed_action(settings: &FilterSettings, filter: FilterName) -> u32
+    ensures { result ≡ unnamed_action filter settings.now }
+{
+    match filter {
+        FilterName::Calls => rest_action(&settings.calls, settings.default_action),
+        _ => ALLOW,
+    }
+}
+
+fn rule_for(
+    alloc: Global,
+    table: &CallTable,
+    settings: &FilterSettings,
+    filter: FilterName,
+    call: &CallLine,
+) -> Result<Option<CallRule>, AllocError>
+    ensures { IfOk result (λ rule. rule ≡ rule_for filter settings.now table.now call.now) }
+{
+    match choice_of(alloc, table, settings, filter, call.name.as_str())? {
+        Some(choice) => Ok(Some(rule_with(alloc, call.number, &choice)?)),
+        None => Ok(None),
+    }
+}
+
+fn rules_for(
+    alloc: Global,
+    table: &CallTable,
+    settings: &FilterSettings,
+    filter: FilterName,
+    calls: &[&CallLine],
+) -> Result<Vec<CallRule>, AllocError>
+    ensures { IfOk result (λ rules. rules.items ≡ filter_map (rule_for filter settings.now table.now) (map (λ call. call.now) calls.now)) }
+{
+    let mut rules = Vec::new(alloc);
+    for call in calls {
+        if let Some(rule) = rule_for(alloc, table, settings, filter, *call)? {
+            rules.push(rule)?;
+        }
+    }
+    Ok(rules)
+}
+
+/// The rules of a filter, from the calls of the table, ascending by number.
+pub fn rule_set(
+    alloc: Global,
+    table: &CallTable,
+    settings: &FilterSettings,
+    filter: FilterName,
+    calls: &[&CallLine],
+) -> Result<RuleSet, AllocError>
+    requires known_families { HasKnownFamilies table.now settings.now }
+    requires ascends { Ascends table.now.calls (map (λ call. call.now) calls.now) }
+    ensures { IfOk result (λ rules. AreRulesOf filter settings.now table.now rules) }
+{
+    // What the costs of the rules rest on.
+    let few_calls = table.calls().len() <= 512;
+    prove!(few_calls);
+    let few_families = table.families().len() <= 128;
+    prove!(few_families);
+    let rules = rules_for(alloc, table, settings, filter, calls)?;
+    Ok(RuleSet {
+        arch: table.arch(),
+        calls: CallRules::new(rules),
+        rest: unnamed_action(settings, filter),
+    })
+}

@@ -1,0 +1,25 @@
+//! What the settings of a unit ask of its filters.
+use crate::mentions::{CallList, FamilyList};
+use crate::namespace_types::NamespaceTypes;
+
+/// What the settings of a unit come to, as far as filters go (systemd.exec(5)).
+#[derive(Debug, Drop)]
+pub struct FilterSettings {
+    /// SystemCallFilter=, where it is set.
+    pub calls: Option<CallList>,
+    /// SystemCallErrorNumber= as an action of seccomp(2): what is done to the calls that SystemCallFilter= refuses.
+    pub default_action: u32,
+    /// RestrictAddressFamilies=, where it is set.
+    pub families: Option<FamilyList>,
+    /// RestrictNamespaces=
+    pub namespaces: NamespaceTypes,
+    pub memory_deny_write_execute: bool,
+    pub restrict_realtime: bool,
+    pub restrict_suid_sgid: bool,
+    pub lock_personality: bool,
+    pub protect_hostname: bool,
+    pub protect_kernel_modules: bool,
+    pub protect_kernel_logs: bool,
+    pub protect_clock: bool,
+    pub private_devices: bool,
+}
