@@ -1,0 +1,42 @@
+-- What one more value does, for all keys.
+use Rattle.std.proofs.Common.{◌≡◌, ℕ, ◌+◌, ◌<◌, Bool, true, false, cond, Option, List, [], ◌∷◌, ◌++◌, length, take, get_or, refl, sym, ap, ◌∙◌, append_assoc}
+use Rattle.std.specs.Prelude.{◌==◌, unwrap_or}
+use Rattle.std.specs.List.{filter_map, cons_option}
+use Rattle.std.proofs.lemmas.List.Elements.{filter_map-append}
+use Rattle.unit_grammar.specs.Before.{last_of}
+use Rattle.unit_grammar.proofs.Befores.{given_more, last_of-append}
+use Rattle.unit_grammar.specs.declared.notes.NoteCause.{NoteCause}
+use Rattle.unit_values.specs.declared.value.FileNote.{FileNote}
+use Rattle.unit_values.specs.declared.value.Value.{Value}
+use Rattle.unit_values.specs.Values.{in_force}
+use Rattle.filter_settings.specs.Notes.{notes_at, noted}
+use Rattle.filter_settings.specs.Lasting.{last_read}
+use Rattle.filter_settings.specs.Lines.{line_of, lines_of}
+use Rattle.filter_settings.proofs.OneMore.{after_last-push, take_item, unwrap_later}
+
+-- the notes of the values so far, with those of the next
+pub noted_next : (causes : List Value × Value → List NoteCause) (values : List Value) (i : ℕ) (value : Value) (old now next : List FileNote) → i < length values → value ≡ get_or values i value → now ≡ old ++ noted causes (take i values) → next ≡ now ++ notes_at value (causes (take i values, value)) → next ≡ old ++ noted causes (take (i + 1) values)
+noted_next causes values i value old now next lt is before step =
+    step
+    ∙ ap (λ ns. ns ++ notes_at value (causes (take i values, value))) before
+    ∙ append_assoc old (noted causes (take i values)) (notes_at value (causes (take i values, value)))
+    ∙ ap (λ ns. old ++ ns) (sym (ap (noted causes) (take_item values i value lt is) ∙ given_more (λ place. notes_at place.1 (causes place)) (take i values) value))
+
+-- the last value that can be read, with one more
+pub last_read_next : {X : Type 0} (read : List ℕ → Option X) (default : X) (values : List Value) (i : ℕ) (value : Value) → i < length values → value ≡ get_or values i value → last_read read default (take (i + 1) values) ≡ unwrap_or (read value.text) (last_read read default (take i values))
+last_read_next read default values i value lt is =
+    ap (last_read read default) (take_item values i value lt is)
+    ∙ ap (λ xs. unwrap_or (last_of xs) default) (filter_map-append (λ v. read v.text) (take i values) (value ∷ []))
+    ∙ ap (λ o. unwrap_or o default) (last_of-append (filter_map (λ v. read v.text) (take i values)) (read value.text))
+    ∙ unwrap_later (read value.text) (last_of (filter_map (λ v. read v.text) (take i values))) default
+
+lines_blank : (b : Bool) (values : List Value) (value : Value) → filter_map (λ v. line_of v.text) (cond b [] (values ++ value ∷ [])) ≡ cond b [] (filter_map (λ v. line_of v.text) values ++ cons_option (line_of value.text) [])
+lines_blank true values value = refl
+lines_blank false values value = filter_map-append (λ v. line_of v.text) values (value ∷ [])
+
+-- the lines that count, with one more value
+pub lines_next : (values : List Value) (i : ℕ) (value : Value) → i < length values → value ≡ get_or values i value → lines_of (take (i + 1) values) ≡ cond (length value.text == 0) [] (lines_of (take i values) ++ cons_option (line_of value.text) [])
+lines_next values i value lt is =
+    ap lines_of (take_item values i value lt is)
+    ∙ ap (filter_map (λ v. line_of v.text)) (after_last-push (λ v. length v.text == 0) (take i values) value)
+    ∙ lines_blank (length value.text == 0) (in_force (take i values)) value

@@ -1,0 +1,9 @@
+use Rattle.std.proofs.Common.{◌≡◌, ◌++◌, take}
+use Rattle.filter_settings.specs.Flags.{flag_of, flag_notes}
+use Rattle.filter_settings.proofs.flags.flag.Given as goal
+
+abbrev pub invariant-values : goal.invariant-values
+invariant-values l = record {
+  means : l.on ≡ flag_of (take l.value-index l.values);
+  noted : l.notes.items ≡ l.fn.notes.items ++ flag_notes (take l.value-index l.values);
+}

@@ -1,0 +1,15 @@
+use Rattle.std.proofs.Common.{codes}
+use Rattle.filter_settings.specs.Flags.{unit_flag_notes}
+use Rattle.filter_settings.proofs.OneMore.{four_parts}
+use Rattle.filter_settings.proofs.restrictions.read_restrictions.Goals as goal
+
+pub returns-clause-noted : goal.returns-clause-noted
+returns-clause-noted c =
+    let unit = c.args.unit.now in
+    four_parts c.args.notes.now.items
+    (unit_flag_notes unit (codes "MemoryDenyWriteExecute"))
+    (unit_flag_notes unit (codes "RestrictRealtime"))
+    (unit_flag_notes unit (codes "RestrictSUIDSGID"))
+    (unit_flag_notes unit (codes "LockPersonality"))
+    c.flag_of_key.new.notes.items c.flag_of_key-2.new.notes.items c.flag_of_key-3.new.notes.items c.flag_of_key-4.new.notes.items
+    c.in_ok-flag_of_key.ensures.notes_the_unread c.in_ok-flag_of_key-2.ensures.notes_the_unread c.in_ok-flag_of_key-3.ensures.notes_the_unread c.in_ok-flag_of_key-4.ensures.notes_the_unread

@@ -1,0 +1,70 @@
+-- systemd.exec(5), SystemCallFilter=: what a word of a line says.
+use Rattle.std.specs.Prelude.{ℕ, is_some, Bool, true, false, if◌then◌else◌, Option, Some, None, List, [], ◌∷◌, ◌++◌}
+use Rattle.std.specs.Option.{option_map}
+use Rattle.unit_grammar.specs.Kinds.{cut_at}
+use Rattle.unit_grammar.specs.declared.notes.NoteCause.{NoteCause}
+use Rattle.unit_grammar.specs.declared.notes.NoteCause.TheVariants.{Value as ValueCause, UnknownName}
+use Rattle.call_table.specs.Table.{Table}
+use Rattle.call_table.specs.Names.{behind_at}
+use Rattle.call_table.specs.Lookups.{place_named, group_named}
+use Rattle.filter_rules.specs.declared.mentions.Mode.{Mode}
+use Rattle.filter_rules.specs.declared.mentions.Mode.TheVariants.{Allow, Deny}
+use Rattle.filter_rules.specs.declared.mentions.Mention.{Mention}
+use Rattle.filter_settings.specs.ErrorActions.{error_action}
+use Rattle.filter_settings.specs.declared.call_words.CallWord.{CallWord as ReadWord}
+
+-- `:`
+abbrev pub colon : ℕ
+colon = 58
+
+-- a word as it is read: the name, the action of its suffix, and whether it has a suffix that counts for nothing
+pub record CallWord : Type 0 where
+  pub name : List ℕ
+  pub action : Option ℕ
+  pub has_stray : Bool
+
+-- only an added word of a list that denies may have a suffix
+abbrev pub may_have_suffix : Mode → Bool → Bool
+may_have_suffix Allow adds = false
+may_have_suffix Deny adds = adds
+
+-- a suffix is an action, and a word with another cannot be read; where none may stand, it is dropped
+abbrev pub suffixed : Bool → List ℕ → List ℕ → Option CallWord
+suffixed true name suffix = option_map (λ action. record { name = name; action = Some action; has_stray = false }) (error_action suffix)
+suffixed false name suffix = Some (record { name = name; action = None; has_stray = true })
+
+abbrev pub word_of_sides : Bool → List ℕ → Option (List ℕ × List ℕ) → Option CallWord
+word_of_sides may word None = Some (record { name = word; action = None; has_stray = false })
+word_of_sides may word (Some sides) = suffixed may sides.0 sides.1
+
+-- the suffix stands behind the first colon; names have none
+abbrev pub word_of : Bool → List ℕ → Option CallWord
+word_of may word = word_of_sides may word (cut_at colon word)
+
+abbrev pub is_known_by : Table → List ℕ → Option (List ℕ) → Bool
+is_known_by table name None = is_some (place_named name table.calls)
+is_known_by table name (Some group) = is_some (group_named group table.groups)
+
+-- the table has a call of this name, or behind `@` a group
+abbrev pub is_known : Table → List ℕ → Bool
+is_known table name = is_known_by table name (behind_at name)
+
+-- a known name is mentioned
+abbrev pub mention_of : Table → Bool → Option CallWord → Option Mention
+mention_of table adds None = None
+mention_of table adds (Some word) = if is_known table word.name then Some (record { adds = adds; name = word.name; action = word.action }) else None
+
+abbrev pub word_mention : Table → Mode → Bool → List ℕ → Option Mention
+word_mention table mode adds word = mention_of table adds (word_of (may_have_suffix mode adds) word)
+
+-- a word that cannot be read is noted, or else a suffix that is dropped, and then a name that is not known
+abbrev pub causes_of : Table → Option CallWord → List NoteCause
+causes_of table None = ValueCause ∷ []
+causes_of table (Some word) = (if word.has_stray then ValueCause ∷ [] else []) ++ (if is_known table word.name then [] else UnknownName ∷ [])
+
+abbrev pub word_causes : Table → Mode → Bool → List ℕ → List NoteCause
+word_causes table mode adds word = causes_of table (word_of (may_have_suffix mode adds) word)
+
+-- a word as the code has it
+abbrev pub seen : ReadWord → CallWord
+seen word = record { name = word.name.now; action = word.action; has_stray = word.has_stray }

@@ -1,0 +1,12 @@
+pub mod Notes
+pub mod Lasting
+pub mod Flags
+pub mod ErrorActions
+pub mod Lines
+pub mod CallWords
+pub mod CallLists
+pub mod FamilyLists
+pub mod Namespaces
+pub mod Settings
+pub mod Steps
+pub mod Parts

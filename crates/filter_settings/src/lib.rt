@@ -1,0 +1,28 @@
+//! What the keys of the system call filters say.
+//!
+//! The values that a unit gives to a key are read in their order, and what cannot be read is noted and passed over;
+//! systemd.exec(5) has the keys. It stands on `unit_values` for the values, on `call_table` for names and numbers,
+//! and on `filter_rules` for what the settings are.
+//!
+//! `filter_settings(alloc, &unit, &table, &mut notes)?` has the settings that `filter_rules::filters` takes.
+#![tactic(auto)]
+
+mod call_lists;
+mod call_words;
+mod error_actions;
+mod family_lists;
+mod flags;
+mod lines;
+mod lists;
+mod namespaces;
+mod noting;
+mod protections;
+mod restrictions;
+mod settings;
+
+pub use error_actions::{error_action, error_action_of_key};
+pub use flags::flag_of_key;
+pub use settings::filter_settings;
+
+#[cfg(test)]
+mod tests;

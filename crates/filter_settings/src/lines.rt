@@ -1,0 +1,118 @@
+//! Lines of words, of which one that begins with `~` is inverted (systemd.exec(5), SystemCallFilter=).
+ghost use Rattle.std.specs.Prelude.{◌≡◌, IfOk, map, unwrap_or};
+ghost use Rattle.std.specs.String.{string_bytes};
+ghost use Rattle.std.specs.Option.{option_map};
+ghost use Rattle.text_forms.specs.Words.{words_of};
+ghost use Rattle.unit_grammar.specs.Kinds.{behind};
+ghost use Rattle.filter_settings.specs.Lines.{tilde, words_if, line_of, mode_of, adds_to};
+
+use filter_rules::Mode;
+use std::alloc::{AllocError, Global};
+use std::marker::Model;
+use text_forms::{WordsError, words};
+use unit_grammar::Text;
+
+/// Words, which contracts see as a list of texts.
+#[derive(Debug, Drop)]
+pub struct Words {
+    items: Vec<Text>,
+}
+
+impl Model for Words {
+    ghost use Rattle.std.specs.Prelude.{List, ℕ};
+
+    ghost Value = { List (List ℕ) };
+
+    ghost view = { λ words. words.items.items };
+}
+
+impl Words {
+    /// The words in their order.
+    pub fn list(&self) -> &[Text]
+        ensures { result.now ≡ self.now }
+    {
+        &self.items
+    }
+}
+
+/// A line of a list.
+#[derive(Debug, Drop)]
+pub struct Line {
+    /// Whether it begins with `~`.
+    pub is_inverted: bool,
+    /// Its words, without the `~`.
+    pub words: Words,
+}
+
+impl Line {
+    /// The mode of a list that this line begins.
+    pub fn mode(&self) -> Mode
+        ensures { result ≡ mode_of self.now }
+    {
+        if self.is_inverted {
+            Mode::Deny
+        } else {
+            Mode::Allow
+        }
+    }
+
+    /// Whether the line adds to a list of this mode, or takes off.
+    pub fn adds_to(&self, mode: Mode) -> bool
+        ensures { result ≡ adds_to mode self.now }
+    {
+        match mode {
+            Mode::Allow => !self.is_inverted,
+            Mode::Deny => self.is_inverted,
+        }
+    }
+}
+
+fn behind_tilde(text: &str) -> Option<&str>
+    ensures { option_map (λ rest. rest.now) result ≡ behind tilde text.now }
+{
+    text.strip_prefix('~')
+}
+
+fn texts(alloc: Global, words: Vec<String>) -> Result<Vec<Text>, AllocError>
+    ensures { IfOk result (λ texts. texts.items ≡ map string_bytes words.items) }
+{
+    let mut texts = Vec::new(alloc);
+    'words: for word in words {
+        texts.push(Text::from(word))?;
+    }
+    Ok(texts)
+}
+
+// The words of a text, where it can be split.
+fn read_words(alloc: Global, text: &str) -> Result<Option<Words>, AllocError>
+    ensures { IfOk result (λ words. words ≡ words_if (words_of text.now)) }
+{
+    match words(alloc, text) {
+        Ok(found) => Ok(Some(Words {
+            items: texts(alloc, found)?,
+        })),
+        Err(WordsError::Memory) => Err(AllocError),
+        Err(_) => Ok(None),
+    }
+}
+
+// The line of these words, if there are any.
+fn line_of_words(is_inverted: bool, words: Option<Words>) -> Option<Line>
+    ensures { result ≡ option_map (λ words. record { is_inverted = is_inverted; words = words }) words }
+{
+    match words {
+        Some(words) => Some(Line { is_inverted, words }),
+        None => None,
+    }
+}
+
+/// The line that a value is, where it can be split into words.
+#[tactic(auto, unfolding(crate::specs::Lines::line_of))]
+pub fn read_line(alloc: Global, text: &str) -> Result<Option<Line>, AllocError>
+    ensures { IfOk result (λ line. line ≡ line_of text.now) }
+{
+    match behind_tilde(text) {
+        Some(rest) => Ok(line_of_words(true, read_words(alloc, rest)?)),
+        None => Ok(line_of_words(false, read_words(alloc, text)?)),
+    }
+}

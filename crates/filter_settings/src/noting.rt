@@ -1,0 +1,37 @@
+//! Notes on values.
+ghost use Rattle.std.specs.Prelude.{◌≡◌, ◌++◌, ◌∷◌, [], OnOk};
+ghost use Rattle.filter_settings.specs.Notes.{note_at, notes_at};
+
+use std::alloc::AllocError;
+use unit_grammar::NoteCause;
+use unit_values::{FileNote, Value};
+
+/// Notes a value behind the notes that are there.
+pub fn note_value(
+    notes: &mut Vec<FileNote>,
+    value: &Value,
+    cause: NoteCause,
+) -> Result<(), AllocError>
+    ensures { OnOk result (notes.new.items ≡ notes.old.items ++ note_at value.now cause ∷ []) }
+{
+    notes.push(FileNote {
+        file: value.file,
+        line: value.line,
+        cause,
+    })?;
+    Ok(())
+}
+
+/// Notes a value for each of these causes, behind the notes that are there.
+pub fn note_causes(
+    notes: &mut Vec<FileNote>,
+    value: &Value,
+    causes: &[NoteCause],
+) -> Result<(), AllocError>
+    ensures { OnOk result (notes.new.items ≡ notes.old.items ++ notes_at value.now causes.now) }
+{
+    'causes: for cause in causes {
+        note_value(notes, value, *cause)?;
+    }
+    Ok(())
+}
