@@ -4,6 +4,7 @@ pub mod Fronts
 pub mod LowWords
 pub mod Mapped
 pub mod Ordered
+pub mod Room
 pub mod RulesOf
 pub mod Suited
 pub mod SuitedFamilies

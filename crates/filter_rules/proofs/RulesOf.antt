@@ -21,7 +21,8 @@ use Rattle.filter_rules.specs.declared.names.FilterName.TheVariants.{Families, M
 use Rattle.filter_rules.specs.Actions.{is_one_of}
 use Rattle.filter_rules.specs.Blocked.{is_blocked, hostname_words, modules_words, logs_words, clock_words, devices_words}
 use Rattle.filter_rules.specs.Choices.{choice_action}
-use Rattle.filter_rules.specs.Costs.{HasShortCases, costs, most_costs, case_count, test_count}
+use Rattle.call_rules.specs.Sizes.{case_count, test_count}
+use Rattle.filter_rules.specs.Costs.{HasShortCases, costs, most_costs}
 use Rattle.filter_rules.specs.Covers.{covers, covers_by}
 use Rattle.filter_rules.specs.Known.{HasKnownFamilies}
 use Rattle.filter_rules.specs.Order.{Ascends}

@@ -12,7 +12,8 @@ use Rattle.call_rules.specs.declared.rules.CallRule.{CallRule}
 use Rattle.call_table.specs.declared.listed.CallLine.{CallLine}
 use Rattle.filter_rules.specs.declared.choice.Choice.{Choice}
 use Rattle.filter_rules.specs.Choices.{case_with, rule_with, whole}
-use Rattle.filter_rules.specs.Costs.{HasShortCases, HaveFewTests, AreWhole}
+use Rattle.call_rules.specs.Sizes.{HaveFewTests}
+use Rattle.filter_rules.specs.Costs.{HasShortCases, AreWhole}
 use Rattle.filter_rules.proofs.Walked.{rules_of}
 
 -- all tests are of the whole of one argument

@@ -1,19 +1,14 @@
 -- How large the rules of a filter may be.
-use Rattle.std.specs.Prelude.{◌≡◌, ℕ, ◌≤◌, ◌⊎◌, List, [], ◌∷◌, length, sum_by}
+use Rattle.std.specs.Prelude.{◌≡◌, ℕ, ◌+◌, ◌≤◌, ◌⊎◌, List, [], ◌∷◌, length, sum_by}
 use Rattle.std.specs.List.{All}
 use Rattle.call_rules.specs.declared.rules.Case.{Case}
 use Rattle.call_rules.specs.declared.rules.CallRule.{CallRule}
 use Rattle.call_rules.specs.declared.rules.RuleSet.{RuleSet}
+use Rattle.call_rules.specs.Sizes.{case_count, test_count, most_insns}
 use Rattle.filter_rules.specs.Choices.{whole}
+use Rattle.filter_rules.specs.declared.installed.Filter.{Filter}
 use Rattle.filter_rules.specs.declared.names.FilterName.{FilterName}
 use Rattle.filter_rules.specs.declared.names.FilterName.TheVariants.{Families, MemoryDenyWriteExecute, Realtime, Suid, Namespaces, Hostname, Modules, Logs, Clock, Devices, Personality, Calls}
-
--- how many cases all calls have together, and how many tests all cases
-abbrev pub case_count : RuleSet → ℕ
-case_count rules = sum_by (λ call. length call.cases) rules.calls
-
-abbrev pub test_count : RuleSet → ℕ
-test_count rules = sum_by (λ call. sum_by (λ case. length case.tests) call.cases) rules.calls
 
 -- calls with a rule, cases over all of them, tests over all cases
 pub record Costs : Type 0 where
@@ -44,15 +39,9 @@ pub record KeepsWithin (most : Costs) (rules : RuleSet) : Type 0 where
   pub cases : case_count rules ≤ most.cases
   pub tests : test_count rules ≤ most.tests
 
--- no case has more than two tests
-abbrev pub HaveFewTests : List Case → Type 0
-HaveFewTests cases = All (λ case. length case.tests ≤ 2) cases
-
--- rules that can be compiled
-pub record CanCompile (rules : RuleSet) : Type 0 where
-  pub calls : length rules.calls ≤ 512
-  pub cases : case_count rules ≤ 128
-  pub tests : All (λ call. HaveFewTests call.cases) rules.calls
+-- the room that programs of these filters take at most in a stack: each takes 4 beside its instructions (seccomp(2), ENOMEM)
+abbrev pub most_room : List Filter → ℕ
+most_room filters = sum_by (λ made. most_insns made.rules + 4) filters
 
 -- each case has one test, of all of the low 32 bits of this argument
 abbrev pub AreWhole : ℕ → List Case → Type 0

@@ -22,7 +22,8 @@ use Rattle.filter_rules.specs.NamespacesChoice.{namespaces_choice}
 use Rattle.filter_rules.specs.BlockedChoice.{blocked_choice}
 use Rattle.filter_rules.specs.PersonalityChoice.{personality_choice}
 use Rattle.filter_rules.specs.CallsChoice.{calls_choice}
-use Rattle.filter_rules.specs.Costs.{KeepsWithin, CanCompile, HasShortCases, most_costs}
+use Rattle.call_rules.specs.Sizes.{CanCompile}
+use Rattle.filter_rules.specs.Costs.{KeepsWithin, HasShortCases, most_costs}
 use Rattle.filter_rules.specs.Wanted.{wanted_action}
 
 -- what the rules of a filter do to a call of a name, where there is one

@@ -1,9 +1,10 @@
 //! The filters that are on, in the order in which they are installed.
-ghost use Rattle.std.specs.Prelude.{◌≡◌, map, filter, IfOk};
+ghost use Rattle.std.specs.Prelude.{◌≡◌, ◌≤◌, map, filter, IfOk};
 ghost use Rattle.std.specs.List.{All};
 ghost use Rattle.bpf_code.specs.declared.machine.CallData.{CallData};
 ghost use Rattle.call_rules.specs.Action.{case_action};
-ghost use Rattle.filter_rules.specs.Costs.{CanCompile, KeepsWithin, HasShortCases, most_costs};
+ghost use Rattle.call_rules.specs.Sizes.{CanCompile};
+ghost use Rattle.filter_rules.specs.Costs.{KeepsWithin, HasShortCases, most_costs, most_room};
 ghost use Rattle.filter_rules.specs.Known.{HasKnownFamilies};
 ghost use Rattle.filter_rules.specs.Names.{all_filters};
 ghost use Rattle.filter_rules.specs.Order.{Ascends};
@@ -86,6 +87,8 @@ pub fn filters(
     // Within the condition of a compiler, and within what the filter may cost.
     ensures can_be_compiled { IfOk result (λ filters. All (λ made. CanCompile made.rules) filters.items) }
     ensures keep_within_costs { IfOk result (λ filters. All (λ made. KeepsWithin (most_costs made.name) made.rules) filters.items) }
+    // Together within the room of a stack of filters.
+    ensures fit_into_a_stack { IfOk result (λ filters. most_room filters.items ≤ 32768) }
     // At most eight cases for a call, or one test each of one whole argument.
     ensures cases_are_short { IfOk result (λ filters. All (λ made. All HasShortCases made.rules.calls) filters.items) }
 {

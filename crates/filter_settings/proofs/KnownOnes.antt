@@ -15,8 +15,9 @@ use Rattle.filter_rules.specs.declared.mentions.Mode.TheVariants.{Allow}
 use Rattle.filter_rules.specs.declared.mentions.FamilyMention.{FamilyMention}
 use Rattle.filter_rules.specs.declared.mentions.FamilyList.{FamilyList}
 use Rattle.filter_rules.specs.Known.{IsKnown}
-use Rattle.filter_settings.specs.declared.lines.Line.{Line}
-use Rattle.filter_settings.specs.Lines.{lines_of, mode_of, adds_to}
+use Rattle.unit_values.specs.declared.lines.Line.{Line}
+use Rattle.unit_values.specs.Lines.{lines_of}
+use Rattle.filter_settings.specs.Modes.{mode_of, adds_to}
 use Rattle.filter_settings.specs.FamilyLists.{family_number, family_mention, family_mentions, is_none_line, begun_by, behind_none, unit_family_list}
 
 some_same : {X : Type 0} (a b : X) → Some a ≡ Some b → a ≡ b

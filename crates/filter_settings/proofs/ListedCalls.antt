@@ -5,12 +5,13 @@ use Rattle.std.specs.List.{cons_option}
 use Rattle.std.proofs.lemmas.List.Concat.{flat_map-append}
 use Rattle.unit_values.specs.declared.value.Value.{Value}
 use Rattle.call_table.specs.Table.{Table}
-use Rattle.filter_settings.specs.declared.lines.Line.{Line}
-use Rattle.filter_settings.specs.Lines.{line_of, lines_of, mode_of, adds_to, mode_behind}
+use Rattle.unit_values.specs.declared.lines.Line.{Line}
+use Rattle.unit_values.specs.Lines.{line_of, lines_of}
+use Rattle.filter_settings.specs.Modes.{mode_of, adds_to, mode_behind}
 use Rattle.filter_settings.specs.CallWords.{word_causes}
 use Rattle.filter_settings.specs.CallLists.{line_mentions, implied, listed, line_causes, call_list_of, call_causes}
 use Rattle.filter_settings.specs.Steps.{started, longer, with_line, with_value, causes_of_line, causes_of_value}
-use Rattle.filter_settings.proofs.Looping.{lines_next}
+use Rattle.unit_values.proofs.Looping.{lines_next}
 
 listed_more : (table : Table) (lines : List Line) (line : Line) → listed table (lines ++ line ∷ []) ≡ Some (longer table (started (listed table lines) line) line)
 listed_more table [] line =

@@ -8,12 +8,13 @@ use Rattle.unit_values.specs.declared.value.Value.{Value}
 use Rattle.call_table.specs.Table.{Table}
 use Rattle.filter_rules.specs.declared.mentions.Mode.{Mode}
 use Rattle.filter_rules.specs.declared.mentions.Mode.TheVariants.{Allow}
-use Rattle.filter_settings.specs.declared.lines.Line.{Line}
-use Rattle.filter_settings.specs.Lines.{line_of, lines_of, mode_of}
+use Rattle.unit_values.specs.declared.lines.Line.{Line}
+use Rattle.unit_values.specs.Lines.{line_of, lines_of}
+use Rattle.filter_settings.specs.Modes.{mode_of}
 use Rattle.filter_settings.specs.FamilyLists.{family_mentions, is_none_line, begun_by, behind_none, family_list, family_list_of}
 use Rattle.filter_settings.specs.Steps.{families_started, more_families, no_families, with_family_line, with_family_value}
-use Rattle.filter_settings.proofs.OneMore.{after_last-push}
-use Rattle.filter_settings.proofs.Looping.{lines_next}
+use Rattle.unit_values.proofs.OneMore.{after_last-push}
+use Rattle.unit_values.proofs.Looping.{lines_next}
 
 mentions_more : (table : Table) (mode : Mode) (lines : List Line) (line : Line) → flat_map (family_mentions table mode) (lines ++ line ∷ []) ≡ flat_map (family_mentions table mode) lines ++ family_mentions table mode line
 mentions_more table mode lines line =

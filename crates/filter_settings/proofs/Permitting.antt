@@ -11,11 +11,11 @@ use Rattle.unit_values.specs.declared.value.Value.{Value}
 use Rattle.unit_values.specs.Values.{in_force}
 use Rattle.filter_rules.specs.declared.namespace_types.NamespaceType.{NamespaceType}
 use Rattle.filter_rules.specs.declared.namespace_types.NamespaceType.TheVariants.{Cgroup, Ipc, Net, Mnt, Pid, User, Uts}
-use Rattle.filter_settings.specs.declared.lines.Line.{Line}
-use Rattle.filter_settings.specs.Lines.{line_of}
+use Rattle.unit_values.specs.declared.lines.Line.{Line}
+use Rattle.unit_values.specs.Lines.{line_of}
 use Rattle.filter_settings.specs.Namespaces.{types_if, switch_or_types, restriction_of, is_plain, has_plain, says_of, is_permitted, types_by, namespaces_of}
 use Rattle.filter_settings.specs.Steps.{next_types, next_plain}
-use Rattle.filter_settings.proofs.OneMore.{after_last-push, take_item, unwrap_later}
+use Rattle.unit_values.proofs.OneMore.{after_last-push, take_item, unwrap_later}
 
 permitted_next : (values : List Value) (value : Value) (kind : NamespaceType) → is_permitted (values ++ value ∷ []) kind ≡ unwrap_or (says_of kind (values, value)) (is_permitted values kind)
 permitted_next values value kind =

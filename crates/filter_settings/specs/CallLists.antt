@@ -12,9 +12,10 @@ use Rattle.filter_rules.specs.declared.mentions.Mode.{Mode}
 use Rattle.filter_rules.specs.declared.mentions.Mode.TheVariants.{Allow, Deny}
 use Rattle.filter_rules.specs.declared.mentions.Mention.{Mention}
 use Rattle.filter_rules.specs.declared.mentions.CallList.{CallList}
-use Rattle.filter_settings.specs.declared.lines.Line.{Line}
-use Rattle.filter_settings.specs.Notes.{noted}
-use Rattle.filter_settings.specs.Lines.{line_of, lines_of, mode_of, adds_to, mode_behind}
+use Rattle.unit_values.specs.declared.lines.Line.{Line}
+use Rattle.unit_values.specs.Notes.{noted}
+use Rattle.unit_values.specs.Lines.{line_of, lines_of}
+use Rattle.filter_settings.specs.Modes.{mode_of, adds_to, mode_behind}
 use Rattle.filter_settings.specs.CallWords.{word_mention, word_causes}
 
 -- the words of a line on a list of this mode

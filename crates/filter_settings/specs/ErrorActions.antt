@@ -8,7 +8,7 @@ use Rattle.unit_values.specs.declared.value.FileNote.{FileNote}
 use Rattle.unit_values.specs.declared.value.Value.{Value}
 use Rattle.unit_values.specs.Values.{values_of, notes_of}
 use Rattle.filter_rules.specs.Actions.{errno, kill_process}
-use Rattle.filter_settings.specs.Lasting.{last_read, unread_notes}
+use Rattle.unit_values.specs.Lasting.{last_read, unread_notes}
 
 -- `kill` ends the process; the name or the number of an error makes the call answer it
 unfoldable pub error_action : List ℕ → Option ℕ

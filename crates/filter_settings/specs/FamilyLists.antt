@@ -15,9 +15,10 @@ use Rattle.filter_rules.specs.declared.mentions.Mode.{Mode}
 use Rattle.filter_rules.specs.declared.mentions.Mode.TheVariants.{Allow}
 use Rattle.filter_rules.specs.declared.mentions.FamilyMention.{FamilyMention}
 use Rattle.filter_rules.specs.declared.mentions.FamilyList.{FamilyList}
-use Rattle.filter_settings.specs.declared.lines.Line.{Line}
-use Rattle.filter_settings.specs.Notes.{noted}
-use Rattle.filter_settings.specs.Lines.{line_of, lines_of, mode_of, adds_to}
+use Rattle.unit_values.specs.declared.lines.Line.{Line}
+use Rattle.unit_values.specs.Notes.{noted}
+use Rattle.unit_values.specs.Lines.{line_of, lines_of}
+use Rattle.filter_settings.specs.Modes.{mode_of, adds_to}
 
 -- the number that the table has for a family
 abbrev pub family_number : Table → List ℕ → Option ℕ

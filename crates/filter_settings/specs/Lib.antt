@@ -1,8 +1,5 @@
-pub mod Notes
-pub mod Lasting
-pub mod Flags
 pub mod ErrorActions
-pub mod Lines
+pub mod Modes
 pub mod CallWords
 pub mod CallLists
 pub mod FamilyLists

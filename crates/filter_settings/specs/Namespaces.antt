@@ -14,11 +14,11 @@ use Rattle.filter_rules.specs.declared.namespace_types.NamespaceType.{NamespaceT
 use Rattle.filter_rules.specs.declared.namespace_types.NamespaceType.TheVariants.{Cgroup, Ipc, Net, Mnt, Pid, User, Uts}
 use Rattle.filter_rules.specs.declared.namespace_types.NamespaceTypes.{NamespaceTypes}
 use Rattle.filter_rules.specs.NamespaceTypes.{all_types}
-use Rattle.filter_settings.specs.declared.lines.Line.{Line}
+use Rattle.unit_values.specs.declared.lines.Line.{Line}
 use Rattle.filter_settings.specs.declared.namespaces.Restriction.{Restriction}
 use Rattle.filter_settings.specs.declared.namespaces.Restriction.TheVariants.{Reset, Switch, Types, Unread}
-use Rattle.filter_settings.specs.Notes.{noted}
-use Rattle.filter_settings.specs.Lines.{line_of}
+use Rattle.unit_values.specs.Notes.{noted}
+use Rattle.unit_values.specs.Lines.{line_of}
 
 abbrev pub type_name : NamespaceType → List ℕ
 type_name Cgroup = codes "cgroup"

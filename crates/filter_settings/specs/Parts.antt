@@ -5,7 +5,7 @@ use Rattle.call_table.specs.Table.{Table}
 use Rattle.filter_settings.specs.declared.lists.Lists.{Lists}
 use Rattle.filter_settings.specs.declared.restrictions.Restrictions.{Restrictions}
 use Rattle.filter_settings.specs.declared.protections.Protections.{Protections}
-use Rattle.filter_settings.specs.Flags.{unit_flag}
+use Rattle.unit_values.specs.Flags.{unit_flag}
 use Rattle.filter_settings.specs.ErrorActions.{unit_error_action}
 use Rattle.filter_settings.specs.CallLists.{unit_call_list}
 use Rattle.filter_settings.specs.FamilyLists.{unit_family_list}

@@ -4,7 +4,7 @@ use Rattle.dropin_merge.specs.declared.resolved.Resolved.{Resolved}
 use Rattle.unit_values.specs.declared.value.FileNote.{FileNote}
 use Rattle.call_table.specs.Table.{Table}
 use Rattle.filter_rules.specs.declared.settings.FilterSettings.{FilterSettings}
-use Rattle.filter_settings.specs.Flags.{unit_flag, unit_flag_notes}
+use Rattle.unit_values.specs.Flags.{unit_flag, unit_flag_notes}
 use Rattle.filter_settings.specs.ErrorActions.{unit_error_action, unit_error_action_notes}
 use Rattle.filter_settings.specs.CallLists.{unit_call_list, unit_call_list_notes}
 use Rattle.filter_settings.specs.FamilyLists.{unit_family_list, unit_family_list_notes}

@@ -10,10 +10,11 @@ use Rattle.filter_rules.specs.declared.mentions.CallList.{CallList}
 use Rattle.filter_rules.specs.declared.mentions.FamilyList.{FamilyList}
 use Rattle.filter_rules.specs.declared.namespace_types.NamespaceType.{NamespaceType}
 use Rattle.filter_rules.specs.declared.namespace_types.NamespaceTypes.{NamespaceTypes}
-use Rattle.filter_settings.specs.declared.lines.Line.{Line}
+use Rattle.unit_values.specs.declared.lines.Line.{Line}
 use Rattle.filter_settings.specs.declared.namespaces.Restriction.{Restriction}
 use Rattle.filter_settings.specs.declared.namespaces.Restriction.TheVariants.{Reset, Switch, Types, Unread}
-use Rattle.filter_settings.specs.Lines.{line_of, mode_of, adds_to}
+use Rattle.unit_values.specs.Lines.{line_of}
+use Rattle.filter_settings.specs.Modes.{mode_of, adds_to}
 use Rattle.filter_settings.specs.CallWords.{word_causes}
 use Rattle.filter_settings.specs.CallLists.{line_mentions, implied}
 use Rattle.filter_settings.specs.FamilyLists.{family_mentions, is_none_line}

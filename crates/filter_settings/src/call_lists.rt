@@ -1,20 +1,19 @@
 //! SystemCallFilter=: a list of calls and groups that is allowed, or denied (systemd.exec(5)).
 ghost use Rattle.std.specs.Prelude.{◌≡◌, ◌++◌, IfOk, OnOk, Some, flat_map};
 ghost use Rattle.std.specs.List.{filter_map};
-ghost use Rattle.filter_settings.specs.Notes.{notes_at};
+ghost use Rattle.unit_values.specs.Notes.{notes_at};
 ghost use Rattle.filter_settings.specs.CallWords.{word_mention, word_causes};
 ghost use Rattle.filter_settings.specs.CallLists.{implied, call_list_of, call_list_notes, unit_call_list, unit_call_list_notes};
 ghost use Rattle.filter_settings.specs.Steps.{started, longer, with_value, causes_in, causes_of_line, causes_of_value};
 
 use crate::call_words::add_word;
-use crate::lines::{Line, read_line};
-use crate::noting::{note_causes, note_value};
+use crate::modes::{adds_to, mode_of};
 use call_table::CallTable;
 use dropin_merge::Resolved;
 use filter_rules::{CallList, Mention, Mentions, Mode};
 use std::alloc::{AllocError, Global};
 use unit_grammar::{NoteCause, Text};
-use unit_values::{FileNote, Value, values_of_key};
+use unit_values::{FileNote, Line, Value, note_causes, note_value, read_line, values_of_key};
 
 // What a list of this mode begins with.
 fn implied(alloc: Global, mode: Mode) -> Result<Mentions, AllocError>
@@ -41,7 +40,7 @@ fn started(alloc: Global, list: Option<CallList>, line: &Line) -> Result<CallLis
     match list {
         Some(list) => Ok(list),
         None => {
-            let mode = line.mode();
+            let mode = mode_of(line);
             Ok(CallList {
                 mode,
                 mentions: implied(alloc, mode)?,
@@ -80,7 +79,7 @@ fn with_line(
     ensures noted { OnOk result (causes.new.items ≡ causes.old.items ++ causes_in table.now list.mode line.now) }
 {
     let CallList { mode, mut mentions } = list;
-    let adds = line.adds_to(mode);
+    let adds = adds_to(mode, line);
     add_words(
         alloc,
         table,

@@ -1,15 +1,14 @@
 //! SystemCallErrorNumber=: what is done to a call that a filter refuses (systemd.exec(5)).
 ghost use Rattle.std.specs.Prelude.{◌≡◌, ◌++◌, IfOk, OnOk, unwrap_or};
-ghost use Rattle.filter_settings.specs.Notes.{notes_at};
-ghost use Rattle.filter_settings.specs.Lasting.{unless_read};
+ghost use Rattle.unit_values.specs.Notes.{notes_at};
+ghost use Rattle.unit_values.specs.Lasting.{unless_read};
 ghost use Rattle.filter_settings.specs.ErrorActions.{error_action, error_action_value, error_action_of, error_action_notes, unit_error_action, unit_error_action_notes};
 
-use crate::noting::note_value;
 use dropin_merge::Resolved;
 use std::alloc::{AllocError, Global};
 use text_forms::errno_number;
 use unit_grammar::NoteCause;
-use unit_values::{FileNote, Value, values_of_key};
+use unit_values::{FileNote, Value, note_value, values_of_key};
 
 /// SECCOMP_RET_KILL_PROCESS (seccomp(2)).
 const KILL_PROCESS: u32 = 0x8000_0000;

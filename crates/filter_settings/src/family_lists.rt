@@ -1,18 +1,17 @@
 //! RestrictAddressFamilies=: a list of address families that is allowed, or denied (systemd.exec(5)).
 ghost use Rattle.std.specs.Prelude.{◌≡◌, ◌++◌, [], IfOk, OnOk, Some, flat_map};
 ghost use Rattle.std.specs.List.{cons_option, filter_map};
-ghost use Rattle.filter_settings.specs.Notes.{notes_at};
+ghost use Rattle.unit_values.specs.Notes.{notes_at};
 ghost use Rattle.filter_settings.specs.FamilyLists.{family_number, family_mention, family_causes, family_line_causes, family_value_causes, is_none_word, is_none_line, family_list_of, family_list_notes, unit_family_list, unit_family_list_notes};
 ghost use Rattle.filter_settings.specs.Steps.{families_started, more_families, with_family_line, with_family_value};
 
-use crate::lines::{Line, read_line};
-use crate::noting::{note_causes, note_value};
+use crate::modes::{adds_to, mode_of};
 use call_table::CallTable;
 use dropin_merge::Resolved;
 use filter_rules::{FamilyList, FamilyMention, FamilyMentions, Mode};
 use std::alloc::{AllocError, Global};
 use unit_grammar::{NoteCause, Text};
-use unit_values::{FileNote, Value, values_of_key};
+use unit_values::{FileNote, Line, Value, note_causes, note_value, read_line, values_of_key};
 
 fn is_none_word(words: &[Text]) -> bool
     ensures { result ≡ is_none_word words.now }
@@ -70,7 +69,7 @@ fn started(alloc: Global, list: Option<FamilyList>, line: &Line) -> FamilyList
     match list {
         Some(list) => list,
         None => FamilyList {
-            mode: line.mode(),
+            mode: mode_of(line),
             mentions: FamilyMentions::new(Vec::new(alloc)),
         },
     }
@@ -87,7 +86,7 @@ fn with_words(
     ensures noted { OnOk result (causes.new.items ≡ causes.old.items ++ flat_map (λ word. family_causes (family_number table.now word)) line.now.words) }
 {
     let FamilyList { mode, mut mentions } = list;
-    let adds = line.adds_to(mode);
+    let adds = adds_to(mode, line);
     add_families(table, adds, line.words.list(), &mut mentions, causes)?;
     Ok(FamilyList { mode, mentions })
 }

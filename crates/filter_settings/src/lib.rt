@@ -11,17 +11,14 @@ mod call_lists;
 mod call_words;
 mod error_actions;
 mod family_lists;
-mod flags;
-mod lines;
 mod lists;
+mod modes;
 mod namespaces;
-mod noting;
 mod protections;
 mod restrictions;
 mod settings;
 
 pub use error_actions::{error_action, error_action_of_key};
-pub use flags::flag_of_key;
 pub use settings::filter_settings;
 
 #[cfg(test)]

@@ -1,18 +1,16 @@
 //! RestrictNamespaces=: which types of namespaces are permitted (systemd.exec(5), namespaces(7)).
 ghost use Rattle.std.specs.Prelude.{◌≡◌, ◌++◌, IfOk, OnOk, flat_map};
 ghost use Rattle.filter_rules.specs.NamespaceTypes.{all_types};
-ghost use Rattle.filter_settings.specs.Notes.{notes_at};
+ghost use Rattle.unit_values.specs.Notes.{notes_at};
 ghost use Rattle.filter_settings.specs.Namespaces.{type_name, restriction_of, has_word, is_plain, listed_type, says, is_type_name, type_causes, restriction_causes, namespaces_of, namespaces_notes, unit_namespaces, unit_namespaces_notes};
 ghost use Rattle.filter_settings.specs.Steps.{next_type, next_types, next_plain};
 
-use crate::lines::{Line, read_line};
-use crate::noting::{note_causes, note_value};
 use dropin_merge::Resolved;
 use filter_rules::{ALL_NAMESPACE_TYPES, NamespaceType, NamespaceTypes};
 use std::alloc::{AllocError, Global};
 use text_forms::read_bool;
 use unit_grammar::{NoteCause, Text};
-use unit_values::{FileNote, Value, values_of_key};
+use unit_values::{FileNote, Line, Value, note_causes, note_value, read_line, values_of_key};
 
 /// What a value of RestrictNamespaces= is.
 #[derive(Debug, Drop)]

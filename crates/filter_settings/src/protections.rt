@@ -3,10 +3,9 @@ ghost use Rattle.std.specs.Prelude.{◌≡◌, ◌++◌, IfOk, OnOk};
 ghost use Rattle.filter_settings.specs.Settings.{protection_keys, flag_key_notes, all_of};
 ghost use Rattle.filter_settings.specs.Parts.{ReadsProtections};
 
-use crate::flags::flag_of_key;
 use dropin_merge::Resolved;
 use std::alloc::{AllocError, Global};
-use unit_values::FileNote;
+use unit_values::{FileNote, flag_of_key};
 
 /// What the boolean keys come to that protect the system from a service.
 #[derive(Clone, Copy, Debug, PartialEq, Eq)]

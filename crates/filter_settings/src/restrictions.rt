@@ -3,10 +3,9 @@ ghost use Rattle.std.specs.Prelude.{◌≡◌, ◌++◌, IfOk, OnOk};
 ghost use Rattle.filter_settings.specs.Settings.{restriction_keys, flag_key_notes, all_of};
 ghost use Rattle.filter_settings.specs.Parts.{ReadsRestrictions};
 
-use crate::flags::flag_of_key;
 use dropin_merge::Resolved;
 use std::alloc::{AllocError, Global};
-use unit_values::FileNote;
+use unit_values::{FileNote, flag_of_key};
 
 /// What the boolean keys come to that restrict what a service does.
 #[derive(Clone, Copy, Debug, PartialEq, Eq)]

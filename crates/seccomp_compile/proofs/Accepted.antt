@@ -14,7 +14,7 @@ use Rattle.call_rules.specs.declared.rules.RuleSet.{RuleSet}
 use Rattle.seccomp_compile.specs.Code.{load, skip, skip_unless_equal, skip_if_equal, end, test_code, tests_code, case_code, cases_code, body_code, number_code, call_code, calls_code, rules_code}
 use Rattle.seccomp_compile.specs.Arguments.{TestsLookAtArguments, CasesLookAtArguments, CallsLookAtArguments}
 use Rattle.seccomp_compile.specs.declared.offsets.TheConstants.{NUMBER_OFFSET, ARCH_OFFSET}
-use Rattle.seccomp_compile.specs.Compiled.{CanCompile}
+use Rattle.call_rules.specs.Sizes.{CanCompile}
 use Rattle.seccomp_compile.proofs.Lengths.{rules_code-le, most_insns-le}
 
 -- no instruction has a fault, and none loads a scratch word

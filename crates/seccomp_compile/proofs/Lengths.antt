@@ -8,7 +8,8 @@ use Rattle.call_rules.specs.declared.rules.Case.{Case}
 use Rattle.call_rules.specs.declared.rules.CallRule.{CallRule}
 use Rattle.call_rules.specs.declared.rules.RuleSet.{RuleSet}
 use Rattle.seccomp_compile.specs.Code.{skip, skip_unless_equal, skip_if_equal, end, tests_code, case_code, cases_code, body_code, number_code, call_code, calls_code, rules_code}
-use Rattle.seccomp_compile.specs.Compiled.{most_insns, HaveFewTests, CanCompile, CanCompileCall}
+use Rattle.call_rules.specs.Sizes.{most_insns, HaveFewTests, CanCompile}
+use Rattle.seccomp_compile.specs.Compiled.{CanCompileCall}
 
 -- how many tests the cases of a call have together
 abbrev pub tests_in : List Case → ℕ

@@ -1,7 +1,8 @@
 //! The compiler's call.
 ghost use Rattle.std.specs.Prelude.{◌≤◌, length, IfOk};
 ghost use Rattle.bpf_code.specs.declared.program.TheConstants.{MAX_INSNS};
-ghost use Rattle.seccomp_compile.specs.Compiled.{CanCompile, Decides, most_insns};
+ghost use Rattle.call_rules.specs.Sizes.{CanCompile, most_insns};
+ghost use Rattle.seccomp_compile.specs.Compiled.{Decides};
 
 use crate::linear::emit_rules;
 use bpf_code::Program;

@@ -4,7 +4,8 @@
 ghost use Rattle.std.specs.Prelude.{◌≡◌, ◌++◌, ◌≤◌, length, OnOk};
 ghost use Rattle.std.specs.List.{All};
 ghost use Rattle.seccomp_compile.specs.Code.{test_code, tests_code, case_code, cases_code, body_code, number_code, call_code, calls_code, rules_code};
-ghost use Rattle.seccomp_compile.specs.Compiled.{CanCompile, CanCompileCall, HaveFewTests};
+ghost use Rattle.call_rules.specs.Sizes.{CanCompile, HaveFewTests};
+ghost use Rattle.seccomp_compile.specs.Compiled.{CanCompileCall};
 ghost use Rattle.seccomp_compile.specs.Arguments.{TestsLookAtArguments, CasesLookAtArguments, CallsLookAtArguments};
 
 use crate::condition::MOST_TESTS;

@@ -12,9 +12,9 @@ use unit_names::{ExpandError, UnitName, expand};
 /// The section of a unit file that describes the service.
 const SECTION: &str = "Service";
 
-// Whether an assignment is one of the service's to this key.
-fn assigns_to(key: &str, assignment: &Assignment) -> bool
-    ensures { result ≡ assigns_to key.now assignment.now }
+/// Whether an assignment is one of the service's to this key.
+pub fn assigns_to(key: &str, assignment: &Assignment) -> bool
+    ensures of_the_service_to_the_key { result ≡ assigns_to key.now assignment.now }
 {
     assignment.section.as_str() == SECTION && assignment.key.as_str() == key
 }

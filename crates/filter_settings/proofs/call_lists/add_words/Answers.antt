@@ -1,7 +1,7 @@
 use Rattle.std.proofs.Common.{[], ap, ◌∙◌, ◌++◌}
 use Rattle.std.specs.List.{cons_option}
 use Rattle.filter_settings.specs.CallWords.{word_mention, word_causes}
-use Rattle.filter_settings.proofs.OneMore.{added_by_all, added_by_some}
+use Rattle.unit_values.proofs.OneMore.{added_by_all, added_by_some}
 use Rattle.filter_settings.proofs.call_lists.add_words.Goals as goal
 
 pub words-preserved : goal.words-preserved

@@ -1,8 +1,8 @@
 use Rattle.std.proofs.Common.{ap, sym, ◌∙◌, ◌++◌, take}
-use Rattle.filter_settings.specs.Notes.{notes_at}
+use Rattle.unit_values.specs.Notes.{notes_at}
 use Rattle.filter_settings.specs.CallLists.{call_causes}
 use Rattle.filter_settings.specs.Steps.{with_value, causes_of_value}
-use Rattle.filter_settings.proofs.Looping.{noted_next}
+use Rattle.unit_values.proofs.Looping.{noted_next}
 use Rattle.filter_settings.proofs.ListedCalls.{call_list_next, causes_behind}
 use Rattle.filter_settings.proofs.call_lists.call_list.Goals as goal
 

@@ -1,9 +1,9 @@
 use Rattle.std.proofs.Common.{ap, sym, ◌∙◌}
 use Rattle.std.specs.Prelude.{unwrap_or}
-use Rattle.filter_settings.specs.Lasting.{unless_read}
+use Rattle.unit_values.specs.Lasting.{unless_read}
 use Rattle.filter_settings.specs.ErrorActions.{error_action_value}
 use Rattle.filter_rules.specs.Actions.{kill_process}
-use Rattle.filter_settings.proofs.Looping.{noted_next, last_read_next}
+use Rattle.unit_values.proofs.Looping.{noted_next, last_read_next}
 use Rattle.filter_settings.proofs.error_actions.last_error_action.Goals as goal
 
 pub values-preserved : goal.values-preserved

@@ -1,7 +1,7 @@
 use Rattle.std.proofs.Common.{[], ap, ◌∙◌, ◌++◌}
 use Rattle.std.specs.List.{cons_option}
 use Rattle.filter_settings.specs.FamilyLists.{family_mention, family_number, family_causes}
-use Rattle.filter_settings.proofs.OneMore.{added_by_all, added_by_some}
+use Rattle.unit_values.proofs.OneMore.{added_by_all, added_by_some}
 use Rattle.filter_settings.proofs.family_lists.add_families.Goals as goal
 
 pub words-preserved : goal.words-preserved

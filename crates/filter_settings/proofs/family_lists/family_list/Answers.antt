@@ -1,7 +1,7 @@
 use Rattle.std.proofs.Common.{ap, sym, ◌∙◌}
 use Rattle.filter_settings.specs.FamilyLists.{family_value_causes}
 use Rattle.filter_settings.specs.Steps.{with_family_value}
-use Rattle.filter_settings.proofs.Looping.{noted_next}
+use Rattle.unit_values.proofs.Looping.{noted_next}
 use Rattle.filter_settings.proofs.ListedFamilies.{family_list_next}
 use Rattle.filter_settings.proofs.family_lists.family_list.Goals as goal
 

@@ -3,7 +3,7 @@ use Rattle.filter_settings.specs.ErrorActions.{unit_error_action_notes}
 use Rattle.filter_settings.specs.CallLists.{unit_call_list_notes}
 use Rattle.filter_settings.specs.FamilyLists.{unit_family_list_notes}
 use Rattle.filter_settings.specs.Namespaces.{unit_namespaces_notes}
-use Rattle.filter_settings.proofs.OneMore.{four_parts}
+use Rattle.unit_values.proofs.OneMore.{four_parts}
 use Rattle.filter_settings.proofs.lists.read_lists.Goals as goal
 
 pub returns-clause-noted : goal.returns-clause-noted

@@ -1,8 +1,8 @@
 use Rattle.std.proofs.Common.{ap, sym, ◌∙◌, ◌++◌, take}
-use Rattle.filter_settings.specs.Notes.{notes_at}
+use Rattle.unit_values.specs.Notes.{notes_at}
 use Rattle.filter_settings.specs.Namespaces.{restriction_of, restriction_causes, has_plain}
 use Rattle.filter_settings.specs.Steps.{next_types, next_plain}
-use Rattle.filter_settings.proofs.Looping.{noted_next}
+use Rattle.unit_values.proofs.Looping.{noted_next}
 use Rattle.filter_settings.proofs.Permitting.{namespaces_next, has_plain_next}
 use Rattle.filter_settings.proofs.namespaces.namespaces.Goals as goal
 

@@ -1,6 +1,6 @@
 use Rattle.std.proofs.Common.{[], ap, ◌∙◌, ◌++◌}
 use Rattle.filter_settings.specs.Namespaces.{type_causes}
-use Rattle.filter_settings.proofs.OneMore.{added_by_all}
+use Rattle.unit_values.proofs.OneMore.{added_by_all}
 use Rattle.filter_settings.proofs.namespaces.type_causes.Goals as goal
 
 pub words-preserved : goal.words-preserved

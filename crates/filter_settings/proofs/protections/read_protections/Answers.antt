@@ -1,6 +1,6 @@
 use Rattle.std.proofs.Common.{codes}
-use Rattle.filter_settings.specs.Flags.{unit_flag_notes}
-use Rattle.filter_settings.proofs.OneMore.{five_parts}
+use Rattle.unit_values.specs.Flags.{unit_flag_notes}
+use Rattle.unit_values.proofs.OneMore.{five_parts}
 use Rattle.filter_settings.proofs.protections.read_protections.Goals as goal
 
 pub returns-clause-noted : goal.returns-clause-noted

@@ -1,6 +1,6 @@
 use Rattle.std.proofs.Common.{codes}
-use Rattle.filter_settings.specs.Flags.{unit_flag_notes}
-use Rattle.filter_settings.proofs.OneMore.{four_parts}
+use Rattle.unit_values.specs.Flags.{unit_flag_notes}
+use Rattle.unit_values.proofs.OneMore.{four_parts}
 use Rattle.filter_settings.proofs.restrictions.read_restrictions.Goals as goal
 
 pub returns-clause-noted : goal.returns-clause-noted

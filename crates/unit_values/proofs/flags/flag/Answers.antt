@@ -1,9 +1,9 @@
 use Rattle.std.proofs.Common.{false, ap, sym, ◌∙◌}
 use Rattle.std.specs.Prelude.{unwrap_or}
-use Rattle.filter_settings.specs.Lasting.{unless_read}
-use Rattle.filter_settings.specs.Flags.{flag_value}
-use Rattle.filter_settings.proofs.Looping.{noted_next, last_read_next}
-use Rattle.filter_settings.proofs.flags.flag.Goals as goal
+use Rattle.unit_values.specs.Lasting.{unless_read}
+use Rattle.unit_values.specs.Flags.{flag_value}
+use Rattle.unit_values.proofs.Looping.{noted_next, last_read_next}
+use Rattle.unit_values.proofs.flags.flag.Goals as goal
 
 pub values-preserved : goal.values-preserved
 values-preserved c =

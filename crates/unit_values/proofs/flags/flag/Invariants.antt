@@ -1,6 +1,6 @@
 use Rattle.std.proofs.Common.{◌≡◌, ◌++◌, take}
-use Rattle.filter_settings.specs.Flags.{flag_of, flag_notes}
-use Rattle.filter_settings.proofs.flags.flag.Given as goal
+use Rattle.unit_values.specs.Flags.{flag_of, flag_notes}
+use Rattle.unit_values.proofs.flags.flag.Given as goal
 
 abbrev pub invariant-values : goal.invariant-values
 invariant-values l = record {

@@ -1,10 +1,10 @@
 //! Notes on values.
 ghost use Rattle.std.specs.Prelude.{◌≡◌, ◌++◌, ◌∷◌, [], OnOk};
-ghost use Rattle.filter_settings.specs.Notes.{note_at, notes_at};
+ghost use Rattle.unit_values.specs.Notes.{note_at, notes_at};
 
+use crate::value::{FileNote, Value};
 use std::alloc::AllocError;
 use unit_grammar::NoteCause;
-use unit_values::{FileNote, Value};
 
 /// Notes a value behind the notes that are there.
 pub fn note_value(

@@ -9,10 +9,10 @@ use Rattle.unit_grammar.specs.declared.notes.NoteCause.{NoteCause}
 use Rattle.unit_values.specs.declared.value.FileNote.{FileNote}
 use Rattle.unit_values.specs.declared.value.Value.{Value}
 use Rattle.unit_values.specs.Values.{in_force}
-use Rattle.filter_settings.specs.Notes.{notes_at, noted}
-use Rattle.filter_settings.specs.Lasting.{last_read}
-use Rattle.filter_settings.specs.Lines.{line_of, lines_of}
-use Rattle.filter_settings.proofs.OneMore.{after_last-push, take_item, unwrap_later}
+use Rattle.unit_values.specs.Notes.{notes_at, noted}
+use Rattle.unit_values.specs.Lasting.{last_read}
+use Rattle.unit_values.specs.Lines.{line_of, lines_of}
+use Rattle.unit_values.proofs.OneMore.{after_last-push, take_item, unwrap_later}
 
 -- the notes of the values so far, with those of the next
 pub noted_next : (causes : List Value × Value → List NoteCause) (values : List Value) (i : ℕ) (value : Value) (old now next : List FileNote) → i < length values → value ≡ get_or values i value → now ≡ old ++ noted causes (take i values) → next ≡ now ++ notes_at value (causes (take i values, value)) → next ≡ old ++ noted causes (take (i + 1) values)

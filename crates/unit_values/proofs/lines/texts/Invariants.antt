@@ -1,6 +1,6 @@
 use Rattle.std.proofs.Common.{◌≡◌, map}
 use Rattle.std.specs.String.{string_bytes}
-use Rattle.filter_settings.proofs.lines.texts.Given as goal
+use Rattle.unit_values.proofs.lines.texts.Given as goal
 
 abbrev pub invariant-words : goal.invariant-words
 invariant-words l = l.texts.items ≡ map string_bytes l.yielded

@@ -1,6 +1,6 @@
 use Rattle.std.proofs.Common.{◌≡◌, ◌++◌, take}
-use Rattle.filter_settings.specs.Notes.{notes_at}
-use Rattle.filter_settings.proofs.noting.note_causes.Given as goal
+use Rattle.unit_values.specs.Notes.{notes_at}
+use Rattle.unit_values.proofs.noting.note_causes.Given as goal
 
 abbrev pub invariant-causes : goal.invariant-causes
 invariant-causes l = l.notes.items ≡ l.fn.notes.items ++ notes_at l.value (take l.cause-index l.causes)

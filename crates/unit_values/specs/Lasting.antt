@@ -6,7 +6,7 @@ use Rattle.unit_grammar.specs.declared.notes.NoteCause.{NoteCause}
 use Rattle.unit_grammar.specs.declared.notes.NoteCause.TheVariants.{Value as ValueCause}
 use Rattle.unit_values.specs.declared.value.FileNote.{FileNote}
 use Rattle.unit_values.specs.declared.value.Value.{Value}
-use Rattle.filter_settings.specs.Notes.{noted}
+use Rattle.unit_values.specs.Notes.{noted}
 
 -- the last value that can be read, and without one the default
 abbrev pub last_read : {X : Type 0} → (List ℕ → Option X) → X → List Value → X

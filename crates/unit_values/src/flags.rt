@@ -1,15 +1,16 @@
 //! Boolean keys (systemd.syntax(7)).
 ghost use Rattle.std.specs.Prelude.{◌≡◌, ◌++◌, IfOk, OnOk, unwrap_or};
-ghost use Rattle.filter_settings.specs.Notes.{notes_at};
-ghost use Rattle.filter_settings.specs.Lasting.{unless_read};
-ghost use Rattle.filter_settings.specs.Flags.{flag_value, flag_of, flag_notes, unit_flag, unit_flag_notes};
+ghost use Rattle.unit_values.specs.Notes.{notes_at};
+ghost use Rattle.unit_values.specs.Lasting.{unless_read};
+ghost use Rattle.unit_values.specs.Flags.{flag_value, flag_of, flag_notes, unit_flag, unit_flag_notes};
 
 use crate::noting::note_value;
+use crate::reading::values_of_key;
+use crate::value::{FileNote, Value};
 use dropin_merge::Resolved;
 use std::alloc::{AllocError, Global};
 use text_forms::read_bool;
 use unit_grammar::NoteCause;
-use unit_values::{FileNote, Value, values_of_key};
 
 fn read_flag(text: &str) -> Option<bool>
     ensures { result ≡ flag_value text.now }

@@ -4,9 +4,8 @@ ghost use Rattle.std.specs.String.{string_bytes};
 ghost use Rattle.std.specs.Option.{option_map};
 ghost use Rattle.text_forms.specs.Words.{words_of};
 ghost use Rattle.unit_grammar.specs.Kinds.{behind};
-ghost use Rattle.filter_settings.specs.Lines.{tilde, words_if, line_of, mode_of, adds_to};
+ghost use Rattle.unit_values.specs.Lines.{tilde, words_if, line_of};
 
-use filter_rules::Mode;
 use std::alloc::{AllocError, Global};
 use std::marker::Model;
 use text_forms::{WordsError, words};
@@ -44,29 +43,6 @@ pub struct Line {
     pub words: Words,
 }
 
-impl Line {
-    /// The mode of a list that this line begins.
-    pub fn mode(&self) -> Mode
-        ensures { result ≡ mode_of self.now }
-    {
-        if self.is_inverted {
-            Mode::Deny
-        } else {
-            Mode::Allow
-        }
-    }
-
-    /// Whether the line adds to a list of this mode, or takes off.
-    pub fn adds_to(&self, mode: Mode) -> bool
-        ensures { result ≡ adds_to mode self.now }
-    {
-        match mode {
-            Mode::Allow => !self.is_inverted,
-            Mode::Deny => self.is_inverted,
-        }
-    }
-}
-
 fn behind_tilde(text: &str) -> Option<&str>
     ensures { option_map (λ rest. rest.now) result ≡ behind tilde text.now }
 {
@@ -83,9 +59,9 @@ fn texts(alloc: Global, words: Vec<String>) -> Result<Vec<Text>, AllocError>
     Ok(texts)
 }
 
-// The words of a text, where it can be split.
-fn read_words(alloc: Global, text: &str) -> Result<Option<Words>, AllocError>
-    ensures { IfOk result (λ words. words ≡ words_if (words_of text.now)) }
+/// The words of a value, where it can be split (systemd.syntax(7), Quoting).
+pub fn read_words(alloc: Global, text: &str) -> Result<Option<Words>, AllocError>
+    ensures splits_where_it_can { IfOk result (λ words. words ≡ words_if (words_of text.now)) }
 {
     match words(alloc, text) {
         Ok(found) => Ok(Some(Words {
@@ -109,7 +85,7 @@ fn line_of_words(is_inverted: bool, words: Option<Words>) -> Option<Line>
 /// The line that a value is, where it can be split into words.
 #[tactic(auto, unfolding(crate::specs::Lines::line_of))]
 pub fn read_line(alloc: Global, text: &str) -> Result<Option<Line>, AllocError>
-    ensures { IfOk result (λ line. line ≡ line_of text.now) }
+    ensures splits_behind_the_tilde { IfOk result (λ line. line ≡ line_of text.now) }
 {
     match behind_tilde(text) {
         Some(rest) => Ok(line_of_words(true, read_words(alloc, rest)?)),

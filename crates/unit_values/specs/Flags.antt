@@ -5,7 +5,7 @@ use Rattle.dropin_merge.specs.declared.resolved.Resolved.{Resolved}
 use Rattle.unit_values.specs.declared.value.FileNote.{FileNote}
 use Rattle.unit_values.specs.declared.value.Value.{Value}
 use Rattle.unit_values.specs.Values.{values_of, notes_of}
-use Rattle.filter_settings.specs.Lasting.{last_read, unread_notes}
+use Rattle.unit_values.specs.Lasting.{last_read, unread_notes}
 
 -- an empty value is the default, which is false
 abbrev pub flag_value : List ℕ → Option Bool
