@@ -1,17 +1,20 @@
 -- All filters that are on fit into one stack.
-use Rattle.std.proofs.Common.{◌≡◌, ℕ, ◌+◌, ◌*◌, ◌≤◌, Bool, List, [], ◌∷◌, map, refl, arith, subst}
-use Rattle.std.specs.Prelude.{filter, not}
+use Rattle.std.proofs.Common.{◌≡◌, ℕ, ◌+◌, ◌*◌, ◌≤◌, Bool, List, [], ◌∷◌, map, refl, ap, ◌∙◌, arith, subst}
+use Rattle.std.specs.Prelude.{filter, not, IfOk, Result, Ok, Err, Vec}
+use Rattle.std.specs.declared.alloc.Global.{Global}
 use Rattle.std.specs.List.{All, AllByRecursion, sum_by}
 use Rattle.std.proofs.lemmas.List.Filters.{sum_by-filter_both}
 use Rattle.std.proofs.lemmas.List.Sums.{sum_by-cons}
-use Rattle.std.proofs.lemmas.List.Elements.{recursion_from_All}
+use Rattle.std.proofs.lemmas.List.Elements.{All-weaker, recursion_from_All}
 use Rattle.call_rules.specs.Sizes.{most_insns}
 use Rattle.filter_rules.specs.declared.installed.Filter.{Filter}
 use Rattle.filter_rules.specs.declared.names.FilterName.{FilterName}
 use Rattle.filter_rules.specs.declared.settings.FilterSettings.{FilterSettings}
 use Rattle.filter_rules.specs.Costs.{KeepsWithin, most_costs, most_room}
 use Rattle.filter_rules.specs.Names.{all_filters}
+use Rattle.filter_rules.specs.Rules.{AreRulesOf}
 use Rattle.filter_rules.specs.Wanted.{is_on}
+use Rattle.call_table.specs.Table.{Table}
 
 -- the most that a filter of this name takes
 abbrev most_taken : FilterName → ℕ
@@ -40,3 +43,12 @@ fit_together settings filters names within =
     let those : most_room filters ≤ sum_by most_taken (filter (is_on settings) all_filters) = subst (λ on. most_room filters ≤ sum_by most_taken on) names all in
     let few : sum_by most_taken all_filters ≤ 11761 = omega arith in
     omega (arith, those, those_on (is_on settings) all_filters, few)
+
+pub within_costs : {E : Type 0} (settings : FilterSettings) (table : Table) (result : Result (Vec Filter Global) E) → IfOk result (λ filters. All (λ made. AreRulesOf made.name settings table made.rules) filters.items) → IfOk result (λ filters. All (λ made. KeepsWithin (most_costs made.name) made.rules) filters.items)
+within_costs settings table (Ok filters) rules = All-weaker (λ made. AreRulesOf made.name settings table made.rules) (λ made. KeepsWithin (most_costs made.name) made.rules) (λ made h. h.within) filters.items rules
+within_costs settings table (Err error) rules = rules
+
+-- the same of an answer
+pub answer_fits : {E : Type 0} (settings : FilterSettings) (all : List FilterName) → all ≡ all_filters → (result : Result (Vec Filter Global) E) → IfOk result (λ filters. map (λ made. made.name) filters.items ≡ filter (is_on settings) all) → IfOk result (λ filters. All (λ made. KeepsWithin (most_costs made.name) made.rules) filters.items) → IfOk result (λ filters. most_room filters.items ≤ 32768)
+answer_fits settings all same (Ok filters) names within = fit_together settings filters.items (names ∙ ap (filter (is_on settings)) same) within
+answer_fits settings all same (Err error) names within = names
