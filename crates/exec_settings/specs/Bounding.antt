@@ -1,0 +1,32 @@
+-- Capabilities that the settings of a unit take from its bounding set (systemd.exec(5), Sandboxing; capabilities(7)).
+use Rattle.std.specs.Prelude.{ℕ, Bool, cond}
+use Rattle.cap_sets.specs.Sets.{minus, none, single, union}
+use Rattle.filter_rules.specs.declared.settings.FilterSettings.{FilterSettings}
+
+abbrev pub only_if : Bool → ℕ → ℕ
+only_if on set = cond on set none
+
+-- ProtectClock= takes CAP_SYS_TIME and CAP_WAKE_ALARM
+abbrev pub clock_caps : ℕ
+clock_caps = union (union none (single 25)) (single 35)
+
+-- PrivateDevices= takes CAP_MKNOD and CAP_SYS_RAWIO
+abbrev pub device_caps : ℕ
+device_caps = union (union none (single 27)) (single 17)
+
+-- ProtectKernelModules= takes CAP_SYS_MODULE, ProtectKernelLogs= takes CAP_SYSLOG
+abbrev pub module_caps : ℕ
+module_caps = union none (single 16)
+
+abbrev pub log_caps : ℕ
+log_caps = union none (single 34)
+
+-- all that are taken
+unfoldable pub taken_caps : FilterSettings → ℕ
+taken_caps settings =
+    union (union (only_if settings.protect_clock clock_caps) (only_if settings.private_devices device_caps))
+    (union (only_if settings.protect_kernel_modules module_caps) (only_if settings.protect_kernel_logs log_caps))
+
+-- what is left of a bounding set
+abbrev pub left_of : ℕ → FilterSettings → ℕ
+left_of bounding settings = minus bounding (taken_caps settings)

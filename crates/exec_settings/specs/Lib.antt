@@ -1,0 +1,10 @@
+pub mod Commands
+pub mod Profile
+pub mod Unbuilt
+pub mod Groups
+pub mod Bounding
+pub mod Judged
+pub mod Notes
+pub mod Order
+pub mod Refusals
+pub mod Settings

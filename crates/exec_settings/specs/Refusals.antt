@@ -1,0 +1,54 @@
+-- Why a unit has no settings, the first of all reasons.
+use Rattle.std.specs.Prelude.{◌≡◌, cond, Option, Some, None, option_and_then, List, [], ◌∷◌, Result, Ok, Err}
+use Rattle.std.specs.Option.{option_map}
+use Rattle.call_table.specs.Table.{Table}
+use Rattle.dropin_merge.specs.declared.resolved.Resolved.{Resolved}
+use Rattle.filter_settings.specs.Settings.{settings_of}
+use Rattle.exec_settings.specs.declared.commands.Command.{Command}
+use Rattle.exec_settings.specs.declared.errors.SettingsError.{SettingsError}
+use Rattle.exec_settings.specs.declared.errors.SettingsError.TheVariants.{Unbuilt, NoCommand, PrivilegedCommand, OutsideProfile, MissingGroup, Memory}
+use Rattle.exec_settings.specs.Commands.{unit_command}
+use Rattle.exec_settings.specs.Groups.{missing_group}
+use Rattle.exec_settings.specs.Profile.{outside_key}
+use Rattle.exec_settings.specs.Unbuilt.{unbuilt_key}
+
+-- the first of these reasons that there is
+abbrev pub first_reason : List (Option SettingsError) → Option SettingsError
+first_reason [] = None
+first_reason (None ∷ reasons) = first_reason reasons
+first_reason (Some reason ∷ reasons) = Some reason
+
+-- no command is in force
+abbrev pub no_command : Option Command → Option SettingsError
+no_command None = Some NoCommand
+no_command (Some command) = None
+
+abbrev pub privileged : Option Command → Option SettingsError
+privileged None = None
+privileged (Some command) = cond command.is_privileged (Some PrivilegedCommand) None
+
+abbrev pub outside : Resolved → Option Command → Option SettingsError
+outside unit command = option_map OutsideProfile (option_and_then (outside_key unit) command)
+
+-- why its command is not launched
+unfoldable pub command_refusal : Resolved → Option SettingsError
+command_refusal unit = first_reason (no_command (unit_command unit) ∷ privileged (unit_command unit) ∷ outside unit (unit_command unit) ∷ [])
+
+-- the first of these: a setting that is not read yet, the command, a group that the table lacks
+unfoldable pub refusal_of : Resolved → Table → Option SettingsError
+refusal_of unit table =
+    first_reason (option_map Unbuilt (unbuilt_key unit) ∷ command_refusal unit ∷ option_map MissingGroup (missing_group table (settings_of unit table)) ∷ [])
+
+-- an error is this reason; want of memory has none
+abbrev pub IsReason : Option SettingsError → SettingsError → Type 0
+IsReason reason Memory = Unit {0}
+IsReason reason NoCommand = reason ≡ Some NoCommand
+IsReason reason PrivilegedCommand = reason ≡ Some PrivilegedCommand
+IsReason reason (Unbuilt key) = reason ≡ Some (Unbuilt key)
+IsReason reason (OutsideProfile key) = reason ≡ Some (OutsideProfile key)
+IsReason reason (MissingGroup name) = reason ≡ Some (MissingGroup name)
+
+-- an answer comes exactly where there is no reason, and each error is the first reason
+abbrev pub RefusesFirst : {X : Type 0} → Option SettingsError → Result X SettingsError → Type 0
+RefusesFirst reason (Ok made) = reason ≡ None
+RefusesFirst reason (Err error) = IsReason reason error

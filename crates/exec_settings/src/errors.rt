@@ -1,0 +1,47 @@
+//! Why a unit has no settings.
+ghost use Rattle.std.specs.Prelude.{◌≡◌};
+ghost use Rattle.exec_settings.specs.declared.errors.SettingsError.TheVariants.{Memory};
+
+use std::alloc::{AllocError, AllocFailed};
+use thiserror::Error;
+use unit_grammar::Text;
+
+/// Why a unit has no settings. Where several reasons stand together the first in this order is told; want of memory
+/// may come at any unit.
+#[derive(Debug, Drop, Error)]
+pub enum SettingsError {
+    /// A setting is in force that is not read yet: the first such key in byte order.
+    #[error("the setting {} is not read yet", .0.as_str())]
+    Unbuilt(Text),
+    /// No command of ExecStart= is in force.
+    #[error("no command is in force")]
+    NoCommand,
+    /// The command that is launched keeps privileges, by `+` or `!` before its program.
+    #[error("the command keeps privileges")]
+    PrivilegedCommand,
+    /// A key asks for what is not judged: the first such key in byte order.
+    #[error("the setting {} is outside of what is judged", .0.as_str())]
+    OutsideProfile(Text),
+    /// The table of calls lacks a group that a setting rests on.
+    #[error("the table has no group @{}", .0.as_str())]
+    MissingGroup(Text),
+    /// There is no memory left.
+    #[error("out of memory")]
+    Memory,
+}
+
+impl From<AllocError> for SettingsError {
+    ghost from_gives = { λ _ e. e ≡ Memory };
+
+    fn from(_: AllocError) -> Self {
+        SettingsError::Memory
+    }
+}
+
+impl<T: Drop> From<AllocFailed<T>> for SettingsError {
+    ghost from_gives = { λ _ e. e ≡ Memory };
+
+    fn from(_: AllocFailed<T>) -> Self {
+        SettingsError::Memory
+    }
+}

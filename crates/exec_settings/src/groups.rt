@@ -1,0 +1,42 @@
+//! Groups of calls that settings rest on (systemd.exec(5), SystemCallFilter=).
+ghost use Rattle.std.specs.Prelude.{◌≡◌};
+ghost use Rattle.std.specs.Option.{option_copied};
+ghost use Rattle.exec_settings.specs.Groups.{begins_with_default, is_missing, missing_group};
+
+use call_table::CallTable;
+use filter_rules::{CallList, FilterSettings, Mode};
+
+// Whether the list begins with `@default`, as one that allows does.
+fn begins_with_default(calls: &Option<CallList>) -> bool
+    ensures { result ≡ begins_with_default calls.now }
+{
+    match calls {
+        Some(list) => list.mode == Mode::Allow,
+        None => false,
+    }
+}
+
+fn is_missing(table: &CallTable, name: &str) -> bool
+    ensures { result ≡ is_missing table.now name.now }
+{
+    table.members(name).is_none()
+}
+
+/// The first group that the settings rest on and that the table lacks, looked for in the order `default` for a list
+/// that allows, `raw-io` for PrivateDevices=, `module` for ProtectKernelModules=, `clock` for ProtectClock=.
+#[tactic(auto, unfolding(crate::specs::Groups::missing_group))]
+pub fn missing_group(table: &CallTable, settings: &FilterSettings) -> Option<&'static str>
+    ensures first_that_is_missing { option_copied result ≡ missing_group table.now settings.now }
+{
+    if begins_with_default(&settings.calls) && is_missing(table, "default") {
+        Some("default")
+    } else if settings.private_devices && is_missing(table, "raw-io") {
+        Some("raw-io")
+    } else if settings.protect_kernel_modules && is_missing(table, "module") {
+        Some("module")
+    } else if settings.protect_clock && is_missing(table, "clock") {
+        Some("clock")
+    } else {
+        None
+    }
+}

@@ -1,0 +1,26 @@
+//! The settings of a service by the files of its unit.
+//!
+//! Every key that bears on the sandbox is read (systemd.exec(5), systemd.service(5)); what cannot be read, and keys that
+//! are not judged, are noted, and a unit that asks for what is outside of the model is refused with the first reason. It
+//! stands on `filter_settings` and `filter_rules` for the filters of system calls, and on `unit_values` for the values of
+//! keys.
+//!
+//! `settings_of_unit(alloc, &unit, &calls)?` has the program, the bounding set, the filters with their rules, and the notes.
+#![tactic(auto)]
+
+mod bounding;
+mod commands;
+mod errors;
+mod groups;
+mod judged;
+mod notes;
+mod profile;
+mod program;
+mod settings;
+mod unbuilt;
+
+pub use errors::SettingsError;
+pub use settings::{Settings, settings_of_unit};
+
+#[cfg(test)]
+mod tests;

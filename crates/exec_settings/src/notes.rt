@@ -1,0 +1,45 @@
+//! The notes of the grammar, and the order of all notes.
+ghost use Rattle.std.specs.Prelude.{◌≡◌, ◌++◌, IsPermutation, OnOk};
+ghost use Rattle.std.specs.List.Sorted.{IsSortedByKey, IsStableByKey};
+ghost use Rattle.exec_settings.specs.Notes.{grammar_notes, grammar_notes_in};
+ghost use Rattle.exec_settings.specs.Order.{place_cmp, place_of};
+
+use dropin_merge::{Resolved, UnitFile};
+use std::alloc::AllocError;
+use unit_values::FileNote;
+
+// The notes of one file.
+fn add_notes_in(number: usize, file: &UnitFile, notes: &mut Vec<FileNote>) -> Result<(), AllocError>
+    ensures { OnOk result (notes.new.items ≡ notes.old.items ++ grammar_notes_in number file.now) }
+{
+    let list = file.text.notes.list();
+    for note in list {
+        notes.push(FileNote {
+            file: number,
+            line: note.line,
+            cause: note.cause,
+        })?;
+    }
+    Ok(())
+}
+
+/// Puts what the grammar notes of the files of a unit behind the notes that are there.
+#[tactic(auto, unfolding(crate::specs::Notes::grammar_notes))]
+pub fn add_grammar_notes(unit: &Resolved, notes: &mut Vec<FileNote>) -> Result<(), AllocError>
+    ensures adds_each { OnOk result (notes.new.items ≡ notes.old.items ++ grammar_notes unit.now) }
+{
+    let files = unit.files.list();
+    for number in 0..files.len() {
+        add_notes_in(number, &files[number], notes)?;
+    }
+    Ok(())
+}
+
+/// Puts notes in the order of files and lines; those of one line stay as they stand.
+pub fn put_in_order(notes: &mut Vec<FileNote>) -> Result<(), AllocError>
+    ensures the_same { IsPermutation notes.old.items notes.new.items }
+    ensures by_files_and_lines { OnOk result (IsSortedByKey place_of place_cmp notes.new.items) }
+    ensures as_they_stood { IsStableByKey place_of place_cmp notes.old.items notes.new.items }
+{
+    notes.sort_by_key(|note| (note.file, note.line))
+}

@@ -1,0 +1,50 @@
+//! The program that a unit launches, or why none is launched.
+ghost use Rattle.std.specs.Prelude.{◌≡◌, ◌++◌, Some, IfOk, OnOk, option_map};
+ghost use Rattle.exec_settings.specs.declared.errors.SettingsError.TheVariants.{OutsideProfile};
+ghost use Rattle.exec_settings.specs.Commands.{unit_command, unit_command_notes};
+ghost use Rattle.exec_settings.specs.Profile.{outside_key};
+ghost use Rattle.exec_settings.specs.Refusals.{RefusesFirst, command_refusal};
+ghost use Rattle.exec_settings.specs.Settings.{path_of, unit_program};
+
+use crate::commands::{Command, Program, launched_command};
+use crate::errors::SettingsError;
+use crate::profile::outside_key;
+use abs_path::AbsPath;
+use dropin_merge::Resolved;
+use std::alloc::Global;
+use unit_grammar::Text;
+use unit_values::FileNote;
+
+// The program of a command that uses no privileges.
+fn program_of(alloc: Global, unit: &Resolved, command: Command) -> Result<AbsPath, SettingsError>
+    ensures refuses { RefusesFirst (option_map OutsideProfile (outside_key unit.now command)) result }
+    ensures program { IfOk result (λ path. path_of command.program ≡ Some path) }
+{
+    if let Some(key) = outside_key(unit, &command) {
+        return Err(SettingsError::OutsideProfile(Text::new(alloc, key)?));
+    }
+    match command.program {
+        Program::Absolute(path) => Ok(path),
+        Program::Relative => unreachable!(),
+    }
+}
+
+/// The program of the command that a unit launches. What cannot be read, and later commands, are noted behind the
+/// notes that are there.
+pub fn launched_program(
+    alloc: Global,
+    unit: &Resolved,
+    notes: &mut Vec<FileNote>,
+) -> Result<AbsPath, SettingsError>
+    ensures refuses_first { RefusesFirst (command_refusal unit.now) result }
+    ensures program { IfOk result (λ path. unit_program unit.now ≡ Some path) }
+    ensures notes_the_others { OnOk result (notes.new.items ≡ notes.old.items ++ unit_command_notes unit.now) }
+{
+    let Some(command) = launched_command(alloc, unit, notes)? else {
+        return Err(SettingsError::NoCommand);
+    };
+    if command.is_privileged {
+        return Err(SettingsError::PrivilegedCommand);
+    }
+    program_of(alloc, unit, command)
+}
