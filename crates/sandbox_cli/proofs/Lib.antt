@@ -1,13 +1,2 @@
-pub mod AnswerLines
-pub mod FilterAnswers
-pub mod JudgeAnswers
-pub mod PlainNames
-pub mod KernelTables
 pub mod LineSteps
-pub mod Numbers
 pub mod Outcomes
-pub mod Reports
-pub mod TableReadings
-pub mod ThinTables
-pub mod ThinUnits
-pub mod WantedNumbers

@@ -7,8 +7,6 @@ use Rattle.std.proofs.lemmas.List.{take_more, take-append-le, take-append-drop}
 use Rattle.host_io.specs.Writing.{Grew}
 use Rattle.host_io.proofs.Growth.{append_known-append}
 use Rattle.std.proofs.lemmas.List.{map-append}
-use Rattle.bpf_code.specs.declared.machine.Insn.{Insn}
-use Rattle.sandbox_cli.specs.Texts.{insn_line}
 
 abbrev pub bytes_of : List (Vec ℕ Global) → List ℕ
 bytes_of lines = concat (map (λ line. line.items) lines)
@@ -41,11 +39,3 @@ lines_cut a b c xs i x n lt is le f g =
     let cut : front ++ take n x.items ≡ take (length front + n) (bytes_of xs) =
     sym (ap (take (length front + n)) split ∙ take-append-add front (x.items ++ rest) n ∙ ap (λ l. front ++ l) (take-append-le n x.items rest (omega arith))) in
     (length front + n, rw split (omega (arith, length-append front (x.items ++ rest), length-append x.items rest)), grew_more a b c front (take n x.items) _ cut f g)
-
-pub lines_step : (lines : List (Vec ℕ Global)) (line : Vec ℕ Global) (program : List Insn) (i : ℕ) (d : Insn) → i < length program → line.items ≡ insn_line (get_or program i d) → map (λ line. line.items) (lines ++ line ∷ []) ++ map insn_line (drop (i + 1) program) ≡ map (λ line. line.items) lines ++ map insn_line (drop i program)
-lines_step lines line program i d lt is =
-    ap (λ l. l ++ map insn_line (drop (i + 1) program)) (map-append (λ line. line.items) lines (line ∷ []))
-    ∙ append_assoc (map (λ line. line.items) lines) (line.items ∷ []) (map insn_line (drop (i + 1) program))
-    ∙ ap (λ x. map (λ line. line.items) lines ++ (x ∷ map insn_line (drop (i + 1) program))) is
-    ∙ ap (λ j. map (λ line. line.items) lines ++ (insn_line (get_or program i d) ∷ map insn_line (drop j program))) (add-one i)
-    ∙ ap (λ l. map (λ line. line.items) lines ++ map insn_line l) (sym (drop-cons program i d lt))

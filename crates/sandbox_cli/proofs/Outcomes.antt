@@ -7,27 +7,19 @@ use Rattle.host_io.specs.Writing.{Grew, TakesWhole, HasCause}
 use Rattle.host_io.specs.declared.writing.SinkError.{SinkError}
 use Rattle.host_io.specs.declared.writing.SinkError.TheVariants.{Failed, Memory}
 use Rattle.host_io.proofs.Growth.{append_known-nil}
-use Rattle.sandbox_cli.specs.declared.status.Ending.{Ending}
-use Rattle.sandbox_cli.specs.declared.status.Ending.TheVariants.{Done, NoCommand, Refused, ReadFault, WriteFault, OutOfMemory, LaunchRefused}
+use Rattle.command_answers.specs.declared.ending.Ending.{Ending}
+use Rattle.command_answers.specs.declared.ending.Ending.TheVariants.{Done, NoCommand, Refused, ReadFault, WriteFault, OutOfMemory, LaunchRefused}
 use Rattle.sandbox_cli.specs.Endings.{is_whole}
 use Rattle.sandbox_cli.specs.Requests.{Request, FilterOf, JudgeOf, command_of}
-use Rattle.sandbox_cli.specs.ThinTable.{Table}
-use Rattle.sandbox_cli.specs.Report.{Reports}
-use Rattle.kernel_model.specs.declared.outcome.Launch.{Launch}
-use Rattle.kernel_model.specs.declared.outcome.Launch.TheVariants as launch
-use Rattle.dropin_merge.specs.Resolving.{resolved_of}
-use Rattle.dropin_merge.specs.declared.errors.ResolveError.{ResolveError}
-use Rattle.dropin_merge.specs.declared.resolved.Resolved.{Resolved}
-use Rattle.sandbox_cli.specs.FilterPrints.{AcceptsFilter, EndsFilter, PrintsFilter}
-use Rattle.sandbox_cli.specs.FilterPrints as filter
-use Rattle.sandbox_cli.specs.Inputs.{SaysTable}
-use Rattle.sandbox_cli.specs.JudgePrints.{AcceptsJudge, EndsJudge, IsLaunchOf, PrintsJudge, SaysUnit}
-use Rattle.sandbox_cli.specs.JudgePrints as judge
-use Rattle.sandbox_cli.specs.PlainSettings.{unbuilt_key}
-use Rattle.sandbox_cli.specs.Prints.{EndsUntold, PrintsCommand, PrintsRequest, Prints, AcceptsCommand, Accepts, CommandReads, EndsRequest, EndsCommand, EndsBy}
+use Rattle.filter_command.specs.Prints.{AcceptsFilter, EndsFilter}
+use Rattle.filter_command.specs.Prints as filter
+use Rattle.thin_judge.specs.JudgePrints.{AcceptsJudge, EndsJudge}
+use Rattle.thin_judge.specs.JudgePrints as judge
+use Rattle.sandbox_cli.specs.Prints.{PrintsCommand, PrintsRequest, Prints, AcceptsCommand, Accepts, CommandReads, EndsRequest, EndsCommand, EndsBy}
 use Rattle.sandbox_cli.specs.Runs.{WroteWhole, WrotePrefix, HasFaultCause, Completes}
 use Rattle.sandbox_cli.specs.Steps.{ending_of_put}
-use Rattle.sandbox_cli.proofs.JudgeAnswers.{answers_end}
+use Rattle.filter_command.proofs.Endings.{ends_filter, ends_untold as filter_untold}
+use Rattle.thin_judge.proofs.JudgeEndings.{ends_judge, ends_untold as judge_untold}
 
 module _ (admits : Ending → List ℕ → Type 0) (old new : Option (List ℕ)) where
   pub wrote_nothing : new ≡ old → WrotePrefix admits old new
@@ -51,73 +43,41 @@ module _ (admits : Ending → List ℕ → Type 0) (old new : Option (List ℕ))
   whole_by_put (Err Memory) ending text admitted takes whole = cc
 
 -- what is printed ends as the inputs say
-ends_report : (files : Files) (unit : List ℕ) (names : List (List ℕ)) (table : Table) (launched : Launch) (ending : Ending) (lines : List (List ℕ)) → SaysUnit files unit names → SaysTable files table → IsLaunchOf table names launched → Reports unit table.calls launched ending lines → EndsJudge files unit ending
-ends_report files unit names table (launch.Launched world) ending lines says table_says is_launch reports =
-    subst (EndsJudge files unit) (sym reports.0) (record { names = names; table = table; says_unit = says; says_table = table_says; launched = launch.Launched world; is_launch = is_launch; ends = refl })
-ends_report files unit names table (launch.Refused step errno) ending lines says table_says is_launch reports =
-    subst (EndsJudge files unit) (sym reports.0) (record { names = names; table = table; says_unit = says; says_table = table_says; launched = launch.Refused step errno; is_launch = is_launch; ends = refl })
-ends_report files unit names table (launch.Killed step) ending lines says table_says is_launch reports =
-    subst (EndsJudge files unit) (sym reports.0) (record { names = names; table = table; says_unit = says; says_table = table_says; launched = launch.Killed step; is_launch = is_launch; ends = refl })
-
-ends_judge : (files : Files) (unit : List ℕ) (ending : Ending) (text : List ℕ) → PrintsJudge files unit ending text → EndsJudge files unit ending
-ends_judge files unit _ _ (judge.refuses_the_unit none) = λ accepted. none accepted.0 accepted.2
-ends_judge files unit _ _ (judge.refuses_the_table names says none) = λ accepted. none accepted.1 accepted.3
-ends_judge files unit _ _ (judge.answers names table ending lines says table_says (launched, is_launch, reports)) = ends_report files unit names table launched ending lines says table_says is_launch reports
-
--- the refusal of a unit leaves nothing to accept
-no_unit : (files : Files) (unit : List ℕ) (refusal : ResolveError) → resolved_of files unit ≡ Err refusal → AcceptsFilter files unit → ⊥
-no_unit files unit refusal refuses accepts = let same : Ok accepts.resolved ≡ Err refusal = sym accepts.resolves ∙ refuses in cc
-
--- a unit and a table have one reading
-same_unit : (files : Files) (unit : List ℕ) (resolved : Resolved) → resolved_of files unit ≡ Ok resolved → (accepts : AcceptsFilter files unit) → accepts.resolved ≡ resolved
-same_unit files unit resolved resolves accepts = let same : Ok accepts.resolved ≡ Ok resolved = sym accepts.resolves ∙ resolves in cc
-
-no_setting : (files : Files) (unit key : List ℕ) (resolved : Resolved) → resolved_of files unit ≡ Ok resolved → unbuilt_key resolved ≡ Some key → AcceptsFilter files unit → ⊥
-no_setting files unit key resolved resolves unbuilt accepts =
-    let same : None ≡ Some key = sym accepts.built ∙ ap unbuilt_key (same_unit files unit resolved resolves accepts) ∙ unbuilt in cc
-
-ends_filter : (files : Files) (unit : List ℕ) (ending : Ending) (text : List ℕ) → PrintsFilter files unit ending text → EndsFilter files unit ending
-ends_filter files unit _ _ (filter.refuses_the_unit refusal refuses) = no_unit files unit refusal refuses
-ends_filter files unit _ _ (filter.refuses_the_table resolved resolves none) = λ accepts. none accepts.table accepts.says_table
-ends_filter files unit _ _ (filter.refuses_a_setting resolved table key resolves says unbuilt) = no_setting files unit key resolved resolves unbuilt
-ends_filter files unit _ _ (filter.prints accepts lines are) = accepts
-
 ends_told : (files : Files) (request : Request) (ending : Ending) (text : List ℕ) → PrintsRequest (Some files) request ending text → EndsRequest (Some files) request ending
 ends_told files (FilterOf unit) ending text prints = ends_filter files unit ending text prints
 ends_told files (JudgeOf unit) ending text prints = ends_judge files unit ending text prints
 
-ends_untold : (request : Request) (ending : Ending) → EndsUntold request ending → EndsRequest None request ending
-ends_untold request ending (inl e) = (λ n. (let f : Done ≡ NoCommand = sym e ∙ n in cc), λ n. (let f : Done ≡ LaunchRefused = sym e ∙ n in cc))
-ends_untold request ending (inr (inl e)) = (λ n. (let f : Refused ≡ NoCommand = sym e ∙ n in cc), λ n. (let f : Refused ≡ LaunchRefused = sym e ∙ n in cc))
-ends_untold request ending (inr (inr (e, launched))) = (λ n. (let f : LaunchRefused ≡ NoCommand = sym e ∙ n in cc), λ n. launched)
+ends_untold : (request : Request) (ending : Ending) (text : List ℕ) → PrintsRequest None request ending text → EndsRequest None request ending
+ends_untold (FilterOf unit) ending text (inl e) = (λ n. (let f : Done ≡ NoCommand = sym e ∙ n in cc), λ n. (let f : Done ≡ LaunchRefused = sym e ∙ n in cc))
+ends_untold (FilterOf unit) ending text (inr e) = (λ n. (let f : Refused ≡ NoCommand = sym e ∙ n in cc), λ n. (let f : Refused ≡ LaunchRefused = sym e ∙ n in cc))
+ends_untold (JudgeOf unit) ending text (inl e) = (λ n. (let f : Done ≡ NoCommand = sym e ∙ n in cc), λ n. refl)
+ends_untold (JudgeOf unit) ending text (inr (inl e)) = (λ n. (let f : Refused ≡ NoCommand = sym e ∙ n in cc), λ n. refl)
+ends_untold (JudgeOf unit) ending text (inr (inr e)) = (λ n. (let f : LaunchRefused ≡ NoCommand = sym e ∙ n in cc), λ n. refl)
 
 -- what is printed is whole
 whole_as : (ending kind : Ending) → ending ≡ kind → IsTrue (is_whole kind) → IsTrue (is_whole ending)
 whole_as ending kind e whole = ap is_whole e ∙ whole
 
-whole_untold : (request : Request) (ending : Ending) → EndsUntold request ending → IsTrue (is_whole ending)
-whole_untold request ending (inl e) = whole_as ending Done e refl
-whole_untold request ending (inr (inl e)) = whole_as ending Refused e refl
-whole_untold request ending (inr (inr (e, launched))) = whole_as ending LaunchRefused e refl
+whole_by_filter : (ending : Ending) → filter.EndsUntold ending → IsTrue (is_whole ending)
+whole_by_filter ending (inl e) = whole_as ending Done e refl
+whole_by_filter ending (inr e) = whole_as ending Refused e refl
 
-whole_judge : (files : Files) (unit : List ℕ) (ending : Ending) (text : List ℕ) → PrintsJudge files unit ending text → IsTrue (is_whole ending)
-whole_judge files unit _ _ (judge.refuses_the_unit none) = refl
-whole_judge files unit _ _ (judge.refuses_the_table names says none) = refl
-whole_judge files unit _ _ (judge.answers names table ending lines says table_says said) = whole_untold (JudgeOf unit) ending (answers_end unit names table ending lines said)
+whole_by_judge : (ending : Ending) → judge.EndsUntold ending → IsTrue (is_whole ending)
+whole_by_judge ending (inl e) = whole_as ending Done e refl
+whole_by_judge ending (inr (inl e)) = whole_as ending Refused e refl
+whole_by_judge ending (inr (inr e)) = whole_as ending LaunchRefused e refl
 
-whole_filter : (files : Files) (unit : List ℕ) (ending : Ending) (text : List ℕ) → PrintsFilter files unit ending text → IsTrue (is_whole ending)
-whole_filter files unit _ _ (filter.refuses_the_unit refusal refuses) = refl
-whole_filter files unit _ _ (filter.refuses_the_table resolved resolves none) = refl
-whole_filter files unit _ _ (filter.refuses_a_setting resolved table key resolves says unbuilt) = refl
-whole_filter files unit _ _ (filter.prints accepts lines are) = refl
+whole_untold : (request : Request) (ending : Ending) (text : List ℕ) → PrintsRequest None request ending text → IsTrue (is_whole ending)
+whole_untold (FilterOf unit) ending text prints = whole_by_filter ending prints
+whole_untold (JudgeOf unit) ending text prints = whole_by_judge ending prints
 
 whole_told : (files : Files) (request : Request) (ending : Ending) (text : List ℕ) → PrintsRequest (Some files) request ending text → IsTrue (is_whole ending)
-whole_told files (FilterOf unit) ending text prints = whole_filter files unit ending text prints
-whole_told files (JudgeOf unit) ending text prints = whole_judge files unit ending text prints
+whole_told files (FilterOf unit) ending text prints = whole_by_filter ending (filter_untold files unit ending text prints)
+whole_told files (JudgeOf unit) ending text prints = whole_by_judge ending (judge_untold files unit ending text prints)
 
 whole_command : (command : Option Request) (told : Option Files) (ending : Ending) (text : List ℕ) → PrintsCommand command told ending text → IsTrue (is_whole ending)
 whole_command None told ending text prints = whole_as ending NoCommand prints.0 refl
-whole_command (Some request) None ending text prints = whole_untold request ending prints
+whole_command (Some request) None ending text prints = whole_untold request ending text prints
 whole_command (Some request) (Some files) ending text prints = whole_told files request ending text prints
 
 pub prints_whole : (words : List (List ℕ)) (told : Option Files) (ending : Ending) (text : List ℕ) → Prints words told ending text → IsTrue (is_whole ending)
@@ -126,7 +86,7 @@ prints_whole words told ending text prints = whole_command (command_of words) to
 ends_command : (command : Option Request) (told : Option Files) (ending : Ending) (text : List ℕ) → PrintsCommand command told ending text → EndsCommand command told ending
 ends_command None told ending text prints =
     let is = prints.0 in (λ e. let f : NoCommand ≡ Done = sym is ∙ e in cc, λ e. let f : NoCommand ≡ Refused = sym is ∙ e in cc, λ e. let f : NoCommand ≡ ReadFault = sym is ∙ e in cc, λ e. let f : NoCommand ≡ LaunchRefused = sym is ∙ e in cc)
-ends_command (Some request) None ending text prints = ends_untold request ending prints
+ends_command (Some request) None ending text prints = ends_untold request ending text prints
 ends_command (Some request) (Some files) ending text prints = ends_told files request ending text prints
 
 ends_write_fault : (command : Option Request) (told : Option Files) → EndsCommand command told WriteFault

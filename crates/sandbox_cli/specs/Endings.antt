@@ -1,7 +1,7 @@
 -- The table of statuses.
 use Rattle.std.specs.Prelude.{ℕ, ◌==◌, cond, Bool, true, false}
-use Rattle.sandbox_cli.specs.declared.status.Ending.{Ending}
-use Rattle.sandbox_cli.specs.declared.status.Ending.TheVariants.{Done, NoCommand, Refused, ReadFault, WriteFault, OutOfMemory, LaunchRefused}
+use Rattle.command_answers.specs.declared.ending.Ending.{Ending}
+use Rattle.command_answers.specs.declared.ending.Ending.TheVariants.{Done, NoCommand, Refused, ReadFault, WriteFault, OutOfMemory, LaunchRefused}
 
 abbrev pub code_of : Ending → ℕ
 code_of Done = 0

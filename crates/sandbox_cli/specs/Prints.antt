@@ -1,29 +1,26 @@
 -- What a run prints and how it ends, by its words and the files.
-use Rattle.std.specs.Prelude.{◌≡◌, ◌≢◌, ◌⊎◌, ℕ, Bool, true, false, IsTrue, IsSome, List, Option, Some, None}
+use Rattle.std.specs.Prelude.{◌≡◌, ◌≢◌, ℕ, Bool, true, false, IsTrue, IsSome, List, Option, Some, None}
 use Rattle.host_io.specs.Files.{Files}
 use Rattle.unit_names.specs.Cutting.{name_of}
-use Rattle.sandbox_cli.specs.declared.status.Ending.{Ending}
-use Rattle.sandbox_cli.specs.declared.status.Ending.TheVariants.{Done, NoCommand, Refused, ReadFault, LaunchRefused}
-use Rattle.sandbox_cli.specs.FilterPrints.{AcceptsFilter, EndsFilter, PrintsFilter}
-use Rattle.sandbox_cli.specs.JudgePrints.{AcceptsJudge, EndsJudge, PrintsJudge}
+use Rattle.command_answers.specs.declared.ending.Ending.{Ending}
+use Rattle.command_answers.specs.declared.ending.Ending.TheVariants.{Done, NoCommand, Refused, ReadFault, LaunchRefused}
+use Rattle.filter_command.specs.Prints.{AcceptsFilter, EndsFilter}
+use Rattle.filter_command.specs.Prints as filter
+use Rattle.thin_judge.specs.JudgePrints.{AcceptsJudge, EndsJudge}
+use Rattle.thin_judge.specs.JudgePrints as judge
 use Rattle.sandbox_cli.specs.Requests.{Request, FilterOf, JudgeOf, command_of}
 use Rattle.sandbox_cli.specs.Texts.{words_line}
-use Rattle.sandbox_cli.specs.ThinUnit.{IsThinName}
+use Rattle.thin_judge.specs.ThinUnit.{IsThinName}
 
 -- the command makes a launch
 abbrev pub is_launched : Request → Bool
 is_launched (FilterOf unit) = false
 is_launched (JudgeOf unit) = true
 
--- a command is done or refused, or its launch is
-abbrev pub EndsUntold : Request → Ending → Type 0
-EndsUntold request ending = (ending ≡ Done) ⊎ ((ending ≡ Refused) ⊎ ((ending ≡ LaunchRefused) × IsTrue (is_launched request)))
-
--- as the files say where they are told
+-- what each command prints: as the files say where they are told
 abbrev pub PrintsRequest : Option Files → Request → Ending → List ℕ → Type 0
-PrintsRequest None request ending text = EndsUntold request ending
-PrintsRequest (Some files) (FilterOf unit) ending text = PrintsFilter files unit ending text
-PrintsRequest (Some files) (JudgeOf unit) ending text = PrintsJudge files unit ending text
+PrintsRequest told (FilterOf unit) ending text = filter.PrintsTold told unit ending text
+PrintsRequest told (JudgeOf unit) ending text = judge.PrintsTold told unit ending text
 
 -- words that are no command are refused whatever the files
 abbrev pub PrintsCommand : Option Request → Option Files → Ending → List ℕ → Type 0

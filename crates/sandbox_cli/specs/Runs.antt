@@ -2,8 +2,8 @@
 use Rattle.std.specs.Prelude.{◌≡◌, ◌⊎◌, ℕ, ◌<◌, ◌≤◌, List, ◌++◌, length, Option}
 use Rattle.host_io.specs.Causes.{Rose}
 use Rattle.host_io.specs.Writing.{Grew}
-use Rattle.sandbox_cli.specs.declared.status.Ending.{Ending}
-use Rattle.sandbox_cli.specs.declared.status.Ending.TheVariants.{Done, ReadFault, WriteFault, OutOfMemory, LaunchRefused}
+use Rattle.command_answers.specs.declared.ending.Ending.{Ending}
+use Rattle.command_answers.specs.declared.ending.Ending.TheVariants.{Done, ReadFault, WriteFault, OutOfMemory, LaunchRefused}
 
 -- all of a text was written, one that is admitted
 abbrev pub WroteWhole : (List ℕ → Type 0) → Option (List ℕ) → Option (List ℕ) → Type 0

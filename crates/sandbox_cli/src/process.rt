@@ -1,6 +1,7 @@
 //! The process around a run: its words, the current folder and the standard output.
 use crate::running::run;
-use crate::status::{Ending, Status};
+use crate::status::Status;
+use command_answers::Ending;
 use host_io::{DirShelf, StdSink};
 use std::rt::{Env, Files};
 use std::{env, io};

@@ -6,12 +6,14 @@ ghost use Rattle.sandbox_cli.specs.Endings.{is_whole};
 ghost use Rattle.sandbox_cli.specs.Prints.{Accepts, CommandReads, EndsBy, Prints, PrintsRequest, ReadsFiles};
 ghost use Rattle.sandbox_cli.specs.Requests.{command_of, request_of};
 ghost use Rattle.sandbox_cli.specs.Runs.{Completes, HasFaultCause, WroteWhole, WrotePrefix};
-ghost use Rattle.sandbox_cli.specs.Steps.{HasReadCause, ending_of_put, text_of_answer};
+ghost use Rattle.command_answers.specs.Causes.{HasReadCause};
+ghost use Rattle.sandbox_cli.specs.Steps.{ending_of_put};
+ghost use Rattle.command_answers.specs.Answers.{text_of_answer};
 
-use crate::answer::{Answer, Failure};
 use crate::command::{Command, parse};
-use crate::status::{Ending, Status};
-use crate::{filter, judge_command, lines};
+use crate::status::Status;
+use crate::lines;
+use command_answers::{Answer, Ending, Failure};
 use host_io::{Shelf, Sink, SinkError, write_whole};
 use std::alloc::Global;
 
@@ -27,8 +29,8 @@ fn answer_to_command<S: Shelf>(
     ensures fault_rose { HasReadCause (S.faults shelf.old) (S.faults shelf.new) result }
 {
     match command {
-        Command::Filter(unit) => filter::answer(alloc, shelf, unit),
-        Command::Judge(unit) => judge_command::answer(alloc, shelf, unit),
+        Command::Filter(unit) => filter_command::answer(alloc, shelf, unit),
+        Command::Judge(unit) => thin_judge::answer(alloc, shelf, unit),
     }
 }
 

@@ -1,27 +1,9 @@
-//! How a run ends, and the number that the process ends with.
+//! The number that the process ends with.
 ghost use Rattle.std.specs.Prelude.{◌≡◌};
 ghost use Rattle.sandbox_cli.specs.Endings.{code_of};
 
+use command_answers::Ending;
 use std::marker::Model;
-
-/// How a run ends.
-#[derive(Clone, Copy, Debug, PartialEq, Eq)]
-pub enum Ending {
-    /// The whole text was printed.
-    Done,
-    /// The words are no command.
-    NoCommand,
-    /// An input is refused.
-    Refused,
-    /// A read failed, and nothing was printed.
-    ReadFault,
-    /// A write failed, and a prefix of the text was printed.
-    WriteFault,
-    /// Memory ran out, and a prefix of the text was printed.
-    OutOfMemory,
-    /// The launch is refused, and that was printed.
-    LaunchRefused,
-}
 
 /// The status of a run: 0 done, 2 no command, 3 a refused input, 4 a failed read, 5 a failed write, 6 want of
 /// memory, 7 a refused launch.
@@ -33,7 +15,7 @@ pub struct Status {
 impl Model for Status {
     ghost use Rattle.std.specs.Prelude.{◌≡◌};
     ghost use Rattle.sandbox_cli.specs.Endings.{code_of, ending_of};
-    ghost use Rattle.sandbox_cli.specs.declared.status.Ending.{Ending};
+    ghost use Rattle.command_answers.specs.declared.ending.Ending.{Ending};
 
     ghost Value = { Ending };
 

@@ -1,6 +1,7 @@
 use Rattle.std.proofs.Common.{map, refl}
 use Rattle.sandbox_cli.specs.Prints.{Prints}
-use Rattle.sandbox_cli.specs.Steps.{text_of_answer, ending_of_put}
+use Rattle.command_answers.specs.Answers.{text_of_answer}
+use Rattle.sandbox_cli.specs.Steps.{ending_of_put}
 use Rattle.sandbox_cli.proofs.Outcomes.{wrote_nothing, prefix_by_put, ends_by_put, causes_by_put, completes_by, prints_whole}
 use Rattle.sandbox_cli.proofs.running.run.Goals as goal
 

@@ -1,0 +1,56 @@
+// Files of the shelf, as the commands read them.
+ghost use Rattle.std.specs.Prelude.{◌≡◌, IfOk};
+ghost use Rattle.command_answers.specs.Causes.{HasReadCause};
+ghost use Rattle.command_answers.specs.ReadFiles.{ReadsContent, ReadsIfTold};
+
+use crate::answer::Failure;
+use host_io::{Shelf, ShelfError};
+use std::alloc::Global;
+
+/// The most bytes of a file: 1 MiB.
+const MOST_BYTES: u64 = 1_048_576;
+
+/// Where the table of system calls is.
+pub const TABLE_PATH: &str = "calls.txt";
+
+/// What a file has.
+#[derive(Drop)]
+pub enum FileRead {
+    /// These bytes, at most 1 MiB of them.
+    Bytes(Vec<u8>),
+    /// Nothing: no file has the path.
+    Missing,
+    /// More than 1 MiB.
+    TooLarge,
+}
+
+/// What the file at a path has.
+pub fn read_file<S: Shelf>(alloc: Global, shelf: &mut S, path: &str) -> Result<FileRead, Failure>
+    ensures reads_the_file { IfOk result (ReadsContent path.now (S.told shelf.old)) }
+    ensures map_stays { S.told shelf.new ≡ S.told shelf.old }
+    ensures fault_rose { HasReadCause (S.faults shelf.old) (S.faults shelf.new) result }
+{
+    match shelf.read(alloc, path, MOST_BYTES) {
+        Ok(bytes) => Ok(FileRead::Bytes(bytes)),
+        Err(ShelfError::Missing) => Ok(FileRead::Missing),
+        Err(ShelfError::TooLarge) => Ok(FileRead::TooLarge),
+        Err(ShelfError::Failed) => Err(Failure::ReadFault),
+        Err(ShelfError::Memory) => Err(Failure::Memory),
+    }
+}
+
+/// The bytes of a file, or none where it is missing or too large.
+pub fn read_bytes<S: Shelf>(
+    alloc: Global,
+    shelf: &mut S,
+    path: &str,
+) -> Result<Option<Vec<u8>>, Failure>
+    ensures reads_the_file { IfOk result (ReadsIfTold path.now (S.told shelf.old)) }
+    ensures map_stays { S.told shelf.new ≡ S.told shelf.old }
+    ensures fault_rose { HasReadCause (S.faults shelf.old) (S.faults shelf.new) result }
+{
+    match read_file(alloc, shelf, path)? {
+        FileRead::Bytes(bytes) => Ok(Some(bytes)),
+        FileRead::Missing | FileRead::TooLarge => Ok(None),
+    }
+}

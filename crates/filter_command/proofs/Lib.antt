@@ -1,0 +1,4 @@
+pub mod Endings
+pub mod Filters
+pub mod Printing
+pub mod Settled

@@ -1,5 +1,0 @@
-use Rattle.sandbox_cli.proofs.KernelTables.{name_is_text}
-use Rattle.sandbox_cli.proofs.thin_kernel.text.Goals as goal
-
-pub unreachable-requires : goal.unreachable-requires
-unreachable-requires c = absurd (c.in-Err.ensures.cases.0 (name_is_text c.args.name.now c.requires))

@@ -1,0 +1,10 @@
+pub mod AnswerLines
+pub mod JudgeAnswers
+pub mod JudgeEndings
+pub mod KernelTables
+pub mod Numbers
+pub mod Reports
+pub mod TableReadings
+pub mod ThinTables
+pub mod ThinUnits
+pub mod WantedNumbers

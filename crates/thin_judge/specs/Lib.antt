@@ -1,0 +1,16 @@
+pub mod Texts
+pub mod Report
+pub mod ThinWords
+pub mod ThinUnit
+pub mod ThinUnitReading
+pub mod Numerals
+pub mod ThinTable
+pub mod ThinTableReading
+pub mod ThinViews
+pub mod ThinChecks
+pub mod ThinFilter
+pub mod ThinNumbers
+pub mod TableSaid
+pub mod JudgePrints
+pub mod JudgeSteps
+pub mod ReportSteps

@@ -1,0 +1,47 @@
+-- The table of calls.txt, or the line of its refusal.
+use Rattle.std.specs.Prelude.{◌≡◌, ◌≢◌, ℕ, List, [], ◌++◌, codes, Result}
+use Rattle.std.specs.Fmt.{decimal}
+use Rattle.host_io.specs.Files.{Files}
+use Rattle.text_forms.specs.Escaped.{escaped_word}
+use Rattle.call_table.specs.Causes.{cause_text}
+use Rattle.call_table.specs.Reading.{table_of}
+use Rattle.call_table.specs.Table.{Table}
+use Rattle.call_table.specs.declared.causes.CallsCause.{CallsCause}
+use Rattle.call_table.specs.declared.causes.CallsError.{CallsError}
+use Rattle.call_table.specs.declared.causes.CallsError.TheVariants.{NotText, Line, NoAbi, NoCall, Memory}
+use Rattle.command_answers.specs.ReadFiles.{table_path}
+use Rattle.command_answers.specs.Refusals.{refused_line}
+use Rattle.unit_inputs.specs.FileRefusals.{bytes_in}
+use Rattle.unit_inputs.specs.Stops.{and_then, or_line}
+
+-- the first faulty line, from 1, and why
+abbrev pub line_cause : ℕ → CallsCause → List ℕ
+line_cause line cause = codes "line " ++ decimal line ++ codes " " ++ cause_text cause
+
+-- the first call of every launch that the table lacks
+abbrev pub no_call : List ℕ → List ℕ
+no_call name = codes "no-call " ++ escaped_word name
+
+-- why calls.txt is refused; want of memory has no line
+abbrev pub calls_cause : CallsError → List ℕ
+calls_cause NotText = codes "not-text"
+calls_cause (Line line cause) = line_cause line cause
+calls_cause NoAbi = codes "no-abi"
+calls_cause (NoCall name) = no_call name
+calls_cause Memory = []
+
+abbrev pub calls_line : CallsError → List ℕ
+calls_line error = refused_line table_path (calls_cause error)
+
+-- the table of some bytes, or the line
+abbrev pub calls_said : List ℕ → Result Table (List ℕ)
+calls_said bytes = or_line calls_line (table_of bytes)
+
+-- the table of calls.txt over some files, or the line
+abbrev pub calls_in : Files → Result Table (List ℕ)
+calls_in files = and_then (bytes_in files table_path) calls_said
+
+-- the line of a refusal
+pub record TellsCalls (error : CallsError) (line : List ℕ) : Type 0 where
+  pub is : line ≡ calls_line error
+  pub refuses : error ≢ Memory

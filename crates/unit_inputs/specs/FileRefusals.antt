@@ -1,0 +1,15 @@
+-- A file that has to be there: its bytes, or the line that refuses it.
+use Rattle.std.specs.Prelude.{ℕ, List, codes, Result, Ok, Err}
+use Rattle.host_io.specs.Files.{Files}
+use Rattle.command_answers.specs.ReadFiles.{Content, Holds, IsMissing, IsTooLarge, content_at}
+use Rattle.command_answers.specs.Refusals.{refused_line}
+
+-- by what the file has
+abbrev pub bytes_held : List ℕ → Content → Result (List ℕ) (List ℕ)
+bytes_held path (Holds bytes) = Ok bytes
+bytes_held path IsMissing = Err (refused_line path (codes "missing"))
+bytes_held path IsTooLarge = Err (refused_line path (codes "too-large"))
+
+-- over some files
+abbrev pub bytes_in : Files → List ℕ → Result (List ℕ) (List ℕ)
+bytes_in files path = bytes_held path (content_at files path)

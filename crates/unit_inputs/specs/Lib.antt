@@ -1,0 +1,6 @@
+pub mod Stops
+pub mod FileRefusals
+pub mod UnitRefusals
+pub mod CallsRefusals
+pub mod SiteRefusals
+pub mod Inputs

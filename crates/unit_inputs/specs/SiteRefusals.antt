@@ -1,0 +1,57 @@
+-- The site of site.toml, or the line of its refusal.
+use Rattle.std.specs.Prelude.{◌≡◌, ◌≢◌, ℕ, List, [], ◌++◌, codes, Result}
+use Rattle.std.specs.Fmt.{decimal}
+use Rattle.host_io.specs.Files.{Files}
+use Rattle.site_table.specs.Reading.{site_of}
+use Rattle.site_table.specs.Table.{Site}
+use Rattle.site_table.specs.declared.error.RowCause.{RowCause}
+use Rattle.site_table.specs.declared.error.RowCause.TheVariants.{Key, Path, Kind, Number, Caps, Both, Duplicate, NoParent}
+use Rattle.site_table.specs.declared.error.SiteError.{SiteError}
+use Rattle.site_table.specs.declared.error.SiteError.TheVariants.{NotToml, Top, TooMany, Row, User, Group, Memory}
+use Rattle.command_answers.specs.Refusals.{refused_line}
+use Rattle.unit_inputs.specs.FileRefusals.{bytes_in}
+use Rattle.unit_inputs.specs.Stops.{and_then, or_line}
+
+abbrev pub site_path : List ℕ
+site_path = codes "site.toml"
+
+-- what is wrong with a row
+abbrev pub cause_word : RowCause → List ℕ
+cause_word Key = codes "key"
+cause_word Path = codes "path"
+cause_word Kind = codes "kind"
+cause_word Number = codes "number"
+cause_word Caps = codes "caps"
+cause_word Both = codes "both"
+cause_word Duplicate = codes "duplicate"
+cause_word NoParent = codes "no-parent"
+
+-- the first faulty row, from 1, and why
+abbrev pub row_cause : ℕ → RowCause → List ℕ
+row_cause row cause = codes "row " ++ decimal row ++ codes " " ++ cause_word cause
+
+-- why site.toml is refused; users and groups are numbered from 1, and want of memory has no line
+abbrev pub site_cause : SiteError → List ℕ
+site_cause NotToml = codes "toml"
+site_cause Top = codes "top"
+site_cause TooMany = codes "too-many"
+site_cause (Row row cause) = row_cause row cause
+site_cause (User user) = codes "user " ++ decimal user
+site_cause (Group group) = codes "group " ++ decimal group
+site_cause Memory = []
+
+abbrev pub site_line : SiteError → List ℕ
+site_line error = refused_line site_path (site_cause error)
+
+-- the site of some bytes, or the line
+unfoldable pub site_said : List ℕ → Result Site (List ℕ)
+site_said bytes = or_line site_line (site_of bytes)
+
+-- the site of site.toml over some files, or the line
+abbrev pub site_in : Files → Result Site (List ℕ)
+site_in files = and_then (bytes_in files site_path) site_said
+
+-- the line of a refusal
+pub record TellsSite (error : SiteError) (line : List ℕ) : Type 0 where
+  pub is : line ≡ site_line error
+  pub refuses : error ≢ Memory

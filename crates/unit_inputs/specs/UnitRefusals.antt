@@ -1,0 +1,50 @@
+-- The unit of a name, or the line of its refusal (systemd.unit(5)).
+use Rattle.std.specs.Prelude.{◌≡◌, ℕ, List, [], ◌++◌, codes, Result}
+use Rattle.std.specs.Fmt.{decimal}
+use Rattle.host_io.specs.Files.{Files}
+use Rattle.unit_grammar.specs.declared.unit.UnitError.{UnitError}
+use Rattle.unit_grammar.specs.declared.unit.UnitError.TheVariants as text
+use Rattle.dropin_merge.specs.Resolving.{resolved_of}
+use Rattle.dropin_merge.specs.declared.errors.ResolveError.{ResolveError}
+use Rattle.dropin_merge.specs.declared.errors.ResolveError.TheVariants.{BadName, NotFound, Masked, DropIns, TooLarge, Text, ReadFault, Memory}
+use Rattle.dropin_merge.specs.declared.resolved.Resolved.{Resolved}
+use Rattle.command_answers.specs.Refusals.{refused_line}
+use Rattle.unit_inputs.specs.Stops.{or_line}
+
+-- why the text of a file is refused
+abbrev pub text_cause : UnitError → List ℕ
+text_cause text.NotText = codes "not-text"
+text_cause (text.BadHeader line) = codes "line " ++ decimal line ++ codes " header"
+text_cause text.TooMany = codes "too-many"
+text_cause text.Memory = []
+
+-- the line of a unit that is not resolved; a fault and want of memory have none
+abbrev pub unit_line : List ℕ → ResolveError → List ℕ
+unit_line unit BadName = refused_line unit (codes "bad-name")
+unit_line unit NotFound = refused_line unit (codes "not-found")
+unit_line unit Masked = refused_line unit (codes "masked")
+unit_line unit DropIns = refused_line unit (codes "drop-ins")
+unit_line unit (TooLarge path) = refused_line path (codes "too-large")
+unit_line unit (Text path fault) = refused_line path (text_cause fault)
+unit_line unit ReadFault = []
+unit_line unit Memory = []
+
+-- the unit over some files, or its line
+abbrev pub unit_in : Files → List ℕ → Result Resolved (List ℕ)
+unit_in files unit = or_line (unit_line unit) (resolved_of files unit)
+
+-- a refusal that has a line
+abbrev pub HasLine : ResolveError → Type 0
+HasLine BadName = Unit {0}
+HasLine NotFound = Unit {0}
+HasLine Masked = Unit {0}
+HasLine DropIns = Unit {0}
+HasLine (TooLarge path) = Unit {0}
+HasLine (Text path fault) = Unit {0}
+HasLine ReadFault = ⊥
+HasLine Memory = ⊥
+
+-- the line of a refusal
+pub record TellsUnit (unit : List ℕ) (refusal : ResolveError) (line : List ℕ) : Type 0 where
+  pub is : line ≡ unit_line unit refusal
+  pub has_line : HasLine refusal

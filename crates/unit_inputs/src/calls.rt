@@ -1,0 +1,66 @@
+// The table of system calls, with the lines of its refusals.
+ghost use Rattle.std.specs.Prelude.{◌≡◌, IfOk, IfSome, IsErrOf};
+ghost use Rattle.call_table.specs.Reading.{table_of};
+ghost use Rattle.unit_inputs.specs.CallsRefusals.{TellsCalls, calls_in, calls_said, line_cause, no_call};
+ghost use Rattle.unit_inputs.specs.Stops.{HasStopCause, IsAnswer};
+
+use crate::files::read_input;
+use crate::stop::{Stop, stop_by};
+use call_table::{CallTable, CallsCause, CallsError, read_calls};
+use command_answers::{Failure, TABLE_PATH, refused_line};
+use host_io::Shelf;
+use std::alloc::{AllocError, Global};
+use text_forms::push_word;
+
+// Which line is faulty, and why.
+fn line_cause(alloc: Global, line: u64, cause: CallsCause) -> Result<Vec<u8>, AllocError>
+    ensures { IfOk result (λ why. why.items ≡ line_cause line cause) }
+{
+    let cause = cause.text();
+    Ok(format!(in alloc; "line {line} {cause}")?.into_bytes())
+}
+
+// Which call is missing.
+fn no_call(alloc: Global, name: &str) -> Result<Vec<u8>, AllocError>
+    ensures { IfOk result (λ why. why.items ≡ no_call name.now) }
+{
+    let mut why = b"no-call ".to_vec(alloc)?;
+    push_word(&mut why, name)?;
+    Ok(why)
+}
+
+// The line of a table that is refused.
+fn calls_refused(alloc: Global, error: &CallsError) -> Result<Vec<u8>, Failure>
+    ensures tells_the_refusal { IfOk result (λ line. TellsCalls error.now line.items) }
+    ensures reads_nothing { IsErrOf result Failure.ReadFault → ⊥ }
+{
+    let why = match error {
+        CallsError::NotText => b"not-text".to_vec(alloc)?,
+        CallsError::Line(line, cause) => line_cause(alloc, *line, *cause)?,
+        CallsError::NoAbi => b"no-abi".to_vec(alloc)?,
+        CallsError::NoCall(name) => no_call(alloc, name.as_str())?,
+        CallsError::Memory => return Err(Failure::Memory),
+    };
+    Ok(refused_line(alloc, TABLE_PATH, why.as_slice())?)
+}
+
+// The table that the bytes of calls.txt give.
+fn table_of_bytes(alloc: Global, bytes: &[u8]) -> Result<CallTable, Stop>
+    ensures says { IsAnswer (λ table. table) result (calls_said bytes.now) }
+    ensures reads_nothing { IsErrOf result (Stop.Failed Failure.ReadFault) → ⊥ }
+{
+    match read_calls(alloc, bytes) {
+        Ok(table) => Ok(table),
+        Err(error) => Err(stop_by(calls_refused(alloc, &error))),
+    }
+}
+
+/// The table of calls.txt.
+pub fn read_table<S: Shelf>(alloc: Global, shelf: &mut S) -> Result<CallTable, Stop>
+    ensures reads_the_table { IfSome (S.told shelf.old) (λ files. IsAnswer (λ table. table) result (calls_in files)) }
+    ensures map_stays { S.told shelf.new ≡ S.told shelf.old }
+    ensures fault_rose { HasStopCause (S.faults shelf.old) (S.faults shelf.new) result }
+{
+    let bytes = read_input(alloc, shelf, TABLE_PATH)?;
+    table_of_bytes(alloc, bytes.as_slice())
+}

@@ -1,0 +1,19 @@
+//! What every command on a unit reads: the unit with its drop-ins, calls.txt and site.toml.
+//!
+//! They are read in this order, and the first that is refused gives the line that is printed. It stands on
+//! `dropin_merge`, `call_table` and `site_table` for what each of them says, and on `command_answers`.
+//!
+//! `read_inputs(alloc, &mut shelf, "web.service")?` has the three, or the line of the first refusal.
+#![tactic(auto)]
+
+mod calls;
+mod files;
+mod inputs;
+mod site;
+mod stop;
+mod units;
+
+pub use inputs::{Read, UnitInputs, read_inputs};
+
+#[cfg(test)]
+mod tests;
