@@ -9,16 +9,16 @@ use Rattle.unit_values.specs.declared.value.FileNote.{FileNote}
 use Rattle.unit_values.proofs.OneMore.{five_parts}
 use Rattle.exec_settings.specs.Commands.{unit_command_notes}
 use Rattle.exec_settings.specs.Judged.{unjudged_notes}
-use Rattle.exec_settings.specs.Notes.{all_notes, grammar_notes}
+use Rattle.exec_settings.specs.Notes.{all_notes, credential_notes, grammar_notes}
 use Rattle.exec_settings.specs.Order.{AreInOrder, place_cmp, place_of}
 use Rattle.exec_settings.specs.Unbuilt.{unbuilt_notes}
 
-pub key_by_key : (unit : Resolved) (table : Table) (first a b c d e : List FileNote) → first ≡ [] → a ≡ first ++ grammar_notes unit → b ≡ a ++ unbuilt_notes unit → c ≡ b ++ unit_command_notes unit → d ≡ c ++ filter_notes unit table → e ≡ d ++ unjudged_notes unit → e ≡ all_notes unit table
+pub key_by_key : (unit : Resolved) (table : Table) (first a b c d e f : List FileNote) → first ≡ [] → a ≡ first ++ grammar_notes unit → b ≡ a ++ unbuilt_notes unit → c ≡ b ++ unit_command_notes unit → d ≡ c ++ credential_notes unit → e ≡ d ++ filter_notes unit table → f ≡ e ++ unjudged_notes unit → f ≡ all_notes unit table
 unfolding all_notes
-key_by_key unit table first a b c d e empty to_a to_b to_c to_d to_e =
-    five_parts first (grammar_notes unit) (unbuilt_notes unit) (unit_command_notes unit) (filter_notes unit table) (unjudged_notes unit) a b c d e to_a to_b to_c to_d to_e
-    ∙ ap (λ notes. notes ++ (grammar_notes unit ++ (unbuilt_notes unit ++ (unit_command_notes unit ++ (filter_notes unit table ++ (unjudged_notes unit ++ [])))))) empty
-    ∙ ap (λ notes. grammar_notes unit ++ (unbuilt_notes unit ++ (unit_command_notes unit ++ (filter_notes unit table ++ notes)))) (append-nil (unjudged_notes unit))
+key_by_key unit table first a b c d e f empty to_a to_b to_c to_d to_e to_f =
+    five_parts a (unbuilt_notes unit) (unit_command_notes unit) (credential_notes unit) (filter_notes unit table) (unjudged_notes unit) b c d e f to_b to_c to_d to_e to_f
+    ∙ ap (λ notes. notes ++ (unbuilt_notes unit ++ (unit_command_notes unit ++ (credential_notes unit ++ (filter_notes unit table ++ (unjudged_notes unit ++ [])))))) (to_a ∙ ap (λ notes. notes ++ grammar_notes unit) empty)
+    ∙ ap (λ notes. grammar_notes unit ++ (unbuilt_notes unit ++ (unit_command_notes unit ++ (credential_notes unit ++ (filter_notes unit table ++ notes))))) (append-nil (unjudged_notes unit))
 
 pub in_order : (wanted old new : List FileNote) → old ≡ wanted → IsPermutation old new → IsSortedByKey place_of place_cmp new → IsStableByKey place_of place_cmp old new → AreInOrder wanted new
 in_order wanted old new is same by_place stable = record {

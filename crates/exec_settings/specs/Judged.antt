@@ -20,9 +20,14 @@ filter_keys =
 abbrev pub is_among : List (List ℕ) → List ℕ → Bool
 is_among keys key = list_any (λ other. bytes_eq other key) keys
 
+-- the keys of users, groups and capabilities
+unfoldable pub credential_keys : List (List ℕ)
+credential_keys =
+    codes "AmbientCapabilities" ∷ codes "CapabilityBoundingSet" ∷ codes "Group" ∷ codes "NoNewPrivileges" ∷ codes "SupplementaryGroups" ∷ codes "User" ∷ []
+
 -- a key that is a setting here, or that refuses the unit
 abbrev pub is_judged : List ℕ → Bool
-is_judged key = is_among filter_keys key || (is_among unbuilt_keys key || is_among outside_keys key)
+is_judged key = is_among filter_keys key || (is_among credential_keys key || (is_among unbuilt_keys key || is_among outside_keys key))
 
 abbrev pub is_unjudged : Assignment → Bool
 is_unjudged assignment = bytes_eq assignment.section (codes "Service") && not (is_judged assignment.key)

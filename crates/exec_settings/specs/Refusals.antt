@@ -1,12 +1,17 @@
 -- Why a unit has no settings, the first of all reasons.
-use Rattle.std.specs.Prelude.{◌≡◌, cond, Option, Some, None, option_and_then, List, [], ◌∷◌, Result, Ok, Err}
+use Rattle.std.specs.Prelude.{◌≡◌, false, cond, Option, Some, None, option_and_then, List, [], ◌∷◌, Result, Ok, Err}
 use Rattle.std.specs.Option.{option_map}
 use Rattle.call_table.specs.Table.{Table}
 use Rattle.dropin_merge.specs.declared.resolved.Resolved.{Resolved}
 use Rattle.filter_settings.specs.Settings.{settings_of}
+use Rattle.site_table.specs.Table.{Site}
+use Rattle.cred_settings.specs.Identities.{identity_of}
+use Rattle.cred_settings.specs.declared.accounts.Identity.{Identity}
+use Rattle.cred_settings.specs.declared.error.IdentityError.{IdentityError}
+use Rattle.cred_settings.specs.declared.error.IdentityError.TheVariants as ids
 use Rattle.exec_settings.specs.declared.commands.Command.{Command}
 use Rattle.exec_settings.specs.declared.errors.SettingsError.{SettingsError}
-use Rattle.exec_settings.specs.declared.errors.SettingsError.TheVariants.{Unbuilt, NoCommand, PrivilegedCommand, OutsideProfile, MissingGroup, Memory}
+use Rattle.exec_settings.specs.declared.errors.SettingsError.TheVariants.{Unbuilt, NoCommand, PrivilegedCommand, OutsideProfile, NoSuchUser, NoSuchGroup, MissingGroup, Memory}
 use Rattle.exec_settings.specs.Commands.{unit_command}
 use Rattle.exec_settings.specs.Groups.{missing_group}
 use Rattle.exec_settings.specs.Profile.{outside_key}
@@ -34,10 +39,20 @@ outside unit command = option_map OutsideProfile (option_and_then (outside_key u
 unfoldable pub command_refusal : Resolved → Option SettingsError
 command_refusal unit = first_reason (no_command (unit_command unit) ∷ privileged (unit_command unit) ∷ outside unit (unit_command unit) ∷ [])
 
--- the first of these: a setting that is not read yet, the command, a group that the table lacks
-unfoldable pub refusal_of : Resolved → Table → Option SettingsError
-refusal_of unit table =
-    first_reason (option_map Unbuilt (unbuilt_key unit) ∷ command_refusal unit ∷ option_map MissingGroup (missing_group table (settings_of unit table)) ∷ [])
+-- why its users and groups are refused
+abbrev pub identity_reason : Result Identity IdentityError → Option SettingsError
+identity_reason (Ok identity) = None
+identity_reason (Err (ids.NoSuchUser word)) = Some (NoSuchUser word)
+identity_reason (Err (ids.NoSuchGroup word)) = Some (NoSuchGroup word)
+identity_reason (Err ids.Memory) = None
+
+unfoldable pub identity_refusal : Resolved → Site → Option SettingsError
+identity_refusal unit site = identity_reason (identity_of unit site false)
+
+-- the first of these: a setting that is not read yet, the command, users and groups, a group of calls that the table lacks
+unfoldable pub refusal_of : Resolved → Table → Site → Option SettingsError
+refusal_of unit table site =
+    first_reason (option_map Unbuilt (unbuilt_key unit) ∷ command_refusal unit ∷ identity_refusal unit site ∷ option_map MissingGroup (missing_group table (settings_of unit table)) ∷ [])
 
 -- an error is this reason; want of memory has none
 abbrev pub IsReason : Option SettingsError → SettingsError → Type 0
@@ -46,6 +61,8 @@ IsReason reason NoCommand = reason ≡ Some NoCommand
 IsReason reason PrivilegedCommand = reason ≡ Some PrivilegedCommand
 IsReason reason (Unbuilt key) = reason ≡ Some (Unbuilt key)
 IsReason reason (OutsideProfile key) = reason ≡ Some (OutsideProfile key)
+IsReason reason (NoSuchUser word) = reason ≡ Some (NoSuchUser word)
+IsReason reason (NoSuchGroup word) = reason ≡ Some (NoSuchGroup word)
 IsReason reason (MissingGroup name) = reason ≡ Some (MissingGroup name)
 
 -- an answer comes exactly where there is no reason, and each error is the first reason

@@ -1,7 +1,12 @@
 -- What the settings of a unit are.
-use Rattle.std.specs.Prelude.{ℕ, Option, Some, None, option_and_then}
+use Rattle.std.specs.Prelude.{ℕ, ◌==◌, not, Bool, Option, Some, None, option_and_then, filter, length}
 use Rattle.abs_path.specs.Paths.{Path}
-use Rattle.cap_sets.specs.Sets.{all}
+use Rattle.cred_settings.specs.Ambient.{ambient_of}
+use Rattle.cred_settings.specs.Bounding.{bounding_of}
+use Rattle.cred_settings.specs.NewPrivileges.{is_in_effect, is_set_by}
+use Rattle.filter_rules.specs.Names.{all_filters}
+use Rattle.filter_rules.specs.Wanted.{is_on}
+use Rattle.filter_rules.specs.declared.settings.FilterSettings.{FilterSettings}
 use Rattle.dropin_merge.specs.declared.resolved.Resolved.{Resolved}
 use Rattle.call_table.specs.Table.{Table}
 use Rattle.filter_settings.specs.Settings.{settings_of}
@@ -22,6 +27,14 @@ program_path command = option_and_then (λ one. path_of one.program) command
 unfoldable pub unit_program : Resolved → Option Path
 unit_program unit = program_path (unit_command unit)
 
--- the bounding set: all capabilities but for those that settings take
+-- the bounding set: that of CapabilityBoundingSet=, but for what other settings take
 abbrev pub unit_bounding : Resolved → Table → ℕ
-unit_bounding unit table = left_of all (settings_of unit table)
+unit_bounding unit table = left_of (bounding_of unit) (settings_of unit table)
+
+-- some filter of system calls is on
+abbrev pub has_filter : FilterSettings → Bool
+has_filter settings = not (length (filter (is_on settings) all_filters) == 0)
+
+-- NoNewPrivileges= is in effect for a service with this uid
+abbrev pub unit_new_privileges : Resolved → Table → ℕ → Bool
+unit_new_privileges unit table uid = is_in_effect (is_set_by unit) (has_filter (settings_of unit table)) uid (ambient_of unit)

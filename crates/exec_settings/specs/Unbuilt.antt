@@ -7,12 +7,11 @@ use Rattle.unit_values.specs.Values.{in_force, notes_of, values_of}
 -- in byte order
 unfoldable pub unbuilt_keys : List (List ℕ)
 unbuilt_keys =
-    codes "AmbientCapabilities" ∷ codes "BindPaths" ∷ codes "BindReadOnlyPaths" ∷ codes "CacheDirectory" ∷ codes "CapabilityBoundingSet"
-    ∷ codes "DynamicUser" ∷ codes "ExecPaths" ∷ codes "Group" ∷ codes "InaccessiblePaths" ∷ codes "LogsDirectory" ∷ codes "NoExecPaths"
-    ∷ codes "NoNewPrivileges" ∷ codes "PrivateDevices" ∷ codes "PrivateTmp" ∷ codes "ProtectControlGroups" ∷ codes "ProtectHome"
-    ∷ codes "ProtectKernelLogs" ∷ codes "ProtectKernelModules" ∷ codes "ProtectKernelTunables" ∷ codes "ProtectSystem"
-    ∷ codes "ReadOnlyPaths" ∷ codes "ReadWritePaths" ∷ codes "RuntimeDirectory" ∷ codes "StateDirectory" ∷ codes "SupplementaryGroups"
-    ∷ codes "TemporaryFileSystem" ∷ codes "User" ∷ []
+    codes "BindPaths" ∷ codes "BindReadOnlyPaths" ∷ codes "CacheDirectory" ∷ codes "DynamicUser" ∷ codes "ExecPaths"
+    ∷ codes "InaccessiblePaths" ∷ codes "LogsDirectory" ∷ codes "NoExecPaths" ∷ codes "PrivateDevices" ∷ codes "PrivateTmp"
+    ∷ codes "ProtectControlGroups" ∷ codes "ProtectHome" ∷ codes "ProtectKernelLogs" ∷ codes "ProtectKernelModules"
+    ∷ codes "ProtectKernelTunables" ∷ codes "ProtectSystem" ∷ codes "ReadOnlyPaths" ∷ codes "ReadWritePaths"
+    ∷ codes "RuntimeDirectory" ∷ codes "StateDirectory" ∷ codes "TemporaryFileSystem" ∷ []
 
 -- a value of the key stands behind its last empty one
 abbrev pub is_in_force : Resolved → List ℕ → Bool

@@ -22,6 +22,12 @@ pub enum SettingsError {
     /// A key asks for what is not judged: the first such key in byte order.
     #[error("the setting {} is outside of what is judged", .0.as_str())]
     OutsideProfile(Text),
+    /// User= names nobody: its word.
+    #[error("no user {}", .0.as_str())]
+    NoSuchUser(Text),
+    /// Group= or SupplementaryGroups= names no group: the first such word.
+    #[error("no group {}", .0.as_str())]
+    NoSuchGroup(Text),
     /// The table of calls lacks a group that a setting rests on.
     #[error("the table has no group @{}", .0.as_str())]
     MissingGroup(Text),

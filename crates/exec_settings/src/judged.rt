@@ -1,7 +1,7 @@
 //! Keys of the service that are not judged, and are noted.
 ghost use Rattle.std.specs.Prelude.{◌≡◌, ◌++◌, [], map, OnOk};
 ghost use Rattle.std.specs.List.{cons_option};
-ghost use Rattle.exec_settings.specs.Judged.{filter_keys, is_among, is_judged, is_unjudged, unjudged_at, unjudged_in, unjudged_notes};
+ghost use Rattle.exec_settings.specs.Judged.{credential_keys, filter_keys, is_among, is_judged, is_unjudged, unjudged_at, unjudged_in, unjudged_notes};
 
 use crate::profile::names_of_outside_keys;
 use crate::unbuilt::names_of_unbuilt_keys;
@@ -31,6 +31,23 @@ fn names_of_filter_keys() -> &'static [&'static str]
     FILTER_KEYS
 }
 
+/// The keys of users, groups and capabilities.
+const CREDENTIAL_KEYS: &[&str] = &[
+    "AmbientCapabilities",
+    "CapabilityBoundingSet",
+    "Group",
+    "NoNewPrivileges",
+    "SupplementaryGroups",
+    "User",
+];
+
+#[tactic(auto, unfolding(crate::specs::Judged::credential_keys))]
+fn names_of_credential_keys() -> &'static [&'static str]
+    ensures { map (λ key. key.now) result.now ≡ credential_keys }
+{
+    CREDENTIAL_KEYS
+}
+
 fn is_among(keys: &[&str], key: &str) -> bool
     ensures { result ≡ is_among (map (λ other. other.now) keys.now) key.now }
 {
@@ -47,6 +64,7 @@ fn is_judged(key: &str) -> bool
     ensures { result ≡ is_judged key.now }
 {
     is_among(names_of_filter_keys(), key)
+        || is_among(names_of_credential_keys(), key)
         || is_among(names_of_unbuilt_keys(), key)
         || is_among(names_of_outside_keys(), key)
 }

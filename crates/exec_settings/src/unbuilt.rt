@@ -10,18 +10,14 @@ use unit_values::{FileNote, in_force, values_of_key};
 
 /// In byte order.
 const UNBUILT_KEYS: &[&str] = &[
-    "AmbientCapabilities",
     "BindPaths",
     "BindReadOnlyPaths",
     "CacheDirectory",
-    "CapabilityBoundingSet",
     "DynamicUser",
     "ExecPaths",
-    "Group",
     "InaccessiblePaths",
     "LogsDirectory",
     "NoExecPaths",
-    "NoNewPrivileges",
     "PrivateDevices",
     "PrivateTmp",
     "ProtectControlGroups",
@@ -34,9 +30,7 @@ const UNBUILT_KEYS: &[&str] = &[
     "ReadWritePaths",
     "RuntimeDirectory",
     "StateDirectory",
-    "SupplementaryGroups",
     "TemporaryFileSystem",
-    "User",
 ];
 
 /// The keys of settings that are not read yet, in byte order.

@@ -16,9 +16,9 @@ same_inputs : (files : Files) (unit : List ℕ) (inputs : UnitInputs) → inputs
 same_inputs files unit inputs reads accepts = let same : Ok accepts.inputs ≡ Ok inputs = sym accepts.reads ∙ reads in cc
 
 -- nor are those of a unit without settings
-no_settings : (files : Files) (unit : List ℕ) (inputs : UnitInputs) (reason : SettingsError) → inputs_of files unit ≡ Ok inputs → refusal_of inputs.unit inputs.calls ≡ Some reason → AcceptsFilter files unit → ⊥
+no_settings : (files : Files) (unit : List ℕ) (inputs : UnitInputs) (reason : SettingsError) → inputs_of files unit ≡ Ok inputs → refusal_of inputs.unit inputs.calls inputs.site ≡ Some reason → AcceptsFilter files unit → ⊥
 no_settings files unit inputs reason reads refuses accepts =
-    let same : None ≡ Some reason = sym accepts.settles ∙ ap (λ read. refusal_of read.unit read.calls) (same_inputs files unit inputs reads accepts) ∙ refuses in cc
+    let same : None ≡ Some reason = sym accepts.settles ∙ ap (λ read. refusal_of read.unit read.calls read.site) (same_inputs files unit inputs reads accepts) ∙ refuses in cc
 
 -- what is printed ends as the inputs say
 pub ends_filter : (files : Files) (unit : List ℕ) (ending : Ending) (text : List ℕ) → PrintsFilter files unit ending text → EndsFilter files unit ending

@@ -11,7 +11,7 @@ use Rattle.filter_rules.specs.declared.settings.FilterSettings.{FilterSettings}
 use Rattle.filter_settings.specs.Settings.{settings_of}
 use Rattle.exec_settings.specs.Refusals.{IsReason, refusal_of}
 use Rattle.exec_settings.specs.declared.errors.SettingsError.{SettingsError}
-use Rattle.exec_settings.specs.declared.errors.SettingsError.TheVariants.{Unbuilt, NoCommand, PrivilegedCommand, OutsideProfile, MissingGroup, Memory}
+use Rattle.exec_settings.specs.declared.errors.SettingsError.TheVariants.{Unbuilt, NoCommand, PrivilegedCommand, OutsideProfile, NoSuchUser, NoSuchGroup, MissingGroup, Memory}
 use Rattle.command_answers.specs.Answers.{lines_of_answer, text_of_answer}
 use Rattle.command_answers.specs.declared.answer.Answer.{Answer}
 use Rattle.command_answers.specs.declared.answer.Failure.{Failure}
@@ -48,7 +48,7 @@ lines_are filters given made printed same shown named wanted (Ok lines) says = r
 lines_are filters given made printed same shown named wanted (Err error) says = says
 
 -- the filters are printed where there is no reason
-pub settings_printed : (unit : List ℕ) (inputs : UnitInputs) (lines : List (List ℕ)) → refusal_of inputs.unit inputs.calls ≡ None → AreFilterLines (settings_of inputs.unit inputs.calls) inputs.calls lines → AnswersSettings unit inputs Done lines
+pub settings_printed : (unit : List ℕ) (inputs : UnitInputs) (lines : List (List ℕ)) → refusal_of inputs.unit inputs.calls inputs.site ≡ None → AreFilterLines (settings_of inputs.unit inputs.calls) inputs.calls lines → AnswersSettings unit inputs Done lines
 settings_printed unit inputs lines none are = subst (λ reason. AnswersBy unit inputs reason Done lines) (sym none) (refl, are)
 
 -- a setting is refused where there is one
@@ -58,11 +58,13 @@ reason_is reason NoCommand not is = is
 reason_is reason PrivilegedCommand not is = is
 reason_is reason (Unbuilt key) not is = is
 reason_is reason (OutsideProfile key) not is = is
+reason_is reason (NoSuchUser word) not is = is
+reason_is reason (NoSuchGroup word) not is = is
 reason_is reason (MissingGroup name) not is = is
 
-pub settings_refused : (unit : List ℕ) (inputs : UnitInputs) (error : SettingsError) (line : List ℕ) (answer : Answer) → error ≢ Memory → IsReason (refusal_of inputs.unit inputs.calls) error → line ≡ settings_line unit error → answer.ending ≡ Refused → lines_of_answer answer ≡ line ∷ [] → AnswersSettings unit inputs answer.ending (lines_of_answer answer)
+pub settings_refused : (unit : List ℕ) (inputs : UnitInputs) (error : SettingsError) (line : List ℕ) (answer : Answer) → error ≢ Memory → IsReason (refusal_of inputs.unit inputs.calls inputs.site) error → line ≡ settings_line unit error → answer.ending ≡ Refused → lines_of_answer answer ≡ line ∷ [] → AnswersSettings unit inputs answer.ending (lines_of_answer answer)
 settings_refused unit inputs error line answer not is says ending lines =
-    subst (λ reason. AnswersBy unit inputs reason answer.ending (lines_of_answer answer)) (sym (reason_is (refusal_of inputs.unit inputs.calls) error not is))
+    subst (λ reason. AnswersBy unit inputs reason answer.ending (lines_of_answer answer)) (sym (reason_is (refusal_of inputs.unit inputs.calls inputs.site) error not is))
     (ending, lines ∙ ap (λ l. l ∷ []) says)
 
 -- from the parts to the whole command
@@ -70,7 +72,7 @@ prints_as : (files : Files) (unit : List ℕ) (ending kind : Ending) (text wante
 prints_as files unit ending kind text wanted e t printed =
     subst (λ n. PrintsFilter files unit n text) (sym e) (subst (PrintsFilter files unit kind) (sym t) printed)
 
-by_reason : (files : Files) (unit : List ℕ) (inputs : UnitInputs) (ending : Ending) (lines : List (List ℕ)) (reason : Option SettingsError) → inputs_of files unit ≡ Ok inputs → refusal_of inputs.unit inputs.calls ≡ reason → AnswersBy unit inputs reason ending lines → PrintsFilter files unit ending (concat lines)
+by_reason : (files : Files) (unit : List ℕ) (inputs : UnitInputs) (ending : Ending) (lines : List (List ℕ)) (reason : Option SettingsError) → inputs_of files unit ≡ Ok inputs → refusal_of inputs.unit inputs.calls inputs.site ≡ reason → AnswersBy unit inputs reason ending lines → PrintsFilter files unit ending (concat lines)
 by_reason files unit inputs ending lines None reads is said =
     let accepts : AcceptsFilter files unit = record { inputs = inputs; reads = reads; settles = is } in
     prints_as files unit ending Done (concat lines) (concat lines) said.0 refl (prints accepts lines said.1)
@@ -82,9 +84,9 @@ ends unit inputs ending lines None said = inl said.0
 ends unit inputs ending lines (Some reason) said = inr said.0
 
 pub prints_inputs : (told : Option Files) (unit : List ℕ) (inputs : UnitInputs) (answer : Answer) → IfSome told (λ files. inputs_of files unit ≡ Ok inputs) → AnswersSettings unit inputs answer.ending (lines_of_answer answer) → PrintsTold told unit answer.ending (text_of_answer answer)
-prints_inputs None unit inputs answer reads said = ends unit inputs answer.ending (lines_of_answer answer) (refusal_of inputs.unit inputs.calls) said
+prints_inputs None unit inputs answer reads said = ends unit inputs answer.ending (lines_of_answer answer) (refusal_of inputs.unit inputs.calls inputs.site) said
 prints_inputs (Some files) unit inputs answer reads said =
-    by_reason files unit inputs answer.ending (lines_of_answer answer) (refusal_of inputs.unit inputs.calls) reads refl said
+    by_reason files unit inputs answer.ending (lines_of_answer answer) (refusal_of inputs.unit inputs.calls inputs.site) reads refl said
 
 pub prints_answer : (told : Option Files) (unit : List ℕ) (inputs : UnitInputs) (result : Result Answer Failure) → IfSome told (λ files. inputs_of files unit ≡ Ok inputs) → IfOk result (λ answer. AnswersSettings unit inputs answer.ending (lines_of_answer answer)) → IfOk result (λ answer. PrintsTold told unit answer.ending (text_of_answer answer))
 prints_answer told unit inputs (Ok answer) reads said = prints_inputs told unit inputs answer reads said

@@ -25,12 +25,12 @@ AreFilterLines settings table lines = (filters : List Compiled) × AreFilters se
 pub record AcceptsFilter (files : Files) (unit : List ℕ) : Type 0 where
   pub inputs : UnitInputs
   pub reads : inputs_of files unit ≡ Ok inputs
-  pub settles : refusal_of inputs.unit inputs.calls ≡ None
+  pub settles : refusal_of inputs.unit inputs.calls inputs.site ≡ None
 
 -- the first of these is refused: the unit, calls.txt, site.toml, a setting; else the filters are printed
 pub data PrintsFilter (files : Files) (unit : List ℕ) : Ending → List ℕ → Type 0 where
   refuses_an_input : (line : List ℕ) → inputs_of files unit ≡ Err line → PrintsFilter files unit Refused line
-  refuses_a_setting : (inputs : UnitInputs) (reason : SettingsError) → inputs_of files unit ≡ Ok inputs → refusal_of inputs.unit inputs.calls ≡ Some reason → PrintsFilter files unit Refused (settings_line unit reason)
+  refuses_a_setting : (inputs : UnitInputs) (reason : SettingsError) → inputs_of files unit ≡ Ok inputs → refusal_of inputs.unit inputs.calls inputs.site ≡ Some reason → PrintsFilter files unit Refused (settings_line unit reason)
   prints : (accepts : AcceptsFilter files unit) (lines : List (List ℕ)) → AreFilterLines (settings_of accepts.inputs.unit accepts.inputs.calls) accepts.inputs.calls lines → PrintsFilter files unit Done (concat lines)
 
 -- over files that are not told the command is done or refused

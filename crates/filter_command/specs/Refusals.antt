@@ -3,7 +3,7 @@ use Rattle.std.specs.Prelude.{ℕ, List, [], ◌++◌, codes}
 use Rattle.text_forms.specs.Escaped.{escaped_word}
 use Rattle.command_answers.specs.Refusals.{refused_line}
 use Rattle.exec_settings.specs.declared.errors.SettingsError.{SettingsError}
-use Rattle.exec_settings.specs.declared.errors.SettingsError.TheVariants.{Unbuilt, NoCommand, PrivilegedCommand, OutsideProfile, MissingGroup, Memory}
+use Rattle.exec_settings.specs.declared.errors.SettingsError.TheVariants.{Unbuilt, NoCommand, PrivilegedCommand, OutsideProfile, NoSuchUser, NoSuchGroup, MissingGroup, Memory}
 
 -- why, and of what
 abbrev pub cause_with : List ℕ → List ℕ → List ℕ
@@ -14,6 +14,8 @@ abbrev pub settings_cause : SettingsError → List ℕ
 settings_cause NoCommand = codes "no-command"
 settings_cause PrivilegedCommand = codes "privileged-command"
 settings_cause (OutsideProfile key) = cause_with (codes "outside") key
+settings_cause (NoSuchUser word) = cause_with (codes "no-user") word
+settings_cause (NoSuchGroup word) = cause_with (codes "no-group") word
 settings_cause (MissingGroup name) = cause_with (codes "no-set") name
 settings_cause (Unbuilt key) = cause_with (codes "unbuilt") key
 settings_cause Memory = []

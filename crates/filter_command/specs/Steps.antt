@@ -29,4 +29,4 @@ AnswersBy unit inputs (Some reason) ending lines = (ending ≡ Refused) × (line
 AnswersBy unit inputs None ending lines = (ending ≡ Done) × AreFilterLines (settings_of inputs.unit inputs.calls) inputs.calls lines
 
 abbrev pub AnswersSettings : List ℕ → UnitInputs → Ending → List (List ℕ) → Type 0
-AnswersSettings unit inputs ending lines = AnswersBy unit inputs (refusal_of inputs.unit inputs.calls) ending lines
+AnswersSettings unit inputs ending lines = AnswersBy unit inputs (refusal_of inputs.unit inputs.calls inputs.site) ending lines

@@ -31,7 +31,7 @@ fn answer_to_inputs(alloc: Global, unit: &str, inputs: &UnitInputs) -> Result<An
     ensures answers { IfOk result (λ answer. AnswersSettings unit.now inputs.now answer.ending (lines_of_answer answer)) }
     ensures reads_nothing { IsErrOf result Failure.ReadFault → ⊥ }
 {
-    match settings_of_unit(alloc, &inputs.unit, &inputs.calls) {
+    match settings_of_unit(alloc, &inputs.unit, &inputs.calls, &inputs.site) {
         Ok(settings) => Ok(Answer {
             ending: Ending::Done,
             lines: lines_of_settings(alloc, &settings)?,

@@ -15,6 +15,5 @@ pub use command::answer;
 pub use compiled::{Compiled, compile_all};
 pub use refusals::settings_line;
 
-
 #[cfg(test)]
 mod tests;

@@ -66,11 +66,7 @@ fn push_insns(alloc: Global, lines: &mut Vec<Vec<u8>>, insns: &[Insn]) -> Result
 }
 
 // Puts the lines of a filter behind the others.
-fn push_filter(
-    alloc: Global,
-    lines: &mut Vec<Vec<u8>>,
-    filter: &Compiled,
-) -> Result<(), AllocError>
+fn push_filter(alloc: Global, lines: &mut Vec<Vec<u8>>, filter: &Compiled) -> Result<(), AllocError>
     ensures { OnOk result (map (λ line. line.items) lines.new.items ≡ map (λ line. line.items) lines.old.items ++ filter_lines filter.now) }
 {
     lines.push(head_line(alloc, filter)?)?;

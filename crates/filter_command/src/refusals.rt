@@ -26,6 +26,8 @@ fn settings_cause(alloc: Global, error: &SettingsError) -> Result<Vec<u8>, Alloc
         SettingsError::NoCommand => b"no-command".to_vec(alloc),
         SettingsError::PrivilegedCommand => b"privileged-command".to_vec(alloc),
         SettingsError::OutsideProfile(key) => cause_with(alloc, b"outside", key.as_str()),
+        SettingsError::NoSuchUser(word) => cause_with(alloc, b"no-user", word.as_str()),
+        SettingsError::NoSuchGroup(word) => cause_with(alloc, b"no-group", word.as_str()),
         SettingsError::MissingGroup(name) => cause_with(alloc, b"no-set", name.as_str()),
         SettingsError::Unbuilt(key) => cause_with(alloc, b"unbuilt", key.as_str()),
         SettingsError::Memory => Ok(Vec::new(alloc)),

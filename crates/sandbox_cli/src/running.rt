@@ -11,8 +11,8 @@ ghost use Rattle.sandbox_cli.specs.Steps.{ending_of_put};
 ghost use Rattle.command_answers.specs.Answers.{text_of_answer};
 
 use crate::command::{Command, parse};
-use crate::status::Status;
 use crate::lines;
+use crate::status::Status;
 use command_answers::{Answer, Ending, Failure};
 use host_io::{Shelf, Sink, SinkError, write_whole};
 use std::alloc::Global;

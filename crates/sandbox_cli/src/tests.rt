@@ -197,11 +197,11 @@ fn a_setting_is_refused(rt: HostRuntime) -> Result<(), Fail> {
         (
             "a setting that is not read yet, the first in byte order",
             "web.service",
-            "[Service]\nExecStart=/usr/bin/web\nUser=web\nGroup=web\n",
+            "[Service]\nExecStart=/usr/bin/web\nProtectHome=yes\nPrivateTmp=yes\n",
             "",
             TABLE,
             3,
-            "refused web.service unbuilt Group\n",
+            "refused web.service unbuilt PrivateTmp\n",
         ),
         (
             "no command",
@@ -239,6 +239,15 @@ fn another_setting_is_refused(rt: HostRuntime) -> Result<(), Fail> {
             TABLE,
             3,
             "refused web.service privileged-command\n",
+        ),
+        (
+            "a user that the site lacks",
+            "web.service",
+            UNIT,
+            "[Service]\nUser=nobody\n",
+            TABLE,
+            3,
+            "refused web.service no-user nobody\n",
         ),
         (
             "a key that has no place here",

@@ -1,5 +1,5 @@
 -- How `judge` ends, by what it prints.
-use Rattle.std.proofs.Common.{◌≡◌, ℕ, List, refl, sym, subst, inl, inr}
+use Rattle.std.proofs.Common.{ℕ, List, refl, sym, subst, inl, inr}
 use Rattle.host_io.specs.Files.{Files}
 use Rattle.kernel_model.specs.declared.outcome.Launch.{Launch}
 use Rattle.kernel_model.specs.declared.outcome.Launch.TheVariants as launch

@@ -1,5 +1,5 @@
 -- What a step answers, by the refusal that it was told.
-use Rattle.std.proofs.Common.{◌≡◌, ◌≢◌, ℕ, List, Option, Some, None, Result, Ok, Err, Vec, Global, refl, sym, ap, ◌∙◌, subst}
+use Rattle.std.proofs.Common.{◌≡◌, ◌≢◌, ℕ, List, Result, Ok, Err, Vec, Global, sym, ap, ◌∙◌}
 use Rattle.std.specs.Prelude.{IfOk}
 use Rattle.command_answers.specs.declared.answer.Failure.{Failure}
 use Rattle.site_table.specs.Reading.{site_of}

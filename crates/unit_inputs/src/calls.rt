@@ -1,6 +1,5 @@
 // The table of system calls, with the lines of its refusals.
 ghost use Rattle.std.specs.Prelude.{◌≡◌, IfOk, IfSome, IsErrOf};
-ghost use Rattle.call_table.specs.Reading.{table_of};
 ghost use Rattle.unit_inputs.specs.CallsRefusals.{TellsCalls, calls_in, calls_said, line_cause, no_call};
 ghost use Rattle.unit_inputs.specs.Stops.{HasStopCause, IsAnswer};
 

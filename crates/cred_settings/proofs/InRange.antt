@@ -1,0 +1,148 @@
+-- The ids that a unit of a site comes to are in range.
+use Rattle.std.proofs.Common.{◌≡◌, ℕ, ◌≤◌, Bool, true, false, cond, List, [], ◌∷◌, ◌++◌, Option, Some, None, Ok, refl, subst, arith}
+use Rattle.std.specs.Prelude.{nat_le, find, option_map, option_and_then, unwrap_or}
+use Rattle.std.specs.Option.{option_map_or, option_or}
+use Rattle.std.specs.List.{AllByRecursion, filter_map, cons_option}
+use Rattle.std.proofs.lemmas.Bool.Decides.{nat_tests}
+use Rattle.text_forms.specs.Numbers.{decimal_value}
+use Rattle.dropin_merge.specs.declared.resolved.Resolved.{Resolved}
+use Rattle.site_table.specs.declared.accounts.User.{User}
+use Rattle.site_table.specs.declared.accounts.Group.{Group}
+use Rattle.site_table.specs.Ids.{greatest_id}
+use Rattle.site_table.specs.Table.{Site, IsSite, IsUser, IsGroup, user_named, user_with, group_named}
+use Rattle.cred_settings.specs.declared.accounts.Identity.{Identity}
+use Rattle.cred_settings.specs.declared.accounts.Account.{Account}
+use Rattle.cred_settings.specs.declared.accounts.Account.TheVariants.{Dynamic, Fixed}
+use Rattle.cred_settings.specs.Ids.{id_in_range, id_number}
+use Rattle.cred_settings.specs.Users.{superuser, identity_of_user, identity_of_id, numbered, user_meant, account_meant, account_of, user_word}
+use Rattle.cred_settings.specs.Groups.{gid_meant, chosen_gid, group_word}
+use Rattle.cred_settings.specs.FurtherGroups.{further_words}
+use Rattle.cred_settings.specs.Identities.{identity_with, bad_group, unless_bad, identity_by, identity_of}
+use Rattle.cred_settings.specs.Ranges.{HasIds}
+
+some_same : {X : Type 0} (a b : X) → Some a ≡ Some b → a ≡ b
+some_same a b e = cc
+
+none_some : {X : Type 0} (P : Type 0) (b : X) → None ≡ Some b → P
+none_some P b e = cc
+
+small : (number : ℕ) → nat_le number greatest_id ≡ true → number ≤ greatest_id
+small number e = grind (arith, nat_tests)
+
+id_small : (n id : ℕ) → id_in_range n ≡ Some id → id ≤ greatest_id
+id_small n id = by (nat_le n greatest_id) refl
+  where
+    by : (b : Bool) → nat_le n greatest_id ≡ b → cond b (Some n) None ≡ Some id → id ≤ greatest_id
+    by true t e = subst (λ k. k ≤ greatest_id) (some_same n id e) (small n t)
+    by false t e = none_some (id ≤ greatest_id) id e
+
+number_small : (o : Option ℕ) (id : ℕ) → option_and_then id_in_range o ≡ Some id → id ≤ greatest_id
+number_small None id e = none_some (id ≤ greatest_id) id e
+number_small (Some n) id e = id_small n id e
+
+-- what holds of each holds of the one that is found
+found_holds : {X : Type 0} (P : X → Type 0) (p : X → Bool) (xs : List X) (x : X) → AllByRecursion P xs → find p xs ≡ Some x → P x
+found_holds P p [] x all e = none_some (P x) x e
+found_holds P p (y ∷ xs) x all e =
+    let by : cond (p y) (Some y) (find p xs) ≡ Some x → P x =
+    elim (p y) as (λ b. cond b (Some y) (find p xs) ≡ Some x → P x) [ true ↦ λ s. subst P (some_same y x s) all.0 | false ↦ λ s. found_holds P p xs x all.1 s ] in
+    by e
+
+all_behind : {X : Type 0} (P : X → Type 0) (xs ys : List X) → AllByRecursion P xs → AllByRecursion P ys → AllByRecursion P (xs ++ ys)
+all_behind P [] ys first second = second
+all_behind P (x ∷ xs) ys first second = (first.0, all_behind P xs ys first.1 second)
+
+all_more : {Y : Type 0} (P : Y → Type 0) (o : Option Y) (ys : List Y) → ((y : Y) → o ≡ Some y → P y) → AllByRecursion P ys → AllByRecursion P (cons_option o ys)
+all_more P None ys h all = all
+all_more P (Some y) ys h all = (h y refl, all)
+
+all_given : {X Y : Type 0} (P : Y → Type 0) (f : X → Option Y) (xs : List X) → ((x : X) (y : Y) → f x ≡ Some y → P y) → AllByRecursion P (filter_map f xs)
+all_given P f [] h = tt
+all_given P f (x ∷ xs) h = all_more P (f x) (filter_map f xs) (λ y e. h x y e) (all_given P f xs h)
+
+-- ---- users
+user_ids : (user : User) → IsUser user → HasIds (identity_of_user user)
+user_ids user is = record { uid = is.uid; gid = is.gid; groups = is.groups }
+
+id_ids : (id : ℕ) → id ≤ greatest_id → HasIds (identity_of_id id)
+id_ids id h = record { uid = h; gid = h; groups = tt }
+
+numbered_ids : (site : Site) (id : ℕ) → IsSite site → id ≤ greatest_id → HasIds (numbered site id)
+numbered_ids site id is h = by (user_with site.users id) (λ user e. found_holds IsUser _ site.users user is.each_user e)
+  where
+    by : (o : Option User) → ((user : User) → o ≡ Some user → IsUser user) → HasIds (option_map_or identity_of_user o (identity_of_id id))
+    by None g = id_ids id h
+    by (Some user) g = user_ids user (g user refl)
+
+meant_ids : (site : Site) (word : List ℕ) (identity : Identity) → IsSite site → user_meant site word ≡ Some identity → HasIds identity
+meant_ids site word identity is =
+    by (user_named site.users word) (λ user e. found_holds IsUser _ site.users user is.each_user e) (id_number word) (λ id e. number_small (decimal_value word) id e)
+  where
+    by : (o : Option User) → ((user : User) → o ≡ Some user → IsUser user) → (n : Option ℕ) → ((id : ℕ) → n ≡ Some id → id ≤ greatest_id) → option_or (option_map identity_of_user o) (option_map (numbered site) n) ≡ Some identity → HasIds identity
+    by (Some user) g n h e = subst HasIds (some_same (identity_of_user user) identity e) (user_ids user (g user refl))
+    by None g (Some id) h e = subst HasIds (some_same (numbered site id) identity e) (numbered_ids site id is (h id refl))
+    by None g None h e = none_some (HasIds identity) identity e
+
+abbrev HoldsIds : Account → Type 0
+HoldsIds Dynamic = Unit {0}
+HoldsIds (Fixed identity) = HasIds identity
+
+account_ids : (site : Site) (is_dynamic : Bool) (word : List ℕ) (account : Account) → IsSite site → account_of site is_dynamic word ≡ Some account → HoldsIds account
+account_ids site is_dynamic [] account is e = subst HoldsIds (some_same (cond is_dynamic Dynamic (Fixed superuser)) account e) (by is_dynamic)
+  where
+    by : (b : Bool) → HoldsIds (cond b Dynamic (Fixed superuser))
+    by true = tt
+    by false = record { uid = omega arith; gid = omega arith; groups = tt }
+account_ids site is_dynamic (byte ∷ word) account is said =
+    by (user_meant site (byte ∷ word)) (λ identity e. meant_ids site (byte ∷ word) identity is e) said
+  where
+    dynamic : (b : Bool) → cond b (Some Dynamic) None ≡ Some account → HoldsIds account
+    dynamic true e = subst HoldsIds (some_same Dynamic account e) tt
+    dynamic false e = none_some (HoldsIds account) account e
+
+    by : (o : Option Identity) → ((identity : Identity) → o ≡ Some identity → HasIds identity) → account_meant is_dynamic o ≡ Some account → HoldsIds account
+    by (Some identity) g e = subst HoldsIds (some_same (Fixed identity) account e) (g identity refl)
+    by None g e = dynamic is_dynamic e
+
+-- ---- groups
+gid_small : (site : Site) (word : List ℕ) (gid : ℕ) → IsSite site → gid_meant site word ≡ Some gid → gid ≤ greatest_id
+gid_small site word gid is =
+    by (group_named site.groups word) (λ group e. found_holds IsGroup _ site.groups group is.each_group e) (id_number word) (λ id e. number_small (decimal_value word) id e)
+  where
+    by : (o : Option Group) → ((group : Group) → o ≡ Some group → IsGroup group) → (n : Option ℕ) → ((id : ℕ) → n ≡ Some id → id ≤ greatest_id) → option_or (option_map (λ group. group.gid) o) n ≡ Some gid → gid ≤ greatest_id
+    by (Some group) g n h e = let small_one = (g group refl).gid in subst (λ k. k ≤ greatest_id) (some_same group.gid gid e) small_one
+    by None g n h e = h gid e
+
+chosen_small : (site : Site) (word : List ℕ) (gid : ℕ) → IsSite site → chosen_gid site word ≡ Some gid → gid ≤ greatest_id
+chosen_small site [] gid is e = none_some (gid ≤ greatest_id) gid e
+chosen_small site (byte ∷ word) gid is e = gid_small site (byte ∷ word) gid is e
+
+one_small : (chosen : Option ℕ) (gid : ℕ) → ((other : ℕ) → chosen ≡ Some other → other ≤ greatest_id) → gid ≤ greatest_id → unwrap_or chosen gid ≤ greatest_id
+one_small None gid h own = own
+one_small (Some other) gid h own = h other refl
+
+with_ids : (site : Site) (account : Account) (group : List ℕ) (further : List (List ℕ)) → IsSite site → HoldsIds account → HasIds (identity_with site account group further)
+with_ids site Dynamic group further is holds = record {
+  uid = is.dynamic_uid;
+  gid = is.dynamic_uid;
+  groups = all_given (λ id. id ≤ greatest_id) (gid_meant site) further (λ word gid e. gid_small site word gid is e);
+}
+with_ids site (Fixed identity) group further is holds = record {
+  uid = holds.uid;
+  gid = one_small (chosen_gid site group) identity.gid (λ gid e. chosen_small site group gid is e) holds.gid;
+  groups = all_behind (λ id. id ≤ greatest_id) identity.groups (filter_map (gid_meant site) further) holds.groups (all_given (λ id. id ≤ greatest_id) (gid_meant site) further (λ word gid e. gid_small site word gid is e));
+}
+
+answer_ids : (bad : Option (List ℕ)) (made identity : Identity) → HasIds made → unless_bad bad made ≡ Ok identity → HasIds identity
+answer_ids None made identity has e = let same : made ≡ identity = cc in subst HasIds same has
+answer_ids (Some word) made identity has e = absurd (cc)
+
+by_ids : (site : Site) (user group : List ℕ) (further : List (List ℕ)) (o : Option Account) (identity : Identity) → IsSite site → ((account : Account) → o ≡ Some account → HoldsIds account) → identity_by site user group further o ≡ Ok identity → HasIds identity
+by_ids site user group further None identity is h e = absurd (cc)
+by_ids site user group further (Some account) identity is h e =
+    answer_ids (bad_group site group further) (identity_with site account group further) identity (with_ids site account group further is (h account refl)) e
+
+pub ids_in_range : (unit : Resolved) (site : Site) (is_dynamic : Bool) (identity : Identity) → IsSite site → identity_of unit site is_dynamic ≡ Ok identity → HasIds identity
+unfolding identity_of
+ids_in_range unit site is_dynamic identity is e =
+    by_ids site (user_word unit) (group_word unit) (further_words unit) (account_of site is_dynamic (user_word unit)) identity is (λ account said. account_ids site is_dynamic (user_word unit) account is said) e

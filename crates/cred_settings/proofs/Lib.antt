@@ -1,0 +1,9 @@
+pub mod LastTexts
+pub mod Words
+pub mod Refusing
+pub mod CapsNamed
+pub mod WritingLemmas
+pub mod NamedMembers
+pub mod Folding
+pub mod InRange
+pub mod DynamicUsers

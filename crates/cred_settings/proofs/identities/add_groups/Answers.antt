@@ -1,0 +1,33 @@
+use Rattle.std.proofs.Common.{Some, ap, sym, ◌∙◌, ◌++◌, [], subst}
+use Rattle.std.specs.List.{cons_option}
+use Rattle.unit_values.proofs.Found.{given_more}
+use Rattle.cred_settings.specs.Groups.{gid_meant}
+use Rattle.cred_settings.specs.Identities.{names_no_group}
+use Rattle.cred_settings.specs.Answers.{IsOfGroup}
+use Rattle.cred_settings.proofs.Refusing.{none_more, first_found, names_one, names_none}
+use Rattle.cred_settings.proofs.identities.add_groups.Goals as goal
+
+pub returns-in-None-clause-refused : goal.returns-in-None-clause-refused
+returns-in-None-clause-refused c =
+    let site = c.args.site.now in
+    let words = c.args.words.now in
+    let word = c.word-item.result in
+    let found =
+    first_found (names_no_group site) words c.words.word-index word c.words-test.true c.word-item.is c.words.invariant.none_is_bad
+    (names_none site word (c.in-None.ensures ∙ ap (gid_meant site) c.as_str.ensures)) in
+    subst (λ bad. IsOfGroup bad c.no_such_group.result) (ap Some c.as_str-in-None.ensures ∙ sym found) c.no_such_group.ensures
+
+pub words-preserved : goal.words-preserved
+words-preserved c =
+    let site = c.args.site.now in
+    let words = c.args.words.now in
+    let word = c.word-item.result in
+    let named = c.in-Some.ensures ∙ ap (gid_meant site) c.as_str.ensures in
+    record {
+      added =
+          given_more (gid_meant site) words c.words.word-index word c.args.groups.now _ _ c.words-test.true c.word-item.is c.words.invariant.added
+          (c.in_ok-push-in-Some.ensures.longer ∙ ap (λ o. c.words.groups ++ cons_option o []) named);
+      none_is_bad =
+          none_more (names_no_group site) words c.words.word-index word c.words-test.true c.word-item.is c.words.invariant.none_is_bad
+          (names_one site word c.in-Some.gid named);
+    }

@@ -1,0 +1,13 @@
+-- systemd.exec(5), CapabilityBoundingSet=: the capabilities that a service can come to at all (capabilities(7)).
+use Rattle.std.specs.Prelude.{ℕ, List, codes}
+use Rattle.dropin_merge.specs.declared.resolved.Resolved.{Resolved}
+use Rattle.unit_values.specs.declared.value.FileNote.{FileNote}
+use Rattle.cap_sets.specs.Sets.{all}
+use Rattle.cred_settings.specs.CapLists.{unit_caps, unit_caps_notes}
+
+-- the default is all
+unfoldable pub bounding_of : Resolved → ℕ
+bounding_of unit = unit_caps unit (codes "CapabilityBoundingSet") all
+
+unfoldable pub bounding_notes : Resolved → List FileNote
+bounding_notes unit = unit_caps_notes unit (codes "CapabilityBoundingSet")

@@ -1,0 +1,20 @@
+-- Names of capabilities in lists (capabilities(7), systemd.exec(5)), in any case.
+use Rattle.std.specs.Prelude.{ℕ, is_some, cond, List, [], ◌∷◌, Option, position, fold}
+use Rattle.std.specs.List.{filter_map}
+use Rattle.std.specs.Str.{bytes_eq}
+use Rattle.unit_grammar.specs.declared.notes.NoteCause.{NoteCause}
+use Rattle.unit_grammar.specs.declared.notes.NoteCause.TheVariants.{UnknownName}
+use Rattle.cap_sets.specs.Names.{names, in_lower_case}
+use Rattle.cap_sets.specs.Sets.{none, union, single}
+
+-- the number of the capability of this name, in any case
+unfoldable pub cap_named : List ℕ → Option ℕ
+cap_named word = position (λ name. bytes_eq (in_lower_case name) (in_lower_case word)) names
+
+-- the set of the capabilities that the words name
+abbrev pub named_caps : List (List ℕ) → ℕ
+named_caps words = fold (λ set number. union set (single number)) none (filter_map cap_named words)
+
+-- a word that names none is noted
+abbrev pub name_causes : List ℕ → List NoteCause
+name_causes word = cond (is_some (cap_named word)) [] (UnknownName ∷ [])

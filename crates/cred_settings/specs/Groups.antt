@@ -1,0 +1,37 @@
+-- systemd.exec(5), Group=: the group that a service runs as.
+use Rattle.std.specs.Prelude.{ℕ, codes, List, [], ◌∷◌, Option, None, option_map, unwrap_or}
+use Rattle.std.specs.Option.{option_or}
+use Rattle.dropin_merge.specs.declared.resolved.Resolved.{Resolved}
+use Rattle.unit_values.specs.declared.value.FileNote.{FileNote}
+use Rattle.unit_values.specs.Values.{values_of, notes_of}
+use Rattle.site_table.specs.Table.{Site, group_named}
+use Rattle.cred_settings.specs.declared.accounts.Account.{Account}
+use Rattle.cred_settings.specs.declared.accounts.Account.TheVariants.{Dynamic, Fixed}
+use Rattle.cred_settings.specs.Ids.{id_number}
+use Rattle.cred_settings.specs.LastText.{last_text}
+
+-- the group that a word names: a group of the site by its name, else a number
+abbrev pub gid_meant : Site → List ℕ → Option ℕ
+gid_meant site word = option_or (option_map (λ group. group.gid) (group_named site.groups word)) (id_number word)
+
+-- an empty word names no group
+abbrev pub chosen_gid : Site → List ℕ → Option ℕ
+chosen_gid site [] = None
+chosen_gid site (byte ∷ word) = gid_meant site (byte ∷ word)
+
+-- a chosen group takes the place of the user's group, and has no effect beside the dynamic uid
+abbrev pub gid_of : Site → Option ℕ → Account → ℕ
+gid_of site chosen Dynamic = site.dynamic_uid
+gid_of site chosen (Fixed identity) = unwrap_or chosen identity.gid
+
+-- the word of Group=, if there is one
+abbrev pub filled : List ℕ → List (List ℕ)
+filled [] = []
+filled (byte ∷ word) = (byte ∷ word) ∷ []
+
+-- the word that the files of a unit give, and the notes on values that cannot be expanded
+unfoldable pub group_word : Resolved → List ℕ
+group_word unit = last_text (values_of unit (codes "Group"))
+
+unfoldable pub group_notes : Resolved → List FileNote
+group_notes unit = notes_of unit (codes "Group")

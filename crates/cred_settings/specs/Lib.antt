@@ -1,0 +1,16 @@
+pub mod Ids
+pub mod LastText
+pub mod WordLists
+pub mod Users
+pub mod Groups
+pub mod FurtherGroups
+pub mod Identities
+pub mod Answers
+pub mod CapNames
+pub mod CapLists
+pub mod Bounding
+pub mod Ambient
+pub mod NewPrivileges
+pub mod Steps
+pub mod Writings
+pub mod Ranges

@@ -1,0 +1,13 @@
+-- Ids that the kernel takes (credentials(7)): none is the number that stands for none.
+use Rattle.std.specs.Prelude.{ℕ, ◌≤◌, List}
+use Rattle.std.specs.List.{AllByRecursion}
+use Rattle.site_table.specs.Ids.{greatest_id}
+use Rattle.cred_settings.specs.declared.accounts.Identity.{Identity}
+
+abbrev pub AreIds : List ℕ → Type 0
+AreIds ids = AllByRecursion (λ id. id ≤ greatest_id) ids
+
+pub record HasIds (identity : Identity) : Type 0 where
+  pub uid : identity.uid ≤ greatest_id
+  pub gid : identity.gid ≤ greatest_id
+  pub groups : AreIds identity.groups

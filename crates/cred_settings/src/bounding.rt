@@ -1,0 +1,29 @@
+//! CapabilityBoundingSet= (systemd.exec(5)).
+ghost use Rattle.std.specs.Prelude.{◌≡◌, ◌++◌, IfOk, OnOk};
+ghost use Rattle.cred_settings.specs.Bounding.{bounding_of, bounding_notes};
+
+use crate::cap_lists::cap_set_of_key;
+use cap_sets::CapSet;
+use dropin_merge::Resolved;
+use std::alloc::{AllocError, Global};
+use unit_values::FileNote;
+
+/// The capabilities that a service can come to at all, by CapabilityBoundingSet=; without it all.
+///
+/// A plain line takes the place of a set that equals its default, and is united with any other. An inverted line is
+/// all but its names where the set equals its default, and takes its names off any other; `~` alone is all. An empty
+/// value is the empty set. Names are read in any case.
+///
+/// Values that cannot be expanded are noted behind the notes that are there; then lines that cannot be split, which
+/// change nothing, and names that are not known, which are passed over.
+#[tactic(auto, unfolding(crate::specs::Bounding::bounding_of, crate::specs::Bounding::bounding_notes))]
+pub fn bounding_set(
+    alloc: Global,
+    unit: &Resolved,
+    notes: &mut Vec<FileNote>,
+) -> Result<CapSet, AllocError>
+    ensures line_by_line { IfOk result (λ set. set ≡ bounding_of unit.now) }
+    ensures noted { OnOk result (notes.new.items ≡ notes.old.items ++ bounding_notes unit.now) }
+{
+    cap_set_of_key(alloc, unit, "CapabilityBoundingSet", CapSet::full(), notes)
+}

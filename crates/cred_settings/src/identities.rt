@@ -1,0 +1,166 @@
+//! The ids that a service runs with (systemd.exec(5), User/Group Identity).
+ghost use Rattle.std.specs.Prelude.{◌≡◌, ◌≢◌, ◌++◌, Ok, Err, None, IfOk, IfErr, OnOk, find};
+ghost use Rattle.std.specs.List.{filter_map};
+ghost use Rattle.cred_settings.specs.declared.error.IdentityError.TheVariants.{Memory};
+ghost use Rattle.cred_settings.specs.Groups.{gid_meant, chosen_gid, filled};
+ghost use Rattle.cred_settings.specs.Steps.{begun};
+ghost use Rattle.cred_settings.specs.Identities.{names_no_group, bad_group, identity_with, unless_bad, identity_from, identity_of, identity_notes};
+ghost use Rattle.cred_settings.specs.Answers.{IsUnlessMemory, IsOfGroup};
+
+use crate::accounts::{Account, Gids, Identity};
+use crate::error::IdentityError;
+use crate::further_groups::further_words;
+use crate::groups::{gid_meant, group_word};
+use crate::users::{account, user_word};
+use dropin_merge::Resolved;
+use site_table::SiteTable;
+use std::alloc::Global;
+use unit_grammar::Text;
+use unit_values::FileNote;
+
+// The refusal of a user.
+fn no_such_user(alloc: Global, word: &str) -> IdentityError
+    ensures { IsUnlessMemory (Err result) (Err (IdentityError.NoSuchUser word.now)) }
+{
+    match Text::new(alloc, word) {
+        Ok(word) => IdentityError::NoSuchUser(word),
+        Err(_) => IdentityError::Memory,
+    }
+}
+
+// The refusal of a group.
+fn no_such_group(alloc: Global, word: &str) -> IdentityError
+    ensures { IsOfGroup (Some word.now) result }
+{
+    match Text::new(alloc, word) {
+        Ok(word) => IdentityError::NoSuchGroup(word),
+        Err(_) => IdentityError::Memory,
+    }
+}
+
+// The group that the word of Group= chooses, if there is one.
+fn chosen_gid(alloc: Global, site: &SiteTable, word: &str) -> Result<Option<u32>, IdentityError>
+    ensures chosen { IfOk result (λ gid. gid ≡ chosen_gid site.now word.now) }
+    ensures none_is_bad { OnOk result (find (names_no_group site.now) (filled word.now) ≡ None) }
+    ensures refused { IfErr result (IsOfGroup (find (names_no_group site.now) (filled word.now))) }
+{
+    if word.is_empty() {
+        return Ok(None);
+    }
+    match gid_meant(site, word) {
+        Some(gid) => Ok(Some(gid)),
+        None => Err(no_such_group(alloc, word)),
+    }
+}
+
+// Puts the groups of the words behind those that are there.
+fn add_groups(
+    alloc: Global,
+    site: &SiteTable,
+    words: &[Text],
+    groups: &mut Gids,
+) -> Result<(), IdentityError>
+    ensures added { OnOk result (groups.new ≡ groups.old ++ filter_map (gid_meant site.now) words.now) }
+    ensures none_is_bad { OnOk result (find (names_no_group site.now) words.now ≡ None) }
+    ensures refused { IfErr result (IsOfGroup (find (names_no_group site.now) words.now)) }
+{
+    'words: for word in words {
+        match gid_meant(site, word.as_str()) {
+            Some(gid) => groups.push(gid)?,
+            None => return Err(no_such_group(alloc, word.as_str())),
+        }
+    }
+    Ok(())
+}
+
+// The ids of an account with the group that is chosen, before the words of SupplementaryGroups=.
+fn begun(alloc: Global, site: &SiteTable, account: Account, chosen: Option<u32>) -> Identity
+    ensures { result ≡ begun site.now chosen account }
+{
+    match account {
+        Account::Dynamic => Identity {
+            uid: site.dynamic_uid(),
+            gid: site.dynamic_uid(),
+            groups: Gids::new(Vec::new(alloc)),
+        },
+        Account::Fixed(identity) => Identity {
+            uid: identity.uid,
+            gid: chosen.unwrap_or(identity.gid),
+            groups: identity.groups,
+        },
+    }
+}
+
+// The ids of an account with its groups, or the refusal of the first word that names none.
+fn with_groups(
+    alloc: Global,
+    site: &SiteTable,
+    account: Account,
+    group: &str,
+    further: &[Text],
+) -> Result<Identity, IdentityError>
+    ensures { IsUnlessMemory result (unless_bad (bad_group site.now group.now further.now) (identity_with site.now account group.now further.now)) }
+{
+    let chosen = chosen_gid(alloc, site, group)?;
+    let Identity {
+        uid,
+        gid,
+        mut groups,
+    } = begun(alloc, site, account, chosen);
+    add_groups(alloc, site, further, &mut groups)?;
+    Ok(Identity { uid, gid, groups })
+}
+
+// The ids that the words of the keys give, or the first refusal.
+fn identity_from(
+    alloc: Global,
+    site: &SiteTable,
+    is_dynamic: bool,
+    user: &str,
+    group: &str,
+    further: &[Text],
+) -> Result<Identity, IdentityError>
+    ensures { IsUnlessMemory result (identity_from site.now is_dynamic user.now group.now further.now) }
+{
+    match account(alloc, site, is_dynamic, user)? {
+        Some(account) => with_groups(alloc, site, account, group, further),
+        None => Err(no_such_user(alloc, user)),
+    }
+}
+
+/// The ids that the files of a unit give by User=, Group= and SupplementaryGroups= (systemd.exec(5)); `is_dynamic` is
+/// whether DynamicUser= is on.
+///
+/// A word is the name of a user or a group of the site, else a decimal number from 0 to 4,294,967,294. Without User=
+/// a service runs as the superuser; a number stands for the first user of the site that has it, and else for itself,
+/// with itself as group. Where DynamicUser= is on, the dynamic uid of the site takes the place of no User= and of one
+/// that names nobody, and Group= has no effect beside it. Group= takes the place of the user's group, and
+/// SupplementaryGroups= adds to the user's further groups.
+///
+/// `NoSuchUser` comes where User= names nobody and DynamicUser= is off. Then `NoSuchGroup` comes for the first word
+/// that names no group, of Group= and then of SupplementaryGroups=. `Memory` may come at any unit. Values that cannot
+/// be expanded, and lines that cannot be split, are noted key by key behind the notes that are there.
+#[tactic(auto, unfolding(crate::specs::Identities::identity_of, crate::specs::Identities::identity_notes))]
+pub fn identity_of_unit(
+    alloc: Global,
+    unit: &Resolved,
+    site: &SiteTable,
+    is_dynamic: bool,
+    notes: &mut Vec<FileNote>,
+) -> Result<Identity, IdentityError>
+    ensures ids_of_the_keys { IfOk result (λ identity. identity_of unit.now site.now is_dynamic ≡ Ok identity) }
+    ensures first_refusal { IfErr result (λ error. error ≢ Memory → identity_of unit.now site.now is_dynamic ≡ Err error) }
+    ensures noted { OnOk result (notes.new.items ≡ notes.old.items ++ identity_notes unit.now) }
+{
+    let user = user_word(alloc, unit, notes)?;
+    let group = group_word(alloc, unit, notes)?;
+    let further = further_words(alloc, unit, notes)?;
+    identity_from(
+        alloc,
+        site,
+        is_dynamic,
+        user.as_str(),
+        group.as_str(),
+        further.list(),
+    )
+}

@@ -1,0 +1,60 @@
+//! Laws of mount tables, each the contract of a function that does nothing.
+
+ghost use Rattle.std.specs.Prelude.{◌≡◌, ℕ, true, false, List, ◌∷◌, [], ◌++◌, map, Bool, Option, Some, slice_get, Contains};
+ghost use Rattle.abs_path.specs.Paths.{Path};
+ghost use Rattle.abs_path.specs.Prefix.{is_prefix, rest_of};
+ghost use Rattle.abs_path.specs.ByteOrder.{AreAscending};
+ghost use Rattle.kern_mounts.specs.declared.step.MountStep.{MountStep};
+ghost use Rattle.kern_mounts.specs.declared.step.What.TheVariants.{Empty, Hidden};
+ghost use Rattle.kern_mounts.specs.declared.numbers.TheConstants.{ENOENT, EACCES};
+ghost use Rattle.kern_mounts.specs.Table.{start, IsTable};
+ghost use Rattle.kern_mounts.specs.Entry.{Belongs, entry_of};
+ghost use Rattle.kern_mounts.specs.Finds.{host_place, finds, row_or_nothing, empty_directory, nothing};
+
+/// Each path belongs to exactly one entry of a table, and the entry is the one of that number.
+pub fn entry_of_a_path()
+    ensures has_one { (table : List MountStep) (path : Path)
+        → IsTable table → (at : ℕ) × Belongs table path at }
+    ensures has_no_other { (table : List MountStep) (path : Path) (one other : ℕ)
+        → Belongs table path one → Belongs table path other → one ≡ other }
+    ensures number_and_entry { (table : List MountStep) (path : Path) (at : ℕ)
+        → Belongs table path at → slice_get table at ≡ entry_of table path }
+    ensures has_a_number { (table : List MountStep) (path : Path) (step : MountStep)
+        → entry_of table path ≡ Some step → (at : ℕ) × Belongs table path at }
+{}
+
+/// An entry that is added hides what the table showed at its place and below, and changes nothing elsewhere.
+pub fn added_entries()
+    ensures at_its_place_and_below { (table : List MountStep) (step : MountStep) (path : Path)
+        → is_prefix step.place path ≡ true → entry_of (table ++ step ∷ []) path ≡ Some step }
+    ensures elsewhere { (table : List MountStep) (step : MountStep) (path : Path)
+        → is_prefix step.place path ≡ false
+        → entry_of (table ++ step ∷ []) path ≡ entry_of table path }
+{}
+
+/// The place of a path's entry leads to the path. Where the places ascend in byte order it is the longest that does.
+pub fn places()
+    ensures leads_to_the_path { (table : List MountStep) (path : Path) (step : MountStep)
+        → entry_of table path ≡ Some step → is_prefix step.place path ≡ true }
+    ensures longest_where_ascending { (table : List MountStep) (path : Path) (step other : MountStep)
+        → AreAscending (map (λ entry. entry.place) table) → entry_of table path ≡ Some step
+        → Contains table other → is_prefix other.place path ≡ true
+        → is_prefix other.place step.place ≡ true }
+{}
+
+/// What a path finds, with the rows of a site by their numbers.
+pub fn finding()
+    ensures the_host_at_the_start { (rows : Path → Option ℕ) (path : Path)
+        → finds rows start path ≡ row_or_nothing (rows path) }
+    ensures the_row_at_its_host_place { (rows : Path → Option ℕ) (table : List MountStep) (path place : Path)
+        → host_place table path ≡ Some place → finds rows table path ≡ row_or_nothing (rows place) }
+    ensures an_empty_directory { (rows : Path → Option ℕ) (table : List MountStep) (step : MountStep)
+        → entry_of table step.place ≡ Some step → step.what ≡ Empty
+        → finds rows table step.place ≡ empty_directory }
+    ensures nothing_below_an_empty_directory { (rows : Path → Option ℕ) (table : List MountStep) (path : Path) (step : MountStep)
+        → entry_of table path ≡ Some step → step.what ≡ Empty → (step.place ≡ path → ⊥)
+        → finds rows table path ≡ nothing ENOENT }
+    ensures no_access_to_what_is_hidden { (rows : Path → Option ℕ) (table : List MountStep) (path : Path) (step : MountStep) (directory : Bool)
+        → entry_of table path ≡ Some step → step.what ≡ Hidden directory
+        → finds rows table path ≡ nothing EACCES }
+{}

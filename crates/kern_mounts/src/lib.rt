@@ -1,0 +1,18 @@
+//! The table of a mount namespace in a modelled Linux kernel, and which of its entries a path belongs to
+//! (mount_namespaces(7)).
+//!
+//! A later mount hides what an earlier one shows, so a path belongs to the last entry whose place leads to it.
+//! The crate rests on `abs_path`; `MountTable::new(alloc)?` shows the host itself at every path.
+#![tactic(auto)]
+
+pub mod error;
+pub mod laws;
+pub mod numbers;
+pub mod step;
+pub mod table;
+#[cfg(test)]
+mod tests;
+
+pub use error::MountError;
+pub use step::{Flags, MountStep, What};
+pub use table::MountTable;

@@ -1,0 +1,64 @@
+-- What holds of the paths at which a site has a row.
+use Rattle.std.proofs.Common.{◌≡◌, ℕ, ◌<◌, ◌≤◌, Bool, true, false, cond, ltb, List, [], ◌∷◌, find, length, Option, Some, None, option_map, refl, sym, ap, ◌∙◌, subst, arith}
+use Rattle.std.specs.List.{position_or_len, slice_get}
+use Rattle.std.proofs.lemmas.Bool.{ltb-true}
+use Rattle.abs_path.specs.Paths.{Path, tail_of, text_of}
+use Rattle.abs_path.specs.Prefix.{is_same, IsRest}
+use Rattle.abs_path.proofs.Prefixes.{same_path}
+use Rattle.site_table.specs.declared.row.Row.{Row}
+use Rattle.site_table.specs.Kinds.{is_dir}
+use Rattle.site_table.specs.Paths.{proc}
+use Rattle.site_table.proofs.Found.{row_of_the_place, no_place_no_row}
+use Rattle.site_table.specs.Table.{Site, IsSite, IsRowOf, row_at, place_of}
+use Rattle.view_map.specs.Kept.{Host}
+use Rattle.view_map.proofs.Lists.{find_is}
+use Rattle.mount_plan.specs.Host.{host_of}
+
+-- the place of a row is in range
+pub place_within : (rows : List Row) (path : Path) (at : ℕ) → place_of rows path ≡ Some at → at < length rows
+place_within rows path at h = by (ltb (position_or_len (λ row. is_same row.path path) rows) (length rows)) refl h
+  where
+    by : (b : Bool) → ltb (position_or_len (λ row. is_same row.path path) rows) (length rows) ≡ b → cond b (Some (position_or_len (λ row. is_same row.path path) rows)) None ≡ Some at → at < length rows
+    by true e h = let same : position_or_len (λ row. is_same row.path path) rows ≡ at = cc in subst (λ (n : ℕ). n < length rows) same (ltb-true _ _ e)
+    by false e h = absurd (cc)
+
+-- no row, no place; and the row of the place
+pub no_row : (site : Site) (path : Path) → place_of site.rows path ≡ None → host_of site path ≡ None
+no_row site path e = ap (λ row. option_map is_dir (option_map (λ row. row.kind) row)) (no_place_no_row site.rows path e)
+
+pub row_there : (site : Site) (path : Path) (at : ℕ) (row : Row) (dir : Bool) → place_of site.rows path ≡ Some at → slice_get site.rows at ≡ Some row → dir ≡ is_dir row.kind → host_of site path ≡ Some dir
+row_there site path at row dir e stands kind =
+    ap (λ row. option_map is_dir (option_map (λ row. row.kind) row)) (sym (row_of_the_place site.rows path at e) ∙ stands) ∙ ap Some (sym kind)
+
+-- the empty text is a rest
+pub none_behind : IsRest []
+none_behind = record { parts = refl; whole = refl }
+
+pub find_passes : {X : Type 0} (test : X → Bool) (xs : List X) (one : X) → find test xs ≡ Some one → test one ≡ true
+find_passes test [] one e = cc
+find_passes {X = X} test (x ∷ xs) one e = by (test x) refl e (find_passes test xs one)
+  where
+    by : (b : Bool) → test x ≡ b → cond b (Some x) (find test xs) ≡ Some one → (find test xs ≡ Some one → test one ≡ true) → test one ≡ true
+    by true passes e more = let same : x ≡ one = cc in subst (λ (y : X). test y ≡ true) same passes
+    by false passes e more = more e
+
+-- the paths at which the host has anything are short
+abbrev pub AreShortRows : Host → Type 0
+AreShortRows row_at = (path : Path) (is_dir : Bool) → row_at path ≡ Some is_dir → length (tail_of path) ≤ 512
+
+tail_in_text : (path : Path) → length (tail_of path) ≤ length (text_of path)
+tail_in_text [] = omega arith
+tail_in_text (part ∷ path) = omega arith
+
+pub short_rows : (site : Site) → IsSite site → AreShortRows (host_of site)
+short_rows site holds path is_dir' e = by (row_at site.rows path) refl e
+  where
+    by : (o : Option Row) → row_at site.rows path ≡ o → option_map is_dir (option_map (λ row. row.kind) o) ≡ Some is_dir' → length (tail_of path) ≤ 512
+    by None found e = absurd (cc)
+    by (Some row) found e =
+        let own = find_is (IsRowOf site.rows) (λ row. is_same row.path path) site.rows row holds.each_row found in
+        let same = same_path row.path path (find_passes (λ row. is_same row.path path) site.rows row found) in
+        subst (λ (p : Path). length (tail_of p) ≤ 512) same (omega (arith, own.short, tail_in_text row.path))
+
+pub proc_row : (site : Site) → IsSite site → host_of site proc ≡ Some true
+proc_row site holds = ap (option_map is_dir) holds.proc

@@ -1,0 +1,9 @@
+pub mod FindsAsView
+pub mod PlanLaws
+pub mod FindsProc
+pub mod ShortPaths
+pub mod Hosts
+pub mod Keeping
+pub mod Counted
+pub mod Planned
+pub mod Worked

@@ -1,0 +1,6 @@
+use Rattle.std.proofs.Common.{◌≡◌, ◌++◌, map, drop}
+use Rattle.view_map.specs.Kept.{unbeaten_of}
+use Rattle.mount_plan.proofs.here.unbeaten.Given as goal
+
+abbrev pub invariant-mentions : goal.invariant-mentions
+invariant-mentions l = map (λ mention. mention.now) l.found.items ++ unbeaten_of (map (λ mention. mention.now) l.here) (map (λ mention. mention.now) (drop l.index l.here)) ≡ unbeaten_of (map (λ mention. mention.now) l.here) (map (λ mention. mention.now) l.here)

@@ -1,0 +1,7 @@
+use Rattle.std.proofs.Common.{◌≡◌, drop, []}
+use Rattle.view_map.specs.Kept.{kept_from}
+use Rattle.mount_plan.specs.Host.{host_of}
+use Rattle.mount_plan.proofs.kept.kept_at_all.Given as goal
+
+abbrev pub invariant-paths : goal.invariant-paths
+invariant-paths l = kept_from (host_of l.site) l.mentions (drop l.path-index l.paths) l.kept.items ≡ kept_from (host_of l.site) l.mentions l.paths []

@@ -1,0 +1,27 @@
+-- On a plan each path belongs to an entry that has what the view has there.
+use Rattle.std.specs.Prelude.{◌≡◌, ◌++◌, List, Some}
+use Rattle.abs_path.specs.Paths.{Path}
+use Rattle.abs_path.specs.Prefix.{rest_of}
+use Rattle.path_settings.specs.declared.mentions.Mention.{Mention}
+use Rattle.view_map.specs.View.{is_read_only, is_no_exec}
+use Rattle.view_map.specs.Object.{Object, on_host, empty, hidden, object_at}
+use Rattle.kern_mounts.specs.declared.step.What.{What}
+use Rattle.kern_mounts.specs.declared.step.What.TheVariants as what
+use Rattle.kern_mounts.specs.declared.step.MountStep.{MountStep}
+use Rattle.kern_mounts.specs.Entry.{entry_of}
+use Rattle.mount_plan.specs.Plan.{flags_of}
+
+-- what a mount at a place shows at a path that the place leads to
+abbrev pub shown_by : What → Path → Path → Object
+shown_by (what.Host source) place path = on_host (source ++ rest_of place path)
+shown_by what.Empty place path = empty
+shown_by (what.Hidden is_dir) place path = hidden
+
+-- the entry has the view's origin at the path, and its flags where that is not hidden
+pub record Agrees (kept : List Mention) (path : Path) (step : MountStep) : Type 0 where
+  pub origin : shown_by step.what step.place path ≡ object_at kept path
+  pub flags : step.flags ≡ flags_of (object_at kept path) (is_read_only kept path) (is_no_exec kept path)
+
+-- each path belongs to such an entry
+abbrev pub FindsAsView : List Mention → List MountStep → Type 0
+FindsAsView kept table = (path : Path) → (step : MountStep) × (entry_of table path ≡ Some step) × Agrees kept path step

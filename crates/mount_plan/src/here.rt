@@ -1,0 +1,151 @@
+//! The mentions at one path: which of them no other beats, and what becomes of each.
+
+ghost use Rattle.std.specs.Prelude.{◌≡◌, map, filter, IfOk};
+ghost use Rattle.std.specs.List.{list_any};
+ghost use Rattle.path_settings.specs.Mentions.{is_origin};
+ghost use Rattle.view_map.specs.Kept.{at_path, is_beaten, unbeaten, is_kept, source_row, puts};
+ghost use Rattle.mount_plan.specs.Host.{host_of};
+ghost use Rattle.mount_plan.specs.Here.{is_of, is_asked, fate_beside};
+
+use crate::host::row_at;
+use abs_path::AbsPath;
+use path_settings::{Kind, Mention};
+use site_table::SiteTable;
+use std::alloc::{AllocError, Global};
+use view_map::{Beneath, Fate, fate_of};
+
+/// The kinds of mentions that say what stands at their path.
+#[derive(Clone, Copy)]
+pub enum Origin {
+    Hide,
+    Tmp,
+    Bind,
+}
+
+/// The two parts of the mentions at a path, in the order in which the rules ask them.
+#[derive(Clone, Copy)]
+pub enum Part {
+    /// What stands at the path.
+    Origins,
+    /// How it may be used.
+    Flags,
+}
+
+/// The mentions at the path, in written order.
+pub fn at_path<'a>(
+    alloc: Global,
+    mentions: &'a [Mention],
+    path: &AbsPath,
+) -> Result<Vec<&'a Mention>, AllocError>
+    ensures { IfOk result (λ found.
+        map (λ mention. mention.now) found.items ≡ at_path path.now mentions.now) }
+{
+    let mut found = Vec::new(alloc);
+    'mentions: for mention in mentions {
+        if mention.path == *path {
+            found.push(mention)?;
+        }
+    }
+    Ok(found)
+}
+
+fn is_of(origin: Origin, kind: &Kind) -> bool
+    ensures { result ≡ is_of origin kind.now }
+{
+    match origin {
+        Origin::Hide => matches!(kind, Kind::Hide),
+        Origin::Tmp => matches!(kind, Kind::Tmp { .. }),
+        Origin::Bind => matches!(kind, Kind::Bind { .. }),
+    }
+}
+
+fn has(here: &[&Mention], origin: Origin) -> bool
+    ensures { result ≡ list_any (λ mention. is_of origin mention.kind) (map (λ mention. mention.now) here.now) }
+{
+    'mentions: for mention in here {
+        if is_of(origin, &mention.kind) {
+            return true;
+        }
+    }
+    false
+}
+
+// whether one of the mentions here beats one of this kind; of binds a later one
+fn is_beaten(here: &[&Mention], later: &[&Mention], kind: &Kind) -> bool
+    ensures { result ≡ is_beaten
+        (map (λ mention. mention.now) here.now) (map (λ mention. mention.now) later.now) kind.now }
+{
+    let bind = is_of(Origin::Bind, kind);
+    let put = is_of(Origin::Tmp, kind) || bind;
+    (put && has(here, Origin::Hide))
+        || (bind && (has(here, Origin::Tmp) || has(later, Origin::Bind)))
+}
+
+/// Those of the mentions at one path that no other beats.
+pub fn unbeaten<'a>(alloc: Global, here: &[&'a Mention]) -> Result<Vec<&'a Mention>, AllocError>
+    ensures { IfOk result (λ found. map (λ mention. mention.now) found.items
+        ≡ unbeaten (map (λ mention. mention.now) here.now)) }
+{
+    let mut found = Vec::new(alloc);
+    'mentions: for (index, mention) in here.iter().enumerate() {
+        let mention: &Mention = mention;
+        if !is_beaten(here, &here[index + 1..], &mention.kind) {
+            found.push(mention)?;
+        }
+    }
+    Ok(found)
+}
+
+/// Whether the mention is of this part.
+pub fn is_asked(part: Part, mention: &Mention) -> bool
+    ensures { result ≡ is_asked part mention.now.kind }
+{
+    match part {
+        Part::Origins => mention.kind.is_origin(),
+        Part::Flags => !mention.kind.is_origin(),
+    }
+}
+
+// whether the site has a row at the source of a bind, and then whether it is a directory
+fn source_row(site: &SiteTable, kind: &Kind) -> Option<bool>
+    ensures { result ≡ source_row (host_of site.now) kind.now }
+{
+    match kind {
+        Kind::Bind { source, .. } => row_at(site, source),
+        _ => None,
+    }
+}
+
+/// What becomes of a mention; `is_put` says whether an empty file system or a bind is kept at its path.
+pub fn fate_beside(site: &SiteTable, beneath: Beneath, is_put: bool, mention: &Mention) -> Fate
+    ensures { result ≡ fate_beside (host_of site.now) beneath is_put mention.now }
+{
+    fate_of(mention, source_row(site, &mention.kind), beneath, is_put)
+}
+
+/// Whether the mention is kept, where this becomes of it.
+pub fn is_kept(fate: Fate) -> bool
+    ensures { result ≡ is_kept fate }
+{
+    matches!(fate, Fate::Kept)
+}
+
+// whether the mention is an empty file system or a bind that is kept
+fn puts(site: &SiteTable, beneath: Beneath, mention: &Mention) -> bool
+    ensures { result ≡ puts (host_of site.now) beneath mention.now }
+{
+    let put = is_of(Origin::Tmp, &mention.kind) || is_of(Origin::Bind, &mention.kind);
+    put && is_kept(fate_beside(site, beneath, true, mention))
+}
+
+/// Whether an empty file system or a bind is kept at the path of these mentions.
+pub fn is_put(site: &SiteTable, beneath: Beneath, here: &[&Mention]) -> bool
+    ensures { result ≡ list_any (puts (host_of site.now) beneath) (map (λ mention. mention.now) here.now) }
+{
+    'mentions: for mention in here {
+        if puts(site, beneath, mention) {
+            return true;
+        }
+    }
+    false
+}

@@ -1,0 +1,197 @@
+//! The mentions that the rules keep, or the first refusal, path by path in byte order.
+
+ghost use Rattle.std.specs.Prelude.{◌≡◌, ◌++◌, [], true, map, filter, IfOk, OnOk};
+ghost use Rattle.std.specs.List.{filter_map};
+ghost use Rattle.abs_path.specs.Prefix.{is_prefix, rest_of};
+ghost use Rattle.view_map.specs.Object.{object_by};
+ghost use Rattle.view_map.specs.Kept.{beneath_row, beneath_by, beneath_at, source_of, refusal_of, is_kept, kept_among, kept_at, kept_from};
+ghost use Rattle.mount_plan.specs.Host.{host_of};
+ghost use Rattle.mount_plan.specs.Here.{is_asked, fate_beside};
+ghost use Rattle.mount_plan.specs.Answers.{first_of, Refuses, AddsKept, Keeps};
+
+use crate::error::PlanError;
+use crate::here::{Part, at_path, fate_beside, is_asked, is_kept, is_put, unbeaten};
+use crate::host::{row_at, row_behind};
+use abs_path::AbsPath;
+use path_settings::{Kind, Mention};
+use site_table::SiteTable;
+use std::alloc::{AllocError, Global};
+use view_map::{Beneath, Fate, origin_above};
+
+fn beneath_row(row: Option<bool>) -> Beneath
+    ensures { result ≡ beneath_row row }
+{
+    match row {
+        None => Beneath::NoRow,
+        Some(is_dir) => Beneath::Row { is_dir },
+    }
+}
+
+// what a bind's source has at a path that the bind's own path leads to
+fn row_through(site: &SiteTable, source: &AbsPath, front: &AbsPath, path: &AbsPath) -> Option<bool>
+    requires { is_prefix front.now path.now ≡ true }
+    ensures { result ≡ host_of site.now (source.now ++ rest_of front.now path.now) }
+{
+    match front.rest(path) {
+        None => None,
+        Some(rest) => row_behind(site, source, rest),
+    }
+}
+
+// what a mention gives at a path that its own path leads to
+fn beneath_mention(site: &SiteTable, mention: &Mention, path: &AbsPath) -> Beneath
+    requires { is_prefix mention.now.path path.now ≡ true }
+    ensures { result ≡ beneath_by (host_of site.now)
+        (object_by mention.now.kind mention.now.path path.now) }
+{
+    match &mention.kind {
+        Kind::Hide => Beneath::Hidden,
+        Kind::Tmp { .. } => Beneath::Empty,
+        Kind::Bind { source, .. } => beneath_row(row_through(site, source, &mention.path, path)),
+        _ => beneath_row(row_at(site, path)),
+    }
+}
+
+/// What the longest kept mention above the path that says what stands there gives at the path.
+pub fn beneath_at(site: &SiteTable, kept: &[Mention], path: &AbsPath) -> Beneath
+    ensures { result ≡ beneath_at (host_of site.now) kept.now path.now }
+{
+    match origin_above(kept, path) {
+        None => beneath_row(row_at(site, path)),
+        Some((_, mention)) => beneath_mention(site, mention, path),
+    }
+}
+
+// the source of a bind
+fn source_of(alloc: Global, kind: &Kind) -> Result<AbsPath, AllocError>
+    ensures { IfOk result (λ path. path ≡ source_of kind.now) }
+{
+    match kind {
+        Kind::Bind { source, .. } => source.copy(alloc),
+        _ => Ok(AbsPath::root(alloc)),
+    }
+}
+
+// the refusal of a mention, where this becomes of it
+fn refusal(alloc: Global, mention: &Mention, fate: Fate) -> Result<(), PlanError>
+    ensures { Refuses (refusal_of mention.now fate) result }
+{
+    match fate {
+        Fate::Kept => Ok(()),
+        Fate::Dropped => Ok(()),
+        Fate::NoSource => {
+            let path = source_of(alloc, &mention.kind)?;
+            Err(PlanError::Missing(path))
+        }
+        Fate::NoRow => {
+            let path = mention.path.copy(alloc)?;
+            Err(PlanError::Missing(path))
+        }
+        Fate::WrongKind => {
+            let path = mention.path.copy(alloc)?;
+            Err(PlanError::Kind(path))
+        }
+    }
+}
+
+// the first refusal among one part of the mentions at a path
+fn ask(
+    alloc: Global,
+    site: &SiteTable,
+    beneath: Beneath,
+    is_put: bool,
+    here: &[&Mention],
+    part: Part,
+) -> Result<(), PlanError>
+    ensures { Refuses (first_of (filter_map
+        (λ mention. refusal_of mention (fate_beside (host_of site.now) beneath is_put mention))
+        (filter (λ mention. is_asked part mention.kind) (map (λ mention. mention.now) here.now)))) result }
+{
+    'mentions: for mention in here {
+        if is_asked(part, mention) {
+            refusal(alloc, mention, fate_beside(site, beneath, is_put, mention))?;
+        }
+    }
+    Ok(())
+}
+
+// adds the mentions at a path of which that becomes
+fn add(
+    alloc: Global,
+    site: &SiteTable,
+    beneath: Beneath,
+    is_put: bool,
+    here: &[&Mention],
+    kept: &mut Vec<Mention>,
+) -> Result<(), AllocError>
+    ensures { OnOk result (kept.new.items ≡ kept.old.items
+        ++ filter (λ mention. is_kept (fate_beside (host_of site.now) beneath is_put mention))
+        (map (λ mention. mention.now) here.now)) }
+{
+    'mentions: for mention in here {
+        if is_kept(fate_beside(site, beneath, is_put, mention)) {
+            kept.push(mention.copy(alloc)?)?;
+        }
+    }
+    Ok(())
+}
+
+// adds the mentions at one path that the rules keep
+fn keep(
+    alloc: Global,
+    site: &SiteTable,
+    beneath: Beneath,
+    here: &[&Mention],
+    kept: &mut Vec<Mention>,
+) -> Result<(), PlanError>
+    ensures { AddsKept (kept_among (host_of site.now) beneath (map (λ mention. mention.now) here.now))
+        kept.old.items kept.new.items result }
+{
+    let is_put = is_put(site, beneath, here);
+    match ask(alloc, site, beneath, is_put, here, Part::Origins) {
+        Err(error) => Err(error),
+        Ok(()) => match ask(alloc, site, beneath, is_put, here, Part::Flags) {
+            Err(error) => Err(error),
+            Ok(()) => {
+                add(alloc, site, beneath, is_put, here, kept)?;
+                Ok(())
+            }
+        },
+    }
+}
+
+// adds the mentions at a path that the rules keep, by those that are kept above it
+fn keep_at(
+    alloc: Global,
+    site: &SiteTable,
+    mentions: &[Mention],
+    kept: &mut Vec<Mention>,
+    path: &AbsPath,
+) -> Result<(), PlanError>
+    ensures { AddsKept (kept_at (host_of site.now) mentions.now kept.old.items path.now)
+        kept.old.items kept.new.items result }
+{
+    let beneath = beneath_at(site, kept, path);
+    let here = at_path(alloc, mentions, path)?;
+    let here = unbeaten(alloc, &here)?;
+    keep(alloc, site, beneath, &here, kept)
+}
+
+/// The mentions that the rules keep at these paths, one after the other, or the first refusal.
+pub fn kept_at_all(
+    alloc: Global,
+    site: &SiteTable,
+    mentions: &[Mention],
+    paths: &[AbsPath],
+) -> Result<Vec<Mention>, PlanError>
+    ensures { Keeps (kept_from (host_of site.now) mentions.now paths.now []) result }
+{
+    let mut kept = Vec::new(alloc);
+    'paths: for path in paths {
+        match keep_at(alloc, site, mentions, &mut kept, path) {
+            Err(error) => return Err(error),
+            Ok(()) => {}
+        }
+    }
+    Ok(kept)
+}

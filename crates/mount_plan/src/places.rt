@@ -1,0 +1,23 @@
+//! The paths of mentions, in byte order.
+
+ghost use Rattle.std.specs.Prelude.{◌≡◌, OnOk, map};
+ghost use Rattle.abs_path.specs.ByteOrder.{with_placed};
+
+use abs_path::{AbsPath, put};
+use path_settings::Mention;
+use std::alloc::{AllocError, Global};
+
+/// Puts the paths of the mentions in their places in a list in byte order.
+pub fn put_paths(
+    alloc: Global,
+    paths: &mut Vec<AbsPath>,
+    mentions: &[Mention],
+) -> Result<(), AllocError>
+    ensures { OnOk result
+        (paths.new.items ≡ with_placed paths.old.items (map (λ mention. mention.path) mentions.now)) }
+{
+    'mentions: for mention in mentions {
+        put(alloc, paths, &mention.path)?;
+    }
+    Ok(())
+}

@@ -1,0 +1,100 @@
+//! The plan of a service's mounts, and that it shows what the view has.
+
+ghost use Rattle.std.specs.Prelude.{◌≡◌, ◌≤◌, ◌+◌, true, length, map, IfOk, IsTrue};
+ghost use Rattle.std.specs.List.{list_all, AllByRecursion};
+ghost use Rattle.abs_path.specs.ByteOrder.{AreAscending};
+ghost use Rattle.path_settings.specs.Mentions.{is_whole};
+ghost use Rattle.view_map.specs.Kept.{kept_of, KeepsByRules};
+ghost use Rattle.mount_plan.specs.Host.{host_of};
+ghost use Rattle.mount_plan.specs.Plan.{places_of, table_of};
+ghost use Rattle.mount_plan.specs.AsView.{FindsAsView};
+ghost use Rattle.mount_plan.specs.Form.{leaves_the_root, BeginsAtRoot, HasPlacesOf, IsPlainIfHidden, FindsProc};
+ghost use Rattle.mount_plan.specs.Short.{AreShort};
+ghost use Rattle.mount_plan.specs.Answers.{Keeps, Plans};
+
+use crate::entry::steps_at;
+use crate::error::PlanError;
+use crate::kept::kept_at_all;
+use crate::places::put_paths;
+use crate::steps::MountSteps;
+use abs_path::AbsPath;
+use kern_mounts::MountStep;
+use path_settings::{Mention, Mentions};
+use site_table::SiteTable;
+use std::alloc::{AllocError, Global};
+
+// the mentions that the rules keep, or the first refusal in byte order of the paths
+fn kept_of(alloc: Global, site: &SiteTable, mentions: &[Mention]) -> Result<Vec<Mention>, PlanError>
+    ensures { Keeps (kept_of (host_of site.now) mentions.now) result }
+{
+    let mut paths = Vec::new(alloc);
+    put_paths(alloc, &mut paths, mentions)?;
+    kept_at_all(alloc, site, mentions, &paths)
+}
+
+// the root and each kept path, each with what the view has there
+fn table_of(alloc: Global, site: &SiteTable, kept: &[Mention]) -> Result<Vec<MountStep>, AllocError>
+    requires { AreShort kept.now (places_of kept.now) }
+    ensures { IfOk result (λ table. table.items ≡ table_of (host_of site.now) kept.now) }
+{
+    let mut places = Vec::new(alloc);
+    places.push(AbsPath::root(alloc))?;
+    put_paths(alloc, &mut places, kept)?;
+    steps_at(alloc, site, kept, &places)
+}
+
+// the same for mentions in a slice, by the rules
+fn plan_of(alloc: Global, site: &SiteTable, mentions: &[Mention]) -> Result<MountSteps, PlanError>
+    requires root_is_the_hosts { leaves_the_root mentions.now ≡ true }
+    requires whole { list_all is_whole mentions.now ≡ true }
+    ensures { Plans (host_of site.now) mentions.now result }
+{
+    // The rows are lent with what holds of each site: their paths are short.
+    let _rows = site.rows();
+    match kept_of(alloc, site, mentions) {
+        Err(error) => Err(error),
+        Ok(kept) => {
+            let steps = table_of(alloc, site, &kept)?;
+            Ok(MountSteps::new(steps))
+        }
+    }
+}
+
+/// Whether no mention hides the root or puts anything there, which is the host's: what `plan` asks.
+pub fn leaves_the_root(mentions: &Mentions) -> bool
+    ensures root_is_the_hosts { result ≡ leaves_the_root mentions.now }
+{
+    'mentions: for mention in mentions.list() {
+        if mention.path.tail_len() == 0 && mention.kind.is_origin() {
+            return false;
+        }
+    }
+    true
+}
+
+/// The mounts that give a service with these mentions its view of the site.
+///
+/// The first is `/` on the host with its flags, and one follows for each other path that has a kept mention, in byte
+/// order. Missing and Kind tell the first path in byte order at which the rules refuse a mention, or the source of a bind
+/// there that is no row; Memory may come at any mentions.
+pub fn plan(alloc: Global, mentions: &Mentions, site: &SiteTable) -> Result<MountSteps, PlanError>
+    requires root_is_the_hosts { IsTrue (leaves_the_root mentions.now) }
+
+    // The kept mentions decide, and are those that the rules keep by the kept mentions themselves.
+    ensures table_or_first_refusal { Plans (host_of site.now) mentions.now result }
+    ensures keeps_by_rules { IfOk
+        (kept_of (host_of site.now) mentions.now) (KeepsByRules (host_of site.now) mentions.now) }
+    ensures finds_as_view { IfOk result (λ table.
+        IfOk (kept_of (host_of site.now) mentions.now) (λ kept. FindsAsView kept table)) }
+
+    // The form of a table that a launch takes.
+    ensures begins_at_root { IfOk result BeginsAtRoot }
+    ensures places_ascend { IfOk result (λ table. AreAscending (map (λ step. step.place) table)) }
+    ensures places_are_mentioned { IfOk result (HasPlacesOf mentions.now) }
+    ensures one_more_than_mentions { IfOk result (λ table. length table ≤ length mentions.now + 1) }
+    ensures hidden_without_flags { IfOk result (AllByRecursion IsPlainIfHidden) }
+    ensures finds_proc { IfOk result (FindsProc (host_of site.now)) }
+{
+    let _rows = site.rows();
+    plan_of(alloc, site, mentions.list())
+}

@@ -1,0 +1,2 @@
+pub mod ReadMentions
+pub mod Worked

@@ -1,0 +1,31 @@
+-- systemd.exec(5), BindPaths= and BindReadOnlyPaths=: a source and where it is to stand, split at colons.
+use Rattle.std.specs.Prelude.{ℕ, ◌==◌, ◌||◌, Bool, codes, List, [], ◌∷◌, Option, Some, None, option_and_then, if◌then◌else◌}
+use Rattle.std.specs.List.{slice_split}
+use Rattle.std.specs.Option.{option_map}
+use Rattle.std.specs.Str.{bytes_eq, byte as ascii}
+use Rattle.path_settings.specs.declared.mentions.Kind.TheVariants.{Bind}
+use Rattle.path_settings.specs.declared.mentions.Mention.{Mention}
+use Rattle.path_settings.specs.SettingPaths.{setting_path}
+use Rattle.path_settings.specs.Marks.{is_marked, without}
+
+abbrev pub bind_pieces : List ℕ → List (List ℕ)
+bind_pieces text = slice_split (λ byte. byte == ascii ":") text
+
+-- whether mounts below the source come too: either word may stand, and changes nothing here
+abbrev pub is_bind_option : List ℕ → Bool
+is_bind_option option = bytes_eq option (codes "rbind") || bytes_eq option (codes "norbind")
+
+-- the source and the destination, which is the source where none is written
+abbrev pub ends_of : List (List ℕ) → Option (List ℕ × List ℕ)
+ends_of (source ∷ []) = Some (source, source)
+ends_of (source ∷ place ∷ []) = Some (source, place)
+ends_of (source ∷ place ∷ option ∷ []) = if is_bind_option option then Some (source, place) else None
+ends_of _ = None
+
+-- both are paths of a setting; an empty text is none
+abbrev pub bind_between : Bool → Bool → List ℕ × List ℕ → Option Mention
+bind_between read_only optional ends =
+    option_and_then (λ source. option_map (λ place. record { path = place; kind = Bind source read_only; optional = optional }) (setting_path ends.1)) (setting_path ends.0)
+
+abbrev pub bind_mention : Bool → List ℕ → Option Mention
+bind_mention read_only word = option_and_then (bind_between read_only (is_marked word)) (ends_of (bind_pieces (without (codes "-") word)))

@@ -1,0 +1,46 @@
+-- The keys that speak of paths (systemd.exec(5), Sandboxing), and the mention that a word of each is.
+use Rattle.std.specs.Prelude.{ℕ, Bool, true, false, codes, List, Option}
+use Rattle.path_settings.specs.declared.keys.PathKey.{PathKey}
+use Rattle.path_settings.specs.declared.keys.PathKey.TheVariants.{ReadWritePaths, ReadOnlyPaths, InaccessiblePaths, ExecPaths, NoExecPaths, BindPaths, BindReadOnlyPaths, TemporaryFileSystem, StateDirectory, RuntimeDirectory, CacheDirectory, LogsDirectory}
+use Rattle.path_settings.specs.declared.mentions.Kind.TheVariants.{Ro, Rw, Exec, NoExec, Hide}
+use Rattle.path_settings.specs.declared.mentions.Mention.{Mention}
+use Rattle.path_settings.specs.Lists.{path_mention}
+use Rattle.path_settings.specs.Binds.{bind_mention}
+use Rattle.path_settings.specs.Temporary.{temporary_mention}
+use Rattle.path_settings.specs.Folders.{folder_mention}
+
+abbrev pub name_of : PathKey → List ℕ
+name_of ReadWritePaths = codes "ReadWritePaths"
+name_of ReadOnlyPaths = codes "ReadOnlyPaths"
+name_of InaccessiblePaths = codes "InaccessiblePaths"
+name_of ExecPaths = codes "ExecPaths"
+name_of NoExecPaths = codes "NoExecPaths"
+name_of BindPaths = codes "BindPaths"
+name_of BindReadOnlyPaths = codes "BindReadOnlyPaths"
+name_of TemporaryFileSystem = codes "TemporaryFileSystem"
+name_of StateDirectory = codes "StateDirectory"
+name_of RuntimeDirectory = codes "RuntimeDirectory"
+name_of CacheDirectory = codes "CacheDirectory"
+name_of LogsDirectory = codes "LogsDirectory"
+
+-- folders are implied: their mentions stand behind all written ones
+abbrev pub is_implied : PathKey → Bool
+is_implied StateDirectory = true
+is_implied RuntimeDirectory = true
+is_implied CacheDirectory = true
+is_implied LogsDirectory = true
+is_implied _ = false
+
+abbrev pub mention_of : PathKey → List ℕ → Option Mention
+mention_of ReadWritePaths word = path_mention Rw word
+mention_of ReadOnlyPaths word = path_mention Ro word
+mention_of InaccessiblePaths word = path_mention Hide word
+mention_of ExecPaths word = path_mention Exec word
+mention_of NoExecPaths word = path_mention NoExec word
+mention_of BindPaths word = bind_mention false word
+mention_of BindReadOnlyPaths word = bind_mention true word
+mention_of TemporaryFileSystem word = temporary_mention word
+mention_of StateDirectory word = folder_mention (codes "/var/lib") word
+mention_of RuntimeDirectory word = folder_mention (codes "/run") word
+mention_of CacheDirectory word = folder_mention (codes "/var/cache") word
+mention_of LogsDirectory word = folder_mention (codes "/var/log") word

@@ -1,0 +1,9 @@
+pub mod Mentions
+pub mod Short
+pub mod SettingPaths
+pub mod Marks
+pub mod Lists
+pub mod Binds
+pub mod Temporary
+pub mod Folders
+pub mod Keys

@@ -1,0 +1,21 @@
+-- systemd.exec(5), TemporaryFileSystem=: where an empty file system is to stand, and behind the first colon its options.
+use Rattle.std.specs.Prelude.{ℕ, ◌==◌, Bool, false, codes, List, Option}
+use Rattle.std.specs.List.{slice_split, list_any, before_first, after_first}
+use Rattle.std.specs.Option.{option_map}
+use Rattle.std.specs.Str.{bytes_eq, byte as ascii}
+use Rattle.path_settings.specs.declared.mentions.Kind.TheVariants.{Tmp}
+use Rattle.path_settings.specs.declared.mentions.Mention.{Mention}
+use Rattle.path_settings.specs.SettingPaths.{setting_path}
+
+abbrev pub is_colon : ℕ → Bool
+is_colon byte = byte == ascii ":"
+
+-- one of the options between the commas is `ro`; the others say nothing here
+abbrev pub asks_read_only : List ℕ → Bool
+asks_read_only options = list_any (λ option. bytes_eq option (codes "ro")) (slice_split (λ byte. byte == ascii ",") options)
+
+abbrev pub temporary_at : List ℕ → List ℕ → Option Mention
+temporary_at path options = option_map (λ place. record { path = place; kind = Tmp (asks_read_only options); optional = false }) (setting_path path)
+
+abbrev pub temporary_mention : List ℕ → Option Mention
+temporary_mention word = temporary_at (before_first is_colon word) (after_first is_colon word)

@@ -1,0 +1,69 @@
+//! Words of BindPaths= and BindReadOnlyPaths=.
+
+ghost use Rattle.std.specs.Prelude.{◌≡◌, IfOk, map};
+ghost use Rattle.std.specs.Option.{option_map, option_and_then};
+ghost use Rattle.path_settings.specs.Binds.{bind_pieces, is_bind_option, ends_of, bind_between, bind_mention};
+
+use crate::marks::{is_marked, without};
+use crate::mentions::{Kind, Mention};
+use crate::paths::read_setting_path;
+use std::alloc::{AllocError, Global};
+
+fn pieces(alloc: Global, text: &str) -> Result<Vec<&str>, AllocError>
+    ensures { IfOk result (λ found. map (λ piece. piece.now) found.items ≡ bind_pieces text.now) }
+{
+    text.split(':').collect(alloc)
+}
+
+// Whether mounts below the source come too, which changes nothing here.
+fn is_bind_option(option: &str) -> bool
+    ensures { result ≡ is_bind_option option.now }
+{
+    option == "rbind" || option == "norbind"
+}
+
+// The texts of the source and of the destination.
+fn ends<'a>(pieces: &[&'a str]) -> Option<(&'a str, &'a str)>
+    ensures { option_map (λ ends. (ends.0.now, ends.1.now)) result ≡ ends_of (map (λ piece. piece.now) pieces.now) }
+{
+    match pieces {
+        [source] => Some((*source, *source)),
+        [source, place] => Some((*source, *place)),
+        [source, place, option] if is_bind_option(*option) => Some((*source, *place)),
+        _ => None,
+    }
+}
+
+fn bind_between(
+    alloc: Global,
+    read_only: bool,
+    optional: bool,
+    source: &str,
+    place: &str,
+) -> Result<Option<Mention>, AllocError>
+    ensures { IfOk result (λ mention. mention ≡ bind_between read_only optional (source.now, place.now)) }
+{
+    let Some(source) = read_setting_path(alloc, source)? else {
+        return Ok(None);
+    };
+    let Some(path) = read_setting_path(alloc, place)? else {
+        return Ok(None);
+    };
+    Ok(Some(Mention {
+        path,
+        kind: Kind::Bind { source, read_only },
+        optional,
+    }))
+}
+
+/// The mention that a word `[-]SOURCE[:DEST[:rbind or norbind]]` is: at DEST, or where none is written at SOURCE, what
+/// stands at SOURCE. None where it has another form or an end of it is no path of a setting.
+pub fn read_bind(alloc: Global, read_only: bool, word: &str) -> Result<Option<Mention>, AllocError>
+    ensures mention_or_none { IfOk result (λ mention. mention ≡ bind_mention read_only word.now) }
+{
+    let pieces = pieces(alloc, without("-", word))?;
+    match ends(&pieces) {
+        Some((source, place)) => bind_between(alloc, read_only, is_marked(word), source, place),
+        None => Ok(None),
+    }
+}

@@ -1,0 +1,26 @@
+//! Why a mention is not added.
+
+ghost use Rattle.std.specs.Prelude.{◌≡◌};
+ghost use Rattle.path_settings.specs.declared.error.MentionError.TheVariants.{Memory};
+
+use std::alloc::AllocFailed;
+use thiserror::Error;
+
+/// Why a mention is not added.
+#[derive(Clone, Copy, Debug, PartialEq, Eq, Error)]
+pub enum MentionError {
+    /// There are 160 mentions.
+    #[error("there are 160 mentions")]
+    Full,
+    /// There was no memory for the mention.
+    #[error("out of memory")]
+    Memory,
+}
+
+impl<T: Drop> From<AllocFailed<T>> for MentionError {
+    ghost from_gives = { λ _ e. e ≡ Memory };
+
+    fn from(_: AllocFailed<T>) -> Self {
+        MentionError::Memory
+    }
+}

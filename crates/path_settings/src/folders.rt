@@ -1,0 +1,46 @@
+//! Words of StateDirectory=, RuntimeDirectory=, CacheDirectory= and LogsDirectory=.
+
+ghost use Rattle.std.specs.Prelude.{◌≡◌, ◌++◌, IfOk, codes, string_bytes};
+ghost use Rattle.path_settings.specs.Folders.{is_relative, text_below, folder_mention};
+
+use crate::mentions::{Kind, Mention};
+use crate::paths::read_setting_path;
+use std::alloc::{AllocError, Global};
+
+fn is_relative(name: &str) -> bool
+    ensures { result ≡ is_relative name.now }
+{
+    match name.as_bytes().first() {
+        None => false,
+        Some(byte) => *byte != b'/',
+    }
+}
+
+fn text_below(alloc: Global, folder: &str, name: &str) -> Result<String, AllocError>
+    ensures { IfOk result (λ text. string_bytes text ≡ text_below folder.now name.now) }
+{
+    let mut text = String::new(alloc);
+    text.push_str(folder)?;
+    text.push('/')?;
+    text.push_str(name)?;
+    Ok(text)
+}
+
+/// The mention that the name of a folder below another one is: the service may write there, and a missing one is
+/// passed over. None where the name is empty or begins with a slash, or the two make no path of a setting.
+pub fn read_folder(alloc: Global, folder: &str, name: &str) -> Result<Option<Mention>, AllocError>
+    ensures mention_or_none { IfOk result (λ mention. mention ≡ folder_mention folder.now name.now) }
+{
+    if !is_relative(name) {
+        return Ok(None);
+    }
+    let text = text_below(alloc, folder, name)?;
+    Ok(match read_setting_path(alloc, &text)? {
+        Some(path) => Some(Mention {
+            path,
+            kind: Kind::Rw,
+            optional: true,
+        }),
+        None => None,
+    })
+}

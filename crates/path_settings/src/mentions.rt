@@ -1,0 +1,159 @@
+//! Mentions of paths, in the order in which they were written.
+
+ghost use Rattle.std.specs.Prelude.{◌≡◌, ◌↔◌, ◌≤◌, ◌++◌, ◌∷◌, [], length, IsTrue, IfOk, OnOk, OnErr, IsErrOf};
+ghost use Rattle.std.specs.List.{list_all};
+ghost use Rattle.path_settings.specs.Mentions.{is_path, is_whole, is_origin, has_whole_source};
+
+use crate::error::MentionError;
+use abs_path::AbsPath;
+use std::alloc::{AllocError, Global};
+use std::marker::Model;
+
+/// How many mentions there are at most.
+const MOST: usize = 160;
+
+/// What a mention says of its path (systemd.exec(5), Sandboxing).
+#[derive(Drop)]
+pub enum Kind {
+    /// Nothing may be written at it or below it.
+    Ro,
+    /// What is at it or below it may be written.
+    Rw,
+    /// What is at it or below it may be executed.
+    Exec,
+    /// Nothing at it or below it may be executed.
+    NoExec,
+    /// Nothing is to be seen there.
+    Hide,
+    /// An empty file system stands there.
+    Tmp { read_only: bool },
+    /// What stands at another path of the host stands there too.
+    Bind { source: AbsPath, read_only: bool },
+}
+
+/// What a setting says of one path.
+#[derive(Drop)]
+pub struct Mention {
+    pub path: AbsPath,
+    pub kind: Kind,
+    /// Whether the mention is passed over where the path, or the source of a bind, is not there.
+    pub optional: bool,
+}
+
+impl Kind {
+    /// Whether it says what stands at the path, and not only how that may be used.
+    pub fn is_origin(&self) -> bool
+        ensures hides_or_puts { result ≡ is_origin self.now }
+    {
+        match self {
+            Kind::Hide => true,
+            Kind::Tmp { .. } => true,
+            Kind::Bind { .. } => true,
+            _ => false,
+        }
+    }
+
+    /// The same kind again.
+    pub fn copy(&self, alloc: Global) -> Result<Kind, AllocError>
+        ensures same { IfOk result (λ kind. kind ≡ self.now) }
+    {
+        Ok(match self {
+            Kind::Ro => Kind::Ro,
+            Kind::Rw => Kind::Rw,
+            Kind::Exec => Kind::Exec,
+            Kind::NoExec => Kind::NoExec,
+            Kind::Hide => Kind::Hide,
+            Kind::Tmp { read_only } => Kind::Tmp {
+                read_only: *read_only,
+            },
+            Kind::Bind { source, read_only } => Kind::Bind {
+                source: source.copy(alloc)?,
+                read_only: *read_only,
+            },
+        })
+    }
+}
+
+impl Mention {
+    /// The same mention again.
+    pub fn copy(&self, alloc: Global) -> Result<Mention, AllocError>
+        ensures same { IfOk result (λ mention. mention ≡ self.now) }
+    {
+        let path = self.path.copy(alloc)?;
+        let kind = self.kind.copy(alloc)?;
+        Ok(Mention {
+            path,
+            kind,
+            optional: self.optional,
+        })
+    }
+}
+
+/// Mentions in the order in which they were written, at most 160, which contracts see as a list.
+#[derive(Drop)]
+pub struct Mentions {
+    items: Vec<Mention>,
+}
+
+impl Model for Mentions {
+    ghost use Rattle.std.specs.Prelude.{List};
+    ghost use Rattle.path_settings.specs.declared.mentions.Mention.{Mention};
+    ghost use Rattle.path_settings.specs.Mentions.{AreKept};
+
+    ghost Value = { List Mention };
+
+    ghost view = { λ mentions. mentions.items.items };
+
+    ghost invariant = { λ mentions. AreKept mentions.items.items };
+}
+
+// Does nothing; a path lends with its text the fact that it is normal and short.
+fn know_path(path: &AbsPath)
+    ensures { IsTrue (is_path path.now) }
+{
+    let _text = path.text();
+}
+
+// Does nothing but say the same of the source of a bind.
+fn know_source(kind: &Kind)
+    ensures { IsTrue (has_whole_source kind.now) }
+{
+    if let Kind::Bind { source, .. } = kind {
+        know_path(source);
+    }
+}
+
+impl Mentions {
+    /// No mention.
+    pub fn new(alloc: Global) -> Mentions
+        ensures empty { result ≡ [] }
+    {
+        Mentions {
+            items: Vec::new(alloc),
+        }
+    }
+
+    /// The mentions in the order in which they were added.
+    pub fn list(&self) -> &[Mention]
+        ensures all_in_order { result.now ≡ self.now }
+        ensures at_most_160 { length self.now ≤ 160 }
+        ensures whole { IsTrue (list_all is_whole self.now) }
+    {
+        &self.items
+    }
+
+    /// Puts a mention behind the others. Full where there are 160 of them; on an error they stay as they were.
+    pub fn add(&mut self, mention: Mention) -> Result<(), MentionError>
+        ensures adds_behind { OnOk result (self.new ≡ self.old ++ mention ∷ []) }
+        ensures full_exactly_at_160 { IsErrOf result MentionError.Full ↔ (length self.old ≡ 160) }
+        ensures unchanged_on_error { OnErr result (self.new ≡ self.old) }
+    {
+        if self.items.len() == MOST {
+            return Err(MentionError::Full);
+        }
+        know_path(&mention.path);
+        know_source(&mention.kind);
+        self.items.push(mention)?;
+        Ok(())
+    }
+}

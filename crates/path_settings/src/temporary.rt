@@ -1,0 +1,42 @@
+//! Words of TemporaryFileSystem=.
+
+ghost use Rattle.std.specs.Prelude.{◌≡◌, IfOk, ◌==◌};
+ghost use Rattle.std.specs.List.{before_first, after_first};
+ghost use Rattle.path_settings.specs.Temporary.{is_colon, asks_read_only, temporary_at, temporary_mention};
+
+use crate::mentions::{Kind, Mention};
+use crate::paths::read_setting_path;
+use std::alloc::{AllocError, Global};
+
+// Whether one of the options between the commas is `ro`.
+fn asks_read_only(options: &str) -> bool
+    ensures { result ≡ asks_read_only options.now }
+{
+    options.split(',').any(|option| option == "ro")
+}
+
+fn temporary_at(alloc: Global, path: &str, options: &str) -> Result<Option<Mention>, AllocError>
+    ensures { IfOk result (λ mention. mention ≡ temporary_at path.now options.now) }
+{
+    Ok(match read_setting_path(alloc, path)? {
+        Some(path) => Some(Mention {
+            path,
+            kind: Kind::Tmp {
+                read_only: asks_read_only(options),
+            },
+            optional: false,
+        }),
+        None => None,
+    })
+}
+
+/// The mention that a word `PATH[:OPTIONS]` is: an empty file system at the path, read-only where one of the options is
+/// `ro`. None where it begins with no path of a setting.
+pub fn read_temporary(alloc: Global, word: &str) -> Result<Option<Mention>, AllocError>
+    ensures mention_or_none { IfOk result (λ mention. mention ≡ temporary_mention word.now) }
+{
+    match word.split_once(':') {
+        Some((path, options)) => temporary_at(alloc, path, options),
+        None => temporary_at(alloc, word, ""),
+    }
+}

@@ -1,0 +1,6 @@
+pub mod View
+pub mod Object
+pub mod Scan
+pub mod OnTheWay
+pub mod Rules
+pub mod Kept
