@@ -1,0 +1,84 @@
+-- Written paths are as their keys say: only four keys say what stands at a path.
+use Rattle.std.proofs.Common.{◌≡◌, ℕ, Bool, true, false, cond, Option, Some, None, List, [], ◌∷◌, refl, ap, ◌∙◌}
+use Rattle.std.specs.Prelude.{◌&&◌, ◌||◌, not, codes, unwrap_or}
+use Rattle.std.specs.List.{cons_option, list_all, list_any}
+use Rattle.std.specs.Option.{option_map}
+use Rattle.std.proofs.lemmas.List.Folds.{list_all-append}
+use Rattle.abs_path.specs.Paths.{Path}
+use Rattle.path_settings.specs.declared.keys.PathKey.{PathKey}
+use Rattle.path_settings.specs.declared.keys.PathKey.TheVariants.{ReadWritePaths, ReadOnlyPaths, InaccessiblePaths, ExecPaths, NoExecPaths, BindPaths, BindReadOnlyPaths, TemporaryFileSystem, StateDirectory, RuntimeDirectory, CacheDirectory, LogsDirectory}
+use Rattle.path_settings.specs.declared.mentions.Kind.{Kind}
+use Rattle.path_settings.specs.declared.mentions.Kind.TheVariants.{Ro, Rw, Exec, NoExec}
+use Rattle.path_settings.specs.declared.mentions.Mention.{Mention}
+use Rattle.path_settings.specs.Mentions.{is_origin}
+use Rattle.path_settings.specs.Marks.{is_marked, without}
+use Rattle.path_settings.specs.SettingPaths.{setting_path}
+use Rattle.path_settings.specs.Folders.{is_relative, text_below, folder_mention}
+use Rattle.path_settings.specs.Lists.{path_mention}
+use Rattle.path_settings.specs.Keys.{mention_of}
+use Rattle.mount_settings.specs.declared.written.WrittenPath.{WrittenPath}
+use Rattle.mount_settings.specs.Assigned.{Assigned, is_key}
+use Rattle.mount_settings.specs.Written.{split, paths_in, gives, is_reset_by, written}
+use Rattle.mount_settings.specs.Roots.{is_as_its_key, root_keys}
+
+-- what a key may say
+abbrev fits : PathKey → Option Mention → Bool
+fits key None = true
+fits key (Some mention) = is_as_its_key (record { key = key; mention = mention })
+
+or_true : (a : Bool) → (a || true) ≡ true
+or_true true = refl
+or_true false = refl
+
+-- a key among the four says what it likes
+any_fits : (key : PathKey) (mention : Option Mention) → list_any (is_key key) root_keys ≡ true → fits key mention ≡ true
+any_fits key None among = refl
+any_fits key (Some mention) among = ap (λ v. not (is_origin mention.kind) || v) among ∙ or_true (not (is_origin mention.kind))
+
+-- a kind that does not say what stands there fits each key
+use_fits : (key : PathKey) (kind : Kind) (optional : Bool) (path : Option Path) → is_origin kind ≡ false → fits key (option_map (λ place. record { path = place; kind = kind; optional = optional }) path) ≡ true
+use_fits key kind optional None plain = refl
+use_fits key kind optional (Some path) plain = ap (λ v. not v || list_any (is_key key) root_keys) plain
+
+path_fits : (key : PathKey) (kind : Kind) (word : List ℕ) → is_origin kind ≡ false → fits key (path_mention kind word) ≡ true
+path_fits key kind word plain = use_fits key kind (is_marked word) (setting_path (without (codes "+") (without (codes "-") word))) plain
+
+folder_fits : (key : PathKey) (folder name : List ℕ) → fits key (folder_mention folder name) ≡ true
+folder_fits key folder name =
+    elim (is_relative name) as (λ v. fits key (cond v (option_map (λ path. record { path = path; kind = Rw; optional = true }) (setting_path (text_below folder name))) None) ≡ true) [
+      | true ↦ use_fits key Rw true (setting_path (text_below folder name)) refl
+      | false ↦ refl
+    ]
+
+mention_fits : (key : PathKey) (word : List ℕ) → fits key (mention_of key word) ≡ true
+mention_fits ReadWritePaths word = path_fits ReadWritePaths Rw word refl
+mention_fits ReadOnlyPaths word = path_fits ReadOnlyPaths Ro word refl
+mention_fits InaccessiblePaths word = any_fits InaccessiblePaths (mention_of InaccessiblePaths word) refl
+mention_fits ExecPaths word = path_fits ExecPaths Exec word refl
+mention_fits NoExecPaths word = path_fits NoExecPaths NoExec word refl
+mention_fits BindPaths word = any_fits BindPaths (mention_of BindPaths word) refl
+mention_fits BindReadOnlyPaths word = any_fits BindReadOnlyPaths (mention_of BindReadOnlyPaths word) refl
+mention_fits TemporaryFileSystem word = any_fits TemporaryFileSystem (mention_of TemporaryFileSystem word) refl
+mention_fits StateDirectory word = folder_fits StateDirectory (codes "/var/lib") word
+mention_fits RuntimeDirectory word = folder_fits RuntimeDirectory (codes "/run") word
+mention_fits CacheDirectory word = folder_fits CacheDirectory (codes "/var/cache") word
+mention_fits LogsDirectory word = folder_fits LogsDirectory (codes "/var/log") word
+
+one_fits : (key : PathKey) (mention : Option Mention) (rest : List WrittenPath) → fits key mention ≡ true → list_all is_as_its_key rest ≡ true → list_all is_as_its_key (cons_option (option_map (λ m. record { key = key; mention = m }) mention) rest) ≡ true
+one_fits key None rest fit all = all
+one_fits key (Some mention) rest fit all = ap (λ v. v && list_all is_as_its_key rest) fit ∙ all
+
+words_fit : (key : PathKey) (words : List (List ℕ)) → list_all is_as_its_key (paths_in key words) ≡ true
+words_fit key [] = refl
+words_fit key (word ∷ words) = one_fits key (mention_of key word) (paths_in key words) (mention_fits key word) (words_fit key words)
+
+in_force_fit : (reset : Bool) (one : Assigned) → list_all is_as_its_key (cond reset [] (gives one)) ≡ true
+in_force_fit true one = refl
+in_force_fit false one = words_fit one.key (unwrap_or (split one.value.text) [])
+
+pub written_fit : (values : List Assigned) → list_all is_as_its_key (written values) ≡ true
+written_fit [] = refl
+written_fit (one ∷ later) =
+    list_all-append is_as_its_key (cond (is_reset_by later one.key) [] (gives one)) (written later)
+    ∙ ap (λ v. v && list_all is_as_its_key (written later)) (in_force_fit (is_reset_by later one.key) one)
+    ∙ written_fit later

@@ -1,0 +1,11 @@
+pub mod Passing
+pub mod Standing
+pub mod AsKeys
+pub mod Counting
+pub mod Placing
+pub mod SameKeys
+pub mod OwnValues
+pub mod KeyByKey
+pub mod Worked
+pub mod Optional
+pub mod WorkedUnits

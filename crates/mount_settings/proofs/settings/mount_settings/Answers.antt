@@ -1,0 +1,18 @@
+use Rattle.std.proofs.Common.{◌≤◌, List, length, ap, sym, ◌∙◌, subst}
+use Rattle.path_settings.specs.declared.mentions.Mention.{Mention}
+use Rattle.mount_settings.specs.Settings.{mentions_of}
+use Rattle.mount_settings.specs.Roots.{leaves_the_root}
+use Rattle.mount_settings.proofs.Counting.{few_mentions}
+use Rattle.mount_settings.proofs.Placing.{mentions_leave}
+use Rattle.mount_settings.proofs.settings.mount_settings.Goals as goal
+
+pub listed-requires : goal.listed-requires
+listed-requires c =
+    let P : List Mention → Type 0 = λ mentions. length mentions ≤ 160 in
+    subst P (sym c.in_ok-mentions.ensures) (few_mentions c.args.site.now c.args.switches c.in_effect-protections.result c.list-paths.result.now c.if-paths-gt-MOST_WRITTEN.false)
+
+pub returns-clause-leaves_the_root : goal.returns-clause-leaves_the_root
+returns-clause-leaves_the_root c = λ none.
+    ap leaves_the_root
+    (c.in_ok-listed.ensures ∙ c.in_ok-mentions.ensures ∙ ap (mentions_of c.args.site.now c.args.switches c.in_effect-protections.result) c.list-paths.ensures.all_in_order)
+    ∙ mentions_leave c.args.site.now c.args.switches c.in_effect-protections.result c.args.paths.now c.list-paths.ensures.each_is_as_its_key none

@@ -1,0 +1,23 @@
+use Rattle.std.proofs.Common.{[], ap, ◌∙◌, ◌++◌}
+use Rattle.std.specs.List.{cons_option}
+use Rattle.unit_values.proofs.OneMore.{added_by_all, added_by_some}
+use Rattle.mount_settings.specs.Written.{path_in}
+use Rattle.mount_settings.specs.Notes.{word_notes}
+use Rattle.mount_settings.proofs.written.add_words.Goals as goal
+
+pub words-preserved : goal.words-preserved
+words-preserved c =
+    let i = c.words.word-index in
+    let words = c.args.words.now in
+    let word = c.word-item.result in
+    let below = c.words-test.true in
+    let key = c.args.key in
+    let value = c.args.value.now in
+    record {
+      added =
+          added_by_some (path_in key) words i word c.args.paths.now.items _ _ below c.word-item.is c.words.invariant.added
+          (c.in_ok-add_word.ensures.added ∙ ap (λ w. c.words.paths.items ++ cons_option (path_in key w) []) c.as_str.ensures);
+      noted =
+          added_by_all (word_notes key value) words i word c.args.notes.now.items _ _ below c.word-item.is c.words.invariant.noted
+          (c.in_ok-add_word.ensures.noted ∙ ap (λ w. c.words.notes.items ++ word_notes key value w) c.as_str.ensures);
+    }

@@ -1,0 +1,14 @@
+pub mod Assigned
+pub mod Written
+pub mod Notes
+pub mod Steps
+pub mod Roots
+pub mod System
+pub mod Home
+pub mod Tmp
+pub mod Protections
+pub mod Effects
+pub mod Table
+pub mod Implied
+pub mod Settings
+pub mod OneKey

@@ -1,0 +1,45 @@
+-- What is noted of the keys that speak of paths.
+use Rattle.std.specs.Prelude.{ℕ, List, [], ◌∷◌, ◌++◌, Option, Some, None, flat_map}
+use Rattle.std.specs.List.{cons_option, enumerate_from}
+use Rattle.std.specs.Option.{option_map_or}
+use Rattle.path_settings.specs.declared.keys.PathKey.{PathKey}
+use Rattle.path_settings.specs.Keys.{mention_of}
+use Rattle.unit_grammar.specs.declared.unit.Assignment.{Assignment}
+use Rattle.unit_grammar.specs.declared.notes.NoteCause.TheVariants.{Value as ValueCause}
+use Rattle.unit_names.specs.Names.{Name}
+use Rattle.dropin_merge.specs.declared.resolved.Resolved.{Resolved}
+use Rattle.dropin_merge.specs.declared.resolved.UnitFile.{UnitFile}
+use Rattle.unit_values.specs.declared.value.FileNote.{FileNote}
+use Rattle.unit_values.specs.declared.value.Value.{Value}
+use Rattle.unit_values.specs.Values.{expanded_in, note_in}
+use Rattle.unit_values.specs.Notes.{notes_at}
+use Rattle.unit_values.specs.Lasting.{unless_read}
+use Rattle.mount_settings.specs.Assigned.{key_of}
+use Rattle.mount_settings.specs.Written.{split}
+
+-- a word that cannot be read is noted, at the place of its value
+abbrev pub word_notes : PathKey → Value → List ℕ → List FileNote
+word_notes key value word = notes_at value (unless_read (mention_of key word))
+
+-- a value that cannot be split is noted, and so is each word of another that cannot be read
+abbrev pub split_notes : PathKey → Value → Option (List (List ℕ)) → List FileNote
+split_notes key value None = notes_at value (ValueCause ∷ [])
+split_notes key value (Some words) = flat_map (word_notes key value) words
+
+abbrev pub value_notes : PathKey → Value → List FileNote
+value_notes key value = split_notes key value (split value.text)
+
+-- of an assignment to a key: that it cannot be expanded, or what is noted of its value
+abbrev pub given_notes : Name → ℕ → Assignment → PathKey → List FileNote
+given_notes name file assignment key =
+    cons_option (note_in name file assignment) [] ++ option_map_or (value_notes key) (expanded_in name file assignment) []
+
+abbrev pub notes_by : Name → ℕ → Assignment → List FileNote
+notes_by name file assignment = option_map_or (given_notes name file assignment) (key_of assignment) []
+
+abbrev pub notes_in : Name → ℕ → UnitFile → List FileNote
+notes_in name file text = flat_map (notes_by name file) text.text.assignments
+
+-- over all files, in the order of their assignments, those that are reset later among them
+unfoldable pub written_notes : Resolved → List FileNote
+written_notes unit = flat_map (λ place. notes_in unit.name place.0 place.1) (enumerate_from 0 unit.files)

@@ -1,0 +1,50 @@
+-- The keys that protect the file system, read together, and what a dynamic user adds (systemd.exec(5), DynamicUser=).
+use Rattle.std.specs.Prelude.{Bool, true, false, codes, List, [], ◌++◌}
+use Rattle.dropin_merge.specs.declared.resolved.Resolved.{Resolved}
+use Rattle.unit_values.specs.declared.value.FileNote.{FileNote}
+use Rattle.unit_values.specs.Flags.{unit_flag, unit_flag_notes}
+use Rattle.mount_settings.specs.declared.system.SystemProtection.TheVariants.{Strict}
+use Rattle.mount_settings.specs.declared.home.HomeProtection.{HomeProtection}
+use Rattle.mount_settings.specs.declared.home.HomeProtection.TheVariants.{No, Yes, ReadOnly, Tmpfs}
+use Rattle.mount_settings.specs.declared.protections.Protections.{Protections}
+use Rattle.mount_settings.specs.System.{unit_system, unit_system_notes}
+use Rattle.mount_settings.specs.Home.{unit_home, unit_home_notes}
+use Rattle.mount_settings.specs.Tmp.{unit_tmp, unit_tmp_notes}
+
+-- what the files of a unit say
+unfoldable pub unit_protections : Resolved → Protections
+unit_protections unit =
+    record {
+      protect_system = unit_system unit;
+      protect_home = unit_home unit;
+      private_tmp = unit_tmp unit;
+      protect_kernel_tunables = unit_flag unit (codes "ProtectKernelTunables");
+      protect_control_groups = unit_flag unit (codes "ProtectControlGroups");
+    }
+
+-- and what is noted, key by key
+unfoldable pub protection_notes : Resolved → List FileNote
+protection_notes unit =
+    unit_system_notes unit
+    ++ (unit_home_notes unit
+    ++ (unit_tmp_notes unit
+    ++ (unit_flag_notes unit (codes "ProtectKernelTunables") ++ (unit_flag_notes unit (codes "ProtectControlGroups") ++ []))))
+
+-- the homes are at least read-only
+abbrev pub raised : HomeProtection → HomeProtection
+raised No = ReadOnly
+raised Yes = Yes
+raised ReadOnly = ReadOnly
+raised Tmpfs = Tmpfs
+
+-- with a dynamic user the system is strictly protected, and temporary files are the service's own, whatever the keys say
+abbrev pub in_effect : Bool → Protections → Protections
+in_effect false said = said
+in_effect true said =
+    record {
+      protect_system = Strict;
+      protect_home = raised said.protect_home;
+      private_tmp = true;
+      protect_kernel_tunables = said.protect_kernel_tunables;
+      protect_control_groups = said.protect_control_groups;
+    }

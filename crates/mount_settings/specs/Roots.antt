@@ -1,0 +1,34 @@
+-- Mentions that would put something in the place of the root, which is the host's (systemd.exec(5), BindPaths= and its kin).
+use Rattle.std.specs.Prelude.{◌&&◌, ◌||◌, not, Bool, true, false, List, [], ◌∷◌, Option, find}
+use Rattle.std.specs.List.{list_any, list_all}
+use Rattle.abs_path.specs.Paths.{Path}
+use Rattle.path_settings.specs.declared.keys.PathKey.{PathKey}
+use Rattle.path_settings.specs.declared.keys.PathKey.TheVariants.{InaccessiblePaths, BindPaths, BindReadOnlyPaths, TemporaryFileSystem}
+use Rattle.path_settings.specs.declared.mentions.Mention.{Mention}
+use Rattle.path_settings.specs.Mentions.{is_origin}
+use Rattle.mount_settings.specs.declared.written.WrittenPath.{WrittenPath}
+use Rattle.mount_settings.specs.Assigned.{is_key}
+
+-- the keys that say what stands at a path, in byte order of their names
+abbrev pub root_keys : List PathKey
+root_keys = BindPaths ∷ BindReadOnlyPaths ∷ InaccessiblePaths ∷ TemporaryFileSystem ∷ []
+
+abbrev pub is_root : Path → Bool
+is_root [] = true
+is_root (part ∷ path) = false
+
+-- the key mentions the root: for a bind, as the place where it stands
+abbrev pub mentions_root : List WrittenPath → PathKey → Bool
+mentions_root paths key = list_any (λ path. is_key path.key key && is_root path.mention.path) paths
+
+-- the first such key
+abbrev pub root_key : List WrittenPath → Option PathKey
+root_key paths = find (mentions_root paths) root_keys
+
+-- only these keys hide a path, empty it or put another one there
+abbrev pub is_as_its_key : WrittenPath → Bool
+is_as_its_key path = not (is_origin path.mention.kind) || list_any (is_key path.key) root_keys
+
+-- no mention says what stands at the root
+abbrev pub leaves_the_root : List Mention → Bool
+leaves_the_root mentions = list_all (λ mention. not (is_root mention.path && is_origin mention.kind)) mentions

@@ -1,0 +1,91 @@
+//! What a protection does at a path.
+ghost use Rattle.std.specs.Prelude.{◌≡◌, ◌++◌, [], map, filter, IfOk, OnOk};
+ghost use Rattle.std.specs.List.{cons_option};
+ghost use Rattle.mount_settings.specs.Effects.{kind_at, mention_at, brings, has_row, stands};
+
+use abs_path::AbsPath;
+use path_settings::{Kind, Mention, read_setting_path};
+use site_table::SiteTable;
+use std::alloc::{AllocError, Global};
+
+/// What a protection does at a path.
+#[derive(Clone, Copy, Debug, PartialEq, Eq)]
+pub(crate) enum Effect {
+    ReadOnly,
+    Writable,
+    NotExecutable,
+    Hidden,
+    Empty { read_only: bool },
+    /// The host's object stands there, also below an empty file system.
+    Shown,
+}
+
+fn kind_at(alloc: Global, effect: Effect, path: &AbsPath) -> Result<Kind, AllocError>
+    ensures { IfOk result (λ kind. kind ≡ kind_at effect path.now) }
+{
+    Ok(match effect {
+        Effect::ReadOnly => Kind::Ro,
+        Effect::Writable => Kind::Rw,
+        Effect::NotExecutable => Kind::NoExec,
+        Effect::Hidden => Kind::Hide,
+        Effect::Empty { read_only } => Kind::Tmp { read_only },
+        Effect::Shown => Kind::Bind {
+            source: path.copy(alloc)?,
+            read_only: false,
+        },
+    })
+}
+
+/// Whether the site has a row at a path.
+pub(crate) fn has_row(site: &SiteTable, path: &AbsPath) -> bool
+    ensures { result ≡ has_row site.now path.now }
+{
+    site.find(path, "").is_some()
+}
+
+fn mention_at(alloc: Global, effect: Effect, text: &str) -> Result<Option<Mention>, AllocError>
+    ensures { IfOk result (λ mention. mention ≡ mention_at effect text.now) }
+{
+    let Some(path) = read_setting_path(alloc, text)? else {
+        return Ok(None);
+    };
+    let kind = kind_at(alloc, effect, &path)?;
+    Ok(Some(Mention {
+        path,
+        kind,
+        optional: true,
+    }))
+}
+
+// Adds a mention, if there is one and the site has its path.
+fn add_standing(
+    site: &SiteTable,
+    mention: Option<Mention>,
+    mentions: &mut Vec<Mention>,
+) -> Result<(), AllocError>
+    ensures { OnOk result (mentions.new.items ≡ mentions.old.items ++ filter (stands site.now) (cons_option mention [])) }
+{
+    if let Some(mention) = mention {
+        if has_row(site, &mention.path) {
+            mentions.push(mention)?;
+        }
+    }
+    Ok(())
+}
+
+/// Adds what a protection does at each of these paths that the site has.
+pub(crate) fn bring(
+    alloc: Global,
+    site: &SiteTable,
+    effect: Effect,
+    texts: &[&str],
+    mentions: &mut Vec<Mention>,
+) -> Result<(), AllocError>
+    ensures { OnOk result (mentions.new.items ≡ mentions.old.items ++ filter (stands site.now) (brings effect (map (λ text. text.now) texts.now))) }
+{
+    'texts: for text in texts {
+        let mention = mention_at(alloc, effect, text)?;
+        add_standing(site, mention, mentions)?;
+    }
+    Ok(())
+}

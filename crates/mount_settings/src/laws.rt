@@ -1,0 +1,32 @@
+//! Laws of written and implied paths, each the contract of a function that does nothing.
+
+ghost use Rattle.std.specs.Prelude.{◌≡◌, ◌+◌, ◌≤◌, true, List, length};
+ghost use Rattle.std.specs.List.{list_all};
+ghost use Rattle.path_settings.specs.declared.keys.PathKey.{PathKey};
+ghost use Rattle.path_settings.specs.Keys.{name_of};
+ghost use Rattle.dropin_merge.specs.declared.resolved.Resolved.{Resolved};
+ghost use Rattle.site_table.specs.Table.{Site};
+ghost use Rattle.unit_values.specs.Values.{values_of};
+ghost use Rattle.mount_settings.specs.declared.protections.Protections.{Protections};
+ghost use Rattle.mount_settings.specs.declared.protections.Switches.{Switches};
+ghost use Rattle.mount_settings.specs.declared.written.WrittenPath.{WrittenPath};
+ghost use Rattle.mount_settings.specs.Assigned.{assigned_of};
+ghost use Rattle.mount_settings.specs.Effects.{stands};
+ghost use Rattle.mount_settings.specs.Implied.{implied};
+ghost use Rattle.mount_settings.specs.Written.{of_key, unit_written};
+ghost use Rattle.mount_settings.specs.OneKey.{values_to, listed_by};
+ghost use Rattle.mount_settings.specs.Settings.{mentions_of};
+
+/// Key by key, the values that are assigned are those that `values_of_key` has, and the paths that are written are
+/// those of the words behind the key's last empty value: no other key changes what a key says.
+pub fn each_key_by_itself()
+    ensures its_own_values { (unit : Resolved) (key : PathKey) → values_to key (assigned_of unit) ≡ values_of unit (name_of key) }
+    ensures its_words_in_force { (unit : Resolved) (key : PathKey) → of_key key (unit_written unit) ≡ listed_by key (values_of unit (name_of key)) }
+{}
+
+/// An implied mention is optional, its path is a row of the site, and there are at most 31 beside those of folders.
+pub fn implied_mentions()
+    ensures optional { (site : Site) (switches : Switches) (protections : Protections) (unit : Resolved) → list_all (λ mention. mention.optional) (implied site switches protections (unit_written unit)) ≡ true }
+    ensures have_rows { (site : Site) (switches : Switches) (protections : Protections) (unit : Resolved) → list_all (stands site) (implied site switches protections (unit_written unit)) ≡ true }
+    ensures at_most_31_more { (site : Site) (switches : Switches) (protections : Protections) (paths : List WrittenPath) → length (mentions_of site switches protections paths) ≤ length paths + 31 }
+{}

@@ -1,0 +1,35 @@
+//! What the keys of a unit say of paths, as the mentions that its mounts are planned by.
+//!
+//! Paths that are written stand in the order of their assignments over all files, and behind them those that the
+//! protections of the file system and the folder keys imply (systemd.exec(5), Sandboxing). It stands on `unit_values`
+//! for values, on `path_settings` for words, and on `site_table` for the rows that implied paths need.
+//!
+//! `written_paths(alloc, &unit, &mut notes)?` has the written ones; `root_key` and `mount_settings` go on from them.
+#![tactic(auto)]
+
+mod assigned;
+mod effects;
+mod error;
+mod files;
+mod home;
+mod implied;
+pub mod laws;
+mod protections;
+mod roots;
+mod settings;
+mod system;
+mod table;
+mod tmp;
+mod written;
+
+pub use error::MountSettingsError;
+pub use files::written_paths;
+pub use home::HomeProtection;
+pub use protections::{Protections, Switches};
+pub use roots::root_key;
+pub use settings::{MountSettings, mount_settings};
+pub use system::SystemProtection;
+pub use written::{WrittenPath, WrittenPaths};
+
+#[cfg(test)]
+mod tests;

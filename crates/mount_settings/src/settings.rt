@@ -1,0 +1,119 @@
+//! All mentions of a unit's settings.
+ghost use Rattle.std.specs.Prelude.{◌≡◌, ◌≢◌, ◌↔◌, ◌<◌, ◌≤◌, ◌++◌, ◌∷◌, [], None, not, length, filter, IfOk, OnOk, IsErrOf, IsTrue};
+ghost use Rattle.path_settings.specs.Keys.{is_implied};
+ghost use Rattle.mount_settings.specs.Protections.{protection_notes};
+ghost use Rattle.mount_settings.specs.Settings.{as_written, mentions_of, protections_of};
+ghost use Rattle.mount_settings.specs.Roots.{leaves_the_root, root_key as first_root_key};
+
+use crate::error::MountSettingsError;
+use crate::implied::bring_implied;
+use crate::protections::{Protections, Switches, in_effect, read_protections};
+use crate::written::{WrittenPath, WrittenPaths};
+use dropin_merge::Resolved;
+use path_settings::{Mention, MentionError, Mentions};
+use site_table::SiteTable;
+use std::alloc::{AllocError, Global};
+use unit_values::FileNote;
+
+/// How many written paths there are at most.
+const MOST_WRITTEN: usize = 128;
+
+/// What the settings of a unit say of paths.
+#[derive(Drop)]
+pub struct MountSettings {
+    /// The protections that are in effect.
+    pub protections: Protections,
+    /// What is written of paths, and behind it what is implied.
+    pub mentions: Mentions,
+}
+
+// Adds a path that is written, unless it is implied.
+fn add_written(
+    alloc: Global,
+    path: &WrittenPath,
+    mentions: &mut Vec<Mention>,
+) -> Result<(), AllocError>
+    ensures { OnOk result (mentions.new.items ≡ mentions.old.items ++ as_written (path.now ∷ [])) }
+{
+    if !path.key.is_implied() {
+        mentions.push(path.mention.copy(alloc)?)?;
+    }
+    Ok(())
+}
+
+// The mentions of the written paths.
+fn written_mentions(alloc: Global, paths: &[WrittenPath]) -> Result<Vec<Mention>, AllocError>
+    ensures { IfOk result (λ mentions. mentions.items ≡ as_written paths.now) }
+{
+    let mut mentions = Vec::new(alloc);
+    'paths: for path in paths {
+        add_written(alloc, path, &mut mentions)?;
+    }
+    Ok(mentions)
+}
+
+// Written and implied mentions.
+#[tactic(auto, unfolding(crate::specs::Settings::mentions_of))]
+fn all_mentions(
+    alloc: Global,
+    site: &SiteTable,
+    switches: Switches,
+    protections: Protections,
+    paths: &[WrittenPath],
+) -> Result<Vec<Mention>, AllocError>
+    ensures { IfOk result (λ mentions. mentions.items ≡ mentions_of site.now switches protections paths.now) }
+{
+    let mut mentions = written_mentions(alloc, paths)?;
+    bring_implied(alloc, site, switches, protections, paths, &mut mentions)?;
+    Ok(mentions)
+}
+
+// The list of these mentions, of which there are few enough.
+fn listed(alloc: Global, mentions: Vec<Mention>) -> Result<Mentions, AllocError>
+    requires { length mentions.items ≤ 160 }
+    ensures { IfOk result (λ list. list ≡ mentions.items) }
+{
+    let mut list = Mentions::new(alloc);
+    'mentions: for mention in mentions {
+        match list.add(mention) {
+            Ok(()) => {}
+            Err(MentionError::Memory) => return Err(AllocError),
+            Err(MentionError::Full) => unreachable!(),
+        }
+    }
+    Ok(list)
+}
+
+/// What the settings of a unit say of paths: what is written, as `written_paths` has it, and behind it what the
+/// protections and the folder keys imply (systemd.exec(5), Sandboxing).
+///
+/// An implied path is passed over where the site has no row for it, and is optional otherwise. TooManyPaths where
+/// more than 128 paths are written, those of folders that the site does not have among them. What cannot be read of
+/// ProtectSystem=, ProtectHome=, PrivateTmp=, ProtectKernelTunables= and ProtectControlGroups= is noted behind the
+/// notes that are there. Whether `/` is mentioned as it must not be is told by `root_key`.
+pub fn mount_settings(
+    alloc: Global,
+    unit: &Resolved,
+    paths: &WrittenPaths,
+    site: &SiteTable,
+    switches: Switches,
+    notes: &mut Vec<FileNote>,
+) -> Result<MountSettings, MountSettingsError>
+    ensures written_then_implied { IfOk result (λ made. made.mentions ≡ mentions_of site.now switches (protections_of unit.now switches) paths.now) }
+    ensures protections_in_effect { IfOk result (λ made. made.protections ≡ protections_of unit.now switches) }
+    ensures notes_the_unread { OnOk result (notes.new.items ≡ notes.old.items ++ protection_notes unit.now) }
+    ensures leaves_the_root { IfOk result (λ made. first_root_key paths.now ≡ None → IsTrue (leaves_the_root made.mentions)) }
+    ensures too_many_exactly_above_128 { IsErrOf result MountSettingsError.TooManyPaths ↔ (128 < length paths.now) }
+{
+    let paths = paths.list();
+    if paths.len() > MOST_WRITTEN {
+        return Err(MountSettingsError::TooManyPaths);
+    }
+    let said = read_protections(alloc, unit, notes)?;
+    let protections = in_effect(switches.dynamic_user, said);
+    let mentions = all_mentions(alloc, site, switches, protections, paths)?;
+    Ok(MountSettings {
+        protections,
+        mentions: listed(alloc, mentions)?,
+    })
+}

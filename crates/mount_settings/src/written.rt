@@ -1,0 +1,134 @@
+//! Paths that are written in the files of a unit, each with its key.
+ghost use Rattle.std.specs.Prelude.{◌≡◌, ◌++◌, ◌==◌, [], not, filter, flat_map, IfOk, OnOk, IsTrue};
+ghost use Rattle.std.specs.List.{cons_option, filter_map, list_all};
+ghost use Rattle.path_settings.specs.Keys.{mention_of};
+ghost use Rattle.mount_settings.specs.Assigned.{is_key};
+ghost use Rattle.mount_settings.specs.Written.{path_in, paths_in};
+ghost use Rattle.mount_settings.specs.Notes.{word_notes, value_notes};
+ghost use Rattle.mount_settings.specs.Roots.{is_as_its_key};
+ghost use Rattle.mount_settings.specs.Steps.{without_key, with_value};
+
+use path_settings::{Mention, PathKey, read_mention};
+use std::alloc::{AllocError, Global};
+use std::marker::Model;
+use unit_grammar::{NoteCause, Text};
+use unit_values::{FileNote, Value, note_value, read_words};
+
+/// A path that is written in a file of a unit.
+#[derive(Drop)]
+pub struct WrittenPath {
+    /// The key that mentions it.
+    pub key: PathKey,
+    /// What the key says of it.
+    pub mention: Mention,
+}
+
+/// The paths that are written in the files of a unit and are in force, which contracts see as a list.
+#[derive(Drop)]
+pub struct WrittenPaths {
+    items: Vec<WrittenPath>,
+}
+
+impl Model for WrittenPaths {
+    ghost use Rattle.std.specs.Prelude.{◌≡◌, true, List};
+    ghost use Rattle.std.specs.List.{list_all};
+    ghost use Rattle.mount_settings.specs.declared.written.WrittenPath.{WrittenPath};
+    ghost use Rattle.mount_settings.specs.Roots.{is_as_its_key};
+
+    ghost Value = { List WrittenPath };
+
+    ghost view = { λ paths. paths.items.items };
+
+    ghost invariant = { λ paths. list_all is_as_its_key paths.items.items ≡ true };
+}
+
+impl WrittenPaths {
+    // The paths of a list.
+    pub(crate) fn new(items: Vec<WrittenPath>) -> WrittenPaths
+        requires { IsTrue (list_all is_as_its_key items.items) }
+        ensures { result ≡ items.items }
+    {
+        WrittenPaths { items }
+    }
+
+    /// The paths in their order. Only the keys that say what stands at a path hide it, empty it or put another there.
+    pub fn list(&self) -> &[WrittenPath]
+        ensures all_in_order { result.now ≡ self.now }
+        ensures each_is_as_its_key { IsTrue (list_all is_as_its_key self.now) }
+    {
+        &self.items
+    }
+}
+
+/// Whether two keys are the same.
+pub(crate) fn is_key(one: PathKey, other: PathKey) -> bool
+    ensures { result ≡ is_key one other }
+{
+    one.name() == other.name()
+}
+
+// Takes the paths of a key away.
+fn forget(key: PathKey, paths: &mut Vec<WrittenPath>)
+    ensures { paths.new.items ≡ without_key key paths.old.items }
+{
+    paths.retain(|path| !is_key(path.key, key));
+}
+
+// Puts the path of a word behind the others, or notes the word.
+fn add_word(
+    alloc: Global,
+    key: PathKey,
+    word: &str,
+    value: &Value,
+    paths: &mut Vec<WrittenPath>,
+    notes: &mut Vec<FileNote>,
+) -> Result<(), AllocError>
+    ensures added { OnOk result (paths.new.items ≡ paths.old.items ++ cons_option (path_in key word.now) []) }
+    ensures noted { OnOk result (notes.new.items ≡ notes.old.items ++ word_notes key value.now word.now) }
+{
+    match read_mention(alloc, key, word)? {
+        Some(mention) => paths.push(WrittenPath { key, mention })?,
+        None => note_value(notes, value, NoteCause::Value)?,
+    }
+    Ok(())
+}
+
+// Puts the paths of the words of a value behind the others.
+fn add_words(
+    alloc: Global,
+    key: PathKey,
+    words: &[Text],
+    value: &Value,
+    paths: &mut Vec<WrittenPath>,
+    notes: &mut Vec<FileNote>,
+) -> Result<(), AllocError>
+    ensures added { OnOk result (paths.new.items ≡ paths.old.items ++ paths_in key words.now) }
+    ensures noted { OnOk result (notes.new.items ≡ notes.old.items ++ flat_map (word_notes key value.now) words.now) }
+{
+    'words: for word in words {
+        add_word(alloc, key, word.as_str(), value, paths, notes)?;
+    }
+    Ok(())
+}
+
+/// What one more value of a key does: an empty one takes the paths of the key away, and the paths of the words of any
+/// other are put behind.
+pub(crate) fn add_value(
+    alloc: Global,
+    key: PathKey,
+    value: &Value,
+    paths: &mut Vec<WrittenPath>,
+    notes: &mut Vec<FileNote>,
+) -> Result<(), AllocError>
+    ensures means { OnOk result (paths.new.items ≡ with_value paths.old.items (record { key = key; value = value.now })) }
+    ensures noted { OnOk result (notes.new.items ≡ notes.old.items ++ value_notes key value.now) }
+{
+    if value.text.as_str().is_empty() {
+        forget(key, paths);
+        return Ok(());
+    }
+    match read_words(alloc, value.text.as_str())? {
+        Some(words) => add_words(alloc, key, words.list(), value, paths, notes),
+        None => note_value(notes, value, NoteCause::Value),
+    }
+}
