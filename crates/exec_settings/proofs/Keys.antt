@@ -1,6 +1,6 @@
 -- Keys that are gone through in their order.
-use Rattle.std.proofs.Common.{◌≡◌, ℕ, ◌+◌, ◌<◌, ◌≤◌, Bool, true, false, cond, List, [], ◌∷◌, length, get_or, drop, map, Option, None, Some, sym, ap, ◌∙◌, add-one}
-use Rattle.std.specs.Prelude.{◌||◌, find}
+use Rattle.std.proofs.Common.{◌≡◌, ℕ, ◌+◌, ◌<◌, ◌≤◌, Bool, true, false, List, [], ◌∷◌, length, get_or, drop, map, sym, ap, ◌∙◌, add-one}
+use Rattle.std.specs.Prelude.{◌||◌}
 use Rattle.std.specs.List.{list_any}
 use Rattle.std.proofs.Math.ListN.{drop_of_length-le}
 use Rattle.std.proofs.Math.Seq.{drop-cons}
@@ -8,11 +8,6 @@ use denote.Ref.{Bor}
 
 abbrev pub texts : List (Bor (List ℕ)) → List (List ℕ)
 texts keys = map (λ key. key.now) keys
-
--- one that is there, or another
-abbrev pub chosen : Option (List ℕ) → Option (List ℕ) → Option (List ℕ)
-chosen None other = other
-chosen (Some key) other = Some key
 
 -- the keys from a place on
 module _ (keys : List (Bor (List ℕ))) (i : ℕ) (d : Bor (List ℕ)) (lt : i < length keys) where
@@ -23,12 +18,6 @@ module _ (keys : List (Bor (List ℕ))) (i : ℕ) (d : Bor (List ℕ)) (lt : i <
   from = ap texts (drop-cons keys i d lt) ∙ ap (λ j. here ∷ texts (drop j keys)) (sym (add-one i))
 
   module _ (p : List ℕ → Bool) where
-    pub find_later : (first : Option (List ℕ)) → p here ≡ false → find p (texts (drop i keys)) ≡ first → find p (texts (drop (i + 1) keys)) ≡ first
-    find_later first fails held = ap (λ b. cond b (Some here) (find p (texts (drop (i + 1) keys)))) (sym fails) ∙ ap (find p) (sym from) ∙ held
-
-    pub find_here : (first : Option (List ℕ)) → p here ≡ true → find p (texts (drop i keys)) ≡ first → Some here ≡ first
-    find_here first passes held = ap (λ b. cond b (Some here) (find p (texts (drop (i + 1) keys)))) (sym passes) ∙ ap (find p) (sym from) ∙ held
-
     pub any_later : (found : Bool) → p here ≡ false → list_any p (texts (drop i keys)) ≡ found → list_any p (texts (drop (i + 1) keys)) ≡ found
     any_later found fails held = ap (λ b. b || list_any p (texts (drop (i + 1) keys))) (sym fails) ∙ ap (list_any p) (sym from) ∙ held
 
@@ -37,9 +26,6 @@ module _ (keys : List (Bor (List ℕ))) (i : ℕ) (d : Bor (List ℕ)) (lt : i <
 
 none_left : (keys : List (Bor (List ℕ))) (i : ℕ) → length keys ≤ i → texts (drop i keys) ≡ []
 none_left keys i le = ap texts (drop_of_length-le keys le)
-
-pub find_nowhere : (p : List ℕ → Bool) (keys : List (Bor (List ℕ))) (i : ℕ) (first : Option (List ℕ)) → length keys ≤ i → find p (texts (drop i keys)) ≡ first → None ≡ first
-find_nowhere p keys i first le held = ap (find p) (sym (none_left keys i le)) ∙ held
 
 pub any_nowhere : (p : List ℕ → Bool) (keys : List (Bor (List ℕ))) (i : ℕ) (found : Bool) → length keys ≤ i → list_any p (texts (drop i keys)) ≡ found → false ≡ found
 any_nowhere p keys i found le held = ap (list_any p) (sym (none_left keys i le)) ∙ held

@@ -2,6 +2,9 @@ pub mod Keys
 pub mod Lasts
 pub mod Launching
 pub mod Noted
+pub mod Mounted
+pub mod Outside
 pub mod Prefixed
 pub mod Reasons
 pub mod Seen
+pub mod Whole

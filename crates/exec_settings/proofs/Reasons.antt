@@ -3,62 +3,66 @@ use Rattle.std.proofs.Common.{◌≡◌, ℕ, Option, Some, None, List, [], ◌�
 use Rattle.std.specs.Option.{option_map}
 use Rattle.call_table.specs.Table.{Table}
 use Rattle.dropin_merge.specs.declared.resolved.Resolved.{Resolved}
-use Rattle.filter_settings.specs.Settings.{settings_of}
 use Rattle.site_table.specs.Table.{Site}
 use Rattle.exec_settings.specs.declared.errors.SettingsError.{SettingsError}
-use Rattle.exec_settings.specs.declared.errors.SettingsError.TheVariants.{Unbuilt, NoCommand, PrivilegedCommand, OutsideProfile, NoSuchUser, NoSuchGroup, MissingGroup, Memory}
+use Rattle.exec_settings.specs.declared.errors.SettingsError.TheVariants.{NoCommand, PrivilegedCommand, OutsideProfile, NoSuchUser, NoSuchGroup, MissingGroup, TooManyPaths, Memory}
+use Rattle.exec_settings.specs.Dynamic.{unit_filters}
 use Rattle.exec_settings.specs.Groups.{missing_group}
+use Rattle.exec_settings.specs.Mounts.{paths_refusal}
 use Rattle.exec_settings.specs.Refusals.{IsReason, command_refusal, first_reason, identity_refusal, refusal_of}
-use Rattle.exec_settings.specs.Unbuilt.{unbuilt_key}
 
-abbrev four : Option (List ℕ) → Option SettingsError → Option SettingsError → Option (List ℕ) → Option SettingsError
-four key command identity name = first_reason (option_map Unbuilt key ∷ command ∷ identity ∷ option_map MissingGroup name ∷ [])
+abbrev four : Option SettingsError → Option SettingsError → Option (List ℕ) → Option SettingsError → Option SettingsError
+four command identity name paths = first_reason (command ∷ identity ∷ option_map MissingGroup name ∷ paths ∷ [])
+
+alone : (reason : Option SettingsError) → first_reason (reason ∷ []) ≡ reason
+alone None = refl
+alone (Some reason) = refl
 
 module _ (unit : Resolved) (table : Table) (site : Site) where
   abbrev missing : Option (List ℕ)
-  missing = missing_group table (settings_of unit table)
+  missing = missing_group table (unit_filters unit table)
 
-  reasons : refusal_of unit table site ≡ four (unbuilt_key unit) (command_refusal unit) (identity_refusal unit site) missing
+  reasons : refusal_of unit table site ≡ four (command_refusal unit) (identity_refusal unit site) missing (paths_refusal unit)
   unfolding refusal_of
   reasons = refl
-
-  pub unbuilt_first : (key : List ℕ) → unbuilt_key unit ≡ Some key → refusal_of unit table site ≡ Some (Unbuilt key)
-  unbuilt_first key is = reasons ∙ ap (λ o. four o (command_refusal unit) (identity_refusal unit site) missing) is
 
   -- an error that is the reason of a part is the whole reason
   as_reason : (part : Option SettingsError) (error : SettingsError) → ((found : SettingsError) → part ≡ Some found → refusal_of unit table site ≡ Some found) → IsReason part error → IsReason (refusal_of unit table site) error
   as_reason part Memory whole is = is
   as_reason part NoCommand whole is = whole NoCommand is
   as_reason part PrivilegedCommand whole is = whole PrivilegedCommand is
-  as_reason part (Unbuilt key) whole is = whole (Unbuilt key) is
+  as_reason part TooManyPaths whole is = whole TooManyPaths is
   as_reason part (OutsideProfile key) whole is = whole (OutsideProfile key) is
   as_reason part (NoSuchUser word) whole is = whole (NoSuchUser word) is
   as_reason part (NoSuchGroup word) whole is = whole (NoSuchGroup word) is
   as_reason part (MissingGroup name) whole is = whole (MissingGroup name) is
 
-  -- where every setting is read
-  module _ (built : unbuilt_key unit ≡ None) where
-    behind_built : refusal_of unit table site ≡ four None (command_refusal unit) (identity_refusal unit site) missing
-    behind_built = reasons ∙ ap (λ o. four o (command_refusal unit) (identity_refusal unit site) missing) built
+  pub command_first : (error : SettingsError) → IsReason (command_refusal unit) error → IsReason (refusal_of unit table site) error
+  command_first error is = as_reason (command_refusal unit) error (λ found e. reasons ∙ ap (λ o. four o (identity_refusal unit site) missing (paths_refusal unit)) e) is
 
-    pub command_next : (error : SettingsError) → IsReason (command_refusal unit) error → IsReason (refusal_of unit table site) error
-    command_next error is = as_reason (command_refusal unit) error (λ found e. behind_built ∙ ap (λ o. four None o (identity_refusal unit site) missing) e) is
+  -- where the command is launched
+  module _ (launched : command_refusal unit ≡ None) where
+    behind_launched : refusal_of unit table site ≡ four None (identity_refusal unit site) missing (paths_refusal unit)
+    behind_launched = reasons ∙ ap (λ o. four o (identity_refusal unit site) missing (paths_refusal unit)) launched
 
-    -- and the command is launched
-    module _ (launched : command_refusal unit ≡ None) where
-      behind_launched : refusal_of unit table site ≡ four None None (identity_refusal unit site) missing
-      behind_launched = behind_built ∙ ap (λ o. four None o (identity_refusal unit site) missing) launched
+    pub identity_next : (error : SettingsError) → IsReason (identity_refusal unit site) error → IsReason (refusal_of unit table site) error
+    identity_next error is = as_reason (identity_refusal unit site) error (λ found e. behind_launched ∙ ap (λ o. four None o missing (paths_refusal unit)) e) is
 
-      pub identity_next : (error : SettingsError) → IsReason (identity_refusal unit site) error → IsReason (refusal_of unit table site) error
-      identity_next error is = as_reason (identity_refusal unit site) error (λ found e. behind_launched ∙ ap (λ o. four None None o missing) e) is
+    -- as somebody
+    module _ (somebody : identity_refusal unit site ≡ None) where
+      behind_somebody : refusal_of unit table site ≡ four None None missing (paths_refusal unit)
+      behind_somebody = behind_launched ∙ ap (λ o. four None o missing (paths_refusal unit)) somebody
 
-      -- as somebody
-      module _ (somebody : identity_refusal unit site ≡ None) where
-        behind_somebody : refusal_of unit table site ≡ four None None None missing
-        behind_somebody = behind_launched ∙ ap (λ o. four None None o missing) somebody
+      pub missing_next : (name : List ℕ) → missing_group table (unit_filters unit table) ≡ Some name → refusal_of unit table site ≡ Some (MissingGroup name)
+      missing_next name is = behind_somebody ∙ ap (λ o. four None None o (paths_refusal unit)) is
 
-        pub missing_last : (name : List ℕ) → missing_group table (settings_of unit table) ≡ Some name → refusal_of unit table site ≡ Some (MissingGroup name)
-        missing_last name is = behind_somebody ∙ ap (four None None None) is
+      -- with all groups of calls
+      module _ (grouped : missing_group table (unit_filters unit table) ≡ None) where
+        behind_groups : refusal_of unit table site ≡ paths_refusal unit
+        behind_groups = behind_somebody ∙ ap (λ o. four None None o (paths_refusal unit)) grouped ∙ alone (paths_refusal unit)
 
-        pub no_reason : missing_group table (settings_of unit table) ≡ None → refusal_of unit table site ≡ None
-        no_reason is = behind_somebody ∙ ap (four None None None) is
+        pub paths_last : (error : SettingsError) → IsReason (paths_refusal unit) error → IsReason (refusal_of unit table site) error
+        paths_last error is = as_reason (paths_refusal unit) error (λ found e. behind_groups ∙ e) is
+
+        pub no_reason : paths_refusal unit ≡ None → refusal_of unit table site ≡ None
+        no_reason is = behind_groups ∙ is

@@ -7,8 +7,10 @@ use Rattle.unit_grammar.specs.declared.unit.Assignment.{Assignment}
 use Rattle.dropin_merge.specs.declared.resolved.Resolved.{Resolved}
 use Rattle.dropin_merge.specs.declared.resolved.UnitFile.{UnitFile}
 use Rattle.unit_values.specs.declared.value.FileNote.{FileNote}
-use Rattle.exec_settings.specs.Profile.{outside_keys}
-use Rattle.exec_settings.specs.Unbuilt.{unbuilt_keys}
+use Rattle.path_settings.specs.Keys.{name_of}
+use Rattle.path_settings.specs.declared.keys.TheConstants.{ALL_PATH_KEYS}
+use Rattle.exec_settings.specs.OutsideKeys.{name_of as outside_name}
+use Rattle.exec_settings.specs.declared.outside_keys.TheConstants.{ALL_OUTSIDE_KEYS}
 
 -- the keys of the filters of system calls
 unfoldable pub filter_keys : List (List ℕ)
@@ -25,9 +27,23 @@ unfoldable pub credential_keys : List (List ℕ)
 credential_keys =
     codes "AmbientCapabilities" ∷ codes "CapabilityBoundingSet" ∷ codes "Group" ∷ codes "NoNewPrivileges" ∷ codes "SupplementaryGroups" ∷ codes "User" ∷ []
 
+-- boolean keys and their kin that protect what the system has: its files, devices, kernel and other users
+unfoldable pub protection_keys : List (List ℕ)
+protection_keys =
+    codes "DynamicUser" ∷ codes "PrivateDevices" ∷ codes "PrivateTmp" ∷ codes "ProtectControlGroups" ∷ codes "ProtectHome"
+    ∷ codes "ProtectKernelLogs" ∷ codes "ProtectKernelModules" ∷ codes "ProtectKernelTunables" ∷ codes "ProtectSystem" ∷ []
+
+-- keys that speak of paths
+abbrev pub is_path_key : List ℕ → Bool
+is_path_key key = list_any (λ other. bytes_eq (name_of other) key) ALL_PATH_KEYS
+
+-- keys that a unit may not use
+abbrev pub is_outside_key : List ℕ → Bool
+is_outside_key key = list_any (λ other. bytes_eq (outside_name other) key) ALL_OUTSIDE_KEYS
+
 -- a key that is a setting here, or that refuses the unit
 abbrev pub is_judged : List ℕ → Bool
-is_judged key = is_among filter_keys key || (is_among credential_keys key || (is_among unbuilt_keys key || is_among outside_keys key))
+is_judged key = is_among filter_keys key || (is_among credential_keys key || (is_among protection_keys key || (is_path_key key || is_outside_key key)))
 
 abbrev pub is_unjudged : Assignment → Bool
 is_unjudged assignment = bytes_eq assignment.section (codes "Service") && not (is_judged assignment.key)

@@ -1,10 +1,13 @@
 pub mod Commands
+pub mod OutsideKeys
 pub mod Profile
-pub mod Unbuilt
+pub mod Dynamic
 pub mod Groups
 pub mod Bounding
+pub mod Mounts
 pub mod Judged
 pub mod Notes
 pub mod Order
 pub mod Refusals
 pub mod Settings
+pub mod AreSettings

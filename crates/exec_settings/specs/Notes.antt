@@ -1,5 +1,5 @@
 -- All that is noted of a unit.
-use Rattle.std.specs.Prelude.{ℕ, List, [], ◌++◌, flat_map, map}
+use Rattle.std.specs.Prelude.{ℕ, List, ◌++◌, flat_map, map}
 use Rattle.std.specs.List.{enumerate_from}
 use Rattle.unit_grammar.specs.declared.notes.Note.{Note}
 use Rattle.dropin_merge.specs.declared.resolved.Resolved.{Resolved}
@@ -13,7 +13,9 @@ use Rattle.cred_settings.specs.Identities.{identity_notes}
 use Rattle.cred_settings.specs.NewPrivileges.{new_privileges_notes}
 use Rattle.exec_settings.specs.Commands.{unit_command_notes}
 use Rattle.exec_settings.specs.Judged.{unjudged_notes}
-use Rattle.exec_settings.specs.Unbuilt.{unbuilt_notes}
+use Rattle.exec_settings.specs.Dynamic.{dynamic_notes}
+use Rattle.mount_settings.specs.Notes.{written_notes}
+use Rattle.mount_settings.specs.Protections.{protection_notes}
 
 -- a note of the grammar of unit files, in the file of this number
 abbrev pub in_file : ℕ → Note → FileNote
@@ -28,9 +30,10 @@ grammar_notes unit = flat_map (λ place. grammar_notes_in place.0 place.1) (enum
 
 -- those of users, groups and capabilities
 unfoldable pub credential_notes : Resolved → List FileNote
-credential_notes unit = identity_notes unit ++ (bounding_notes unit ++ (ambient_notes unit ++ (new_privileges_notes unit ++ [])))
+credential_notes unit = dynamic_notes unit ++ (identity_notes unit ++ (bounding_notes unit ++ (ambient_notes unit ++ new_privileges_notes unit)))
 
 -- those of the grammar come first, and those of one key stand in the order of its values and words
 unfoldable pub all_notes : Resolved → Table → List FileNote
 all_notes unit table =
-    grammar_notes unit ++ (unbuilt_notes unit ++ (unit_command_notes unit ++ (credential_notes unit ++ (filter_notes unit table ++ unjudged_notes unit))))
+    grammar_notes unit
+    ++ (written_notes unit ++ (unit_command_notes unit ++ (credential_notes unit ++ (filter_notes unit table ++ (protection_notes unit ++ unjudged_notes unit)))))

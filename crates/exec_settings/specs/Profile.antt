@@ -1,22 +1,22 @@
--- Keys that are outside of what is judged: a unit that uses one is refused (systemd.exec(5), Paths, Capabilities, Sandboxing).
-use Rattle.std.specs.Prelude.{ℕ, not, Bool, true, false, cond, codes, Option, Some, None, List, [], ◌∷◌, find, flat_map, unwrap_or}
+-- What is outside of what is judged: a unit that asks for it is refused (systemd.exec(5), Paths, Capabilities, Sandboxing).
+use Rattle.std.specs.Prelude.{ℕ, not, Bool, true, false, cond, Option, Some, None, List, [], ◌∷◌, find, flat_map, unwrap_or}
 use Rattle.std.specs.List.{filter_map}
-use Rattle.std.specs.Str.{bytes_eq}
 use Rattle.text_forms.specs.Booleans.{bool_value}
 use Rattle.unit_grammar.specs.Before.{last_of}
 use Rattle.unit_grammar.specs.declared.unit.Assignment.{Assignment}
 use Rattle.dropin_merge.specs.declared.resolved.Resolved.{Resolved}
 use Rattle.dropin_merge.specs.declared.resolved.UnitFile.{UnitFile}
 use Rattle.unit_values.specs.Values.{assigns_to}
+use Rattle.path_settings.specs.declared.keys.PathKey.TheVariants as path
+use Rattle.mount_settings.specs.Roots.{mentions_root}
+use Rattle.mount_settings.specs.Written.{unit_written}
+use Rattle.exec_settings.specs.OutsideKeys.{name_of}
+use Rattle.exec_settings.specs.declared.outside_keys.OutsideKey.{OutsideKey}
+use Rattle.exec_settings.specs.declared.outside_keys.OutsideKey.TheVariants.{BindPaths, BindReadOnlyPaths, ExecStart, InaccessiblePaths, TemporaryFileSystem}
+use Rattle.exec_settings.specs.declared.outside_keys.TheConstants.{ALL_OUTSIDE_KEYS}
 use Rattle.exec_settings.specs.declared.commands.Command.{Command}
 use Rattle.exec_settings.specs.declared.commands.Program.{Program}
 use Rattle.exec_settings.specs.declared.commands.Program.TheVariants.{Absolute, Relative}
-
--- keys that have no place here, in byte order; the program of ExecStart= is to be an absolute path
-unfoldable pub outside_keys : List (List ℕ)
-outside_keys =
-    codes "ExecStart" ∷ codes "ExtensionDirectories" ∷ codes "ExtensionImages" ∷ codes "MountImages" ∷ codes "PrivateUsers"
-    ∷ codes "RootDirectory" ∷ codes "RootImage" ∷ codes "SecureBits" ∷ []
 
 -- an empty text and a false boolean ask for nothing
 abbrev pub is_false : Option Bool → Bool
@@ -42,9 +42,16 @@ abbrev pub is_relative : Program → Bool
 is_relative (Absolute path) = false
 is_relative Relative = true
 
-abbrev pub is_outside : Resolved → Command → List ℕ → Bool
-is_outside unit command key = cond (bytes_eq key (codes "ExecStart")) (is_relative command.program) (is_asked unit key)
+-- whether a unit with this command uses a key: one that says what stands at a path may not say it of the root, a program
+-- is an absolute path, and every other key has no place here at all
+abbrev pub is_outside : Resolved → Command → OutsideKey → Bool
+is_outside unit command BindPaths = mentions_root (unit_written unit) path.BindPaths
+is_outside unit command BindReadOnlyPaths = mentions_root (unit_written unit) path.BindReadOnlyPaths
+is_outside unit command InaccessiblePaths = mentions_root (unit_written unit) path.InaccessiblePaths
+is_outside unit command TemporaryFileSystem = mentions_root (unit_written unit) path.TemporaryFileSystem
+is_outside unit command ExecStart = is_relative command.program
+is_outside unit command key = is_asked unit (name_of key)
 
--- the first key, in byte order, that a unit with this command uses
-unfoldable pub outside_key : Resolved → Command → Option (List ℕ)
-outside_key unit command = find (is_outside unit command) outside_keys
+-- the first such key in byte order
+unfoldable pub outside_key : Resolved → Command → Option OutsideKey
+outside_key unit command = find (is_outside unit command) ALL_OUTSIDE_KEYS

@@ -1,9 +1,8 @@
 -- Why a unit has no settings, the first of all reasons.
-use Rattle.std.specs.Prelude.{◌≡◌, false, cond, Option, Some, None, option_and_then, List, [], ◌∷◌, Result, Ok, Err}
+use Rattle.std.specs.Prelude.{◌≡◌, cond, Option, Some, None, option_and_then, List, [], ◌∷◌, Result, Ok, Err}
 use Rattle.std.specs.Option.{option_map}
 use Rattle.call_table.specs.Table.{Table}
 use Rattle.dropin_merge.specs.declared.resolved.Resolved.{Resolved}
-use Rattle.filter_settings.specs.Settings.{settings_of}
 use Rattle.site_table.specs.Table.{Site}
 use Rattle.cred_settings.specs.Identities.{identity_of}
 use Rattle.cred_settings.specs.declared.accounts.Identity.{Identity}
@@ -11,11 +10,13 @@ use Rattle.cred_settings.specs.declared.error.IdentityError.{IdentityError}
 use Rattle.cred_settings.specs.declared.error.IdentityError.TheVariants as ids
 use Rattle.exec_settings.specs.declared.commands.Command.{Command}
 use Rattle.exec_settings.specs.declared.errors.SettingsError.{SettingsError}
-use Rattle.exec_settings.specs.declared.errors.SettingsError.TheVariants.{Unbuilt, NoCommand, PrivilegedCommand, OutsideProfile, NoSuchUser, NoSuchGroup, MissingGroup, Memory}
+use Rattle.exec_settings.specs.declared.errors.SettingsError.TheVariants.{NoCommand, PrivilegedCommand, OutsideProfile, NoSuchUser, NoSuchGroup, MissingGroup, TooManyPaths, Memory}
 use Rattle.exec_settings.specs.Commands.{unit_command}
+use Rattle.exec_settings.specs.Dynamic.{is_dynamic, unit_filters}
 use Rattle.exec_settings.specs.Groups.{missing_group}
+use Rattle.exec_settings.specs.Mounts.{paths_refusal}
+use Rattle.exec_settings.specs.OutsideKeys.{name_of}
 use Rattle.exec_settings.specs.Profile.{outside_key}
-use Rattle.exec_settings.specs.Unbuilt.{unbuilt_key}
 
 -- the first of these reasons that there is
 abbrev pub first_reason : List (Option SettingsError) → Option SettingsError
@@ -33,7 +34,7 @@ privileged None = None
 privileged (Some command) = cond command.is_privileged (Some PrivilegedCommand) None
 
 abbrev pub outside : Resolved → Option Command → Option SettingsError
-outside unit command = option_map OutsideProfile (option_and_then (outside_key unit) command)
+outside unit command = option_map (λ key. OutsideProfile (name_of key)) (option_and_then (outside_key unit) command)
 
 -- why its command is not launched
 unfoldable pub command_refusal : Resolved → Option SettingsError
@@ -47,19 +48,19 @@ identity_reason (Err (ids.NoSuchGroup word)) = Some (NoSuchGroup word)
 identity_reason (Err ids.Memory) = None
 
 unfoldable pub identity_refusal : Resolved → Site → Option SettingsError
-identity_refusal unit site = identity_reason (identity_of unit site false)
+identity_refusal unit site = identity_reason (identity_of unit site (is_dynamic unit))
 
--- the first of these: a setting that is not read yet, the command, users and groups, a group of calls that the table lacks
+-- the first of these: the command, users and groups, a group of calls that the table lacks, too many paths
 unfoldable pub refusal_of : Resolved → Table → Site → Option SettingsError
 refusal_of unit table site =
-    first_reason (option_map Unbuilt (unbuilt_key unit) ∷ command_refusal unit ∷ identity_refusal unit site ∷ option_map MissingGroup (missing_group table (settings_of unit table)) ∷ [])
+    first_reason (command_refusal unit ∷ identity_refusal unit site ∷ option_map MissingGroup (missing_group table (unit_filters unit table)) ∷ paths_refusal unit ∷ [])
 
 -- an error is this reason; want of memory has none
 abbrev pub IsReason : Option SettingsError → SettingsError → Type 0
 IsReason reason Memory = Unit {0}
 IsReason reason NoCommand = reason ≡ Some NoCommand
 IsReason reason PrivilegedCommand = reason ≡ Some PrivilegedCommand
-IsReason reason (Unbuilt key) = reason ≡ Some (Unbuilt key)
+IsReason reason TooManyPaths = reason ≡ Some TooManyPaths
 IsReason reason (OutsideProfile key) = reason ≡ Some (OutsideProfile key)
 IsReason reason (NoSuchUser word) = reason ≡ Some (NoSuchUser word)
 IsReason reason (NoSuchGroup word) = reason ≡ Some (NoSuchGroup word)

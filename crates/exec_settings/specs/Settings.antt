@@ -3,18 +3,18 @@ use Rattle.std.specs.Prelude.{ℕ, ◌==◌, not, Bool, Option, Some, None, opti
 use Rattle.abs_path.specs.Paths.{Path}
 use Rattle.cred_settings.specs.Ambient.{ambient_of}
 use Rattle.cred_settings.specs.Bounding.{bounding_of}
-use Rattle.cred_settings.specs.NewPrivileges.{is_in_effect, is_set_by}
+use Rattle.cred_settings.specs.NewPrivileges.{is_in_effect}
 use Rattle.filter_rules.specs.Names.{all_filters}
 use Rattle.filter_rules.specs.Wanted.{is_on}
 use Rattle.filter_rules.specs.declared.settings.FilterSettings.{FilterSettings}
 use Rattle.dropin_merge.specs.declared.resolved.Resolved.{Resolved}
 use Rattle.call_table.specs.Table.{Table}
-use Rattle.filter_settings.specs.Settings.{settings_of}
 use Rattle.exec_settings.specs.declared.commands.Command.{Command}
 use Rattle.exec_settings.specs.declared.commands.Program.{Program}
 use Rattle.exec_settings.specs.declared.commands.Program.TheVariants.{Absolute, Relative}
 use Rattle.exec_settings.specs.Bounding.{left_of}
 use Rattle.exec_settings.specs.Commands.{unit_command}
+use Rattle.exec_settings.specs.Dynamic.{sets_new_privileges, unit_filters}
 
 abbrev pub path_of : Program → Option Path
 path_of (Absolute path) = Some path
@@ -29,7 +29,7 @@ unit_program unit = program_path (unit_command unit)
 
 -- the bounding set: that of CapabilityBoundingSet=, but for what other settings take
 abbrev pub unit_bounding : Resolved → Table → ℕ
-unit_bounding unit table = left_of (bounding_of unit) (settings_of unit table)
+unit_bounding unit table = left_of (bounding_of unit) (unit_filters unit table)
 
 -- some filter of system calls is on
 abbrev pub has_filter : FilterSettings → Bool
@@ -37,4 +37,4 @@ has_filter settings = not (length (filter (is_on settings) all_filters) == 0)
 
 -- NoNewPrivileges= is in effect for a service with this uid
 abbrev pub unit_new_privileges : Resolved → Table → ℕ → Bool
-unit_new_privileges unit table uid = is_in_effect (is_set_by unit) (has_filter (settings_of unit table)) uid (ambient_of unit)
+unit_new_privileges unit table uid = is_in_effect (sets_new_privileges unit) (has_filter (unit_filters unit table)) uid (ambient_of unit)

@@ -1,12 +1,13 @@
 //! Users, groups and capabilities of a unit, or why they are refused.
-ghost use Rattle.std.specs.Prelude.{◌≡◌, ◌++◌, Ok, false, IfOk, OnOk};
+ghost use Rattle.std.specs.Prelude.{◌≡◌, ◌++◌, Ok, IfOk, OnOk};
 ghost use Rattle.cred_settings.specs.Ambient.{ambient_of};
 ghost use Rattle.cred_settings.specs.Bounding.{bounding_of};
 ghost use Rattle.cred_settings.specs.Identities.{identity_of};
-ghost use Rattle.cred_settings.specs.NewPrivileges.{is_set_by};
+ghost use Rattle.exec_settings.specs.Dynamic.{is_dynamic, sets_new_privileges};
 ghost use Rattle.exec_settings.specs.Notes.{credential_notes};
 ghost use Rattle.exec_settings.specs.Refusals.{RefusesFirst, identity_refusal};
 
+use crate::dynamic::is_dynamic;
 use crate::errors::SettingsError;
 use cap_sets::CapSet;
 use cred_settings::{
@@ -23,8 +24,10 @@ pub struct Credentials {
     pub identity: Identity,
     pub bounding: CapSet,
     pub ambient: CapSet,
-    /// Whether NoNewPrivileges= is set.
+    /// Whether NoNewPrivileges= or DynamicUser= is set.
     pub sets_no_new_privs: bool,
+    /// Whether DynamicUser= is set.
+    pub is_dynamic: bool,
 }
 
 /// What the keys of users, groups and capabilities say, with their notes behind those that are there.
@@ -36,13 +39,15 @@ pub fn read_credentials(
     notes: &mut Vec<FileNote>,
 ) -> Result<Credentials, SettingsError>
     ensures refuses_first { RefusesFirst (identity_refusal unit.now site.now) result }
-    ensures ids { IfOk result (λ made. identity_of unit.now site.now false ≡ Ok made.identity) }
+    ensures ids { IfOk result (λ made. identity_of unit.now site.now (is_dynamic unit.now) ≡ Ok made.identity) }
     ensures bounding { IfOk result (λ made. made.bounding ≡ bounding_of unit.now) }
     ensures ambient { IfOk result (λ made. made.ambient ≡ ambient_of unit.now) }
-    ensures sets { IfOk result (λ made. made.sets_no_new_privs ≡ is_set_by unit.now) }
+    ensures sets { IfOk result (λ made. made.sets_no_new_privs ≡ sets_new_privileges unit.now) }
+    ensures dynamic { IfOk result (λ made. made.is_dynamic ≡ is_dynamic unit.now) }
     ensures noted { OnOk result (notes.new.items ≡ notes.old.items ++ credential_notes unit.now) }
 {
-    let identity = match identity_of_unit(alloc, unit, site, false, notes) {
+    let is_dynamic = is_dynamic(alloc, unit, notes)?;
+    let identity = match identity_of_unit(alloc, unit, site, is_dynamic, notes) {
         Ok(identity) => identity,
         Err(IdentityError::NoSuchUser(word)) => return Err(SettingsError::NoSuchUser(word)),
         Err(IdentityError::NoSuchGroup(word)) => return Err(SettingsError::NoSuchGroup(word)),
@@ -52,6 +57,7 @@ pub fn read_credentials(
         identity,
         bounding: bounding_set(alloc, unit, notes)?,
         ambient: ambient_set(alloc, unit, notes)?,
-        sets_no_new_privs: is_no_new_privileges_set(alloc, unit, notes)?,
+        sets_no_new_privs: is_no_new_privileges_set(alloc, unit, notes)? || is_dynamic,
+        is_dynamic,
     })
 }

@@ -10,9 +10,6 @@ use unit_grammar::Text;
 /// may come at any unit.
 #[derive(Debug, Drop, Error)]
 pub enum SettingsError {
-    /// A setting is in force that is not read yet: the first such key in byte order.
-    #[error("the setting {} is not read yet", .0.as_str())]
-    Unbuilt(Text),
     /// No command of ExecStart= is in force.
     #[error("no command is in force")]
     NoCommand,
@@ -31,6 +28,9 @@ pub enum SettingsError {
     /// The table of calls lacks a group that a setting rests on.
     #[error("the table has no group @{}", .0.as_str())]
     MissingGroup(Text),
+    /// More than 128 paths are written, those of folders, binds and temporary file systems among them.
+    #[error("more than 128 paths are written")]
+    TooManyPaths,
     /// There is no memory left.
     #[error("out of memory")]
     Memory,

@@ -1,11 +1,11 @@
 //! Keys of the service that are not judged, and are noted.
 ghost use Rattle.std.specs.Prelude.{◌≡◌, ◌++◌, [], map, OnOk};
 ghost use Rattle.std.specs.List.{cons_option};
-ghost use Rattle.exec_settings.specs.Judged.{credential_keys, filter_keys, is_among, is_judged, is_unjudged, unjudged_at, unjudged_in, unjudged_notes};
+ghost use Rattle.exec_settings.specs.Judged.{credential_keys, filter_keys, is_among, is_judged, is_outside_key, is_path_key, protection_keys, is_unjudged, unjudged_at, unjudged_in, unjudged_notes};
 
-use crate::profile::names_of_outside_keys;
-use crate::unbuilt::names_of_unbuilt_keys;
+use crate::outside_keys::ALL_OUTSIDE_KEYS;
 use dropin_merge::{Resolved, UnitFile};
+use path_settings::ALL_PATH_KEYS;
 use std::alloc::AllocError;
 use unit_grammar::{Assignment, NoteCause};
 use unit_values::FileNote;
@@ -48,6 +48,26 @@ fn names_of_credential_keys() -> &'static [&'static str]
     CREDENTIAL_KEYS
 }
 
+/// The boolean keys and their kin that protect what the system has: its files, devices, kernel and other users.
+const PROTECTION_KEYS: &[&str] = &[
+    "DynamicUser",
+    "PrivateDevices",
+    "PrivateTmp",
+    "ProtectControlGroups",
+    "ProtectHome",
+    "ProtectKernelLogs",
+    "ProtectKernelModules",
+    "ProtectKernelTunables",
+    "ProtectSystem",
+];
+
+#[tactic(auto, unfolding(crate::specs::Judged::protection_keys))]
+fn names_of_protection_keys() -> &'static [&'static str]
+    ensures { map (λ key. key.now) result.now ≡ protection_keys }
+{
+    PROTECTION_KEYS
+}
+
 fn is_among(keys: &[&str], key: &str) -> bool
     ensures { result ≡ is_among (map (λ other. other.now) keys.now) key.now }
 {
@@ -59,14 +79,27 @@ fn is_among(keys: &[&str], key: &str) -> bool
     false
 }
 
+fn is_path_key(key: &str) -> bool
+    ensures { result ≡ is_path_key key.now }
+{
+    ALL_PATH_KEYS.iter().any(|other| other.name() == key)
+}
+
+fn is_outside_key(key: &str) -> bool
+    ensures { result ≡ is_outside_key key.now }
+{
+    ALL_OUTSIDE_KEYS.iter().any(|other| other.name() == key)
+}
+
 // Whether a key is a setting here, or refuses the unit.
 fn is_judged(key: &str) -> bool
     ensures { result ≡ is_judged key.now }
 {
     is_among(names_of_filter_keys(), key)
         || is_among(names_of_credential_keys(), key)
-        || is_among(names_of_unbuilt_keys(), key)
-        || is_among(names_of_outside_keys(), key)
+        || is_among(names_of_protection_keys(), key)
+        || is_path_key(key)
+        || is_outside_key(key)
 }
 
 // Whether an assignment is one of the service's to a key that is not judged.

@@ -3,23 +3,25 @@
 //! Every key that bears on the sandbox is read (systemd.exec(5), systemd.service(5)); what cannot be read, and keys that
 //! are not judged, are noted, and a unit that asks for what is outside of the model is refused with the first reason. It
 //! stands on `filter_settings` and `filter_rules` for the filters of system calls, on `cred_settings` for users, groups and
-//! capabilities, and on `unit_values` for the values of keys.
+//! capabilities, on `mount_settings` for paths, and on `unit_values` for the values of keys.
 //!
 //! `settings_of_unit(alloc, &unit, &calls, &site)?` has the program, the ids, the capabilities, the filters with their
-//! rules, and the notes.
+//! rules, the mentions of paths, and the notes.
 #![tactic(auto)]
 
 mod bounding;
 mod commands;
 mod credentials;
+mod dynamic;
 mod errors;
 mod groups;
 mod judged;
+mod mounts;
 mod notes;
+mod outside_keys;
 mod profile;
 mod program;
 mod settings;
-mod unbuilt;
 
 pub use errors::SettingsError;
 pub use settings::{Settings, settings_of_unit};

@@ -1,34 +1,17 @@
-//! Keys that are outside of what is judged (systemd.exec(5), Paths, Capabilities, Sandboxing).
-ghost use Rattle.std.specs.Prelude.{◌≡◌, map, unwrap_or};
-ghost use Rattle.std.specs.Option.{option_copied};
+//! What is outside of what is judged (systemd.exec(5), Paths, Capabilities, Sandboxing).
+ghost use Rattle.std.specs.Prelude.{◌≡◌, unwrap_or};
 ghost use Rattle.unit_grammar.specs.Before.{last_of};
-ghost use Rattle.exec_settings.specs.Profile.{asked_by, asked_in, asks, is_asked, is_outside, is_relative, outside_key, outside_keys};
+ghost use Rattle.mount_settings.specs.Written.{unit_written};
+ghost use Rattle.exec_settings.specs.Profile.{asked_by, asked_in, asks, is_asked, is_outside, is_relative, outside_key};
 
 use crate::commands::{Command, Program};
+use crate::outside_keys::{ALL_OUTSIDE_KEYS, OutsideKey};
 use dropin_merge::{Resolved, UnitFile};
+use mount_settings::{WrittenPaths, mentions_root};
+use path_settings::PathKey;
 use text_forms::read_bool;
 use unit_grammar::Assignment;
 use unit_values::assigns_to;
-
-/// In byte order: ExecStart= for a program that is no absolute path, and the others for what they ask.
-const OUTSIDE_KEYS: &[&str] = &[
-    "ExecStart",
-    "ExtensionDirectories",
-    "ExtensionImages",
-    "MountImages",
-    "PrivateUsers",
-    "RootDirectory",
-    "RootImage",
-    "SecureBits",
-];
-
-/// Keys that a unit may not use, in byte order.
-#[tactic(auto, unfolding(crate::specs::Profile::outside_keys))]
-pub fn names_of_outside_keys() -> &'static [&'static str]
-    ensures { map (λ key. key.now) result.now ≡ outside_keys }
-{
-    OUTSIDE_KEYS
-}
 
 // Whether a text asks for what a key is for: an empty one and a false boolean do not.
 fn asks(text: &str) -> bool
@@ -84,26 +67,36 @@ fn is_relative(program: &Program) -> bool
     }
 }
 
-// Whether the unit, whose command this is, uses the key.
-fn is_outside(unit: &Resolved, command: &Command, key: &str) -> bool
-    ensures { result ≡ is_outside unit.now command.now key.now }
+// Whether the unit, whose command this is and which writes these paths, uses the key.
+fn is_outside(unit: &Resolved, paths: &WrittenPaths, command: &Command, key: OutsideKey) -> bool
+    requires of_the_unit { paths.now ≡ unit_written unit.now }
+    ensures { result ≡ is_outside unit.now command.now key }
 {
-    if key == "ExecStart" {
-        is_relative(&command.program)
-    } else {
-        is_asked(unit, key)
+    match key {
+        OutsideKey::BindPaths => mentions_root(paths, PathKey::BindPaths),
+        OutsideKey::BindReadOnlyPaths => mentions_root(paths, PathKey::BindReadOnlyPaths),
+        OutsideKey::InaccessiblePaths => mentions_root(paths, PathKey::InaccessiblePaths),
+        OutsideKey::TemporaryFileSystem => mentions_root(paths, PathKey::TemporaryFileSystem),
+        OutsideKey::ExecStart => is_relative(&command.program),
+        OutsideKey::ExtensionDirectories
+        | OutsideKey::ExtensionImages
+        | OutsideKey::MountImages
+        | OutsideKey::PrivateUsers
+        | OutsideKey::RootDirectory
+        | OutsideKey::RootImage
+        | OutsideKey::SecureBits => is_asked(unit, key.name()),
     }
 }
 
-/// The first key in byte order that is outside of what is judged and that a unit, whose command this is, uses.
-pub fn outside_key(unit: &Resolved, command: &Command) -> Option<&'static str>
-    ensures first_in_byte_order { option_copied result ≡ outside_key unit.now command.now }
+/// The first key in byte order that is outside of what is judged and that a unit uses, whose command this is and which
+/// writes these paths.
+#[tactic(auto, unfolding(crate::specs::Profile::outside_key))]
+pub fn outside_key(unit: &Resolved, paths: &WrittenPaths, command: &Command) -> Option<OutsideKey>
+    requires of_the_unit { paths.now ≡ unit_written unit.now }
+    ensures first_in_byte_order { result ≡ outside_key unit.now command.now }
 {
-    let keys = names_of_outside_keys();
-    for key in keys {
-        if is_outside(unit, command, key) {
-            return Some(*key);
-        }
-    }
-    None
+    ALL_OUTSIDE_KEYS
+        .iter()
+        .copied()
+        .find(|key| is_outside(unit, paths, command, *key))
 }

@@ -1,7 +1,10 @@
 //! The program that a unit launches, or why none is launched.
-ghost use Rattle.std.specs.Prelude.{◌≡◌, ◌++◌, Some, IfOk, OnOk, option_map};
+ghost use Rattle.std.specs.Prelude.{◌≡◌, ◌++◌, Some, None, IfOk, OnOk, option_map};
+ghost use Rattle.mount_settings.specs.Roots.{root_key};
+ghost use Rattle.mount_settings.specs.Written.{unit_written};
 ghost use Rattle.exec_settings.specs.declared.errors.SettingsError.TheVariants.{OutsideProfile};
 ghost use Rattle.exec_settings.specs.Commands.{unit_command, unit_command_notes};
+ghost use Rattle.exec_settings.specs.OutsideKeys.{name_of};
 ghost use Rattle.exec_settings.specs.Profile.{outside_key};
 ghost use Rattle.exec_settings.specs.Refusals.{RefusesFirst, command_refusal};
 ghost use Rattle.exec_settings.specs.Settings.{path_of, unit_program};
@@ -11,17 +14,25 @@ use crate::errors::SettingsError;
 use crate::profile::outside_key;
 use abs_path::AbsPath;
 use dropin_merge::Resolved;
+use mount_settings::WrittenPaths;
 use std::alloc::Global;
 use unit_grammar::Text;
 use unit_values::FileNote;
 
 // The program of a command that uses no privileges.
-fn program_of(alloc: Global, unit: &Resolved, command: Command) -> Result<AbsPath, SettingsError>
-    ensures refuses { RefusesFirst (option_map OutsideProfile (outside_key unit.now command)) result }
+fn program_of(
+    alloc: Global,
+    unit: &Resolved,
+    paths: &WrittenPaths,
+    command: Command,
+) -> Result<AbsPath, SettingsError>
+    requires of_the_unit { paths.now ≡ unit_written unit.now }
+    ensures refuses { RefusesFirst (option_map (λ key. OutsideProfile (name_of key)) (outside_key unit.now command)) result }
+    ensures leaves_the_root { IfOk result (λ path. root_key (unit_written unit.now) ≡ None) }
     ensures program { IfOk result (λ path. path_of command.program ≡ Some path) }
 {
-    if let Some(key) = outside_key(unit, &command) {
-        return Err(SettingsError::OutsideProfile(Text::new(alloc, key)?));
+    if let Some(key) = outside_key(unit, paths, &command) {
+        return Err(SettingsError::OutsideProfile(Text::new(alloc, key.name())?));
     }
     match command.program {
         Program::Absolute(path) => Ok(path),
@@ -29,15 +40,18 @@ fn program_of(alloc: Global, unit: &Resolved, command: Command) -> Result<AbsPat
     }
 }
 
-/// The program of the command that a unit launches. What cannot be read, and later commands, are noted behind the
-/// notes that are there.
+/// The program of the command that a unit launches, which writes these paths. What cannot be read, and later commands,
+/// are noted behind the notes that are there.
 pub fn launched_program(
     alloc: Global,
     unit: &Resolved,
+    paths: &WrittenPaths,
     notes: &mut Vec<FileNote>,
 ) -> Result<AbsPath, SettingsError>
+    requires of_the_unit { paths.now ≡ unit_written unit.now }
     ensures refuses_first { RefusesFirst (command_refusal unit.now) result }
     ensures program { IfOk result (λ path. unit_program unit.now ≡ Some path) }
+    ensures leaves_the_root { IfOk result (λ path. root_key (unit_written unit.now) ≡ None) }
     ensures notes_the_others { OnOk result (notes.new.items ≡ notes.old.items ++ unit_command_notes unit.now) }
 {
     let Some(command) = launched_command(alloc, unit, notes)? else {
@@ -46,5 +60,5 @@ pub fn launched_program(
     if command.is_privileged {
         return Err(SettingsError::PrivilegedCommand);
     }
-    program_of(alloc, unit, command)
+    program_of(alloc, unit, paths, command)
 }

@@ -1,28 +1,17 @@
 //! The settings of a unit, read whole.
-ghost use Rattle.std.specs.Prelude.{◌≡◌, ◌≤◌, Ok, Some, false, filter, map, IfOk};
-ghost use Rattle.std.specs.List.{All};
-ghost use Rattle.bpf_code.specs.declared.machine.CallData.{CallData};
-ghost use Rattle.call_rules.specs.Action.{case_action};
-ghost use Rattle.call_rules.specs.Sizes.{CanCompile};
-ghost use Rattle.filter_rules.specs.Costs.{most_room};
-ghost use Rattle.filter_rules.specs.Names.{all_filters};
-ghost use Rattle.filter_rules.specs.Wanted.{is_on, wanted_action};
-ghost use Rattle.filter_settings.specs.Settings.{settings_of};
-ghost use Rattle.cred_settings.specs.Ambient.{ambient_of};
-ghost use Rattle.cred_settings.specs.Identities.{identity_of};
-ghost use Rattle.exec_settings.specs.Notes.{all_notes};
-ghost use Rattle.exec_settings.specs.Order.{AreInOrder};
+ghost use Rattle.std.specs.Prelude.{IfOk};
+ghost use Rattle.exec_settings.specs.AreSettings.{AreSettings};
 ghost use Rattle.exec_settings.specs.Refusals.{RefusesFirst, refusal_of};
-ghost use Rattle.exec_settings.specs.Settings.{unit_bounding, unit_new_privileges, unit_program};
 
 use crate::bounding::left_of;
 use crate::credentials::read_credentials;
+use crate::dynamic::with_dynamic_user;
 use crate::errors::SettingsError;
 use crate::groups::missing_group;
 use crate::judged::note_unjudged;
+use crate::mounts::read_mentions;
 use crate::notes::{add_grammar_notes, put_in_order};
 use crate::program::launched_program;
-use crate::unbuilt::unbuilt_key;
 use abs_path::AbsPath;
 use call_table::CallTable;
 use cap_sets::CapSet;
@@ -30,6 +19,8 @@ use cred_settings::{Gids, Identity, no_new_privs};
 use dropin_merge::Resolved;
 use filter_rules::{Filter, filters};
 use filter_settings::filter_settings;
+use mount_settings::written_paths;
+use path_settings::Mentions;
 use site_table::SiteTable;
 use std::alloc::Global;
 use unit_grammar::Text;
@@ -54,13 +45,17 @@ pub struct Settings {
     pub no_new_privs: bool,
     /// The filters of system calls that are on, in the order in which they are installed.
     pub filters: Vec<Filter>,
+    /// What is written of paths, and behind it what is implied.
+    pub mentions: Mentions,
     /// What was passed over, in the order of files and lines.
     pub notes: Vec<FileNote>,
 }
 
 /// The settings of a unit, where it launches a program and all its settings can be judged.
 ///
-/// Calls, groups and families are looked up in the table of calls, users and groups of users in the site.
+/// Calls, groups and families are looked up in the table of calls; users, groups of users, and the rows that implied
+/// paths need, in the site. The settings are those that the keys say: the first command in force with what it runs as,
+/// the filters that are on with their rules, the mentions with none of the root's place, and all notes in order.
 pub fn settings_of_unit(
     alloc: Global,
     unit: &Resolved,
@@ -68,25 +63,12 @@ pub fn settings_of_unit(
     site: &SiteTable,
 ) -> Result<Settings, SettingsError>
     ensures refuses_first { RefusesFirst (refusal_of unit.now calls.now site.now) result }
-    ensures launches_the_first_command { IfOk result (λ made. unit_program unit.now ≡ Some made.program) }
-    ensures runs_as { IfOk result (λ made. identity_of unit.now site.now false ≡ Ok (record { uid = made.uid; gid = made.gid; groups = made.groups })) }
-    ensures ambient { IfOk result (λ made. made.ambient ≡ ambient_of unit.now) }
-    ensures new_privileges { IfOk result (λ made. made.no_new_privs ≡ unit_new_privileges unit.now calls.now made.uid) }
-    ensures bounding_without_what_is_taken { IfOk result (λ made. made.bounding ≡ unit_bounding unit.now calls.now) }
-    // Exactly the filters that are on, in the order in which they are installed.
-    ensures exactly_those_on { IfOk result (λ made. map (λ one. one.name) made.filters.items ≡ filter (is_on (settings_of unit.now calls.now)) all_filters) }
-    // Each does to every call what the settings say by names and words.
-    ensures do_as_wanted { IfOk result (λ made. All (λ one. (input : CallData) → case_action one.rules input ≡ wanted_action one.name (settings_of unit.now calls.now) calls.now input) made.filters.items) }
-    ensures can_be_compiled { IfOk result (λ made. All (λ one. CanCompile one.rules) made.filters.items) }
-    ensures fit_into_a_stack { IfOk result (λ made. most_room made.filters.items ≤ 32768) }
-    ensures all_notes_in_order { IfOk result (λ made. AreInOrder (all_notes unit.now calls.now) made.notes.items) }
+    ensures settles { IfOk result (AreSettings unit.now calls.now site.now) }
 {
     let mut notes = Vec::new(alloc);
     add_grammar_notes(unit, &mut notes)?;
-    if let Some(key) = unbuilt_key(alloc, unit, &mut notes)? {
-        return Err(SettingsError::Unbuilt(Text::new(alloc, key)?));
-    }
-    let program = match launched_program(alloc, unit, &mut notes) {
+    let paths = written_paths(alloc, unit, &mut notes)?;
+    let program = match launched_program(alloc, unit, &paths, &mut notes) {
         Ok(program) => program,
         Err(error) => return Err(error),
     };
@@ -94,10 +76,23 @@ pub fn settings_of_unit(
         Ok(own) => own,
         Err(error) => return Err(error),
     };
-    let found = filter_settings(alloc, unit, calls, &mut notes)?;
+    let said = filter_settings(alloc, unit, calls, &mut notes)?;
+    let found = with_dynamic_user(own.is_dynamic, said);
     if let Some(name) = missing_group(calls, &found) {
         return Err(SettingsError::MissingGroup(Text::new(alloc, name)?));
     }
+    let mentions = match read_mentions(
+        alloc,
+        unit,
+        &paths,
+        site,
+        own.is_dynamic,
+        &found,
+        &mut notes,
+    ) {
+        Ok(mentions) => mentions,
+        Err(error) => return Err(error),
+    };
     note_unjudged(unit, &mut notes)?;
     put_in_order(&mut notes)?;
     let filters = filters(alloc, calls, &found)?;
@@ -111,6 +106,7 @@ pub fn settings_of_unit(
         ambient: own.ambient,
         no_new_privs: no_new_privs(own.sets_no_new_privs, !filters.is_empty(), uid, own.ambient),
         filters,
+        mentions,
         notes,
     })
 }

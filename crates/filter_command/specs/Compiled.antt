@@ -1,13 +1,11 @@
 -- What compiled filters do (systemd.exec(5), seccomp(2)).
-use Rattle.std.specs.Prelude.{◌≡◌, List, [], ◌∷◌, filter, map}
-use Rattle.std.specs.List.{All}
+use Rattle.std.specs.Prelude.{◌≡◌, ◌≤◌, ℕ, ◌+◌, List, filter, length, map}
+use Rattle.std.specs.List.{All, sum_by}
 use Rattle.bpf_code.specs.Meaning.{Answers, IsCallData}
 use Rattle.bpf_code.specs.declared.machine.CallData.{CallData}
-use Rattle.call_rules.specs.Action.{case_action}
 use Rattle.call_table.specs.Table.{Table}
 use Rattle.filter_rules.specs.Names.{all_filters}
 use Rattle.filter_rules.specs.Wanted.{is_on, wanted_action}
-use Rattle.filter_rules.specs.declared.installed.Filter.{Filter}
 use Rattle.filter_rules.specs.declared.settings.FilterSettings.{FilterSettings}
 use Rattle.filter_command.specs.declared.compiled.Compiled.{Compiled}
 
@@ -15,11 +13,12 @@ use Rattle.filter_command.specs.declared.compiled.Compiled.{Compiled}
 abbrev pub DoesAsWanted : FilterSettings → Table → Compiled → Type 0
 DoesAsWanted settings table one = (input : CallData) → IsCallData input → Answers one.program input (wanted_action one.name settings table input)
 
--- the rules of a filter do
-abbrev pub HasWantedRules : FilterSettings → Table → Filter → Type 0
-HasWantedRules settings table one = (input : CallData) → case_action one.rules input ≡ wanted_action one.name settings table input
+-- the room that programs take in a stack: each takes 4 beside its instructions (seccomp(2), ENOMEM)
+abbrev pub room_of : List Compiled → ℕ
+room_of programs = sum_by (λ one. length one.program + 4) programs
 
--- exactly the filters that are on, in the order in which they are installed, and each does as wanted
+-- exactly the filters that are on, in the order in which they are installed; each does as wanted, and all fit into one stack
 pub record AreFilters (settings : FilterSettings) (table : Table) (filters : List Compiled) : Type 0 where
   pub named : map (λ one. one.name) filters ≡ filter (is_on settings) all_filters
   pub do_as_wanted : All (DoesAsWanted settings table) filters
+  pub fit_into_a_stack : room_of filters ≤ 32768

@@ -4,7 +4,7 @@
 //! protections of the file system and the folder keys imply (systemd.exec(5), Sandboxing). It stands on `unit_values`
 //! for values, on `path_settings` for words, and on `site_table` for the rows that implied paths need.
 //!
-//! `written_paths(alloc, &unit, &mut notes)?` has the written ones; `root_key` and `mount_settings` go on from them.
+//! `written_paths(alloc, &unit, &mut notes)?` has the written ones; `mentions_root` and `mount_settings` go on from them.
 #![tactic(auto)]
 
 mod assigned;
@@ -26,7 +26,7 @@ pub use error::MountSettingsError;
 pub use files::written_paths;
 pub use home::HomeProtection;
 pub use protections::{Protections, Switches};
-pub use roots::root_key;
+pub use roots::mentions_root;
 pub use settings::{MountSettings, mount_settings};
 pub use system::SystemProtection;
 pub use written::{WrittenPath, WrittenPaths};

@@ -2,19 +2,11 @@
 ghost use Rattle.std.specs.Prelude.{◌≡◌, ◌&&◌};
 ghost use Rattle.std.specs.List.{list_any};
 ghost use Rattle.mount_settings.specs.Assigned.{is_key};
-ghost use Rattle.mount_settings.specs.Roots.{is_root, mentions_root, root_key, root_keys};
+ghost use Rattle.mount_settings.specs.Roots.{is_root, mentions_root};
 
-use crate::written::{WrittenPath, WrittenPaths, is_key};
+use crate::written::{WrittenPaths, is_key};
 use abs_path::AbsPath;
 use path_settings::PathKey;
-
-/// The keys that say what stands at a path, in byte order of their names.
-const ROOT_KEYS: [PathKey; 4] = [
-    PathKey::BindPaths,
-    PathKey::BindReadOnlyPaths,
-    PathKey::InaccessiblePaths,
-    PathKey::TemporaryFileSystem,
-];
 
 fn is_root(path: &AbsPath) -> bool
     ensures { result ≡ is_root path.now }
@@ -22,21 +14,10 @@ fn is_root(path: &AbsPath) -> bool
     path.tail_len() == 0
 }
 
-// Whether a key mentions the root.
-fn mentions_root(paths: &[WrittenPath], key: PathKey) -> bool
-    ensures { result ≡ mentions_root paths.now key }
+/// Whether a path that the key writes is `/`: for BindPaths= and BindReadOnlyPaths= the place where something is to
+/// stand. A unit that mentions the root with one of these, InaccessiblePaths= or TemporaryFileSystem= is not judged.
+pub fn mentions_root(paths: &WrittenPaths, key: PathKey) -> bool
+    ensures is_written_there { result ≡ mentions_root paths.now key }
 {
-    paths.iter().any(|path| is_key(path.key, key) && is_root(&path.mention.path))
-}
-
-/// The first key in byte order that says what stands at `/`: BindPaths= or BindReadOnlyPaths= with `/` as the place
-/// where something is to stand, InaccessiblePaths= or TemporaryFileSystem=. A unit with such a key is not judged.
-pub fn root_key(paths: &WrittenPaths) -> Option<PathKey>
-    ensures first_in_byte_order { result ≡ root_key paths.now }
-{
-    let paths = paths.list();
-    ROOT_KEYS
-        .iter()
-        .copied()
-        .find(|key| mentions_root(paths, *key))
+    paths.list().iter().any(|path| is_key(path.key, key) && is_root(&path.mention.path))
 }

@@ -90,7 +90,7 @@ fn listed(alloc: Global, mentions: Vec<Mention>) -> Result<Mentions, AllocError>
 /// An implied path is passed over where the site has no row for it, and is optional otherwise. TooManyPaths where
 /// more than 128 paths are written, those of folders that the site does not have among them. What cannot be read of
 /// ProtectSystem=, ProtectHome=, PrivateTmp=, ProtectKernelTunables= and ProtectControlGroups= is noted behind the
-/// notes that are there. Whether `/` is mentioned as it must not be is told by `root_key`.
+/// notes that are there. Whether a key mentions `/` is told by `mentions_root`.
 pub fn mount_settings(
     alloc: Global,
     unit: &Resolved,

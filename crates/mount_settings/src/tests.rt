@@ -1,12 +1,20 @@
 //! Units that were worked out by hand from systemd.exec(5).
 use super::*;
 use dropin_merge::{Resolved, UnitFile, UnitFiles};
-use path_settings::{Kind, Mention};
+use path_settings::{Kind, Mention, PathKey};
 use site_table::{SiteTable, read_site};
 use std::alloc::{AllocError, Global};
 use std::test::Fail;
 use unit_grammar::{Text, read_unit};
 use unit_names::UnitName;
+
+// The keys that say what stands at a path, in byte order.
+const ROOT_KEYS: [PathKey; 4] = [
+    PathKey::BindPaths,
+    PathKey::BindReadOnlyPaths,
+    PathKey::InaccessiblePaths,
+    PathKey::TemporaryFileSystem,
+];
 
 // Rows at /tmp, /var/tmp, /var/lib/web, /home and /proc, and none at /dev or /sys.
 const SITE: &str = r#"
@@ -74,10 +82,12 @@ fn said(
     let mut notes = Vec::new(alloc);
     let paths = written_paths(alloc, &unit, &mut notes)?;
     let mut out = String::new(alloc);
-    if let Some(key) = root_key(&paths) {
-        out.push_str("outside ")?;
-        out.push_str(key.name())?;
-        return Ok(out);
+    for key in ROOT_KEYS {
+        if mentions_root(&paths, key) {
+            out.push_str("outside ")?;
+            out.push_str(key.name())?;
+            return Ok(out);
+        }
     }
     let made = match mount_settings(alloc, &unit, &paths, site, switches, &mut notes) {
         Ok(made) => made,

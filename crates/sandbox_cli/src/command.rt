@@ -6,8 +6,10 @@ ghost use Rattle.sandbox_cli.specs.Requests.{command_of, request_of};
 /// A command with its words.
 #[derive(Clone, Copy)]
 pub enum Command<'a> {
-    /// Print the filter of a unit.
+    /// Print the filters of a unit.
     Filter(&'a str),
+    /// Print the mounts of a unit.
+    Plan(&'a str),
     /// Report what the sandbox of a unit lets its service do.
     Judge(&'a str),
 }
@@ -20,6 +22,8 @@ pub fn parse<'a>(words: &[&'a str]) -> Option<Command<'a>>
         None
     } else if words[0] == "filter" {
         Some(Command::Filter(words[1]))
+    } else if words[0] == "plan" {
+        Some(Command::Plan(words[1]))
     } else if words[0] == "judge" {
         Some(Command::Judge(words[1]))
     } else {

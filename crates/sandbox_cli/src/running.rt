@@ -30,6 +30,7 @@ fn answer_to_command<S: Shelf>(
 {
     match command {
         Command::Filter(unit) => filter_command::answer(alloc, shelf, unit),
+        Command::Plan(unit) => plan_command::answer(alloc, shelf, unit),
         Command::Judge(unit) => thin_judge::answer(alloc, shelf, unit),
     }
 }

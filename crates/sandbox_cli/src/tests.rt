@@ -195,15 +195,6 @@ fn a_file_is_refused(rt: HostRuntime) -> Result<(), Fail> {
 fn a_setting_is_refused(rt: HostRuntime) -> Result<(), Fail> {
     let rows = [
         (
-            "a setting that is not read yet, the first in byte order",
-            "web.service",
-            "[Service]\nExecStart=/usr/bin/web\nProtectHome=yes\nPrivateTmp=yes\n",
-            "",
-            TABLE,
-            3,
-            "refused web.service unbuilt PrivateTmp\n",
-        ),
-        (
             "no command",
             "web.service",
             "[Service]\nSystemCallFilter=read\n",
@@ -403,7 +394,7 @@ fn a_read_fault_prints_nothing(rt: HostRuntime) -> Result<(), Fail> {
 
 #[test]
 fn a_refused_name_is_not_looked_for(rt: HostRuntime) -> Result<(), Fail> {
-    for words in [["filter", "web"], ["judge", "Web.service"]] {
+    for words in [["filter", "web"], ["plan", "web"], ["judge", "Web.service"]] {
         let mut failing = Vec::new(rt.alloc());
         failing.push(1)?;
         let mut shelf = MemShelf::new(Vec::new(rt.alloc()), failing);

@@ -1,6 +1,9 @@
 use Rattle.std.proofs.Common.{sym}
-use Rattle.exec_settings.proofs.Launching.{relative_is_outside}
+use Rattle.exec_settings.proofs.Outside.{no_root_key, not_relative}
 use Rattle.exec_settings.proofs.program.program_of.Goals as goal
 
 pub unreachable-requires : goal.unreachable-requires
-unreachable-requires c = relative_is_outside c.args.unit.now c.args.command c.in-Relative.is (sym c.in_default.ensures.first_in_byte_order)
+unreachable-requires c = not_relative c.args.unit.now c.args.command (sym c.in_default.ensures.first_in_byte_order) c.in-Relative.is
+
+pub returns-clause-leaves_the_root : goal.returns-clause-leaves_the_root
+returns-clause-leaves_the_root c = no_root_key c.args.unit.now c.args.command (sym c.in_default.ensures.first_in_byte_order)

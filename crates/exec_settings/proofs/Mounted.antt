@@ -1,0 +1,43 @@
+-- The mentions of a unit by what its keys come to.
+use Rattle.std.proofs.Common.{◌≡◌, ◌<◌, ◌≤◌, ℕ, Bool, cond, Some, None, Ok, Err, List, length, refl, sym, ap, ◌∙◌, arith}
+use Rattle.std.specs.Prelude.{nat_lt}
+use Rattle.std.proofs.lemmas.Bool.{le-ltb, lt-ltb}
+use Rattle.call_table.specs.Table.{Table}
+use Rattle.dropin_merge.specs.declared.resolved.Resolved.{Resolved}
+use Rattle.filter_rules.specs.declared.settings.FilterSettings.{FilterSettings}
+use Rattle.path_settings.specs.declared.mentions.Mention.{Mention}
+use Rattle.site_table.specs.Table.{Site}
+use Rattle.mount_settings.specs.declared.written.WrittenPath.{WrittenPath}
+use Rattle.mount_settings.specs.Settings.{mentions_of, protections_of}
+use Rattle.mount_settings.specs.Written.{unit_written}
+use Rattle.exec_settings.specs.Dynamic.{is_dynamic, unit_filters}
+use Rattle.exec_settings.specs.declared.errors.SettingsError.TheVariants.{TooManyPaths}
+use Rattle.exec_settings.specs.Mounts.{paths_refusal, switches_of, unit_mentions, unit_switches}
+
+-- the filters' switches are those of the keys
+same_switches : (unit : Resolved) (table : Table) → switches_of (is_dynamic unit) (unit_filters unit table) ≡ unit_switches unit
+unfolding unit_filters unit_switches
+same_switches unit table = refl
+
+pub mentions_are : (unit : Resolved) (table : Table) (site : Site) (dynamic : Bool) (filters : FilterSettings) (mentions : List Mention) → dynamic ≡ is_dynamic unit → filters ≡ unit_filters unit table → mentions ≡ mentions_of site (switches_of dynamic filters) (protections_of unit (switches_of dynamic filters)) (unit_written unit) → mentions ≡ unit_mentions unit site
+unfolding unit_mentions
+mentions_are unit table site dynamic filters mentions by_key by_keys are =
+    are
+    ∙ ap (λ switches. mentions_of site switches (protections_of unit switches) (unit_written unit))
+    (ap (λ on. switches_of on filters) by_key ∙ ap (switches_of (is_dynamic unit)) by_keys ∙ same_switches unit table)
+
+pub no_error : {A E : Type 0} (value : A) (error : E) → Ok value ≡ Err error → ⊥
+no_error value error is = cc
+
+not_more : (a b : ℕ) → (a < b → ⊥) → b ≤ a
+not_more a b few = omega (arith, few)
+
+-- by how many paths are written
+module _ (unit : Resolved) (paths : List WrittenPath) (written : paths ≡ unit_written unit) where
+  pub few_paths : (128 < length paths → ⊥) → paths_refusal unit ≡ None
+  unfolding paths_refusal
+  few_paths few = ap (λ many. cond many (Some TooManyPaths) None) (ap (λ list. nat_lt 128 (length list)) (sym written) ∙ le-ltb 128 (length paths) (not_more 128 (length paths) few))
+
+  pub many_paths : 128 < length paths → paths_refusal unit ≡ Some TooManyPaths
+  unfolding paths_refusal
+  many_paths many = ap (λ many. cond many (Some TooManyPaths) None) (ap (λ list. nat_lt 128 (length list)) (sym written) ∙ lt-ltb 128 (length paths) many)

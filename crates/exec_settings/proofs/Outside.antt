@@ -1,0 +1,45 @@
+-- What holds where no key is outside of what is judged.
+use Rattle.std.proofs.Common.{◌≡◌, ℕ, zero, suc, Bool, true, false, cond, Option, Some, None, List, [], ◌∷◌, refl, sym, ap, ◌∙◌, subst}
+use Rattle.std.specs.Prelude.{find, slice_get}
+use Rattle.dropin_merge.specs.declared.resolved.Resolved.{Resolved}
+use Rattle.path_settings.specs.declared.keys.PathKey.TheVariants as path
+use Rattle.mount_settings.specs.Roots.{mentions_root, root_key}
+use Rattle.mount_settings.specs.Written.{unit_written}
+use Rattle.exec_settings.specs.declared.commands.Command.{Command}
+use Rattle.exec_settings.specs.declared.commands.Program.TheVariants.{Relative}
+use Rattle.exec_settings.specs.declared.outside_keys.OutsideKey.{OutsideKey}
+use Rattle.exec_settings.specs.declared.outside_keys.OutsideKey.TheVariants.{BindPaths, BindReadOnlyPaths, ExecStart, InaccessiblePaths, TemporaryFileSystem}
+use Rattle.exec_settings.specs.declared.outside_keys.TheConstants.{ALL_OUTSIDE_KEYS}
+use Rattle.exec_settings.specs.Profile.{is_outside, is_relative, outside_key}
+
+passed : {X : Type 0} (b : Bool) (x : X) (found : Option X) → cond b (Some x) found ≡ None → (b ≡ false) × (found ≡ None)
+passed false x found none = (refl, none)
+passed true x found none = cc
+
+-- where nothing passes, no element does
+none_passes : {X : Type 0} (p : X → Bool) (xs : List X) (i : ℕ) (x : X) → slice_get xs i ≡ Some x → find p xs ≡ None → p x ≡ false
+none_passes p [] i x is none = cc
+none_passes p (y ∷ xs) zero x is none = let same : y ≡ x = cc in subst (λ z. p z ≡ false) same (passed (p y) y (find p xs) none).0
+none_passes p (y ∷ xs) (suc i) x is none = none_passes p xs i x is (passed (p y) y (find p xs) none).1
+
+none_of_four : {X : Type 0} (p : X → Bool) (a b c d : X) → p a ≡ false → p b ≡ false → p c ≡ false → p d ≡ false → find p (a ∷ b ∷ c ∷ d ∷ []) ≡ None
+none_of_four p a b c d not_a not_b not_c not_d =
+    ap (λ v. cond v (Some a) (find p (b ∷ c ∷ d ∷ []))) not_a
+    ∙ ap (λ v. cond v (Some b) (find p (c ∷ d ∷ []))) not_b
+    ∙ ap (λ v. cond v (Some c) (find p (d ∷ []))) not_c
+    ∙ ap (λ v. cond v (Some d) None) not_d
+
+module _ (unit : Resolved) (command : Command) (none : outside_key unit command ≡ None) where
+  unused : (i : ℕ) (key : OutsideKey) → slice_get ALL_OUTSIDE_KEYS i ≡ Some key → is_outside unit command key ≡ false
+  unfolding outside_key
+  unused i key is = none_passes (is_outside unit command) ALL_OUTSIDE_KEYS i key is none
+
+  -- the program is an absolute path
+  pub not_relative : command.program ≡ Relative → ⊥
+  not_relative is = let no : true ≡ false = sym (ap is_relative is) ∙ unused 2 ExecStart refl in cc
+
+  -- and nothing stands in the place of the root
+  pub no_root_key : root_key (unit_written unit) ≡ None
+  no_root_key =
+      none_of_four (mentions_root (unit_written unit)) path.BindPaths path.BindReadOnlyPaths path.InaccessiblePaths path.TemporaryFileSystem
+      (unused 0 BindPaths refl) (unused 1 BindReadOnlyPaths refl) (unused 5 InaccessiblePaths refl) (unused 11 TemporaryFileSystem refl)

@@ -1,0 +1,47 @@
+-- What it is to be the settings of a unit.
+use Rattle.std.specs.Prelude.{◌≡◌, ◌≤◌, Ok, Some, List, filter, map, IsTrue}
+use Rattle.std.specs.List.{All}
+use Rattle.bpf_code.specs.declared.machine.CallData.{CallData}
+use Rattle.call_rules.specs.Action.{case_action}
+use Rattle.call_rules.specs.Sizes.{CanCompile}
+use Rattle.call_table.specs.Table.{Table}
+use Rattle.cred_settings.specs.Ambient.{ambient_of}
+use Rattle.cred_settings.specs.Identities.{identity_of}
+use Rattle.dropin_merge.specs.declared.resolved.Resolved.{Resolved}
+use Rattle.filter_rules.specs.Costs.{most_room}
+use Rattle.filter_rules.specs.Names.{all_filters}
+use Rattle.filter_rules.specs.Wanted.{is_on, wanted_action}
+use Rattle.filter_rules.specs.declared.installed.Filter.{Filter}
+use Rattle.filter_rules.specs.declared.settings.FilterSettings.{FilterSettings}
+use Rattle.mount_settings.specs.Roots.{leaves_the_root}
+use Rattle.site_table.specs.Table.{Site}
+use Rattle.exec_settings.specs.declared.settings.Settings.{Settings}
+use Rattle.exec_settings.specs.Dynamic.{is_dynamic, unit_filters}
+use Rattle.exec_settings.specs.Mounts.{unit_mentions}
+use Rattle.exec_settings.specs.Notes.{all_notes}
+use Rattle.exec_settings.specs.Order.{AreInOrder}
+use Rattle.exec_settings.specs.Settings.{unit_bounding, unit_new_privileges, unit_program}
+
+-- the rules of a filter do to every call what the settings say by names and words
+abbrev pub HasWantedRules : FilterSettings → Table → Filter → Type 0
+HasWantedRules settings table one = (input : CallData) → case_action one.rules input ≡ wanted_action one.name settings table input
+
+-- exactly the filters that are on, in the order in which they are installed; each can be compiled, and all fit into one
+-- stack of programs
+pub record AreFilters (settings : FilterSettings) (table : Table) (filters : List Filter) : Type 0 where
+  pub exactly_those_on : map (λ one. one.name) filters ≡ filter (is_on settings) all_filters
+  pub do_as_wanted : All (HasWantedRules settings table) filters
+  pub can_be_compiled : All (λ one. CanCompile one.rules) filters
+  pub fit_into_a_stack : most_room filters ≤ 32768
+
+-- the settings of a unit, by the table of calls and the site
+pub record AreSettings (unit : Resolved) (table : Table) (site : Site) (made : Settings) : Type 0 where
+  pub launches_the_first_command : unit_program unit ≡ Some made.program
+  pub runs_as : identity_of unit site (is_dynamic unit) ≡ Ok (record { uid = made.uid; gid = made.gid; groups = made.groups })
+  pub bounding_without_what_is_taken : made.bounding ≡ unit_bounding unit table
+  pub ambient : made.ambient ≡ ambient_of unit
+  pub new_privileges : made.no_new_privs ≡ unit_new_privileges unit table made.uid
+  pub filters_as_wanted : AreFilters (unit_filters unit table) table made.filters.items
+  pub mentions_written_and_implied : made.mentions ≡ unit_mentions unit site
+  pub leaves_the_root : IsTrue (leaves_the_root made.mentions)
+  pub all_notes_in_order : AreInOrder (all_notes unit table) made.notes.items

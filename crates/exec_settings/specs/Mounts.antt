@@ -1,0 +1,38 @@
+-- What a unit says of paths, and how many of them it may write (systemd.exec(5), Paths, Sandboxing).
+use Rattle.std.specs.Prelude.{nat_lt, cond, Bool, List, length, Option, Some, None, codes}
+use Rattle.dropin_merge.specs.declared.resolved.Resolved.{Resolved}
+use Rattle.filter_rules.specs.declared.settings.FilterSettings.{FilterSettings}
+use Rattle.path_settings.specs.declared.mentions.Mention.{Mention}
+use Rattle.site_table.specs.Table.{Site}
+use Rattle.unit_values.specs.Flags.{unit_flag}
+use Rattle.mount_settings.specs.declared.protections.Switches.{Switches}
+use Rattle.mount_settings.specs.Settings.{mentions_of, protections_of}
+use Rattle.mount_settings.specs.Written.{unit_written}
+use Rattle.exec_settings.specs.Dynamic.{is_dynamic}
+use Rattle.exec_settings.specs.declared.errors.SettingsError.{SettingsError}
+use Rattle.exec_settings.specs.declared.errors.SettingsError.TheVariants.{TooManyPaths}
+
+-- keys that imply paths and do other things too
+abbrev pub switches_of : Bool → FilterSettings → Switches
+switches_of dynamic filters = record {
+  private_devices = filters.private_devices;
+  protect_kernel_modules = filters.protect_kernel_modules;
+  protect_kernel_logs = filters.protect_kernel_logs;
+  dynamic_user = dynamic;
+}
+
+unfoldable pub unit_switches : Resolved → Switches
+unit_switches unit = record {
+  private_devices = unit_flag unit (codes "PrivateDevices");
+  protect_kernel_modules = unit_flag unit (codes "ProtectKernelModules");
+  protect_kernel_logs = unit_flag unit (codes "ProtectKernelLogs");
+  dynamic_user = is_dynamic unit;
+}
+
+-- all mentions: the written ones, and behind them those that are implied
+unfoldable pub unit_mentions : Resolved → Site → List Mention
+unit_mentions unit site = mentions_of site (unit_switches unit) (protections_of unit (unit_switches unit)) (unit_written unit)
+
+-- more than 128 written paths are refused
+unfoldable pub paths_refusal : Resolved → Option SettingsError
+paths_refusal unit = cond (nat_lt 128 (length (unit_written unit))) (Some TooManyPaths) None

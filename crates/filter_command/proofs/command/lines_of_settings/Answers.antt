@@ -1,8 +1,0 @@
-use Rattle.std.proofs.Common.{map, ap, ◌∙◌, subst}
-use Rattle.filter_command.proofs.Settled.{lines_are}
-use Rattle.filter_command.proofs.command.lines_of_settings.Goals as goal
-
-pub returns : goal.returns
-returns c =
-    lines_are c.args.settings.now.filters.items c.as_slice.result.now c.in_ok-programs.programs.items c.as_slice-2.result.now c.as_slice.ensures.value c.as_slice-2.ensures.value
-    c.in_ok-programs.ensures.each_in_its_place c.in_ok-programs.ensures.do_as_wanted c.filters_text.result c.filters_text.ensures.in_their_order

@@ -1,0 +1,5 @@
+pub mod Endings
+pub mod Mounting
+pub mod Plain
+pub mod Printing
+pub mod Settled

@@ -1,0 +1,26 @@
+-- The lines of units whose mounts have no plan.
+use Rattle.std.specs.Prelude.{◌≡◌, ℕ, List, ◌++◌, codes}
+use Rattle.abs_path.specs.Paths.{Path, text_of}
+use Rattle.text_forms.specs.Escaped.{escaped_word}
+use Rattle.command_answers.specs.Refusals.{refused_line}
+use Rattle.view_map.specs.Kept.{Refusal, missing, wrong_kind}
+use Rattle.mount_plan.specs.declared.error.PlanError.{PlanError}
+use Rattle.mount_plan.specs.declared.error.PlanError.TheVariants.{Missing, Kind, Memory}
+
+-- why, and at which path
+abbrev pub cause_at : List ℕ → Path → List ℕ
+cause_at cause path = cause ++ (codes " " ++ escaped_word (text_of path))
+
+-- why there is no plan: no object at a path, or one of the wrong kind
+abbrev pub plan_cause : Refusal → List ℕ
+plan_cause (missing path) = cause_at (codes "no-path") path
+plan_cause (wrong_kind path) = cause_at (codes "kind") path
+
+abbrev pub plan_line : List ℕ → Refusal → List ℕ
+plan_line unit refusal = refused_line unit (plan_cause refusal)
+
+-- the line of an error is that of the refusal which it stands for; want of memory has none
+abbrev pub TellsPlan : List ℕ → PlanError → List ℕ → Type 0
+TellsPlan unit (Missing path) line = line ≡ plan_line unit (missing path)
+TellsPlan unit (Kind path) line = line ≡ plan_line unit (wrong_kind path)
+TellsPlan unit Memory line = ⊥

@@ -1,0 +1,75 @@
+//! The lines of a table of mounts.
+ghost use Rattle.std.specs.Prelude.{◌≡◌, ◌++◌, map, IfOk, OnOk};
+ghost use Rattle.plan_command.specs.Lines.{count_line, executing, flags_words, lines_of, mount_line, shown_words, writing};
+
+use kern_mounts::{Flags, MountStep, What};
+use std::alloc::{AllocError, Global};
+use text_forms::push_word;
+
+fn writing(flags: Flags) -> &'static str
+    ensures { result.now ≡ writing flags.read_only }
+{
+    if flags.read_only { "ro" } else { "rw" }
+}
+
+fn executing(flags: Flags) -> &'static str
+    ensures { result.now ≡ executing flags.no_exec }
+{
+    if flags.no_exec { "noexec" } else { "exec" }
+}
+
+// Appends how what is shown may be used.
+fn push_flags(line: &mut Vec<u8>, flags: Flags) -> Result<(), AllocError>
+    ensures { OnOk result (line.new.items ≡ line.old.items ++ flags_words flags) }
+{
+    line.push(b' ')?;
+    line.extend_from_slice(writing(flags).as_bytes())?;
+    line.push(b' ')?;
+    line.extend_from_slice(executing(flags).as_bytes())
+}
+
+// Appends what a mount shows. Nobody may use what is hidden, so nothing is said of how.
+fn push_shown(line: &mut Vec<u8>, step: &MountStep) -> Result<(), AllocError>
+    ensures { OnOk result (line.new.items ≡ line.old.items ++ shown_words step.now.what step.now.flags) }
+{
+    match &step.what {
+        What::Host(source) => {
+            line.extend_from_slice(b" host ")?;
+            push_word(line, source.text())?;
+            push_flags(line, step.flags)
+        }
+        What::Empty => {
+            line.extend_from_slice(b" empty")?;
+            push_flags(line, step.flags)
+        }
+        What::Hidden(_) => line.extend_from_slice(b" hidden"),
+    }
+}
+
+fn mount_line(alloc: Global, step: &MountStep) -> Result<Vec<u8>, AllocError>
+    ensures { IfOk result (λ line. line.items ≡ mount_line step.now) }
+{
+    let mut line = b"mount ".to_vec(alloc)?;
+    push_word(&mut line, step.place.text())?;
+    push_shown(&mut line, step)?;
+    line.push(b'\n')?;
+    Ok(line)
+}
+
+fn count_line(alloc: Global, count: usize) -> Result<Vec<u8>, AllocError>
+    ensures { IfOk result (λ line. line.items ≡ count_line count) }
+{
+    Ok(format!(in alloc; "mounts {count}\n")?.into_bytes())
+}
+
+/// The lines of all mounts: of each its place, what it shows there and how that may be used; last how many there are.
+pub fn mounts_text(alloc: Global, steps: &[MountStep]) -> Result<Vec<Vec<u8>>, AllocError>
+    ensures in_their_order { IfOk result (λ lines. map (λ line. line.items) lines.items ≡ lines_of steps.now) }
+{
+    let mut lines = Vec::new(alloc);
+    'steps: for step in steps {
+        lines.push(mount_line(alloc, step)?)?;
+    }
+    lines.push(count_line(alloc, steps.len())?)?;
+    Ok(lines)
+}

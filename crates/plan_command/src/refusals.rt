@@ -1,0 +1,33 @@
+//! The lines of units whose mounts have no plan.
+ghost use Rattle.std.specs.Prelude.{◌≡◌, IfOk, IsErrOf};
+ghost use Rattle.plan_command.specs.Refusals.{TellsPlan, cause_at};
+
+use abs_path::AbsPath;
+use command_answers::{Failure, refused_line};
+use mount_plan::PlanError;
+use std::alloc::{AllocError, Global};
+use text_forms::push_word;
+
+// A cause, and the path that it is about.
+fn cause_at(alloc: Global, cause: &[u8], path: &AbsPath) -> Result<Vec<u8>, AllocError>
+    ensures { IfOk result (λ why. why.items ≡ cause_at cause.now path.now) }
+{
+    let mut why = cause.to_vec(alloc)?;
+    why.push(b' ')?;
+    push_word(&mut why, path.text())?;
+    Ok(why)
+}
+
+/// The line of a unit whose mounts have no plan: `no-path` where the site has no row at a path, `kind` where a directory
+/// and a file would cover one another. Want of memory has no line, and is passed on.
+pub fn plan_line(alloc: Global, unit: &str, error: &PlanError) -> Result<Vec<u8>, Failure>
+    ensures tells_the_refusal { IfOk result (λ line. TellsPlan unit.now error.now line.items) }
+    ensures reads_nothing { IsErrOf result Failure.ReadFault → ⊥ }
+{
+    let why = match error {
+        PlanError::Missing(path) => cause_at(alloc, b"no-path", path)?,
+        PlanError::Kind(path) => cause_at(alloc, b"kind", path)?,
+        PlanError::Memory => return Err(Failure::Memory),
+    };
+    Ok(refused_line(alloc, unit, why.as_slice())?)
+}

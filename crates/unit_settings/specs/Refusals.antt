@@ -1,0 +1,24 @@
+-- The lines of units whose settings are refused.
+use Rattle.std.specs.Prelude.{ℕ, List, [], ◌++◌, codes}
+use Rattle.text_forms.specs.Escaped.{escaped_word}
+use Rattle.command_answers.specs.Refusals.{refused_line}
+use Rattle.exec_settings.specs.declared.errors.SettingsError.{SettingsError}
+use Rattle.exec_settings.specs.declared.errors.SettingsError.TheVariants.{NoCommand, PrivilegedCommand, OutsideProfile, NoSuchUser, NoSuchGroup, MissingGroup, TooManyPaths, Memory}
+
+-- why, and of what
+abbrev pub cause_with : List ℕ → List ℕ → List ℕ
+cause_with cause what = cause ++ (codes " " ++ escaped_word what)
+
+-- why there are no settings; want of memory has no line
+abbrev pub settings_cause : SettingsError → List ℕ
+settings_cause NoCommand = codes "no-command"
+settings_cause PrivilegedCommand = codes "privileged-command"
+settings_cause (OutsideProfile key) = cause_with (codes "outside") key
+settings_cause (NoSuchUser word) = cause_with (codes "no-user") word
+settings_cause (NoSuchGroup word) = cause_with (codes "no-group") word
+settings_cause (MissingGroup name) = cause_with (codes "no-set") name
+settings_cause TooManyPaths = codes "too-many-paths"
+settings_cause Memory = []
+
+abbrev pub settings_line : List ℕ → SettingsError → List ℕ
+settings_line unit error = refused_line unit (settings_cause error)

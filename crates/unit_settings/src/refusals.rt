@@ -1,0 +1,48 @@
+//! The lines of units whose settings are refused.
+ghost use Rattle.std.specs.Prelude.{◌≡◌, ◌≢◌, IfOk, IsErrOf};
+ghost use Rattle.exec_settings.specs.declared.errors.SettingsError.TheVariants.{Memory};
+ghost use Rattle.unit_settings.specs.Refusals.{cause_with, settings_cause, settings_line};
+
+use command_answers::{Failure, refused_line};
+use exec_settings::SettingsError;
+use std::alloc::{AllocError, Global};
+use text_forms::push_word;
+
+// A cause, and what it is about.
+fn cause_with(alloc: Global, cause: &[u8], what: &str) -> Result<Vec<u8>, AllocError>
+    ensures { IfOk result (λ line. line.items ≡ cause_with cause.now what.now) }
+{
+    let mut line = cause.to_vec(alloc)?;
+    line.push(b' ')?;
+    push_word(&mut line, what)?;
+    Ok(line)
+}
+
+// Why a unit has no settings, as it is printed.
+fn settings_cause(alloc: Global, error: &SettingsError) -> Result<Vec<u8>, AllocError>
+    ensures { IfOk result (λ cause. cause.items ≡ settings_cause error.now) }
+{
+    match error {
+        SettingsError::NoCommand => b"no-command".to_vec(alloc),
+        SettingsError::PrivilegedCommand => b"privileged-command".to_vec(alloc),
+        SettingsError::OutsideProfile(key) => cause_with(alloc, b"outside", key.as_str()),
+        SettingsError::NoSuchUser(word) => cause_with(alloc, b"no-user", word.as_str()),
+        SettingsError::NoSuchGroup(word) => cause_with(alloc, b"no-group", word.as_str()),
+        SettingsError::MissingGroup(name) => cause_with(alloc, b"no-set", name.as_str()),
+        SettingsError::TooManyPaths => b"too-many-paths".to_vec(alloc),
+        SettingsError::Memory => Ok(Vec::new(alloc)),
+    }
+}
+
+/// The line of a unit whose settings are refused. Want of memory has none, and is passed on.
+pub fn settings_line(alloc: Global, unit: &str, error: &SettingsError) -> Result<Vec<u8>, Failure>
+    ensures tells_the_refusal { IfOk result (λ line. line.items ≡ settings_line unit.now error.now) }
+    ensures passes_want_of_memory_on { IfOk result (λ line. error.now ≢ Memory) }
+    ensures reads_nothing { IsErrOf result Failure.ReadFault → ⊥ }
+{
+    if let SettingsError::Memory = error {
+        return Err(Failure::Memory);
+    }
+    let cause = settings_cause(alloc, error)?;
+    Ok(refused_line(alloc, unit, cause.as_slice())?)
+}
