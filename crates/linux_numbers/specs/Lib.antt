@@ -1,0 +1,4 @@
+pub mod Errnos
+pub mod Capabilities
+pub mod Actions
+pub mod Limits
