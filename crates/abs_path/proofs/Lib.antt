@@ -5,3 +5,4 @@ pub mod Placed
 pub mod Reading
 pub mod Stripped
 pub mod Putting
+pub mod Given

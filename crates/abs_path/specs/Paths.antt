@@ -1,6 +1,6 @@
 -- A normal absolute path is the list of its parts, each part the list of its bytes. The root has no part.
 -- path_resolution(7): a path is resolved part by part between its slashes; `.` is the folder itself.
-use Rattle.std.specs.Prelude.{◌≡◌, ◌==◌, ◌||◌, ◌&&◌, ◌≤◌, ℕ, Bool, true, not, filter, codes, List, [], ◌∷◌, ◌++◌, length}
+use Rattle.std.specs.Prelude.{◌≡◌, ◌==◌, ◌||◌, ◌&&◌, ◌≤◌, ℕ, Bool, true, false, not, filter, codes, List, [], ◌∷◌, ◌++◌, length}
 use Rattle.std.specs.Str.{bytes_eq, byte as ascii}
 use Rattle.std.specs.List.{slice_split, list_any, list_all}
 
@@ -16,6 +16,11 @@ tail_of (part ∷ parts) = ascii "/" ∷ part ++ tail_of parts
 abbrev pub text_of : Path → List ℕ
 text_of [] = ascii "/" ∷ []
 text_of (part ∷ parts) = tail_of (part ∷ parts)
+
+-- the root, which has no part
+abbrev pub is_root : Path → Bool
+is_root [] = true
+is_root (part ∷ path) = false
 
 -- a part that stands in a path as written and says nothing: empty, between two slashes, or a lone dot
 abbrev pub is_idle : List ℕ → Bool

@@ -1,10 +1,10 @@
 -- Which path leads to which, by whole parts, and what lies behind.
-use Rattle.std.specs.Prelude.{◌≡◌, ◌==◌, ◌&&◌, ◌<◌, ◌≤◌, ⊤, ℕ, Bool, true, false, cond, nat_eq, List, [], ◌∷◌, ◌++◌, length, drop, Option, Some, None, option_and_then, Result, Ok, Err}
+use Rattle.std.specs.Prelude.{◌≡◌, ◌==◌, ◌&&◌, ◌<◌, ◌≤◌, ⊤, ℕ, Bool, true, false, not, cond, nat_eq, List, [], ◌∷◌, ◌++◌, length, drop, Option, Some, None, option_and_then, Result, Ok, Err}
 use Rattle.std.specs.Str.{bytes_eq, byte as ascii}
 use Rattle.std.specs.List.{starts_with}
 use Rattle.std.specs.Cmp.Lexicographic.{pointwise}
-use Rattle.abs_path.specs.declared.error.PathError.{PathError}
-use Rattle.abs_path.specs.declared.error.PathError.TheVariants.{TooLong, HasNul, Relative, DotDot, Memory}
+use Rattle.abs_path.specs.declared.error.JoinError.{JoinError}
+use Rattle.abs_path.specs.declared.error.JoinError.TheVariants.{TooLong, Memory}
 use Rattle.abs_path.specs.Paths.{Path, tail_of, parts_of, is_normal}
 
 -- the first path is the second, or leads to it: by whole parts
@@ -16,6 +16,10 @@ is_prefix (part ∷ front) (first ∷ path) = bytes_eq part first && is_prefix f
 -- the same parts
 abbrev pub is_same : Path → Path → Bool
 is_same one other = pointwise bytes_eq one other
+
+-- the other leads to the path and is not it
+abbrev pub is_below : Path → Path → Bool
+is_below path other = is_prefix other path && not (is_same other path)
 
 -- what a path has behind a prefix of it
 abbrev pub rest_of : Path → Path → Path
@@ -31,13 +35,10 @@ pub record IsRest (text : List ℕ) : Type 0 where
   pub whole : tail_of (parts_of text) ≡ text
 
 -- the path with the rest's parts behind it, or more than 512 bytes
-abbrev pub Joins : Path → List ℕ → Result Path PathError → Type 0
+abbrev pub Joins : Path → List ℕ → Result Path JoinError → Type 0
 Joins path rest (Ok joined) = (joined ≡ path ++ parts_of rest) × (length (tail_of joined) ≤ 512)
 Joins path rest (Err TooLong) = 512 < length (tail_of (path ++ parts_of rest))
 Joins path rest (Err Memory) = ⊤
-Joins path rest (Err HasNul) = ⊥
-Joins path rest (Err Relative) = ⊥
-Joins path rest (Err DotDot) = ⊥
 
 -- nothing, or a slash at the front
 abbrev pub is_behind : List ℕ → Bool

@@ -1,12 +1,13 @@
-//! Why a text is no path, or two make none.
+//! Why a text is no path, or two are none together.
 
 ghost use Rattle.std.specs.Prelude.{◌≡◌};
-ghost use Rattle.abs_path.specs.declared.error.PathError.TheVariants.{Memory};
+ghost use Rattle.abs_path.specs.declared.error.PathError.TheVariants.{Memory as no_memory_for_path};
+ghost use Rattle.abs_path.specs.declared.error.JoinError.TheVariants.{Memory as no_memory_for_both};
 
-use std::alloc::{AllocError, AllocFailed};
+use std::alloc::AllocError;
 use thiserror::Error;
 
-/// Why a text is no path, or why two make none. Of several faults the one listed first is told.
+/// Why a text is no path. Of several faults the one listed first is told.
 #[derive(Clone, Copy, Debug, PartialEq, Eq, Error)]
 pub enum PathError {
     /// The text has more than 512 bytes.
@@ -27,17 +28,28 @@ pub enum PathError {
 }
 
 impl From<AllocError> for PathError {
-    ghost from_gives = { λ _ e. e ≡ Memory };
+    ghost from_gives = { λ _ e. e ≡ no_memory_for_path };
 
     fn from(_: AllocError) -> Self {
         PathError::Memory
     }
 }
 
-impl<T: Drop> From<AllocFailed<T>> for PathError {
-    ghost from_gives = { λ _ e. e ≡ Memory };
+/// Why a rest is not joined to a path.
+#[derive(Clone, Copy, Debug, PartialEq, Eq, Error)]
+pub enum JoinError {
+    /// The two have more than 512 bytes.
+    #[error("the path has more than 512 bytes")]
+    TooLong,
+    /// There was no memory for the path.
+    #[error("out of memory")]
+    Memory,
+}
 
-    fn from(_: AllocFailed<T>) -> Self {
-        PathError::Memory
+impl From<AllocError> for JoinError {
+    ghost from_gives = { λ _ e. e ≡ no_memory_for_both };
+
+    fn from(_: AllocError) -> Self {
+        JoinError::Memory
     }
 }

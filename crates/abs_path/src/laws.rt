@@ -1,6 +1,7 @@
 //! Laws of paths, each the contract of a function that does nothing.
 
-ghost use Rattle.std.specs.Prelude.{◌≡◌, ◌⊎◌, ◌≤◌, ℕ, List, [], ◌++◌, IsTrue, Some, None, length};
+ghost use Rattle.std.specs.Prelude.{◌≡◌, ◌⊎◌, ◌↔◌, ◌≤◌, ℕ, List, [], ◌++◌, IsTrue, Some, None, length};
+ghost use Rattle.std.specs.List.{AllByRecursion, Contains};
 ghost use Rattle.abs_path.specs.Paths.{Path, text_of, tail_of, parts_of, is_normal};
 ghost use Rattle.abs_path.specs.Prefix.{is_prefix, rest_of, rest_text, IsRest};
 ghost use Rattle.abs_path.specs.ByteOrder.{is_before, in_byte_order, AreAscending};
@@ -37,7 +38,7 @@ pub fn text_read_again()
 {}
 
 /// Byte order is an order, puts each path after its proper prefixes, and tells any two normal
-/// paths apart.
+/// paths apart. A list in it has exactly the paths that are given.
 pub fn byte_order()
     ensures after_prefixes { (front path : Path)
         → IsTrue (is_prefix front path) → (front ≡ path) ⊎ IsTrue (is_before front path) }
@@ -47,4 +48,7 @@ pub fn byte_order()
     ensures one_first { (one other : Path) → IsTrue (is_normal one) → IsTrue (is_normal other)
         → (one ≡ other) ⊎ (IsTrue (is_before one other) ⊎ IsTrue (is_before other one)) }
     ensures lists_ascend { (paths : List Path) → AreAscending (in_byte_order paths) }
+    ensures lists_have_what_is_given { (paths : List Path) (path : Path)
+        → AllByRecursion (λ one. IsTrue (is_normal one)) paths
+        → (Contains (in_byte_order paths) path ↔ Contains paths path) }
 {}

@@ -4,13 +4,11 @@
 //! The crate rests on std alone; `AbsPath::read(alloc, "/a//b/")?.text()` is `/a/b`.
 #![tactic(auto)]
 
-pub mod error;
+mod error;
 pub mod laws;
-pub mod order;
-pub mod path;
-#[cfg(test)]
-mod tests;
+mod order;
+mod path;
 
-pub use error::PathError;
+pub use error::{JoinError, PathError};
 pub use order::put;
 pub use path::AbsPath;

@@ -12,7 +12,7 @@ fn place_of(paths: &[AbsPath], path: &AbsPath) -> Option<usize>
     ensures { MatchOption result (placed path.now paths.now ≡ paths.now)
         (λ at. (at ≤ length paths.now) × (placed path.now paths.now ≡ insert paths.now at path.now)) }
 {
-    'paths: for (index, other) in paths.iter().enumerate() {
+    for (index, other) in paths.iter().enumerate() {
         match path.order(other) {
             Ordering::Less => return Some(index),
             Ordering::Equal => return None,

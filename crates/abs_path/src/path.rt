@@ -6,7 +6,7 @@ mod prefix;
 mod read;
 
 ghost use Rattle.std.specs.Prelude.{◌≡◌, ◌≤◌, IsTrue, IfOk, length, []};
-ghost use Rattle.abs_path.specs.Paths.{text_of, tail_of, is_normal};
+ghost use Rattle.abs_path.specs.Paths.{text_of, tail_of, is_root, is_normal};
 ghost use Rattle.std.specs.Ordering.{nat_cmp};
 ghost use Rattle.std.specs.Cmp.Lexicographic.{slice_cmp};
 
@@ -56,6 +56,13 @@ impl AbsPath {
         } else {
             self.tail.as_str()
         }
+    }
+
+    /// Whether it is the root.
+    pub fn is_root(&self) -> bool
+        ensures without_parts { result ≡ is_root self.now }
+    {
+        self.tail.is_empty()
     }
 
     /// How many bytes the parts have, each with the slash before it; none for the root.

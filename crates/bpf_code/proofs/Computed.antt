@@ -17,7 +17,7 @@ use Rattle.bpf_code.proofs.FirstFaults.{lt_or_same}
 use Rattle.bpf_code.proofs.Marks.{follows_later}
 
 -- tests
-both_of : (a b : Bool) → (a && b) ≡ true → (a ≡ true) × (b ≡ true)
+pub both_of : (a b : Bool) → (a && b) ≡ true → (a ≡ true) × (b ≡ true)
 both_of true b e = (refl, e)
 both_of false b e = cc
 
@@ -148,7 +148,7 @@ of_fine : (code : List Insn) → AreFine code → are_fine code ≡ true
 of_fine [] h = refl
 of_fine (insn ∷ code) h = of_both (is_none (fault_of insn (length code))) (are_fine code) (ap is_none h.0) (of_fine code h.1)
 
-accepted_of : (code : List Insn) → is_accepted code ≡ true → IsAccepted code
+pub accepted_of : (code : List Insn) → is_accepted code ≡ true → IsAccepted code
 accepted_of code e =
     let parts = both_of (nat_le (length code) 4096 && are_fine code) (ends_in_return code && not (any_below (length code) (is_unstored_load code))) e in
     let front = both_of (nat_le (length code) 4096) (are_fine code) parts.0 in

@@ -8,3 +8,4 @@ pub mod Chunks
 pub mod Computed
 pub mod Refusals
 pub mod Stacks
+pub mod Tied

@@ -1,5 +1,5 @@
 -- Laws of what a stack decides.
-use Rattle.std.proofs.Common.{◌≡◌, ℕ, zero, suc, ◌+◌, ◌*◌, ◌/◌, ◌^◌, ◌<◌, ◌≤◌, ◌==◌, ◌||◌, Bool, true, false, cond, List, [], ◌∷◌, ◌++◌, length, Option, Some, None, refl, sym, ap, ◌∙◌, subst, arith, inl, inr}
+use Rattle.std.proofs.Common.{◌≡◌, ℕ, zero, suc, ◌+◌, ◌<◌, ◌≤◌, ◌==◌, ◌||◌, Bool, true, false, cond, List, [], ◌∷◌, ◌++◌, length, Option, Some, None, refl, sym, ap, ◌∙◌, subst, arith, inl, inr}
 use Rattle.std.specs.Prelude.{ℤ, pos, int_le, ◌≤ℤ◌, ◌<ℤ◌, ◌⊎◌, slice_get}
 use Rattle.std.proofs.lemmas.Int.{ints}
 use Rattle.bpf_code.specs.declared.decision.Decision.{Decision}
@@ -12,7 +12,8 @@ use Rattle.std.specs.Option.{option_map_or}
 use Rattle.bpf_code.specs.declared.machine.Insn.{Insn}
 use Rattle.bpf_code.specs.declared.machine.CallData.{CallData}
 use Rattle.bpf_code.specs.Meaning.{Answers}
-use Rattle.bpf_code.specs.Stack.{answer_of, answers_of, action_of, stronger, stronger_of, pushed, deciding, decision_of, decision_by, decision_on, IsDeciding, AnswerEach, DecidedBy, Decides}
+use Rattle.linux_numbers.specs.Actions.{allow, log}
+use Rattle.bpf_code.specs.Stack.{answer_of, answers_of, action_word, action_of, stronger, stronger_of, pushed, deciding, decision_of, decision_by, decision_on, IsDeciding, AnswerEach, DecidedBy, Decides}
 use Rattle.bpf_code.specs.Refusing.{IsFirm, IsPlain, HasFirm, ArePlain, RefusalsStand}
 use Rattle.bpf_code.proofs.Endings.{run_by_answers}
 
@@ -51,7 +52,7 @@ none_decides : (answers : List ℕ) → deciding answers ≡ None → answers �
 none_decides [] e = refl
 none_decides (answer ∷ answers) e = cc
 
-some_same : (a b : ℕ) → Some a ≡ Some b → a ≡ b
+pub some_same : (a b : ℕ) → Some a ≡ Some b → a ≡ b
 some_same a b e = cc
 
 same_least : (a b : ℕ) → Some a ≡ Some b → action_of a ≤ℤ action_of b
@@ -144,20 +145,20 @@ pass_test false true v n e = cc
 pass_test false false true n e = cc
 pass_test false false false n e = cc
 
-pass_action : (action : ℕ) (t u : Bool) → (action == 0x7fff) ≡ t → (action == 0x7ffc) ≡ u → (t || u) ≡ true → (action ≡ 0x7fff) ⊎ (action ≡ 0x7ffc)
-pass_action action true u e f h = inl (eqb-true action 0x7fff e)
-pass_action action false true e f h = inr (eqb-true action 0x7ffc f)
+pass_action : (action : ℕ) (t u : Bool) → (action == allow) ≡ t → (action == log) ≡ u → (t || u) ≡ true → (action ≡ allow) ⊎ (action ≡ log)
+pass_action action true u e f h = inl (eqb-true action allow e)
+pass_action action false true e f h = inr (eqb-true action log f)
 pass_action action false false e f h = cc
 
-not_firm_action : (action : ℕ) → (action ≡ 0x7fff) ⊎ (action ≡ 0x7ffc) → cast_signed w32 (action * 2 ^ 16) <ℤ pos 0x7ffc0000 → ⊥
-not_firm_action action (inl e) h = let k : pos 0x7fff0000 <ℤ pos 0x7ffc0000 = subst (λ q. cast_signed w32 (q * 2 ^ 16) <ℤ pos 0x7ffc0000) e h in omega (arith, ints)
-not_firm_action action (inr e) h = let k : pos 0x7ffc0000 <ℤ pos 0x7ffc0000 = subst (λ q. cast_signed w32 (q * 2 ^ 16) <ℤ pos 0x7ffc0000) e h in omega (arith, ints)
+not_firm_action : (action : ℕ) → (action ≡ allow) ⊎ (action ≡ log) → cast_signed w32 action <ℤ pos log → ⊥
+not_firm_action action (inl e) h = let k : pos allow <ℤ pos log = subst (λ q. cast_signed w32 q <ℤ pos log) e h in omega (arith, ints)
+not_firm_action action (inr e) h = let k : pos log <ℤ pos log = subst (λ q. cast_signed w32 q <ℤ pos log) e h in omega (arith, ints)
 
 -- an answer below LOG does not let the call through
 pub firm_refuses : (answer : ℕ) → IsFirm answer → decision_of answer ≡ Pass → ⊥
 firm_refuses answer firm passes =
-    not_firm_action (answer / 2 ^ 16)
-    (pass_action (answer / 2 ^ 16) _ _ refl refl (pass_test (answer / 2 ^ 16 == 0x7fff || answer / 2 ^ 16 == 0x7ffc) _ _ _ passes))
+    not_firm_action (action_word answer)
+    (pass_action (action_word answer) _ _ refl refl (pass_test (action_word answer == allow || action_word answer == log) _ _ _ passes))
     firm
 
 -- an answer below LOG keeps its place: what decides is below LOG

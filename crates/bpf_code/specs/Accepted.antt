@@ -1,5 +1,6 @@
 -- Which programs are accepted: the checks of seccomp(2), as its program is read.
 use Rattle.std.specs.Prelude.{◌≡◌, ℕ, ◌+◌, ◌-◌, ◌%◌, ◌==◌, ◌<◌, ◌≤◌, nat_lt, ◌&&◌, Bool, true, false, if◌then◌else◌, ◌⊎◌, List, [], ◌∷◌, length, slice_get, Option, Some, None}
+use Rattle.linux_numbers.specs.Limits.{bpf_maxinsns}
 use Rattle.bpf_code.specs.declared.machine.Insn.{Insn}
 use Rattle.bpf_code.specs.declared.program.Fault.{Fault}
 use Rattle.bpf_code.specs.declared.program.Fault.TheVariants as fault
@@ -101,7 +102,7 @@ pub record IsFirstUnstored (code : List Insn) (at : ℕ) : Type 0 where
 
 -- seccomp(2) takes the program
 pub record IsAccepted (code : List Insn) : Type 0 where
-  pub short : length code ≤ 4096
+  pub short : length code ≤ bpf_maxinsns
   pub fine : AreFine code
   pub ends : ends_in_return code ≡ true
   pub stored : NoUnstored code

@@ -1,3 +1,4 @@
+pub mod Codes
 pub mod Ops
 pub mod Effects
 pub mod Meaning
@@ -7,3 +8,4 @@ pub mod Unstored
 pub mod ProgramOf
 pub mod Stack
 pub mod Refusing
+pub mod Tied

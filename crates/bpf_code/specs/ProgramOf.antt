@@ -2,6 +2,7 @@
 -- only, so one to a place has at most as many steps as the place is high.
 use Rattle.std.specs.Prelude.{ℕ, zero, suc, ◌+◌, ◌%◌, ◌==◌, nat_le, ◌&&◌, ◌||◌, not, Bool, true, false, if◌then◌else◌, List, [], ◌∷◌, length, slice_get, Option, Some, None}
 use Rattle.std.specs.Option.{option_map_or, is_none}
+use Rattle.linux_numbers.specs.Limits.{bpf_maxinsns}
 use Rattle.bpf_code.specs.declared.machine.Insn.{Insn}
 use Rattle.bpf_code.specs.declared.ops.Op.{Op}
 use Rattle.bpf_code.specs.declared.ops.Op.TheVariants.{Jump, JumpIf}
@@ -36,7 +37,7 @@ are_fine [] = true
 are_fine (insn ∷ code) = is_none (fault_of insn (length code)) && are_fine code
 
 abbrev pub is_accepted : List Insn → Bool
-is_accepted code = (nat_le (length code) 4096 && are_fine code) && (ends_in_return code && not (any_below (length code) (is_unstored_load code)))
+is_accepted code = (nat_le (length code) bpf_maxinsns && are_fine code) && (ends_in_return code && not (any_below (length code) (is_unstored_load code)))
 
 -- the program that the bytes are, where they are one
 abbrev pub program_of : List ℕ → Option (List Insn)

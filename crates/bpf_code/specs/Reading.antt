@@ -1,7 +1,8 @@
 -- Which bytes are a program, and why others are refused.
-use Rattle.std.specs.Prelude.{◌≡◌, ℕ, ◌*◌, ◌/◌, ◌%◌, ◌<◌, ◌≤◌, ◌⊎◌, true, false, List, [], ◌∷◌, map, length, slice_index, Result, Err}
-use Rattle.std.specs.Int.{from_le_bytes, w16, w32}
+use Rattle.std.specs.Prelude.{◌≡◌, ℕ, ◌*◌, ◌/◌, ◌%◌, ◌^◌, ◌<◌, ◌≤◌, ◌⊎◌, true, false, List, [], ◌∷◌, ◌++◌, map, flat_map, length, slice_index, Result, Err}
+use Rattle.std.specs.Int.{from_le_bytes, to_le_bytes, w16, w32}
 use Rattle.std.specs.Simd.{first_chunks}
+use Rattle.linux_numbers.specs.Limits.{bpf_maxinsns}
 use Rattle.bpf_code.specs.declared.machine.Insn.{Insn}
 use Rattle.bpf_code.specs.declared.program.Fault.{Fault}
 use Rattle.bpf_code.specs.declared.program.Fault.TheVariants as fault
@@ -28,13 +29,32 @@ insns_of bytes = map insn_of (first_chunks 8 (length bytes / 8) bytes)
 pub record IsCode (bytes : List ℕ) : Type 0 where
   pub whole : length bytes % 8 ≡ 0
   pub some : 0 < length bytes
-  pub short : length bytes ≤ 8 * 4096
+  pub short : length bytes ≤ 8 * bpf_maxinsns
 
 -- the bytes are this program
 pub record Accepts (bytes : List ℕ) (program : List Insn) : Type 0 where
   pub whole : length bytes % 8 ≡ 0
   pub insns : program ≡ insns_of bytes
   pub accepted : IsAccepted program
+
+-- the numbers are those that struct sock_filter holds
+pub record Fits (insn : Insn) : Type 0 where
+  pub code : insn.code < 2 ^ 16
+  pub jt : insn.jt < 2 ^ 8
+  pub jf : insn.jf < 2 ^ 8
+  pub k : insn.k < 2 ^ 32
+
+-- the bytes of an instruction, little endian, its numbers cut to their sizes
+abbrev pub bytes_of_insn : Insn → List ℕ
+bytes_of_insn insn = to_le_bytes w16 insn.code ++ insn.jt % 2 ^ 8 ∷ insn.jf % 2 ^ 8 ∷ to_le_bytes w32 insn.k
+
+-- the bytes of instructions
+abbrev pub bytes_of : List Insn → List ℕ
+bytes_of code = flat_map bytes_of_insn code
+
+-- seccomp(2) takes the instructions: their bytes are accepted as them, so their numbers fit too
+abbrev pub IsProgram : List Insn → Type 0
+IsProgram code = Accepts (bytes_of code) code
 
 -- the refusal for a fault of the instruction at a place
 abbrev pub refusal_of : Fault → ℕ → ProgramError
@@ -56,7 +76,7 @@ pub data RefusesCode (code : List Insn) : ProgramError → Type 0 where
 pub data Refuses (bytes : List ℕ) : ProgramError → Type 0 where
   not_whole : ¬ (length bytes % 8 ≡ 0) → Refuses bytes error.Length
   empty : length bytes ≡ 0 → Refuses bytes error.Empty
-  too_long : length bytes % 8 ≡ 0 → 8 * 4096 < length bytes → Refuses bytes error.TooLong
+  too_long : length bytes % 8 ≡ 0 → 8 * bpf_maxinsns < length bytes → Refuses bytes error.TooLong
   for_code : (error : ProgramError) → IsCode bytes → RefusesCode (insns_of bytes) error → Refuses bytes error
 
 -- of a refusal that is not want of memory

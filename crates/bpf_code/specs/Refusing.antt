@@ -4,11 +4,12 @@ use Rattle.std.specs.Prelude.{◌≡◌, pos, ◌⊎◌, ℕ, ◌<ℤ◌, List, 
 use Rattle.bpf_code.specs.declared.machine.Insn.{Insn}
 use Rattle.bpf_code.specs.declared.machine.CallData.{CallData}
 use Rattle.bpf_code.specs.declared.decision.Decision.TheVariants.{Pass}
+use Rattle.linux_numbers.specs.Actions.{log}
 use Rattle.bpf_code.specs.Stack.{action_of, decision_of, answers_of, decision_on}
 
 -- the action is below that of LOG, so no newer answer lets the call through
 abbrev pub IsFirm : ℕ → Type 0
-IsFirm answer = action_of answer <ℤ pos 0x7ffc0000
+IsFirm answer = action_of answer <ℤ pos log
 
 -- the answer lets the call through or refuses it for good
 abbrev pub IsPlain : ℕ → Type 0

@@ -7,21 +7,27 @@ use Rattle.bpf_code.specs.declared.machine.Insn.{Insn}
 use Rattle.bpf_code.specs.declared.machine.CallData.{CallData}
 use Rattle.bpf_code.specs.declared.decision.Decision.{Decision}
 use Rattle.bpf_code.specs.declared.decision.Decision.TheVariants.{Pass, Errno, Kill}
-use Rattle.bpf_code.specs.declared.decision.TheConstants.{ALLOW, LOG, TRACE, USER_NOTIF, ERRNO, MAX_ERRNO, ENOSYS}
+use Rattle.linux_numbers.specs.Actions.{allow, log, trace, user_notif, errno}
+use Rattle.linux_numbers.specs.Errnos.{enosys}
+use Rattle.linux_numbers.specs.Limits.{max_errno}
 use Rattle.bpf_code.specs.Meaning.{run_from, start_regs, Answers}
 
--- the action of an answer, its upper 16 bits, as a signed number of 32 bits
+-- the action of an answer: its upper 16 bits
+abbrev pub action_word : ℕ → ℕ
+action_word answer = answer / 2 ^ 16 * 2 ^ 16
+
+-- the action as a signed number of 32 bits, by which answers are compared
 abbrev pub action_of : ℕ → ℤ
-action_of answer = cast_signed w32 (answer / 2 ^ 16 * 2 ^ 16)
+action_of answer = cast_signed w32 (action_word answer)
 
 -- what an answer decides: ALLOW and LOG let the call pass, ERRNO answers its lower 16 bits, at most 4,095; no tracer
 -- and no listener is there, so TRACE and USER_NOTIF answer that there is no such call; every other action kills
 abbrev pub decision_of : ℕ → Decision
 decision_of answer =
-    let action = answer / 2 ^ 16 in
-    if action == ALLOW || action == LOG then Pass else
-    if action == ERRNO then Errno (min (answer % 2 ^ 16) MAX_ERRNO) else
-    if action == USER_NOTIF || action == TRACE then Errno ENOSYS else
+    let action = action_word answer in
+    if action == allow || action == log then Pass else
+    if action == errno then Errno (min (answer % 2 ^ 16) max_errno) else
+    if action == user_notif || action == trace then Errno enosys else
     Kill
 
 -- each program's answer

@@ -74,10 +74,7 @@ pub fn first_fault(insns: &[Insn]) -> Option<(usize, Fault)>
 fn is_end(insn: Insn) -> bool
     ensures { result ≡ is_return (op_of insn.code) }
 {
-    match decode(insn.code) {
-        Some(Op::Return(_)) => true,
-        _ => false,
-    }
+    matches!(decode(insn.code), Some(Op::Return(_)))
 }
 
 /// Whether the last instruction ends the program.

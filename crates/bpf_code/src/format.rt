@@ -1,6 +1,7 @@
 // Instructions as bytes: eight each, little endian.
-ghost use Rattle.std.specs.Prelude.{◌≡◌, ◌*◌, ◌≤◌, IfOk, length, map};
-ghost use Rattle.bpf_code.specs.Reading.{insn_of, insns_of};
+ghost use Rattle.std.specs.Prelude.{◌≡◌, ◌≤◌, IfOk, length};
+ghost use Rattle.std.specs.List.{All};
+ghost use Rattle.bpf_code.specs.Reading.{Fits, insn_of, insns_of, bytes_of_insn, bytes_of};
 
 use crate::machine::Insn;
 use std::alloc::{AllocError, Global};
@@ -10,7 +11,8 @@ pub const INSN_LEN: usize = 8;
 
 // The instruction that these bytes are.
 fn insn_from(bytes: &[u8; INSN_LEN]) -> Insn
-    ensures { result ≡ insn_of bytes.now }
+    ensures read { result ≡ insn_of bytes.now }
+    ensures fits { Fits result }
 {
     let [c0, c1, jt, jf, k0, k1, k2, k3] = *bytes;
     Insn {
@@ -23,7 +25,7 @@ fn insn_from(bytes: &[u8; INSN_LEN]) -> Insn
 
 // The bytes that are this instruction.
 fn bytes_from(insn: Insn) -> [u8; INSN_LEN]
-    ensures { insn_of result ≡ insn }
+    ensures { result ≡ bytes_of_insn insn }
 {
     let [c0, c1] = insn.code.to_le_bytes();
     let [k0, k1, k2, k3] = insn.k.to_le_bytes();
@@ -32,7 +34,8 @@ fn bytes_from(insn: Insn) -> [u8; INSN_LEN]
 
 /// The instructions that bytes are; fewer than eight at the end are passed over.
 pub fn insns_from_bytes(alloc: Global, bytes: &[u8]) -> Result<Vec<Insn>, AllocError>
-    ensures { IfOk result (λ insns. insns.items ≡ insns_of bytes.now) }
+    ensures read { IfOk result (λ insns. insns.items ≡ insns_of bytes.now) }
+    ensures fit { IfOk result (λ insns. All Fits insns.items) }
 {
     let (chunks, _) = bytes.as_chunks::<INSN_LEN>();
     let mut insns = Vec::with_capacity(alloc, chunks.len())?;
@@ -45,8 +48,7 @@ pub fn insns_from_bytes(alloc: Global, bytes: &[u8]) -> Result<Vec<Insn>, AllocE
 /// The bytes that are these instructions.
 pub fn bytes_from_insns(alloc: Global, insns: &[Insn]) -> Result<Vec<u8>, AllocError>
     requires { length insns.now ≤ 4096 }
-    ensures len { IfOk result (λ bytes. length bytes.items ≡ 8 * length insns.now) }
-    ensures insns { IfOk result (λ bytes. insns_of bytes.items ≡ insns.now) }
+    ensures { IfOk result (λ bytes. bytes.items ≡ bytes_of insns.now) }
 {
     let mut bytes = Vec::with_capacity(alloc, INSN_LEN * insns.len())?;
     for insn in insns {

@@ -9,7 +9,7 @@ pub const DATA_LEN: u32 = 64;
 pub const SCRATCH_WORDS: u32 = 16;
 
 /// An instruction, `struct sock_filter` of seccomp(2).
-#[derive(Clone, Copy, Debug, PartialEq, Eq)]
+#[derive(Clone, Copy)]
 pub struct Insn {
     /// What the instruction does: a code of [`crate::codes`].
     pub code: u16,
@@ -22,7 +22,7 @@ pub struct Insn {
 }
 
 /// What a program is asked about: a system call, `struct seccomp_data` of seccomp(2).
-#[derive(Clone, Copy, Debug, PartialEq, Eq)]
+#[derive(Clone, Copy)]
 pub struct CallData {
     /// The number of the call.
     pub nr: u32,

@@ -6,18 +6,16 @@ ghost use Rattle.bpf_code.specs.declared.machine.Insn.{Insn};
 ghost use Rattle.bpf_code.specs.declared.program.ProgramError.{ProgramError};
 ghost use Rattle.bpf_code.specs.Accepted.{IsAccepted};
 ghost use Rattle.bpf_code.specs.ProgramOf.{program_of};
-ghost use Rattle.bpf_code.specs.Reading.{IsCode, Accepts, Refuses, RefusesCode, refusal_of, UnlessMemory, IsOrMemory};
+ghost use Rattle.bpf_code.specs.Reading.{IsCode, Accepts, IsProgram, Refuses, bytes_of, RefusesCode, refusal_of, UnlessMemory, IsOrMemory};
 
 use crate::faults::{ends, first_fault};
 use crate::format::{INSN_LEN, bytes_from_insns, insns_from_bytes};
 use crate::machine::Insn;
 use crate::unstored::first_unstored;
+use linux_numbers::limits::BPF_MAXINSNS;
 use std::alloc::{AllocError, Global};
 use std::marker::Model;
 use thiserror::Error;
-
-/// The most instructions of a program, BPF_MAXINSNS.
-pub const MAX_INSNS: usize = 4096;
 
 /// What is wrong with an instruction.
 #[derive(Clone, Copy)]
@@ -113,13 +111,13 @@ pub struct Program {
 impl Model for Program {
     ghost use Rattle.std.specs.Prelude.{List};
     ghost use Rattle.bpf_code.specs.declared.machine.Insn.{Insn};
-    ghost use Rattle.bpf_code.specs.Accepted.{IsAccepted};
+    ghost use Rattle.bpf_code.specs.Reading.{IsProgram};
 
     ghost Value = { List Insn };
 
     ghost view = { λ p. p.insns.items };
 
-    ghost invariant = { λ p. IsAccepted p.insns.items };
+    ghost invariant = { λ p. IsProgram p.insns.items };
 }
 
 // Whether the bytes are whole instructions, at least one and not too many.
@@ -132,7 +130,7 @@ fn check_length(bytes: &[u8]) -> Result<(), ProgramError>
     if bytes.is_empty() {
         return Err(ProgramError::Empty);
     }
-    if bytes.len() / INSN_LEN > MAX_INSNS {
+    if bytes.len() / INSN_LEN > BPF_MAXINSNS {
         return Err(ProgramError::TooLong);
     }
     Ok(())
@@ -180,25 +178,26 @@ impl Program {
         Ok(Program { insns })
     }
 
-    /// The bytes that are read back as this program.
+    /// The bytes of its instructions, which are read back as this program.
     pub fn bytes(&self, alloc: Global) -> Result<Vec<u8>, AllocError>
-        ensures { IfOk result (λ bytes. Accepts bytes.items self.now) }
+        ensures of_the_instructions { IfOk result (λ bytes. bytes.items ≡ bytes_of self.now) }
+        ensures read_back { IfOk result (λ bytes. Accepts bytes.items self.now) }
     {
         bytes_from_insns(alloc, &self.insns)
     }
 
-    /// The program of these instructions, which are accepted.
+    /// The program of these instructions, whose bytes are accepted.
     pub fn made(insns: Vec<Insn>) -> Self
-        requires { IsAccepted insns.items }
+        requires { IsProgram insns.items }
         ensures { result ≡ insns.items }
     {
         Program { insns }
     }
 
-    /// The instructions.
+    /// The instructions, whose bytes are accepted.
     pub fn insns(&self) -> &[Insn]
         ensures insns { result.now ≡ self.now }
-        ensures accepted { IsAccepted self.now }
+        ensures program { IsProgram self.now }
     {
         &self.insns
     }

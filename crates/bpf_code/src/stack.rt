@@ -2,13 +2,14 @@
 //
 // A call is put to every program (`interpreter`), and one answer decides (`decision`).
 ghost use Rattle.std.specs.Prelude.{◌≡◌, ◌+◌, ◌≤◌, ◌<◌, ◌↔◌, [], ◌∷◌, ◌++◌, length, IfOk, OnOk, OnErr};
+ghost use Rattle.linux_numbers.specs.Limits.{max_insns_per_path};
 ghost use Rattle.bpf_code.specs.Stack.{room_of, answers_of, deciding, pushed, AnswerEach, Decides, decision_on};
-ghost use Rattle.bpf_code.specs.Refusing.{RefusalsStand};
 
 use crate::decision::{Decision, decision_for, stronger_answer};
 use crate::interpreter::run;
 use crate::machine::CallData;
 use crate::program::Program;
+use linux_numbers::limits::MAX_INSNS_PER_PATH;
 use std::alloc::{AllocError, AllocFailed, Global};
 use std::marker::Model;
 use thiserror::Error;
@@ -33,10 +34,6 @@ impl<T: Drop> From<AllocFailed<T>> for PushError {
         PushError::Memory
     }
 }
-
-// The most instructions of all programs of a process, where each earlier program takes PROGRAM_ROOM more:
-// MAX_INSNS_PER_PATH.
-const MAX_ROOM: usize = 32_768;
 
 // What a program takes beside its instructions.
 const PROGRAM_ROOM: usize = 4;
@@ -125,11 +122,11 @@ impl Stack {
     /// Puts a program on top, where there is room for it; on a refusal the stack stays as it was.
     pub fn push(&mut self, program: Program) -> Result<(), PushError>
         ensures on_top { OnOk result (self.new ≡ self.old ++ program ∷ []) }
-        ensures has_room { OnOk result (room_of self.old + length program ≤ 32768) }
-        ensures too_long { (result ≡ Err PushError.TooLong) ↔ (32768 < room_of self.old + length program) }
+        ensures has_room { OnOk result (room_of self.old + length program ≤ max_insns_per_path) }
+        ensures too_long { (result ≡ Err PushError.TooLong) ↔ (max_insns_per_path < room_of self.old + length program) }
         ensures stays { OnErr result (self.new ≡ self.old) }
     {
-        if room(&self.programs) + program.insns().len() > MAX_ROOM {
+        if room(&self.programs) + program.insns().len() > MAX_INSNS_PER_PATH {
             return Err(PushError::TooLong);
         }
         self.programs.push(program)?;
@@ -148,8 +145,3 @@ impl Stack {
         }
     }
 }
-
-/// The law that newer programs do not let through what older ones refuse.
-pub fn refusals_stand()
-    ensures { RefusalsStand }
-{}

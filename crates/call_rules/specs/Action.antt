@@ -1,13 +1,21 @@
 -- The action of a rule set on the data of a call, as seccomp(2) filters decide.
-use Rattle.std.specs.Prelude.{ℕ, ◌%◌, ◌^◌, ◌==◌, if◌then◌else◌, find, bit_and, slice_index, Bool}
+use Rattle.std.specs.Prelude.{ℕ, ◌+◌, ◌%◌, ◌^◌, ◌==◌, if◌then◌else◌, find, bit_and, slice_index, Bool}
 use Rattle.std.specs.Option.{option_map_or}
 use Rattle.std.specs.List.{list_all}
+use Rattle.linux_numbers.specs.Actions.{kill_process, errno, allow}
 use Rattle.bpf_code.specs.declared.machine.CallData.{CallData}
 use Rattle.call_rules.specs.Tested.{Tested}
-use Rattle.call_rules.specs.declared.actions.TheConstants.{KILL_PROCESS}
+use Rattle.call_rules.specs.declared.actions.Action.{Action}
+use Rattle.call_rules.specs.declared.actions.Action.TheVariants.{KillProcess, Errno, Allow}
 use Rattle.call_rules.specs.declared.rules.Case.{Case}
 use Rattle.call_rules.specs.declared.rules.CallRule.{CallRule}
 use Rattle.call_rules.specs.declared.rules.RuleSet.{RuleSet}
+
+-- the word that a filter returns for an action (seccomp(2)); the number of an answer stands in its low 16 bits
+abbrev pub word_of : Action → ℕ
+word_of KillProcess = kill_process
+word_of (Errno number) = errno + number
+word_of Allow = allow
 
 -- the low 32 bits of the argument, masked, are the value
 abbrev pub test_holds : CallData → Tested → Bool
@@ -18,12 +26,12 @@ abbrev pub case_holds : CallData → Case → Bool
 case_holds input case = list_all (test_holds input) case.tests
 
 -- the action of the first case whose tests all hold, else the rest of the call
-abbrev pub call_action : CallData → CallRule → ℕ
+abbrev pub call_action : CallData → CallRule → Action
 call_action input call = option_map_or (λ case. case.action) (find (case_holds input) call.cases) call.rest
 
 -- another architecture ends the process; else the rule of the call's number decides, and without one the rest of the set
-abbrev pub case_action : RuleSet → CallData → ℕ
+abbrev pub case_action : RuleSet → CallData → Action
 case_action rules input =
     if input.arch == rules.arch
     then option_map_or (call_action input) (find (λ call. call.number == input.nr) rules.calls) rules.rest
-    else KILL_PROCESS
+    else KillProcess

@@ -4,7 +4,7 @@
 ghost use Rattle.std.specs.Prelude.{◌≡◌, ◌==◌, find, option_copied};
 ghost use Rattle.call_rules.specs.Action.{test_holds, case_holds, call_action, case_action};
 
-use crate::actions::KILL_PROCESS;
+use crate::actions::Action;
 use crate::rules::{CallRule, Case, RuleSet, Test};
 use bpf_code::CallData;
 
@@ -32,7 +32,7 @@ fn rule_of(calls: &[CallRule], number: u32) -> Option<&CallRule>
     calls.iter().find(|call| call.number == number)
 }
 
-fn action_of(call: &CallRule, input: &CallData) -> u32
+fn action_of(call: &CallRule, input: &CallData) -> Action
     ensures { result ≡ call_action input.now call.now }
 {
     match first_passing(call.cases.list(), input) {
@@ -44,11 +44,11 @@ fn action_of(call: &CallRule, input: &CallData) -> u32
 /// The action of the rules on a call: for another architecture than theirs the process is ended; else the
 /// first case of the call's rule whose tests all hold decides, else that rule's rest, and for a number
 /// without a rule the rest of the set.
-pub fn action(rules: &RuleSet, input: &CallData) -> u32
+pub fn action(rules: &RuleSet, input: &CallData) -> Action
     ensures decides_by_case { result ≡ case_action rules.now input.now }
 {
     if input.arch != rules.arch {
-        return KILL_PROCESS;
+        return Action::KillProcess;
     }
     match rule_of(rules.calls.list(), input.nr) {
         Some(call) => action_of(call, input),

@@ -3,6 +3,7 @@
 ghost use Rattle.std.specs.Prelude.{◌≡◌, ◌≤◌, ◌↔◌, map, IsTrue};
 ghost use Rattle.std.specs.List.Sorted.{IsStrictlyIncreasing};
 
+use crate::actions::Action;
 use std::marker::Model;
 
 /// A test of an argument: the low 32 bits of argument `arg`, from 0 to 5, and `mask` are `value`.
@@ -71,7 +72,7 @@ impl Tests {
 #[derive(Drop)]
 pub struct Case {
     pub tests: Tests,
-    pub action: u32,
+    pub action: Action,
 }
 
 /// The cases of a call, of which the first that passes decides.
@@ -110,7 +111,7 @@ impl Cases {
 pub struct CallRule {
     pub number: u32,
     pub cases: Cases,
-    pub rest: u32,
+    pub rest: Action,
 }
 
 /// The rules of some calls, whose numbers ascend strictly.
@@ -167,5 +168,5 @@ pub fn are_ascending(calls: &[CallRule]) -> bool
 pub struct RuleSet {
     pub arch: u32,
     pub calls: CallRules,
-    pub rest: u32,
+    pub rest: Action,
 }

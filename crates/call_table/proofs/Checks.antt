@@ -1,5 +1,5 @@
 -- What the checks of a line answer.
-use Rattle.std.proofs.Common.{◌≡◌, ℕ, ◌≤◌, false, List, [], ◌∷◌, ◌++◌, length, Option, Some, None, Ok, Err, is_none, refl, sym, ap, ◌∙◌, subst, arith, length-append}
+use Rattle.std.proofs.Common.{◌≡◌, ℕ, ◌<◌, ◌≤◌, false, List, [], ◌∷◌, ◌++◌, length, Option, Some, None, Ok, Err, is_none, refl, sym, ap, ◌∙◌, subst, arith, length-append}
 use Rattle.std.specs.Option.{option_map}
 use Rattle.std.specs.List.{list_any}
 use Rattle.call_table.specs.declared.listed.CallLine.{CallLine}
@@ -7,9 +7,12 @@ use Rattle.call_table.specs.declared.listed.GroupLine.{GroupLine}
 use Rattle.call_table.specs.declared.causes.CallsCause.TheVariants.{Cap}
 use Rattle.call_table.specs.Numbers.{cap_of}
 use Rattle.call_table.specs.Members.{has_group, members_of}
-use Rattle.call_table.specs.Facts.{AreGroups}
+use Rattle.std.proofs.lemmas.List.Elements.{All-push}
+use Rattle.call_table.specs.Lookups.{has_name, has_number, IsInRange}
+use Rattle.call_table.specs.Facts.{AreLines, AreGroups}
 use Rattle.call_table.specs.Progress.{ReadsCap}
 use Rattle.call_table.proofs.Grouping.{groups_push, groups_wider, has_members}
+use Rattle.call_table.proofs.Onces.{once_push}
 use denote.Ref.{Bor}
 
 pub cap_read : (written : Option (Bor (List ℕ))) (word : Bor (List ℕ)) (number : ℕ) → written ≡ Some word → Some number ≡ cap_of word.now → number ≤ 40 → ReadsCap (option_map (λ w. w.now) written) (Ok (Some number))
@@ -28,3 +31,11 @@ groups_more calls groups name words members new h new_name found longer =
 -- groups stay sound where calls are added
 pub groups_stay : (old new more : List CallLine) (groups : List GroupLine) → new ≡ old ++ more → AreGroups (length old) groups → AreGroups (length new) groups
 groups_stay old new more groups longer h = groups_wider (length old) (length new) groups (let long = length-append old more in omega (arith, ap length longer)) h
+
+-- lines with one more
+pub lines_more : (most : ℕ) (lines : List CallLine) (line : CallLine) → AreLines most lines → list_any (has_name line.name) lines ≡ false → list_any (has_number line.number) lines ≡ false → IsInRange line → length lines < most → AreLines most (lines ++ line ∷ [])
+lines_more most lines line h new_name new_number range room = record {
+  once = once_push lines line h.once new_name new_number;
+  in_range = All-push IsInRange lines line h.in_range range;
+  few = let long = length-append lines (line ∷ []) in omega arith;
+}

@@ -1,3 +1,4 @@
+pub mod Adding
 pub mod Answered
 pub mod Befores
 pub mod Bytes
@@ -6,13 +7,10 @@ pub mod Checks
 pub mod Fronts
 pub mod Grouping
 pub mod Hexes
-pub mod Mapped
 pub mod Marking
 pub mod Meant
 pub mod Numbering
 pub mod Onces
 pub mod Places
-pub mod Readers
-pub mod Searching
 pub mod Standing
 pub mod Steps

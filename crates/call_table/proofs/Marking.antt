@@ -1,54 +1,21 @@
 -- Marks on calls, and the positions that are marked.
-use Rattle.std.proofs.Common.{replicate, ◌≡◌, ℕ, ◌+◌, ◌<◌, Bool, true, false, cond, List, [], ◌∷◌, ◌++◌, length, map, filter, get_or, Some, ⊎_elim, refl, sym, ap, ◌∙◌, arith}
+use Rattle.std.proofs.Common.{◌≡◌, ℕ, ◌+◌, ◌<◌, Bool, true, false, cond, List, [], ◌∷◌, length, map, filter, get_or, Some, ⊎_elim, refl, sym, ap, ◌∙◌, arith}
 use Rattle.std.specs.Prelude.{◌||◌, ◌==◌, slice_set}
 use Rattle.std.specs.List.{enumerate_from}
 use Rattle.std.proofs.lemmas.Slice.Eq.{bytes_eq-Decides}
-use Rattle.std.proofs.lemmas.Bool.{cases_lt, cases_eq, false≢true}
+use Rattle.std.proofs.lemmas.Bool.{cases_eq, false≢true}
 use Rattle.std.proofs.lemmas.Bool.Decides.{nat_tests}
-use Rattle.std.proofs.lemmas.List.{length-map, get_or-map, same_lists, get_or_default, get_or-replicate, get_or_past, length-replicate}
+use Rattle.std.proofs.lemmas.List.{length-map, get_or-map, same_lists, get_or_default}
 use Rattle.std.proofs.lemmas.Grind.{common_steps}
 use Rattle.std.proofs.Math.ListN.{length-set}
-use Rattle.std.proofs.lemmas.List.Folds.{list_any-append}
 use Rattle.std.proofs.lemmas.List.FromFn.{length-enumerate_from, get_or-enumerate_from}
 use Rattle.std.proofs.lemmas.List.Quantifiers.{position-Some}
 use Rattle.std.proofs.lemmas.Option.{slice_get-get_or}
 use Rattle.call_table.specs.declared.listed.CallLine.{CallLine}
 use Rattle.call_table.specs.declared.listed.GroupLine.{GroupLine}
 use Rattle.call_table.specs.Lookups.{has_name, place_named, AreOnce}
-use Rattle.call_table.specs.Members.{stands_for, is_member, members_of}
+use Rattle.call_table.specs.Members.{is_member, members_of}
 use Rattle.call_table.specs.Marks.{Marks}
-
--- marks by one test and then by another
-pub marks_more : (calls : List CallLine) (one other : ℕ × CallLine → Bool) (old mid new : List Bool) → Marks calls one old mid → Marks calls other mid new → Marks calls (λ call. one call || other call) old new
-marks_more calls one other old mid new h g = record {
-  as_many = g.as_many;
-  each = λ at d lt. g.each at d lt ∙ ap (λ b. b || other (at, get_or calls at d)) (h.each at d lt) ∙ or_assoc (get_or old at false) (one (at, get_or calls at d)) (other (at, get_or calls at d));
-}
-  where
-    or_assoc : (a b c : Bool) → ((a || b) || c) ≡ (a || (b || c))
-    or_assoc true b c = refl
-    or_assoc false b c = refl
-
-pub marks_by : (calls : List CallLine) (one other : ℕ × CallLine → Bool) (old new : List Bool) → ((call : ℕ × CallLine) → one call ≡ other call) → Marks calls one old new → Marks calls other old new
-marks_by calls one other old new same h = record {
-  as_many = h.as_many;
-  each = λ at d lt. h.each at d lt ∙ ap (λ b. get_or old at false || b) (same (at, get_or calls at d));
-}
-
-pub marks_none : (calls : List CallLine) (groups : List GroupLine) (marks : List Bool) → length marks ≡ length calls → Marks calls (is_member groups []) marks marks
-marks_none calls groups marks many = record { as_many = many; each = λ at d lt. or_none (get_or marks at false) }
-  where
-    or_none : (b : Bool) → b ≡ (b || false)
-    or_none true = refl
-    or_none false = refl
-
--- a word more
-pub members_more : (groups : List GroupLine) (words : List (List ℕ)) (word : List ℕ) (call : ℕ × CallLine) → (is_member groups words call || stands_for groups word call) ≡ is_member groups (words ++ word ∷ []) call
-members_more groups words word call = sym (list_any-append (λ w. stands_for groups w call) words (word ∷ []) ∙ ap (λ b. is_member groups words call || b) (or_none (stands_for groups word call)))
-  where
-    or_none : (b : Bool) → (b || false) ≡ b
-    or_none true = refl
-    or_none false = refl
 
 -- the calls of a name: the one at its place
 pub call_of_name : (calls : List CallLine) (word : List ℕ) (place at : ℕ) (d : CallLine) → AreOnce calls → place_named word calls ≡ Some place → at < length calls → has_name word (get_or calls at d) ≡ (place == at)
@@ -115,7 +82,3 @@ pub marked_members : (calls : List CallLine) (groups : List GroupLine) (words : 
     → map (λ (mark : ℕ × Bool). mark.0) (filter (λ mark. mark.1) (enumerate_from 0 new)) ≡ members_of calls groups words
 marked_members calls groups words old new none h =
     ap (λ marks. map (λ (mark : ℕ × Bool). mark.0) (filter (λ mark. mark.1) (enumerate_from 0 marks))) (marks_are calls (is_member groups words) old new none h) ∙ picked 0 calls (is_member groups words)
-
--- no call is marked at first
-pub none_marked : (count at : ℕ) → get_or (replicate count false) at false ≡ false
-none_marked count at = ⊎_elim (λ low. get_or-replicate count at false false low) (λ high. get_or_past (replicate count false) at false (let long = length-replicate count false in omega arith)) (cases_lt at count)

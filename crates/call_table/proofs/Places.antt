@@ -1,14 +1,12 @@
 -- The first place of a list that passes a test.
-use Rattle.std.proofs.Common.{subst, map, ◌≡◌, ℕ, zero, suc, ◌<◌, ◌≤◌, Bool, true, false, cond, ltb, List, [], ◌∷◌, ◌++◌, length, get_or, Option, Some, None, ◌⊎◌, ⊎_elim, inl, inr, refl, sym, ap, ◌∙◌, arith, length-append}
-use Rattle.std.specs.Prelude.{◌||◌, find, slice_get, IfSome}
+use Rattle.std.proofs.Common.{subst, ◌≡◌, ℕ, zero, suc, ◌<◌, ◌≤◌, Bool, true, false, cond, ltb, List, [], ◌∷◌, ◌++◌, length, get_or, Some, None, ◌⊎◌, ⊎_elim, inl, inr, refl, ap, ◌∙◌, arith, length-append}
+use Rattle.std.specs.Prelude.{◌||◌, find, slice_get}
 use Rattle.std.specs.List.{position, position_or_len, list_any, All}
 use Rattle.std.proofs.lemmas.Bool.Decides.{nat_tests}
 use Rattle.std.proofs.lemmas.List.{get_or_append_left, get_or_push}
 use Rattle.std.proofs.lemmas.List.Sums.{position_or_len_is, fails_before_first}
-use Rattle.std.proofs.lemmas.List.Folds.{find_at, list_any_none}
+use Rattle.std.proofs.lemmas.List.Folds.{list_any_none}
 use Rattle.std.proofs.lemmas.List.Quantifiers.{position-Some}
-use Rattle.std.proofs.lemmas.Option.{slice_get-get_or}
-use Rattle.call_table.proofs.Mapped.{place_of_map}
 
 pub place_found : {X : Type 0} (p : X → Bool) (xs : List X) (i : ℕ) (d : X) → i < length xs → ((k : ℕ) → k < i → p (get_or xs k d) ≡ false) → p (get_or xs i d) ≡ true → position p xs ≡ Some i
 place_found p xs i d h before here =
@@ -39,20 +37,6 @@ no_place p xs = by (ltb (position_or_len p xs) (length xs)) refl
     by : (b : Bool) → ltb (position_or_len p xs) (length xs) ≡ b → cond b (Some (position_or_len p xs)) None ≡ None → length xs ≤ position_or_len p xs
     by true h e = cc
     by false h e = grind (arith, nat_tests)
-
-get_past : {X : Type 0} (xs : List X) (i : ℕ) → length xs ≤ i → slice_get xs i ≡ None
-get_past [] i h = refl
-get_past (x ∷ xs) zero h = absurd (omega arith)
-get_past (x ∷ xs) (suc i) h = get_past xs i (omega arith)
-
--- what is found at a place
-pub found_at_place : {X : Type 0} (p : X → Bool) (xs : List X) (i : ℕ) (d : X) → position p xs ≡ Some i → find p xs ≡ Some (get_or xs i d)
-found_at_place p xs i d e =
-    let at = place_is p xs i e in
-    find_at p xs ∙ ap (slice_get xs) at.0 ∙ slice_get-get_or xs i d at.1
-
-pub found_nowhere : {X : Type 0} (p : X → Bool) (xs : List X) → position p xs ≡ None → find p xs ≡ None
-found_nowhere p xs e = find_at p xs ∙ get_past xs (position_or_len p xs) (no_place p xs e)
 
 pub any_nowhere : {X : Type 0} (p : X → Bool) (xs : List X) → position p xs ≡ None → list_any p xs ≡ false
 any_nowhere p xs e =
@@ -100,15 +84,6 @@ get_push_cases [] y z (suc i) e = cc
 get_push_cases (x ∷ xs) y z zero e = inl e
 get_push_cases (x ∷ xs) y z (suc i) e = ⊎_elim (λ h. inl h) (λ h. inr (ap suc h.0, h.1)) (get_push_cases xs y z i e)
 
--- the same of elements that are found by their names
-pub found_by_names : {X Y : Type 0} (name_of : X → Y) (names : List Y) (xs : List X) (p : Y → Bool) (i : ℕ) (d : X) → names ≡ map name_of xs → position p names ≡ Some i → (i < length xs) × (find (λ x. p (name_of x)) xs ≡ Some (get_or xs i d))
-found_by_names name_of names xs p i d named e =
-    let place : position (λ x. p (name_of x)) xs ≡ Some i = sym (place_of_map name_of p xs) ∙ ap (position p) (sym named) ∙ e in
-    ((place_is (λ x. p (name_of x)) xs i place).1, found_at_place (λ x. p (name_of x)) xs i d place)
-
-pub nowhere_by_names : {X Y : Type 0} (name_of : X → Y) (names : List Y) (xs : List X) (p : Y → Bool) → names ≡ map name_of xs → position p names ≡ None → find (λ x. p (name_of x)) xs ≡ None
-nowhere_by_names name_of names xs p named e = found_nowhere (λ x. p (name_of x)) xs (sym (place_of_map name_of p xs) ∙ ap (position p) (sym named) ∙ e)
-
 -- an element that is found is one of the list
 pub found_any : {X : Type 0} (p : X → Bool) (xs : List X) (x : X) → find p xs ≡ Some x → list_any p xs ≡ true
 found_any p [] x e = cc
@@ -133,7 +108,3 @@ found_holds P p (y ∷ xs) x all e = by (p y) (found_holds P p xs x (λ k d lt. 
     by : (b : Bool) → (find p xs ≡ Some x → P x) → cond b (Some y) (find p xs) ≡ Some x → P x
     by true later e = let same : y ≡ x = cc in subst P same (all 0 y (omega arith))
     by false later e = later e
-
-pub place_within : {X : Type 0} (p : X → Bool) (xs : List X) (r : Option ℕ) → r ≡ position p xs → IfSome r (λ i. i < length xs)
-place_within p xs None e = tt
-place_within p xs (Some i) e = (place_is p xs i (sym e)).1

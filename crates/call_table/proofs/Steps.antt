@@ -13,6 +13,7 @@ use Rattle.call_table.specs.declared.causes.CallsError.TheVariants.{NotText, Lin
 use Rattle.call_table.specs.Before.{with_before}
 use Rattle.call_table.specs.Lines.{Line}
 use Rattle.call_table.specs.Table.{Table}
+use Rattle.call_table.specs.Facts.{IsTable}
 use Rattle.call_table.specs.Faults.{cause_of}
 use Rattle.call_table.specs.Reading.{line_kind, call_of, family_of, group_of, calls_of, with_group, groups_behind, groups_of, table_behind, at_line, fault_at, fault_of}
 use Rattle.call_table.specs.Progress.{Steps, with_kind, HasRead, ReadsRest}
@@ -41,10 +42,11 @@ no_more (fault ∷ faults) o e f = e
 fault_known : (arch : ℕ) (lines : List Line) (line : Line) (table : Table) (cause : Option CallsCause) → HasRead arch lines table → cause_of table (line_kind line) ≡ cause → fault_at arch (lines, line) ≡ option_map (at_line line.number) cause
 fault_known arch lines line table cause h e = ap (λ (t : Table). option_map (at_line line.number) (cause_of t (line_kind line))) (sym h.read) ∙ ap (option_map (at_line line.number)) e
 
-pub reads_more : (arch : ℕ) (lines : List Line) (line : Line) (table next : Table) → HasRead arch lines table → cause_of table (line_kind line) ≡ None → next ≡ with_kind table (line_kind line) → HasRead arch (lines ++ line ∷ []) next
-reads_more arch lines line table next h none made = record {
+pub reads_more : (arch : ℕ) (lines : List Line) (line : Line) (table next : Table) → HasRead arch lines table → cause_of table (line_kind line) ≡ None → next ≡ with_kind table (line_kind line) → IsTable next → HasRead arch (lines ++ line ∷ []) next
+reads_more arch lines line table next h none made sound = record {
   faultless = ap (λ faults. slice_get faults 0) (given-append (fault_at arch) lines (line ∷ [])) ∙ no_more (filter_map (fault_at arch) (with_before [] lines)) (fault_at arch (lines, line)) h.faultless (fault_known arch lines line table None h none);
   read = made ∙ ap (λ (t : Table). with_kind t (line_kind line)) h.read ∙ table_more arch lines line;
+  sound = sound;
 }
 
 first-append : (xs ys : List CallsError) → slice_get xs 0 ≡ None → slice_get (xs ++ ys) 0 ≡ slice_get ys 0
@@ -58,13 +60,13 @@ first_fault arch front line rest fault none e =
     ∙ first-append (filter_map (fault_at arch) (with_before [] front)) (filter_map (fault_at arch) (with_before front (line ∷ rest))) none
     ∙ ap (λ o. slice_get (cons_option o (filter_map (fault_at arch) (with_before (front ++ line ∷ []) rest))) 0) e
 
-pub stops : (arch : ℕ) (lines front : List Line) (line : Line) (rest : List Line) (table next : Table) (error : CallsError) → lines ≡ front ++ line ∷ rest → HasRead arch front table
-    → Steps (cause_of table (line_kind line)) line.number next (Err error) → ReadsRest arch lines (Err error)
-stops arch lines front line rest table next Memory split h t = tt
-stops arch lines front line rest table next NotText split h t = absurd t
-stops arch lines front line rest table next NoAbi split h t = absurd t
-stops arch lines front line rest table next (NoCall name) split h t = absurd t
-stops arch lines front line rest table next (AtLine number cause) split h t =
+pub stops : (arch : ℕ) (lines front : List Line) (line : Line) (rest : List Line) (table wanted next : Table) (error : CallsError) → lines ≡ front ++ line ∷ rest → HasRead arch front table
+    → Steps (cause_of table (line_kind line)) line.number wanted next (Err error) → ReadsRest arch lines (Err error)
+stops arch lines front line rest table wanted next Memory split h t = tt
+stops arch lines front line rest table wanted next NotText split h t = absurd t
+stops arch lines front line rest table wanted next NoAbi split h t = absurd t
+stops arch lines front line rest table wanted next (NoCall name) split h t = absurd t
+stops arch lines front line rest table wanted next (AtLine number cause) split h t =
     ap (fault_of arch) split
     ∙ first_fault arch front line rest (AtLine number cause) h.faultless (fault_known arch front line table (Some cause) h t.1 ∙ ap (λ n. Some (AtLine n cause)) (sym t.0))
 

@@ -5,9 +5,11 @@ use Rattle.std.specs.List.Sorted.{IsStrictlyIncreasing}
 use Rattle.call_table.specs.Lookups.{AreOnce, IsInRange, group_named}
 use Rattle.call_table.specs.Faults.{most_calls, most_families, most_groups}
 use Rattle.call_table.specs.Reading.{missing_call}
+use Rattle.call_table.specs.ByNumber.{AscendsByNumber}
 use Rattle.call_table.specs.Table.{Table}
 use Rattle.call_table.specs.declared.listed.CallLine.{CallLine}
 use Rattle.call_table.specs.declared.listed.GroupLine.{GroupLine}
+use Rattle.call_table.specs.declared.by_number.Numbered.{Numbered}
 
 -- members are positions among so many calls, ascending, each once
 pub record HasMembers (count : ℕ) (group : GroupLine) : Type 0 where
@@ -36,3 +38,8 @@ pub record IsTable (table : Table) : Type 0 where
 pub record IsWhole (table : Table) : Type 0 where
   pub sound : IsTable table
   pub launches : missing_call table.calls ≡ None
+
+-- such a table, kept with the order of its calls by number
+pub record IsKept (table : Table) (order : List Numbered) : Type 0 where
+  pub whole : IsWhole table
+  pub by_number : AscendsByNumber table.calls order

@@ -4,7 +4,7 @@ use Rattle.std.specs.List.{list_any, list_all}
 use Rattle.std.specs.Option.{option_map, option_map_or}
 use Rattle.call_table.specs.Kinds.{Entry, Kind, abi, call, family, group, malformed}
 use Rattle.call_table.specs.Numbers.{number_of, cap_of}
-use Rattle.call_table.specs.Modelled.{takes_no_cap}
+use Rattle.call_names.specs.Known.{is_known as is_known_call}
 use Rattle.call_table.specs.Lookups.{has_name, has_number}
 use Rattle.call_table.specs.Members.{has_group, is_known}
 use Rattle.call_table.specs.Table.{Table}
@@ -50,10 +50,11 @@ group_fault calls groups name members =
     ((list_any (has_group name) groups, Duplicate) ∷
     (not (list_all (is_known calls groups) members), Member) ∷ (nat_le most_groups (length groups), TooMany) ∷ [])
 
--- the cause of a line, behind those that gave the table; a second abi line is one of `words`
+-- the cause of a line, behind those that gave the table; a second abi line is one of `words`; a call that the kernel
+-- models by a rule of its own, or lacks, takes no capability
 abbrev pub cause_of : Table → Kind → Option CallsCause
 cause_of table (abi digits) = Some Words
-cause_of table (call entry) = entry_fault table.calls most_calls (takes_no_cap entry.name) entry
+cause_of table (call entry) = entry_fault table.calls most_calls (is_known_call entry.name) entry
 cause_of table (family entry) = entry_fault table.families most_families false entry
 cause_of table (group name members) = group_fault table.calls table.groups name members
 cause_of table malformed = Some Words

@@ -3,14 +3,12 @@ pub mod ByNumber
 pub mod Causes
 pub mod Facts
 pub mod Faults
-pub mod Indexed
 pub mod Kinds
 pub mod Lines
 pub mod Lookups
 pub mod Marks
 pub mod Meaning
 pub mod Members
-pub mod Modelled
 pub mod Names
 pub mod Numbers
 pub mod Progress

@@ -7,7 +7,10 @@ use Rattle.call_table.specs.Numbers.{cap_of}
 use Rattle.call_table.specs.Lookups.{has_name, has_number}
 use Rattle.call_table.specs.Faults.{is_bad_cap, entry_fault}
 use Rattle.call_table.specs.Reading.{listed_as, call_of, family_of, group_of, fault_of, table_behind, table_of_rest, table_of_lines}
+use Rattle.call_table.specs.Facts.{IsTable}
 use Rattle.call_table.specs.Table.{Table}
+use Rattle.call_table.specs.Views.{made}
+use Rattle.call_table.specs.declared.lists.Lists.{Lists}
 use Rattle.call_table.specs.declared.listed.CallLine.{CallLine}
 use Rattle.call_table.specs.declared.causes.CallsCause.{CallsCause}
 use Rattle.call_table.specs.declared.causes.CallsCause.TheVariants.{Cap}
@@ -23,14 +26,14 @@ IsUnlessMemory (Err (AtLine number cause)) wanted = wanted ≡ Err (AtLine numbe
 IsUnlessMemory (Err NoAbi) wanted = wanted ≡ Err NoAbi
 IsUnlessMemory (Err (NoCall name)) wanted = wanted ≡ Err (NoCall name)
 
--- a step is made exactly where the line of this number has no cause, unless memory ran out
-abbrev pub Steps : {X : Type 0} → Option CallsCause → ℕ → X → Result X CallsError → Type 0
-Steps cause number next (Ok made) = (cause ≡ None) × (made ≡ next)
-Steps cause number next (Err Memory) = Unit {0}
-Steps cause number next (Err NotText) = ⊥
-Steps cause number next (Err (AtLine line found)) = (line ≡ number) × (cause ≡ Some found)
-Steps cause number next (Err NoAbi) = ⊥
-Steps cause number next (Err (NoCall name)) = ⊥
+-- a step makes what is wanted exactly where the line of this number has no cause, unless memory ran out
+abbrev pub Steps : {X : Type 0} → Option CallsCause → ℕ → X → X → Result (Unit {0}) CallsError → Type 0
+Steps cause number wanted made (Ok done) = (cause ≡ None) × (made ≡ wanted)
+Steps cause number wanted made (Err Memory) = Unit {0}
+Steps cause number wanted made (Err NotText) = ⊥
+Steps cause number wanted made (Err (AtLine line found)) = (line ≡ number) × (cause ≡ Some found)
+Steps cause number wanted made (Err NoAbi) = ⊥
+Steps cause number wanted made (Err (NoCall name)) = ⊥
 
 -- an entry without a fault behind some lines has this number and this capability
 pub record IsChecked (lines : List CallLine) (most : ℕ) (without_cap : Bool) (entry : Entry) (number : ℕ) (cap' : Option ℕ) : Type 0 where
@@ -38,6 +41,7 @@ pub record IsChecked (lines : List CallLine) (most : ℕ) (without_cap : Bool) (
   pub listed : listed_as entry ≡ Some (record { name = entry.name; number = number; cap = cap' })
   pub new_name : list_any (has_name entry.name) lines ≡ false
   pub new_number : list_any (has_number number) lines ≡ false
+  pub fits : number < 4294967296
   pub known : IfSome cap' (λ number. number ≤ 40)
   pub room : length lines < most
 
@@ -64,9 +68,10 @@ with_kind table kind =
 pub record HasRead (arch : ℕ) (lines : List Line) (table : Table) : Type 0 where
   pub faultless : fault_of arch lines ≡ None
   pub read : table ≡ table_behind arch lines
+  pub sound : IsTable table
 
-abbrev pub ReadsRest : ℕ → List Line → Result Table CallsError → Type 0
-ReadsRest arch lines (Ok table) = HasRead arch lines table
+abbrev pub ReadsRest : ℕ → List Line → Result Lists CallsError → Type 0
+ReadsRest arch lines (Ok lists) = HasRead arch lines (made lists)
 ReadsRest arch lines (Err Memory) = Unit {0}
 ReadsRest arch lines (Err NotText) = ⊥
 ReadsRest arch lines (Err (AtLine number cause)) = fault_of arch lines ≡ Some (AtLine number cause)

@@ -2,21 +2,19 @@
 //!
 //! Its lines say which ABI it is for (syscalls(2)), the calls with their numbers and the capabilities
 //! that they ask for, groups of calls, and families of sockets. A `CallTable` answers by name and by
-//! number. It rests on `text_forms` for numbers and on `cap_sets` for names of capabilities.
+//! number. It rests on `text_forms` for numbers, on `cap_sets` for names of capabilities, and on
+//! `call_names` for the calls that take none.
 //!
 //! Where a file has the line `call read 0`, `read_calls(alloc, bytes)?.number("read")` is `Some(0)`.
 #![tactic(auto)]
 
 mod by_number;
-mod call_lines;
 mod causes;
-mod draft;
-mod group_lines;
 mod kinds;
 mod listed;
+mod lists;
+mod lookups;
 mod members;
-mod modelled;
-mod name_set;
 mod names;
 mod numbers;
 mod reader;
@@ -26,10 +24,6 @@ mod words;
 pub use by_number::Numbered;
 pub use causes::{CallsCause, CallsError};
 pub use listed::{CallLine, GroupLine, Members};
-pub use modelled::{is_absent, is_modelled};
 pub use names::Name;
 pub use reader::read_calls;
 pub use table::CallTable;
-
-#[cfg(test)]
-mod tests;

@@ -5,7 +5,7 @@ use crate::names::Name;
 use std::marker::Model;
 
 /// A call or a family of sockets.
-#[derive(Debug, Drop)]
+#[derive(Drop)]
 pub struct CallLine {
     pub name: Name,
     /// The number of the system call, or of the address family (socket(2)).
@@ -15,7 +15,7 @@ pub struct CallLine {
 }
 
 /// Members of a group, which contracts see as a list of positions in the table's calls, from 0.
-#[derive(Debug, Drop)]
+#[derive(Drop)]
 pub struct Members {
     positions: Vec<usize>,
 }
@@ -45,7 +45,7 @@ impl Members {
 }
 
 /// A group of calls.
-#[derive(Debug, Drop)]
+#[derive(Drop)]
 pub struct GroupLine {
     /// The name, without the `@` of the line.
     pub name: Name,

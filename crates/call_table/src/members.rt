@@ -3,11 +3,11 @@ ghost use Rattle.std.specs.Prelude.{◌≡◌, ◌==◌, ◌<◌, ◌||◌, ℕ,
 ghost use Rattle.std.specs.List.{list_any, list_all, All, enumerate_from};
 ghost use Rattle.call_table.specs.Members.{stands_for, is_member, is_known, FindsMembers};
 ghost use Rattle.call_table.specs.Facts.{AreGroups};
+ghost use Rattle.call_table.specs.Lookups.{AreOnce};
 ghost use Rattle.call_table.specs.Marks.{Marks};
 
-use crate::call_lines::CallLines;
-use crate::group_lines::GroupLines;
-use crate::listed::Members;
+use crate::listed::{CallLine, GroupLine, Members};
+use crate::lookups::{group_named, place_named};
 use crate::names::behind_at;
 use std::alloc::{AllocError, Global};
 
@@ -23,21 +23,22 @@ fn mark_all(marks: &mut [bool], positions: &[usize])
 }
 
 // Marks the calls that a word stands for, or answers false where it names nothing.
-fn mark_word(marks: &mut [bool], calls: &CallLines, groups: &GroupLines, word: &str) -> bool
+fn mark_word(marks: &mut [bool], calls: &[CallLine], groups: &[GroupLine], word: &str) -> bool
     requires as_many { length marks.old ≡ length calls.now }
+    requires once { AreOnce calls.now }
     requires groups { AreGroups (length calls.now) groups.now }
     ensures known { result ≡ is_known calls.now groups.now word.now }
     ensures marks { IsTrue result → Marks calls.now (λ call. stands_for groups.now word.now call) marks.old marks.new }
 {
     match behind_at(word) {
-        Some(name) => match groups.find(name) {
+        Some(name) => match group_named(groups, name) {
             Some(group) => {
                 mark_all(marks, group.members.list());
                 true
             }
             None => false,
         },
-        None => match calls.place_named(word) {
+        None => match place_named(calls, word) {
             Some(position) => {
                 marks[position] = true;
                 true
@@ -48,8 +49,9 @@ fn mark_word(marks: &mut [bool], calls: &CallLines, groups: &GroupLines, word: &
 }
 
 // Marks the calls that the words stand for, or answers false where one names nothing.
-fn mark_words(marks: &mut [bool], calls: &CallLines, groups: &GroupLines, words: &[&str]) -> bool
+fn mark_words(marks: &mut [bool], calls: &[CallLine], groups: &[GroupLine], words: &[&str]) -> bool
     requires as_many { length marks.old ≡ length calls.now }
+    requires once { AreOnce calls.now }
     requires groups { AreGroups (length calls.now) groups.now }
     ensures known { result ≡ list_all (λ word. is_known calls.now groups.now word.now) words.now }
     ensures marks { IsTrue result → Marks calls.now (is_member groups.now (map (λ word. word.now) words.now)) marks.old marks.new }
@@ -79,11 +81,12 @@ fn marked(alloc: Global, marks: &[bool]) -> Result<Vec<usize>, AllocError>
 fn members_among(
     alloc: Global,
     marks: &mut [bool],
-    calls: &CallLines,
-    groups: &GroupLines,
+    calls: &[CallLine],
+    groups: &[GroupLine],
     words: &[&str],
 ) -> Result<Option<Members>, AllocError>
     requires as_many { length marks.old ≡ length calls.now }
+    requires once { AreOnce calls.now }
     requires unmarked { (at : ℕ) → slice_index_or marks.old at false ≡ false }
     requires groups { AreGroups (length calls.now) groups.now }
     ensures { IfOk result (FindsMembers calls.now groups.now (map (λ word. word.now) words.now)) }
@@ -98,11 +101,12 @@ fn members_among(
 /// The calls that the words stand for, or `None` where a word names neither an earlier call nor an earlier group.
 pub fn find_members(
     alloc: Global,
-    calls: &CallLines,
-    groups: &GroupLines,
+    calls: &[CallLine],
+    groups: &[GroupLine],
     words: &[&str],
 ) -> Result<Option<Members>, AllocError>
-    requires { AreGroups (length calls.now) groups.now }
+    requires once { AreOnce calls.now }
+    requires groups { AreGroups (length calls.now) groups.now }
     ensures { IfOk result (FindsMembers calls.now groups.now (map (λ word. word.now) words.now)) }
 {
     let mut marks = vec![in alloc; false; calls.len()]?;

@@ -1,5 +1,5 @@
 // Names of calls, groups and families.
-ghost use Rattle.std.specs.Prelude.{◌≡◌, IfOk};
+ghost use Rattle.std.specs.Prelude.{◌≡◌, Some, IfOk};
 ghost use Rattle.std.specs.List.{list_all};
 ghost use Rattle.std.specs.Option.{option_map};
 ghost use Rattle.call_table.specs.Names.{is_name_byte, is_name, behind_at};
@@ -24,6 +24,8 @@ impl Model for Name {
 }
 
 impl fmt::Display for Name {
+    ghost output = { λ name. Some name };
+
     fn fmt<W: fmt::Write>(&self, f: &mut fmt::Formatter<W>) -> fmt::Result {
         f.write_str(self.text.as_str())
     }

@@ -1,6 +1,6 @@
 // The table, line by line.
 //
-// The lines come from `words`, what each is from `kinds`; `draft` judges a line by those before it.
+// The lines come from `words`, what each is from `kinds`; `lists` judges a line by those before it.
 ghost use Rattle.std.specs.Prelude.{◌≡◌, ◌≢◌, map, IfOk, IfErr, Ok, Err};
 ghost use Rattle.call_table.specs.declared.causes.CallsError.TheVariants.{Memory};
 ghost use Rattle.std.specs.Option.{option_map};
@@ -12,8 +12,8 @@ ghost use Rattle.call_table.specs.Progress.{IsUnlessMemory, ReadsRest, Opens};
 ghost use Rattle.call_table.specs.Meaning.{ReadsTable};
 
 use crate::causes::{CallsCause, CallsError};
-use crate::draft::Draft;
 use crate::kinds::{Kind, kind_of_words};
+use crate::lists::Lists;
 use crate::numbers::read_arch;
 use crate::table::CallTable;
 use crate::words::{Line, read_lines, words};
@@ -36,38 +36,35 @@ fn read_abi(alloc: Global, line: &Line) -> Result<u32, CallsError>
     ensures { Opens (line_view line.now) result }
 {
     let words = words(alloc, line.text)?;
-    match abi_digits(words.as_slice()) {
-        Some(digits) => match read_arch(digits) {
-            Some(arch) => Ok(arch),
-            None => Err(CallsError::Line(line.number, CallsCause::Number)),
-        },
-        None => Err(CallsError::Line(line.number, CallsCause::Words)),
+    let Some(digits) = abi_digits(words.as_slice()) else {
+        return Err(CallsError::Line(line.number, CallsCause::Words));
+    };
+    match read_arch(digits) {
+        Some(arch) => Ok(arch),
+        None => Err(CallsError::Line(line.number, CallsCause::Number)),
     }
 }
 
 // The lines behind the abi line.
-fn read_rest(alloc: Global, arch: u32, lines: &[Line]) -> Result<Draft, CallsError>
+fn read_rest(alloc: Global, arch: u32, lines: &[Line]) -> Result<Lists, CallsError>
     ensures { ReadsRest arch (map line_view lines.now) result }
 {
-    let mut draft = Draft::new(alloc, arch);
+    let mut lists = Lists::new(alloc, arch);
     for line in lines {
-        draft = draft.take(alloc, line)?;
+        lists.take(alloc, line)?;
     }
-    Ok(draft)
+    Ok(lists)
 }
 
 // The lines that are not passed over.
 fn read_table(alloc: Global, lines: &[Line]) -> Result<CallTable, CallsError>
     ensures { IsUnlessMemory result (table_of_lines (map line_view lines.now)) }
 {
-    match lines.split_first() {
-        None => Err(CallsError::NoAbi),
-        Some((first, rest)) => {
-            let arch = read_abi(alloc, first)?;
-            let draft = read_rest(alloc, arch, rest)?;
-            draft.finish(alloc)
-        }
-    }
+    let Some((first, rest)) = lines.split_first() else {
+        return Err(CallsError::NoAbi);
+    };
+    let arch = read_abi(alloc, first)?;
+    CallTable::of(alloc, read_rest(alloc, arch, rest)?)
 }
 
 // What the bytes give.

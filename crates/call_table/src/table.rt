@@ -1,98 +1,129 @@
 // The table of system calls, as contracts and callers see it.
-ghost use Rattle.std.specs.Prelude.{◌≡◌, ◌≤◌, None, map, length, option_and_then};
+ghost use Rattle.std.specs.Prelude.{◌≡◌, ◌≤◌, None, map, find, length, option_and_then};
 ghost use Rattle.std.specs.List.{All};
 ghost use Rattle.std.specs.Option.{option_map, option_copied};
 ghost use Rattle.call_table.specs.Lookups.{named, numbered, place_named, group_named, AreOnce, IsInRange};
 ghost use Rattle.call_table.specs.ByNumber.{AscendsByNumber};
-ghost use Rattle.call_table.specs.Facts.{AreLines, AreGroups};
+ghost use Rattle.call_table.specs.Facts.{AreLines, AreGroups, IsTable};
 ghost use Rattle.call_table.specs.Faults.{most_calls, most_families, most_groups};
-ghost use Rattle.call_table.specs.Reading.{missing_call};
+ghost use Rattle.call_table.specs.Progress.{IsUnlessMemory};
+ghost use Rattle.call_table.specs.Reading.{launch_calls, lacks, missing_call, unless_missing};
+ghost use Rattle.call_table.specs.Views.{made};
 
-use crate::by_number::Numbered;
-use crate::call_lines::CallLines;
-use crate::group_lines::GroupLines;
+use crate::by_number::{Numbered, by_number};
+use crate::causes::CallsError;
 use crate::listed::{CallLine, GroupLine};
+use crate::lists::Lists;
+use crate::lookups::{group_named, has_name, named, numbered, place_named};
+use crate::names::Name;
+use std::alloc::Global;
 use std::marker::Model;
+
+/// The calls that every launch makes.
+const LAUNCH_CALLS: &[&str] = &[
+    "capset",
+    "execve",
+    "prctl",
+    "seccomp",
+    "setgroups",
+    "setresgid",
+    "setresuid",
+    "unshare",
+];
 
 /// The system calls of an architecture, groups of them, and families of sockets.
 ///
 /// Contracts see a table as its architecture and the lists of its calls, families and groups.
 #[derive(Drop)]
 pub struct CallTable {
-    arch: u32,
-    calls: CallLines,
-    families: CallLines,
-    groups: GroupLines,
+    lists: Lists,
+    by_number: Vec<Numbered>,
 }
 
 impl Model for CallTable {
     ghost use Rattle.call_table.specs.Table.{Table};
-    ghost use Rattle.call_table.specs.Facts.{IsWhole};
+    ghost use Rattle.call_table.specs.Facts.{IsKept};
+    ghost use Rattle.call_table.specs.Views.{made};
 
     ghost Value = { Table };
 
-    ghost view = { λ table. record { arch = table.arch; calls = table.calls; families = table.families; groups = table.groups } };
+    ghost view = { λ table. made table.lists };
 
-    ghost invariant = { λ table. IsWhole (record { arch = table.arch; calls = table.calls; families = table.families; groups = table.groups }) };
+    ghost invariant = { λ table. IsKept (made table.lists) table.by_number.items };
+}
+
+fn launch_calls() -> &'static [&'static str]
+    ensures { map (λ name. name.now) result.now ≡ launch_calls }
+{
+    LAUNCH_CALLS
+}
+
+// The first of these names that is not among the calls.
+fn first_missing(calls: &[CallLine], names: &[&'static str]) -> Option<&'static str>
+    ensures { option_map (λ name. name.now) result ≡ find (lacks calls.now) (map (λ name. name.now) names.now) }
+{
+    for name in names {
+        if !has_name(calls, name) {
+            return Some(*name);
+        }
+    }
+    None
+}
+
+// The first call of every launch that is not among these.
+#[tactic(auto, unfolding(crate::specs::Reading::missing_call))]
+fn missing_call(calls: &[CallLine]) -> Option<&'static str>
+    ensures { option_map (λ name. name.now) result ≡ missing_call calls.now }
+{
+    first_missing(calls, launch_calls())
 }
 
 impl CallTable {
-    ghost use Rattle.call_table.specs.Facts.{IsWhole};
-
-    // The table of these lines.
-    pub(crate) fn new(
-        arch: u32,
-        calls: CallLines,
-        families: CallLines,
-        groups: GroupLines,
-    ) -> CallTable
-        requires { IsWhole (record { arch = arch; calls = calls; families = families; groups = groups }) }
-        ensures { result ≡ record { arch = arch; calls = calls; families = families; groups = groups } }
+    // The table of these lists, where they have the calls of every launch.
+    pub(crate) fn of(alloc: Global, lists: Lists) -> Result<CallTable, CallsError>
+        requires { IsTable (made lists) }
+        ensures { IsUnlessMemory result (unless_missing (missing_call lists.calls.items) (made lists)) }
     {
-        CallTable {
-            arch,
-            calls,
-            families,
-            groups,
+        if let Some(name) = missing_call(&lists.calls) {
+            return Err(CallsError::NoCall(Name::new(alloc, name)?));
         }
+        let by_number = by_number(alloc, &lists.calls)?;
+        Ok(CallTable { lists, by_number })
     }
 
     /// The architecture, as AUDIT_ARCH of linux/audit.h: `0xc000003e` for x86-64.
     pub fn arch(&self) -> u32
         ensures { result ≡ self.now.arch }
     {
-        self.arch
+        self.lists.arch
     }
 
     /// The number of the call of this name.
     pub fn number(&self, name: &str) -> Option<u32>
         ensures by_name { result ≡ option_map (λ call. call.number) (named name.now self.now.calls) }
     {
-        let position = self.calls.place_named(name)?;
-        Some(self.calls.list()[position].number)
+        Some(named(&self.lists.calls, name)?.number)
     }
 
     /// The position of the call of this name in `calls`, from 0.
     pub fn position(&self, name: &str) -> Option<usize>
         ensures by_name { result ≡ place_named name.now self.now.calls }
     {
-        self.calls.place_named(name)
+        place_named(&self.lists.calls, name)
     }
 
     /// The name of the call of this number.
     pub fn name(&self, number: u32) -> Option<&str>
         ensures by_number { option_map (λ name. name.now) result ≡ option_map (λ call. call.name) (numbered number self.now.calls) }
     {
-        let position = self.calls.place_numbered(number)?;
-        Some(self.calls.list()[position].name.as_str())
+        Some(numbered(&self.lists.calls, number)?.name.as_str())
     }
 
     /// The capability of the call of this number, where the table has the call and gives it one.
     pub fn cap(&self, number: u32) -> Option<u8>
         ensures by_number { result ≡ option_and_then (λ call. call.cap) (numbered number self.now.calls) }
     {
-        let position = self.calls.place_numbered(number)?;
-        self.calls.list()[position].cap
+        numbered(&self.lists.calls, number)?.cap
     }
 
     /// The members of the group of this name, which is written without its `@`: positions in
@@ -100,16 +131,14 @@ impl CallTable {
     pub fn members(&self, group: &str) -> Option<&[usize]>
         ensures by_name { option_copied result ≡ option_map (λ group. group.members) (group_named group.now self.now.groups) }
     {
-        let group = self.groups.find(group)?;
-        Some(group.members.list())
+        Some(group_named(&self.lists.groups, group)?.members.list())
     }
 
     /// The number of the family of this name (socket(2)).
     pub fn family(&self, name: &str) -> Option<u32>
         ensures by_name { result ≡ option_map (λ family. family.number) (named name.now self.now.families) }
     {
-        let position = self.families.place_named(name)?;
-        Some(self.families.list()[position].number)
+        Some(named(&self.lists.families, name)?.number)
     }
 
     /// The calls in the order of the file, at most 512.
@@ -118,14 +147,14 @@ impl CallTable {
         ensures names_and_numbers_once { AreLines most_calls self.now.calls }
         ensures launch_calls_are_there { missing_call self.now.calls ≡ None }
     {
-        self.calls.list()
+        &self.lists.calls
     }
 
     /// The numbers of the calls with their positions in `calls`, ascending by number.
     pub fn by_number(&self) -> &[Numbered]
         ensures ascends { AscendsByNumber self.now.calls result.now }
     {
-        self.calls.by_number()
+        &self.by_number
     }
 
     /// The families in the order of the file, at most 128.
@@ -133,7 +162,7 @@ impl CallTable {
         ensures lists { result.now ≡ self.now.families }
         ensures names_and_numbers_once { AreLines most_families self.now.families }
     {
-        self.families.list()
+        &self.lists.families
     }
 
     /// The groups in the order of the file, at most 128.
@@ -142,6 +171,6 @@ impl CallTable {
         ensures names_once_and_members_ascend { AreGroups (length self.now.calls) self.now.groups }
         ensures few { length self.now.groups ≤ most_groups }
     {
-        self.groups.list()
+        &self.lists.groups
     }
 }

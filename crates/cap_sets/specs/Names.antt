@@ -1,6 +1,6 @@
 -- The names of the capabilities, in the order of their numbers from 0: capabilities(7), linux/capability.h.
-use Rattle.std.specs.Prelude.{ℕ, ◌+◌, ◌^◌, List, [], ◌∷◌, codes, map, slice_index_or}
-use Rattle.std.specs.Char.{to_ascii_lowercase}
+use Rattle.std.specs.Prelude.{ℕ, ◌+◌, ◌^◌, List, [], ◌∷◌, codes, slice_index_or}
+use Rattle.std.specs.Str.{str_to_ascii_lowercase}
 
 abbrev pub names : List (List ℕ)
 names =
@@ -22,7 +22,7 @@ name_of cap' = slice_index_or names cap' []
 
 -- a text with its ASCII letters in lower case
 abbrev pub in_lower_case : List ℕ → List ℕ
-in_lower_case text = map to_ascii_lowercase text
+in_lower_case text = str_to_ascii_lowercase text
 
 -- each name with the word that has its number's bit alone
 abbrev pub rows_from : ℕ → List (List ℕ) → List (List ℕ × ℕ)

@@ -8,7 +8,7 @@ ghost use Rattle.cap_sets.specs.Names.{table};
 use bitflags::{Flag, Flags, bitflag_items};
 
 /// Any bits of a word, those above 40 too.
-#[derive(Clone, Copy, Debug, PartialEq, Eq)]
+#[derive(Clone, Copy, PartialEq, Eq)]
 pub(crate) struct Bits(pub(crate) u64);
 
 bitflag_items! {

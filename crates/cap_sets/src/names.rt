@@ -6,9 +6,7 @@ ghost use Rattle.cap_sets.specs.Names.{name_of, in_lower_case};
 use crate::bits::Bits;
 use crate::set::CapSet;
 use bitflags::{Flag, Flags};
-
-/// How many capabilities there are: CAP_LAST_CAP and one, linux/capability.h.
-const COUNT: u8 = 41;
+use linux_numbers::capabilities::CAP_LAST_CAP;
 
 impl CapSet {
     /// The number of the capability of this name in any ASCII case, as `cap_chown`; else None.
@@ -17,7 +15,7 @@ impl CapSet {
             → (result ≡ Some number) ↔ (in_lower_case (name_of number) ≡ in_lower_case name.now) }
         ensures in_range { IfSome result (λ number. number ≤ 40) }
     {
-        for cap in 0..COUNT {
+        for cap in 0..CAP_LAST_CAP + 1 {
             if CapSet::name(cap).eq_ignore_ascii_case(name) {
                 return Some(cap);
             }

@@ -10,7 +10,7 @@ use bitflags::Flags;
 use std::marker::Model;
 
 /// A set of capabilities: numbers 0 to 40, as capabilities(7) lists them.
-#[derive(Clone, Copy, Debug, PartialEq, Eq)]
+#[derive(Clone, Copy, PartialEq, Eq)]
 pub struct CapSet {
     bits: Bits,
 }

@@ -1,0 +1,4 @@
+pub mod FileCommands
+pub mod Refusing
+pub mod Texts
+pub mod Runs

@@ -1,4 +1,7 @@
-pub mod Answers
-pub mod Causes
+pub mod Endings
+pub mod Laws
+pub mod Printing
 pub mod ReadFiles
 pub mod Refusals
+pub mod Runs
+pub mod Stops

@@ -1,13 +1,15 @@
 // How a run ends.
 
 /// How a run ends.
-#[derive(Clone, Copy, Debug, PartialEq, Eq)]
+#[derive(Clone, Copy)]
 pub enum Ending {
     /// The whole text was printed.
     Done,
-    /// The words are no command.
+    /// The whole text was printed, and the exposure is above the threshold.
+    AboveThreshold,
+    /// The words are no command, and that was printed.
     NoCommand,
-    /// An input is refused.
+    /// An input is refused, and that was printed.
     Refused,
     /// A read failed, and nothing was printed.
     ReadFault,
@@ -17,4 +19,6 @@ pub enum Ending {
     OutOfMemory,
     /// The launch is refused, and that was printed.
     LaunchRefused,
+    /// Two filters differ, and that was printed.
+    Differs,
 }

@@ -1,9 +1,9 @@
 // Files of the shelf, as the commands read them.
 ghost use Rattle.std.specs.Prelude.{◌≡◌, IfOk};
-ghost use Rattle.command_answers.specs.Causes.{HasReadCause};
+ghost use Rattle.command_answers.specs.Stops.{HasReadCause, RefusesNothing};
 ghost use Rattle.command_answers.specs.ReadFiles.{ReadsContent, ReadsIfTold};
 
-use crate::answer::Failure;
+use crate::stop::Stop;
 use host_io::{Shelf, ShelfError};
 use std::alloc::Global;
 
@@ -25,8 +25,9 @@ pub enum FileRead {
 }
 
 /// What the file at a path has.
-pub fn read_file<S: Shelf>(alloc: Global, shelf: &mut S, path: &str) -> Result<FileRead, Failure>
+pub fn read_file<S: Shelf>(alloc: Global, shelf: &mut S, path: &str) -> Result<FileRead, Stop>
     ensures reads_the_file { IfOk result (ReadsContent path.now (S.told shelf.old)) }
+    ensures refuses_nothing { RefusesNothing result }
     ensures map_stays { S.told shelf.new ≡ S.told shelf.old }
     ensures fault_rose { HasReadCause (S.faults shelf.old) (S.faults shelf.new) result }
 {
@@ -34,8 +35,8 @@ pub fn read_file<S: Shelf>(alloc: Global, shelf: &mut S, path: &str) -> Result<F
         Ok(bytes) => Ok(FileRead::Bytes(bytes)),
         Err(ShelfError::Missing) => Ok(FileRead::Missing),
         Err(ShelfError::TooLarge) => Ok(FileRead::TooLarge),
-        Err(ShelfError::Failed) => Err(Failure::ReadFault),
-        Err(ShelfError::Memory) => Err(Failure::Memory),
+        Err(ShelfError::Failed) => Err(Stop::ReadFault),
+        Err(ShelfError::Memory) => Err(Stop::Memory),
     }
 }
 
@@ -44,8 +45,9 @@ pub fn read_bytes<S: Shelf>(
     alloc: Global,
     shelf: &mut S,
     path: &str,
-) -> Result<Option<Vec<u8>>, Failure>
+) -> Result<Option<Vec<u8>>, Stop>
     ensures reads_the_file { IfOk result (ReadsIfTold path.now (S.told shelf.old)) }
+    ensures refuses_nothing { RefusesNothing result }
     ensures map_stays { S.told shelf.new ≡ S.told shelf.old }
     ensures fault_rose { HasReadCause (S.faults shelf.old) (S.faults shelf.new) result }
 {

@@ -1,20 +1,24 @@
-//! What a command answers, before anything of it is printed.
+//! What a command does, whatever it is: it is prepared, and then printed.
 //!
-//! A command reads files of a `host_io` shelf and answers an ending with whole lines, or a failure that leaves it
-//! without an answer. The crates of the commands stand on it; the program prints what they answer.
+//! Preparing reads files of a `host_io` shelf and finds every refusal; what is `Ready` then is printed line by line, each
+//! line one piece for the sink. The crates of the commands stand on it, and the top call is written over `Ready` alone.
 //!
-//! `Answer::of_line(alloc, Ending::Refused, refused_line(alloc, "calls.txt", b"missing")?)?` refuses a file.
+//! `put_line(out, line_of(alloc, item))?` prints a line; `Stop::Refused(refused_line(alloc, "calls.txt", b"missing")?)`
+//! refuses a file.
 #![tactic(auto)]
 
-mod answer;
 mod ending;
 mod files;
+mod finishing;
+mod printing;
+mod ready;
 mod refusals;
+mod stop;
 
-pub use answer::{Answer, Failure};
 pub use ending::Ending;
 pub use files::{FileRead, TABLE_PATH, read_bytes, read_file};
+pub use finishing::finish;
+pub use printing::{put_line, put_piece};
+pub use ready::Ready;
 pub use refusals::{refused_line, unbuilt_line};
-
-#[cfg(test)]
-mod tests;
+pub use stop::{Stop, boxed, refuse};

@@ -6,8 +6,8 @@ use Rattle.cap_sets.specs.Sets.{none}
 use Rattle.cred_settings.specs.CapLists.{unit_caps, unit_caps_notes}
 
 -- the default is none
-unfoldable pub ambient_of : Resolved → ℕ
+abbrev pub ambient_of : Resolved → ℕ
 ambient_of unit = unit_caps unit (codes "AmbientCapabilities") none
 
-unfoldable pub ambient_notes : Resolved → List FileNote
+abbrev pub ambient_notes : Resolved → List FileNote
 ambient_notes unit = unit_caps_notes unit (codes "AmbientCapabilities")

@@ -6,8 +6,8 @@ use Rattle.cap_sets.specs.Sets.{all}
 use Rattle.cred_settings.specs.CapLists.{unit_caps, unit_caps_notes}
 
 -- the default is all
-unfoldable pub bounding_of : Resolved → ℕ
+abbrev pub bounding_of : Resolved → ℕ
 bounding_of unit = unit_caps unit (codes "CapabilityBoundingSet") all
 
-unfoldable pub bounding_notes : Resolved → List FileNote
+abbrev pub bounding_notes : Resolved → List FileNote
 bounding_notes unit = unit_caps_notes unit (codes "CapabilityBoundingSet")

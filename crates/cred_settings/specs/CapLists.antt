@@ -1,16 +1,12 @@
 -- systemd.exec(5), CapabilityBoundingSet= and AmbientCapabilities=: a set of capabilities, by lines that add to it or take off.
-use Rattle.std.specs.Prelude.{ℕ, ◌==◌, cond, List, [], ◌∷◌, ◌++◌, Option, Some, None, flat_map, fold}
-use Rattle.unit_grammar.specs.declared.notes.NoteCause.{NoteCause}
-use Rattle.unit_grammar.specs.declared.notes.NoteCause.TheVariants.{Value as ValueCause}
+use Rattle.std.specs.Prelude.{ℕ, ◌==◌, cond, List, [], ◌∷◌, ◌++◌, flat_map, fold}
 use Rattle.dropin_merge.specs.declared.resolved.Resolved.{Resolved}
 use Rattle.unit_values.specs.declared.value.FileNote.{FileNote}
-use Rattle.unit_values.specs.declared.value.Value.{Value}
 use Rattle.unit_values.specs.declared.lines.Line.{Line}
-use Rattle.unit_values.specs.Values.{values_of, notes_of}
-use Rattle.unit_values.specs.Lines.{line_of}
-use Rattle.unit_values.specs.Notes.{noted}
+use Rattle.unit_values.specs.declared.listed.Listed.{Listed}
+use Rattle.unit_values.specs.Listed.{is_reset, unit_listed, unit_listed_notes}
 use Rattle.cap_sets.specs.Sets.{none, all, union, minus}
-use Rattle.cred_settings.specs.CapNames.{named_caps, name_causes}
+use Rattle.cred_settings.specs.CapNames.{named_caps, word_notes}
 
 -- a plain line takes the place of a set that equals its default, and is united with any other
 abbrev pub with_plain : ℕ → ℕ → ℕ → ℕ
@@ -24,36 +20,22 @@ with_inverted default set (word ∷ words) = minus (cond (set == default) all se
 abbrev pub with_line : ℕ → ℕ → Line → ℕ
 with_line default set line = cond line.is_inverted (with_inverted default set line.words) (with_plain default set (named_caps line.words))
 
--- a line that cannot be split changes nothing
-abbrev pub with_line_if : ℕ → ℕ → Option Line → ℕ
-with_line_if default set None = set
-with_line_if default set (Some line) = with_line default set line
-
 -- an empty value is the empty set
-abbrev pub with_text : ℕ → ℕ → List ℕ → ℕ
-with_text default set [] = none
-with_text default set (byte ∷ text) = with_line_if default set (line_of (byte ∷ text))
+abbrev pub with_listed : ℕ → ℕ → Listed → ℕ
+with_listed default set one = cond (is_reset one) none (with_line default set one.line)
 
--- the set that values come to, from the default
-abbrev pub caps_by : ℕ → List Value → ℕ
-caps_by default values = fold (λ set value. with_text default set value.text) default values
+-- the set that lines come to, from the default
+abbrev pub caps_by : ℕ → List Listed → ℕ
+caps_by default lines = fold (with_listed default) default lines
 
--- a line that cannot be split is noted, and so is each name that is not known
-abbrev pub line_causes : Option Line → List NoteCause
-line_causes None = ValueCause ∷ []
-line_causes (Some line) = flat_map name_causes line.words
-
-abbrev pub text_causes : List ℕ → List NoteCause
-text_causes [] = []
-text_causes (byte ∷ text) = line_causes (line_of (byte ∷ text))
-
-abbrev pub caps_notes : List Value → List FileNote
-caps_notes values = noted (λ place. text_causes place.1.text) values
+-- each name that is not known is noted
+abbrev pub names_notes : Listed → List FileNote
+names_notes one = flat_map (word_notes one.value) one.line.words
 
 -- the set that the files of a unit give to such a key
 unfoldable pub unit_caps : Resolved → List ℕ → ℕ → ℕ
-unit_caps unit key default = caps_by default (values_of unit key)
+unit_caps unit key default = caps_by default (unit_listed unit key)
 
--- and what is noted: values that cannot be expanded, then the rest
+-- and what is noted: values that cannot be expanded, those that cannot be split, then names
 unfoldable pub unit_caps_notes : Resolved → List ℕ → List FileNote
-unit_caps_notes unit key = notes_of unit key ++ caps_notes (values_of unit key)
+unit_caps_notes unit key = unit_listed_notes unit key ++ flat_map names_notes (unit_listed unit key)

@@ -2,8 +2,10 @@
 use Rattle.std.specs.Prelude.{ℕ, is_some, cond, List, [], ◌∷◌, Option, position, fold}
 use Rattle.std.specs.List.{filter_map}
 use Rattle.std.specs.Str.{bytes_eq}
-use Rattle.unit_grammar.specs.declared.notes.NoteCause.{NoteCause}
 use Rattle.unit_grammar.specs.declared.notes.NoteCause.TheVariants.{UnknownName}
+use Rattle.unit_values.specs.declared.value.FileNote.{FileNote}
+use Rattle.unit_values.specs.declared.value.Value.{Value}
+use Rattle.unit_values.specs.Notes.{note_at}
 use Rattle.cap_sets.specs.Names.{names, in_lower_case}
 use Rattle.cap_sets.specs.Sets.{none, union, single}
 
@@ -15,6 +17,6 @@ cap_named word = position (λ name. bytes_eq (in_lower_case name) (in_lower_case
 abbrev pub named_caps : List (List ℕ) → ℕ
 named_caps words = fold (λ set number. union set (single number)) none (filter_map cap_named words)
 
--- a word that names none is noted
-abbrev pub name_causes : List ℕ → List NoteCause
-name_causes word = cond (is_some (cap_named word)) [] (UnknownName ∷ [])
+-- a word of a value that names none is noted
+abbrev pub word_notes : Value → List ℕ → List FileNote
+word_notes value word = cond (is_some (cap_named word)) [] (note_at value UnknownName ∷ [])

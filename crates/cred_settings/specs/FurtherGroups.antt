@@ -3,11 +3,11 @@ use Rattle.std.specs.Prelude.{ℕ, codes, List, [], ◌++◌}
 use Rattle.std.specs.List.{filter_map}
 use Rattle.dropin_merge.specs.declared.resolved.Resolved.{Resolved}
 use Rattle.unit_values.specs.declared.value.FileNote.{FileNote}
+use Rattle.unit_values.specs.Words.{unit_words, unit_words_notes}
 use Rattle.site_table.specs.Table.{Site}
 use Rattle.cred_settings.specs.declared.accounts.Account.{Account}
 use Rattle.cred_settings.specs.declared.accounts.Account.TheVariants.{Dynamic, Fixed}
 use Rattle.cred_settings.specs.Groups.{gid_meant}
-use Rattle.cred_settings.specs.WordLists.{unit_words, unit_words_notes}
 
 -- the further groups of the user
 abbrev pub groups_of_account : Account → List ℕ
@@ -19,8 +19,8 @@ abbrev pub groups_of : Site → Account → List (List ℕ) → List ℕ
 groups_of site account words = groups_of_account account ++ filter_map (gid_meant site) words
 
 -- the words that the files of a unit give, and their notes
-unfoldable pub further_words : Resolved → List (List ℕ)
+abbrev pub further_words : Resolved → List (List ℕ)
 further_words unit = unit_words unit (codes "SupplementaryGroups")
 
-unfoldable pub further_notes : Resolved → List FileNote
+abbrev pub further_notes : Resolved → List FileNote
 further_notes unit = unit_words_notes unit (codes "SupplementaryGroups")

@@ -3,12 +3,12 @@ use Rattle.std.specs.Prelude.{ℕ, codes, List, [], ◌∷◌, Option, None, opt
 use Rattle.std.specs.Option.{option_or}
 use Rattle.dropin_merge.specs.declared.resolved.Resolved.{Resolved}
 use Rattle.unit_values.specs.declared.value.FileNote.{FileNote}
-use Rattle.unit_values.specs.Values.{values_of, notes_of}
+use Rattle.unit_values.specs.Values.{notes_of}
+use Rattle.unit_values.specs.Lasting.{unit_last_text}
 use Rattle.site_table.specs.Table.{Site, group_named}
 use Rattle.cred_settings.specs.declared.accounts.Account.{Account}
 use Rattle.cred_settings.specs.declared.accounts.Account.TheVariants.{Dynamic, Fixed}
 use Rattle.cred_settings.specs.Ids.{id_number}
-use Rattle.cred_settings.specs.LastText.{last_text}
 
 -- the group that a word names: a group of the site by its name, else a number
 abbrev pub gid_meant : Site → List ℕ → Option ℕ
@@ -30,8 +30,8 @@ filled [] = []
 filled (byte ∷ word) = (byte ∷ word) ∷ []
 
 -- the word that the files of a unit give, and the notes on values that cannot be expanded
-unfoldable pub group_word : Resolved → List ℕ
-group_word unit = last_text (values_of unit (codes "Group"))
+abbrev pub group_word : Resolved → List ℕ
+group_word unit = unit_last_text unit (codes "Group")
 
-unfoldable pub group_notes : Resolved → List FileNote
+abbrev pub group_notes : Resolved → List FileNote
 group_notes unit = notes_of unit (codes "Group")

@@ -50,4 +50,4 @@ identity_of unit site is_dynamic = identity_from site is_dynamic (user_word unit
 
 -- and what is noted, key by key
 unfoldable pub identity_notes : Resolved → List FileNote
-identity_notes unit = user_notes unit ++ (group_notes unit ++ further_notes unit)
+identity_notes unit = (user_notes unit ++ group_notes unit) ++ further_notes unit

@@ -1,6 +1,4 @@
 pub mod Ids
-pub mod LastText
-pub mod WordLists
 pub mod Users
 pub mod Groups
 pub mod FurtherGroups
@@ -13,4 +11,5 @@ pub mod Ambient
 pub mod NewPrivileges
 pub mod Steps
 pub mod Writings
+pub mod LastLines
 pub mod Ranges

@@ -4,17 +4,15 @@ use Rattle.dropin_merge.specs.declared.resolved.Resolved.{Resolved}
 use Rattle.unit_values.specs.declared.value.FileNote.{FileNote}
 use Rattle.unit_values.specs.Flags.{unit_flag, unit_flag_notes}
 use Rattle.cap_sets.specs.Sets.{has}
+use Rattle.linux_numbers.specs.Capabilities.{cap_sys_admin}
 
--- CAP_SYS_ADMIN (capabilities(7)), which may install a filter without it (seccomp(2))
-abbrev pub sys_admin : ℕ
-sys_admin = 21
-
--- it is in effect where it is set, and where a filter is on for a service that may install none without it
+-- it is in effect where it is set, and where a filter is on for a service that may install none without it: one whose
+-- ambient set lacks CAP_SYS_ADMIN (seccomp(2), capabilities(7))
 abbrev pub is_in_effect : Bool → Bool → ℕ → ℕ → Bool
-is_in_effect is_set has_filter uid ambient = is_set || (has_filter && (not (uid == 0) && not (has ambient sys_admin)))
+is_in_effect is_set has_filter uid ambient = is_set || (has_filter && (not (uid == 0) && not (has ambient cap_sys_admin)))
 
-unfoldable pub is_set_by : Resolved → Bool
+abbrev pub is_set_by : Resolved → Bool
 is_set_by unit = unit_flag unit (codes "NoNewPrivileges")
 
-unfoldable pub new_privileges_notes : Resolved → List FileNote
+abbrev pub new_privileges_notes : Resolved → List FileNote
 new_privileges_notes unit = unit_flag_notes unit (codes "NoNewPrivileges")

@@ -3,14 +3,14 @@ use Rattle.std.specs.Prelude.{ℕ, Bool, cond, codes, List, [], ◌∷◌, Optio
 use Rattle.std.specs.Option.{option_map_or, option_or}
 use Rattle.dropin_merge.specs.declared.resolved.Resolved.{Resolved}
 use Rattle.unit_values.specs.declared.value.FileNote.{FileNote}
-use Rattle.unit_values.specs.Values.{values_of, notes_of}
+use Rattle.unit_values.specs.Values.{notes_of}
+use Rattle.unit_values.specs.Lasting.{unit_last_text}
 use Rattle.site_table.specs.declared.accounts.User.{User}
 use Rattle.site_table.specs.Table.{Site, user_named, user_with}
 use Rattle.cred_settings.specs.declared.accounts.Identity.{Identity}
 use Rattle.cred_settings.specs.declared.accounts.Account.{Account}
 use Rattle.cred_settings.specs.declared.accounts.Account.TheVariants.{Dynamic, Fixed}
 use Rattle.cred_settings.specs.Ids.{id_number}
-use Rattle.cred_settings.specs.LastText.{last_text}
 
 -- without a word a service runs as the superuser, with no further groups
 abbrev pub superuser : Identity
@@ -43,8 +43,8 @@ account_of site is_dynamic [] = Some (cond is_dynamic Dynamic (Fixed superuser))
 account_of site is_dynamic (byte ∷ word) = account_meant is_dynamic (user_meant site (byte ∷ word))
 
 -- the word that the files of a unit give, and the notes on values that cannot be expanded
-unfoldable pub user_word : Resolved → List ℕ
-user_word unit = last_text (values_of unit (codes "User"))
+abbrev pub user_word : Resolved → List ℕ
+user_word unit = unit_last_text unit (codes "User")
 
-unfoldable pub user_notes : Resolved → List FileNote
+abbrev pub user_notes : Resolved → List FileNote
 user_notes unit = notes_of unit (codes "User")

@@ -5,7 +5,7 @@ use std::alloc::AllocError;
 use std::marker::Model;
 
 /// Ids of groups in order, which contracts see as a list of numbers.
-#[derive(Debug, Drop)]
+#[derive(Drop)]
 pub struct Gids {
     items: Vec<u32>,
 }
@@ -44,7 +44,7 @@ impl Gids {
 }
 
 /// The ids that a service runs with (credentials(7)).
-#[derive(Debug, Drop)]
+#[derive(Drop)]
 pub struct Identity {
     pub uid: u32,
     pub gid: u32,
@@ -53,7 +53,7 @@ pub struct Identity {
 }
 
 /// Whom User= and DynamicUser= give.
-#[derive(Debug, Drop)]
+#[derive(Drop)]
 pub enum Account {
     /// The dynamic uid of the site.
     Dynamic,

@@ -1,23 +1,18 @@
 //! AmbientCapabilities= (systemd.exec(5)).
-ghost use Rattle.std.specs.Prelude.{◌≡◌, ◌++◌, IfOk, OnOk};
+ghost use Rattle.std.specs.Prelude.{◌≡◌, IfOk};
 ghost use Rattle.cred_settings.specs.Ambient.{ambient_of, ambient_notes};
 
 use crate::cap_lists::cap_set_of_key;
 use cap_sets::CapSet;
 use dropin_merge::Resolved;
 use std::alloc::{AllocError, Global};
-use unit_values::FileNote;
+use unit_values::Said;
 
 /// The capabilities that a service starts with in its ambient set, by AmbientCapabilities=; without it none. Lines are
 /// read as those of the bounding set are, and noted alike.
-#[tactic(auto, unfolding(crate::specs::Ambient::ambient_of, crate::specs::Ambient::ambient_notes))]
-pub fn ambient_set(
-    alloc: Global,
-    unit: &Resolved,
-    notes: &mut Vec<FileNote>,
-) -> Result<CapSet, AllocError>
-    ensures line_by_line { IfOk result (λ set. set ≡ ambient_of unit.now) }
-    ensures noted { OnOk result (notes.new.items ≡ notes.old.items ++ ambient_notes unit.now) }
+pub fn ambient_set(alloc: Global, unit: &Resolved) -> Result<Said<CapSet>, AllocError>
+    ensures line_by_line { IfOk result (λ said. said.what ≡ ambient_of unit.now) }
+    ensures noted { IfOk result (λ said. said.notes.items ≡ ambient_notes unit.now) }
 {
-    cap_set_of_key(alloc, unit, "AmbientCapabilities", CapSet::empty(), notes)
+    cap_set_of_key(alloc, unit, "AmbientCapabilities", CapSet::empty())
 }

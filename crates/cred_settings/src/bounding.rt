@@ -1,12 +1,12 @@
 //! CapabilityBoundingSet= (systemd.exec(5)).
-ghost use Rattle.std.specs.Prelude.{◌≡◌, ◌++◌, IfOk, OnOk};
+ghost use Rattle.std.specs.Prelude.{◌≡◌, IfOk};
 ghost use Rattle.cred_settings.specs.Bounding.{bounding_of, bounding_notes};
 
 use crate::cap_lists::cap_set_of_key;
 use cap_sets::CapSet;
 use dropin_merge::Resolved;
 use std::alloc::{AllocError, Global};
-use unit_values::FileNote;
+use unit_values::Said;
 
 /// The capabilities that a service can come to at all, by CapabilityBoundingSet=; without it all.
 ///
@@ -14,16 +14,11 @@ use unit_values::FileNote;
 /// all but its names where the set equals its default, and takes its names off any other; `~` alone is all. An empty
 /// value is the empty set. Names are read in any case.
 ///
-/// Values that cannot be expanded are noted behind the notes that are there; then lines that cannot be split, which
+/// Values that cannot be expanded are noted; then lines that cannot be split, which
 /// change nothing, and names that are not known, which are passed over.
-#[tactic(auto, unfolding(crate::specs::Bounding::bounding_of, crate::specs::Bounding::bounding_notes))]
-pub fn bounding_set(
-    alloc: Global,
-    unit: &Resolved,
-    notes: &mut Vec<FileNote>,
-) -> Result<CapSet, AllocError>
-    ensures line_by_line { IfOk result (λ set. set ≡ bounding_of unit.now) }
-    ensures noted { OnOk result (notes.new.items ≡ notes.old.items ++ bounding_notes unit.now) }
+pub fn bounding_set(alloc: Global, unit: &Resolved) -> Result<Said<CapSet>, AllocError>
+    ensures line_by_line { IfOk result (λ said. said.what ≡ bounding_of unit.now) }
+    ensures noted { IfOk result (λ said. said.notes.items ≡ bounding_notes unit.now) }
 {
-    cap_set_of_key(alloc, unit, "CapabilityBoundingSet", CapSet::full(), notes)
+    cap_set_of_key(alloc, unit, "CapabilityBoundingSet", CapSet::full())
 }

@@ -1,14 +1,14 @@
 //! Sets of capabilities, by lines that add to them or take off (systemd.exec(5)).
-ghost use Rattle.std.specs.Prelude.{◌≡◌, ◌++◌, IfOk, OnOk};
-ghost use Rattle.unit_values.specs.Notes.{notes_at};
-ghost use Rattle.cred_settings.specs.CapLists.{with_plain, with_inverted, with_line, with_text, caps_by, text_causes, caps_notes, unit_caps, unit_caps_notes};
+ghost use Rattle.std.specs.Prelude.{◌≡◌, ◌++◌, IfOk, OnOk, flat_map};
+ghost use Rattle.cred_settings.specs.CapNames.{word_notes};
+ghost use Rattle.cred_settings.specs.CapLists.{with_plain, with_inverted, with_line, with_listed, caps_by, names_notes, unit_caps, unit_caps_notes};
 
-use crate::cap_names::{name_causes, named_caps};
+use crate::cap_names::{named_caps, note_unknown};
 use cap_sets::CapSet;
 use dropin_merge::Resolved;
 use std::alloc::{AllocError, Global};
-use unit_grammar::{NoteCause, Text};
-use unit_values::{FileNote, Line, Value, note_causes, note_value, read_line, values_of_key};
+use unit_grammar::Text;
+use unit_values::{FileNote, Line, Listed, Said, Value, lines_of_key};
 
 // What a plain line with these capabilities makes of a set.
 fn with_plain(default: CapSet, set: CapSet, named: CapSet) -> CapSet
@@ -44,62 +44,66 @@ fn with_line(default: CapSet, set: CapSet, line: &Line) -> CapSet
 }
 
 // What the set is behind one more value.
-fn with_value(
-    alloc: Global,
-    default: CapSet,
-    set: CapSet,
-    value: &Value,
-    notes: &mut Vec<FileNote>,
-) -> Result<CapSet, AllocError>
-    ensures means { IfOk result (λ next. next ≡ with_text default set value.now.text) }
-    ensures noted { OnOk result (notes.new.items ≡ notes.old.items ++ notes_at value.now (text_causes value.now.text)) }
+fn with_listed(default: CapSet, set: CapSet, one: &Listed) -> CapSet
+    ensures { result ≡ with_listed default set one.now }
 {
-    if value.text.as_str().is_empty() {
-        return Ok(CapSet::empty());
-    }
-    match read_line(alloc, value.text.as_str())? {
-        Some(line) => {
-            let causes = name_causes(alloc, line.words.list())?;
-            note_causes(notes, value, causes.as_slice())?;
-            Ok(with_line(default, set, &line))
-        }
-        None => {
-            note_value(notes, value, NoteCause::Value)?;
-            Ok(set)
-        }
+    if one.is_reset() {
+        CapSet::empty()
+    } else {
+        with_line(default, set, &one.line)
     }
 }
 
-// What the values of such a key come to.
-fn cap_set(
-    alloc: Global,
-    default: CapSet,
-    values: &[Value],
-    notes: &mut Vec<FileNote>,
-) -> Result<CapSet, AllocError>
-    ensures means { IfOk result (λ set. set ≡ caps_by default values.now) }
-    ensures noted { OnOk result (notes.new.items ≡ notes.old.items ++ caps_notes values.now) }
+// What the lines of such a key come to.
+fn caps_by(default: CapSet, lines: &[Listed]) -> CapSet
+    ensures { result ≡ caps_by default lines.now }
 {
     let mut set = default;
-    'values: for value in values {
-        set = with_value(alloc, default, set, value, notes)?;
+    'lines: for one in lines {
+        set = with_listed(default, set, one);
     }
-    Ok(set)
+    set
 }
 
-/// The set that the files of a unit give to a key such as CapabilityBoundingSet. Values that cannot be expanded, and
-/// then what cannot be read, are noted behind the notes that are there.
+// Notes the words of a line that name no capability.
+fn note_words(notes: &mut Vec<FileNote>, value: &Value, words: &[Text]) -> Result<(), AllocError>
+    ensures { OnOk result (notes.new.items ≡ notes.old.items ++ flat_map (word_notes value.now) words.now) }
+{
+    'words: for word in words {
+        note_unknown(notes, value, word.as_str())?;
+    }
+    Ok(())
+}
+
+// Notes the words of all lines that name no capability.
+fn note_names(notes: &mut Vec<FileNote>, lines: &[Listed]) -> Result<(), AllocError>
+    ensures { OnOk result (notes.new.items ≡ notes.old.items ++ flat_map names_notes lines.now) }
+{
+    'lines: for one in lines {
+        note_words(notes, &one.value, one.line.words.list())?;
+    }
+    Ok(())
+}
+
+/// The set that the files of a unit give to a key such as CapabilityBoundingSet. Values that cannot be expanded, then
+/// those that cannot be split, and then names that are not known are noted.
 #[tactic(auto, unfolding(crate::specs::CapLists::unit_caps, crate::specs::CapLists::unit_caps_notes))]
 pub fn cap_set_of_key(
     alloc: Global,
     unit: &Resolved,
     key: &str,
     default: CapSet,
-    notes: &mut Vec<FileNote>,
-) -> Result<CapSet, AllocError>
-    ensures means { IfOk result (λ set. set ≡ unit_caps unit.now key.now default) }
-    ensures noted { OnOk result (notes.new.items ≡ notes.old.items ++ unit_caps_notes unit.now key.now) }
+) -> Result<Said<CapSet>, AllocError>
+    ensures means { IfOk result (λ said. said.what ≡ unit_caps unit.now key.now default) }
+    ensures noted { IfOk result (λ said. said.notes.items ≡ unit_caps_notes unit.now key.now) }
 {
-    let values = values_of_key(alloc, unit, key, notes)?;
-    cap_set(alloc, default, values.as_slice(), notes)
+    let Said {
+        what: lines,
+        mut notes,
+    } = lines_of_key(alloc, unit, key)?;
+    note_names(&mut notes, lines.as_slice())?;
+    Ok(Said {
+        what: caps_by(default, lines.as_slice()),
+        notes,
+    })
 }

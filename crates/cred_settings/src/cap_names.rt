@@ -1,10 +1,11 @@
 //! Names of capabilities in lists, in any case (capabilities(7)).
-ghost use Rattle.std.specs.Prelude.{◌≡◌, ◌≤◌, ◌++◌, IfOk, IfSome, OnOk, flat_map};
-ghost use Rattle.cred_settings.specs.CapNames.{cap_named, named_caps, name_causes};
+ghost use Rattle.std.specs.Prelude.{◌≡◌, ◌≤◌, ◌++◌, IfSome, OnOk};
+ghost use Rattle.cred_settings.specs.CapNames.{cap_named, named_caps, word_notes};
 
 use cap_sets::CapSet;
-use std::alloc::{AllocError, Global};
+use std::alloc::AllocError;
 use unit_grammar::{NoteCause, Text};
+use unit_values::{FileNote, Value, note_value};
 
 fn cap_named(word: &str) -> Option<u8>
     ensures number { result ≡ cap_named word.now }
@@ -26,22 +27,12 @@ pub fn named_caps(words: &[Text]) -> CapSet
     set
 }
 
-fn add_name_cause(word: &str, causes: &mut Vec<NoteCause>) -> Result<(), AllocError>
-    ensures { OnOk result (causes.new.items ≡ causes.old.items ++ name_causes word.now) }
+/// Notes a word of a value, if it names no capability.
+pub fn note_unknown(notes: &mut Vec<FileNote>, value: &Value, word: &str) -> Result<(), AllocError>
+    ensures { OnOk result (notes.new.items ≡ notes.old.items ++ word_notes value.now word.now) }
 {
     if cap_named(word).is_none() {
-        causes.push(NoteCause::UnknownName)?;
+        note_value(notes, value, NoteCause::UnknownName)?;
     }
     Ok(())
-}
-
-/// The causes of notes on the words: one for each that names no capability.
-pub fn name_causes(alloc: Global, words: &[Text]) -> Result<Vec<NoteCause>, AllocError>
-    ensures { IfOk result (λ causes. causes.items ≡ flat_map name_causes words.now) }
-{
-    let mut causes = Vec::new(alloc);
-    'words: for word in words {
-        add_name_cause(word.as_str(), &mut causes)?;
-    }
-    Ok(causes)
 }

@@ -2,21 +2,22 @@
 ghost use Rattle.std.specs.Prelude.{◌≡◌, ◌≢◌, ◌++◌, Ok, Err, None, IfOk, IfErr, OnOk, find};
 ghost use Rattle.std.specs.List.{filter_map};
 ghost use Rattle.cred_settings.specs.declared.error.IdentityError.TheVariants.{Memory};
-ghost use Rattle.cred_settings.specs.Groups.{gid_meant, chosen_gid, filled};
+ghost use Rattle.cred_settings.specs.Users.{user_word};
+ghost use Rattle.cred_settings.specs.Groups.{gid_meant, chosen_gid, filled, group_word};
+ghost use Rattle.cred_settings.specs.FurtherGroups.{further_words};
 ghost use Rattle.cred_settings.specs.Steps.{begun};
 ghost use Rattle.cred_settings.specs.Identities.{names_no_group, bad_group, identity_with, unless_bad, identity_from, identity_of, identity_notes};
 ghost use Rattle.cred_settings.specs.Answers.{IsUnlessMemory, IsOfGroup};
 
 use crate::accounts::{Account, Gids, Identity};
 use crate::error::IdentityError;
-use crate::further_groups::further_words;
-use crate::groups::{gid_meant, group_word};
-use crate::users::{account, user_word};
+use crate::groups::gid_meant;
+use crate::users::account;
 use dropin_merge::Resolved;
 use site_table::SiteTable;
-use std::alloc::Global;
+use std::alloc::{AllocError, Global};
 use unit_grammar::Text;
-use unit_values::FileNote;
+use unit_values::{Said, Words, last_text_of_key, words_of_key};
 
 // The refusal of a user.
 fn no_such_user(alloc: Global, word: &str) -> IdentityError
@@ -128,6 +129,36 @@ fn identity_from(
     }
 }
 
+// The words that the files of a unit give to the keys.
+#[derive(Drop)]
+struct IdentityWords {
+    user: Text,
+    group: Text,
+    further: Words,
+}
+
+// The words of the keys, with their notes.
+#[tactic(auto, unfolding(crate::specs::Identities::identity_notes))]
+fn identity_words(alloc: Global, unit: &Resolved) -> Result<Said<IdentityWords>, AllocError>
+    ensures user { IfOk result (λ said. said.what.user ≡ user_word unit.now) }
+    ensures group { IfOk result (λ said. said.what.group ≡ group_word unit.now) }
+    ensures further { IfOk result (λ said. said.what.further ≡ further_words unit.now) }
+    ensures noted { IfOk result (λ said. said.notes.items ≡ identity_notes unit.now) }
+{
+    let Said {
+        what: user,
+        mut notes,
+    } = last_text_of_key(alloc, unit, "User")?;
+    let group = last_text_of_key(alloc, unit, "Group")?.noted_in(&mut notes)?;
+    let further = words_of_key(alloc, unit, "SupplementaryGroups")?.noted_in(&mut notes)?;
+    let what = IdentityWords {
+        user,
+        group,
+        further,
+    };
+    Ok(Said { what, notes })
+}
+
 /// The ids that the files of a unit give by User=, Group= and SupplementaryGroups= (systemd.exec(5)); `is_dynamic` is
 /// whether DynamicUser= is on.
 ///
@@ -139,28 +170,29 @@ fn identity_from(
 ///
 /// `NoSuchUser` comes where User= names nobody and DynamicUser= is off. Then `NoSuchGroup` comes for the first word
 /// that names no group, of Group= and then of SupplementaryGroups=. `Memory` may come at any unit. Values that cannot
-/// be expanded, and lines that cannot be split, are noted key by key behind the notes that are there.
-#[tactic(auto, unfolding(crate::specs::Identities::identity_of, crate::specs::Identities::identity_notes))]
+/// be expanded, and lines that cannot be split, are noted key by key.
+#[tactic(auto, unfolding(crate::specs::Identities::identity_of))]
 pub fn identity_of_unit(
     alloc: Global,
     unit: &Resolved,
     site: &SiteTable,
     is_dynamic: bool,
-    notes: &mut Vec<FileNote>,
-) -> Result<Identity, IdentityError>
-    ensures ids_of_the_keys { IfOk result (λ identity. identity_of unit.now site.now is_dynamic ≡ Ok identity) }
+) -> Result<Said<Identity>, IdentityError>
+    ensures ids_of_the_keys { IfOk result (λ said. identity_of unit.now site.now is_dynamic ≡ Ok said.what) }
     ensures first_refusal { IfErr result (λ error. error ≢ Memory → identity_of unit.now site.now is_dynamic ≡ Err error) }
-    ensures noted { OnOk result (notes.new.items ≡ notes.old.items ++ identity_notes unit.now) }
+    ensures noted { IfOk result (λ said. said.notes.items ≡ identity_notes unit.now) }
 {
-    let user = user_word(alloc, unit, notes)?;
-    let group = group_word(alloc, unit, notes)?;
-    let further = further_words(alloc, unit, notes)?;
-    identity_from(
+    let Said { what: words, notes } = identity_words(alloc, unit)?;
+    let identity = identity_from(
         alloc,
         site,
         is_dynamic,
-        user.as_str(),
-        group.as_str(),
-        further.list(),
-    )
+        words.user.as_str(),
+        words.group.as_str(),
+        words.further.list(),
+    )?;
+    Ok(Said {
+        what: identity,
+        notes,
+    })
 }

@@ -21,8 +21,5 @@ fn id_in_range(number: u64) -> Option<u32>
 pub fn read_id(word: &str) -> Option<u32>
     ensures { result ≡ id_number word.now }
 {
-    match read_decimal(word) {
-        Some(number) => id_in_range(number),
-        None => None,
-    }
+    id_in_range(read_decimal(word)?)
 }

@@ -1,7 +1,8 @@
 //! Laws of users, groups and capabilities, each the contract of a function that does nothing.
 ghost use Rattle.std.specs.Prelude.{◌≡◌, ◌≢◌, ℕ, ◌≤◌, ◌++◌, [], ◌∷◌, List, Bool, true, false, Ok, Err};
 ghost use Rattle.std.specs.List.{list_any};
-ghost use Rattle.unit_values.specs.declared.value.Value.{Value};
+ghost use Rattle.unit_values.specs.declared.listed.Listed.{Listed};
+ghost use Rattle.unit_values.specs.Listed.{is_reset};
 ghost use Rattle.cap_sets.specs.Sets.{has, none, all, union, minus};
 ghost use Rattle.dropin_merge.specs.declared.resolved.Resolved.{Resolved};
 ghost use Rattle.site_table.specs.Table.{Site, IsSite};
@@ -12,6 +13,7 @@ ghost use Rattle.cred_settings.specs.Ranges.{HasIds};
 ghost use Rattle.cred_settings.specs.CapNames.{named_caps};
 ghost use Rattle.cred_settings.specs.CapLists.{caps_by};
 ghost use Rattle.cred_settings.specs.Writings.{IsLine, is_name_of};
+ghost use Rattle.cred_settings.specs.LastLines.{is_taken_in};
 
 /// Each id of a unit of a site is one that the kernel takes.
 pub fn ids_in_range()
@@ -31,29 +33,35 @@ pub fn named_members()
         → has (named_caps words) number ≡ list_any (is_name_of number) words }
 {}
 
+/// A capability is in the set exactly where the last line that speaks of it takes it in.
+pub fn each_capability()
+    ensures last_line_decides { (default number : ℕ) (lines : List Listed) → number ≤ 40
+        → has (caps_by default lines) number ≡ is_taken_in default number lines }
+{}
+
 /// What common writings of CapabilityBoundingSet= and AmbientCapabilities= mean.
 pub fn common_writings()
     // `CAP_A CAP_B` is the set of its names, whatever the default.
-    ensures one_plain_line { (default : ℕ) (value : Value) (words : List (List ℕ)) → IsLine false words value
-        → caps_by default (value ∷ []) ≡ named_caps words }
+    ensures one_plain_line { (default : ℕ) (one : Listed) (words : List (List ℕ)) → IsLine false words one
+        → caps_by default (one ∷ []) ≡ named_caps words }
 
     // `~CAP_A` is all but its names, whatever the default.
-    ensures one_inverted_line { (default : ℕ) (value : Value) (word : List ℕ) (words : List (List ℕ)) → IsLine true (word ∷ words) value
-        → caps_by default (value ∷ []) ≡ minus all (named_caps (word ∷ words)) }
+    ensures one_inverted_line { (default : ℕ) (one : Listed) (word : List ℕ) (words : List (List ℕ)) → IsLine true (word ∷ words) one
+        → caps_by default (one ∷ []) ≡ minus all (named_caps (word ∷ words)) }
 
     // `~` alone is all, whatever stands before it.
-    ensures tilde_alone { (default : ℕ) (before : List Value) (value : Value) → IsLine true [] value
-        → caps_by default (before ++ value ∷ []) ≡ all }
+    ensures tilde_alone { (default : ℕ) (before : List Listed) (one : Listed) → IsLine true [] one
+        → caps_by default (before ++ one ∷ []) ≡ all }
 
     // Two plain lines are united, unless the first has just the default.
-    ensures two_plain_lines { (default : ℕ) (one other : Value) (words more : List (List ℕ)) → IsLine false words one → IsLine false more other
+    ensures two_plain_lines { (default : ℕ) (one other : Listed) (words more : List (List ℕ)) → IsLine false words one → IsLine false more other
         → named_caps words ≢ default → caps_by default (one ∷ other ∷ []) ≡ union (named_caps words) (named_caps more) }
 
     // Of a set that is empty by default two plain lines are always united.
-    ensures two_ambient_lines { (one other : Value) (words more : List (List ℕ)) → IsLine false words one → IsLine false more other
+    ensures two_ambient_lines { (one other : Listed) (words more : List (List ℕ)) → IsLine false words one → IsLine false more other
         → caps_by none (one ∷ other ∷ []) ≡ union (named_caps words) (named_caps more) }
 
     // A plain line behind an empty value is the set of its names, whatever stands before them.
-    ensures empty_value_first { (default : ℕ) (before : List Value) (empty value : Value) (words : List (List ℕ)) → empty.text ≡ [] → IsLine false words value
-        → caps_by default (before ++ (empty ∷ value ∷ [])) ≡ named_caps words }
+    ensures empty_value_first { (default : ℕ) (before : List Listed) (empty one : Listed) (words : List (List ℕ)) → is_reset empty ≡ true → IsLine false words one
+        → caps_by default (before ++ (empty ∷ one ∷ [])) ≡ named_caps words }
 {}

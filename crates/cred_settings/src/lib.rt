@@ -4,7 +4,7 @@
 //! systemd.exec(5) has the keys. It stands on `unit_values` for the values, on `site_table` for users and groups, and
 //! on `cap_sets` for the capabilities.
 //!
-//! `identity_of_unit(alloc, &unit, &site, false, &mut notes)?` has the ids that a service runs with.
+//! `identity_of_unit(alloc, &unit, &site, false)?.what` has the ids that a service runs with.
 #![tactic(auto)]
 
 mod accounts;
@@ -13,15 +13,12 @@ mod bounding;
 mod cap_lists;
 mod cap_names;
 mod error;
-mod further_groups;
 mod groups;
 mod identities;
 mod ids;
-mod last_text;
 pub mod laws;
 mod new_privileges;
 mod users;
-mod word_lists;
 
 pub use accounts::{Gids, Identity};
 pub use ambient::ambient_set;
@@ -29,6 +26,3 @@ pub use bounding::bounding_set;
 pub use error::IdentityError;
 pub use identities::identity_of_unit;
 pub use new_privileges::{is_no_new_privileges_set, no_new_privs};
-
-#[cfg(test)]
-mod tests;

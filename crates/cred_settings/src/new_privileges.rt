@@ -1,14 +1,12 @@
 //! NoNewPrivileges= (systemd.exec(5)).
-ghost use Rattle.std.specs.Prelude.{◌≡◌, ◌++◌, IfOk, OnOk};
+ghost use Rattle.std.specs.Prelude.{◌≡◌, IfOk};
 ghost use Rattle.cred_settings.specs.NewPrivileges.{is_in_effect, is_set_by, new_privileges_notes};
 
 use cap_sets::CapSet;
 use dropin_merge::Resolved;
+use linux_numbers::capabilities::CAP_SYS_ADMIN;
 use std::alloc::{AllocError, Global};
-use unit_values::{FileNote, flag_of_key};
-
-/// To install a filter without NoNewPrivileges=, capabilities(7).
-const CAP_SYS_ADMIN: u8 = 21;
+use unit_values::{Said, flag_of_key};
 
 /// Whether NoNewPrivileges= is in effect: where it is set, and where a filter is on for a service whose uid is not 0
 /// and whose ambient set lacks CAP_SYS_ADMIN.
@@ -19,15 +17,10 @@ pub fn no_new_privs(is_set: bool, has_filter: bool, uid: u32, ambient: CapSet) -
 }
 
 /// Whether NoNewPrivileges= is set: the last value that can be read decides, and an empty one or none is false. Values
-/// that cannot be expanded, and then those that cannot be read, are noted behind the notes that are there.
-#[tactic(auto, unfolding(crate::specs::NewPrivileges::is_set_by, crate::specs::NewPrivileges::new_privileges_notes))]
-pub fn is_no_new_privileges_set(
-    alloc: Global,
-    unit: &Resolved,
-    notes: &mut Vec<FileNote>,
-) -> Result<bool, AllocError>
-    ensures last_value_decides { IfOk result (λ is_set. is_set ≡ is_set_by unit.now) }
-    ensures noted { OnOk result (notes.new.items ≡ notes.old.items ++ new_privileges_notes unit.now) }
+/// that cannot be expanded, and then those that cannot be read, are noted.
+pub fn is_no_new_privileges_set(alloc: Global, unit: &Resolved) -> Result<Said<bool>, AllocError>
+    ensures last_value_decides { IfOk result (λ said. said.what ≡ is_set_by unit.now) }
+    ensures noted { IfOk result (λ said. said.notes.items ≡ new_privileges_notes unit.now) }
 {
-    flag_of_key(alloc, unit, "NoNewPrivileges", notes)
+    flag_of_key(alloc, unit, "NoNewPrivileges")
 }

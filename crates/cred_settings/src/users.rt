@@ -1,15 +1,11 @@
 //! User=: whom a service runs as (systemd.exec(5)).
-ghost use Rattle.std.specs.Prelude.{◌≡◌, ◌++◌, IfOk, OnOk, Some};
-ghost use Rattle.cred_settings.specs.Users.{superuser, identity_of_user, identity_of_id, numbered, user_meant, account_of, user_word, user_notes};
+ghost use Rattle.std.specs.Prelude.{◌≡◌, IfOk, Some};
+ghost use Rattle.cred_settings.specs.Users.{superuser, identity_of_user, identity_of_id, numbered, user_meant, account_of};
 
 use crate::accounts::{Account, Gids, Identity};
 use crate::ids::read_id;
-use crate::last_text::last_text_of;
-use dropin_merge::Resolved;
 use site_table::{SiteTable, User};
 use std::alloc::{AllocError, Global};
-use unit_grammar::Text;
-use unit_values::{FileNote, values_of_key};
 
 fn superuser(alloc: Global) -> Identity
     ensures { result ≡ superuser }
@@ -83,18 +79,4 @@ pub fn account(
         None if is_dynamic => Ok(Some(Account::Dynamic)),
         None => Ok(None),
     }
-}
-
-/// The word that the files of a unit give to User=; the last value decides. Values that cannot be expanded are noted
-/// behind the notes that are there.
-#[tactic(auto, unfolding(crate::specs::Users::user_word, crate::specs::Users::user_notes))]
-pub fn user_word(
-    alloc: Global,
-    unit: &Resolved,
-    notes: &mut Vec<FileNote>,
-) -> Result<Text, AllocError>
-    ensures last_value_decides { IfOk result (λ word. word ≡ user_word unit.now) }
-    ensures noted { OnOk result (notes.new.items ≡ notes.old.items ++ user_notes unit.now) }
-{
-    last_text_of(alloc, values_of_key(alloc, unit, "User", notes)?)
 }

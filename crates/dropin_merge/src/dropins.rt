@@ -2,11 +2,13 @@
 ghost use Rattle.std.specs.Prelude.{◌≡◌, ◌∷◌, [], IfOk, IfSome, length, map};
 ghost use Rattle.std.specs.List.{Contains};
 ghost use Rattle.std.specs.String.{string_bytes};
+ghost use Rattle.host_io.specs.Causes.{StaysUnless};
 ghost use Rattle.host_io.specs.Files.{bytes_at};
 ghost use Rattle.dropin_merge.specs.Answers.{HasCause, IsDropinPath, IsUnlessFailed};
 ghost use Rattle.dropin_merge.specs.Places.{dropin_places};
 ghost use Rattle.dropin_merge.specs.Resolving.{dropins_read, files_of, joined_by};
 ghost use Rattle.dropin_merge.specs.Steps.{dropin_at, IsLedBy, RefusesAt};
+ghost use Rattle.dropin_merge.specs.declared.errors.ResolveError.TheVariants.{ReadFault};
 
 use crate::errors::ResolveError;
 use crate::files::{judge_file, read_file};
@@ -31,6 +33,7 @@ fn dropin_at<S: Shelf>(
     ensures reads_the_dropin { IfSome (S.told shelf.old) (λ files. IsUnlessFailed result (dropin_at path.now (bytes_at files path.now))) }
     ensures map_stays { S.told shelf.new ≡ S.told shelf.old }
     ensures fault_rose { HasCause (S.faults shelf.old) (S.faults shelf.new) result }
+    ensures no_other_fault { StaysUnless ReadFault (S.faults shelf.old) (S.faults shelf.new) result }
 {
     match read_file(alloc, shelf, path)? {
         Some(bytes) if !bytes.is_empty() => Ok(Some(judge_file(alloc, path, bytes.as_slice())?)),
@@ -50,6 +53,7 @@ fn read_dropins<S: Shelf>(
     ensures reads_in_order { IfSome (S.told shelf.old) (λ files. IsUnlessFailed result (joined_by (fragment ∷ []) (dropins_read files (map string_bytes paths.now)))) }
     ensures map_stays { S.told shelf.new ≡ S.told shelf.old }
     ensures fault_rose { HasCause (S.faults shelf.old) (S.faults shelf.new) result }
+    ensures no_other_fault { StaysUnless ReadFault (S.faults shelf.old) (S.faults shelf.new) result }
 {
     let mut files = Vec::new(alloc);
     files.push(fragment)?;
@@ -73,6 +77,7 @@ pub fn read_files<S: Shelf>(
     ensures reads_the_files { IfSome (S.told shelf.old) (λ files. IsUnlessFailed result (files_of files unit.now fragment)) }
     ensures map_stays { S.told shelf.new ≡ S.told shelf.old }
     ensures fault_rose { HasCause (S.faults shelf.old) (S.faults shelf.new) result }
+    ensures no_other_fault { StaysUnless ReadFault (S.faults shelf.old) (S.faults shelf.new) result }
 {
     let places = dropin_places(alloc, unit)?;
     let winners = collect_winners(alloc, shelf, places.as_slice())?;

@@ -1,5 +1,6 @@
 // A file of a unit, read from the shelf and judged.
 ghost use Rattle.std.specs.Prelude.{◌≡◌, IfOk, IfSome, IsErrOf};
+ghost use Rattle.host_io.specs.Causes.{StaysUnless};
 ghost use Rattle.host_io.specs.Files.{bytes_at};
 ghost use Rattle.unit_grammar.specs.Reading.{unit_of};
 ghost use Rattle.dropin_merge.specs.Answers.{HasCause, IsUnlessFailed};
@@ -26,6 +27,7 @@ pub fn read_file<S: Shelf>(
     ensures finds_the_file { IfSome (S.told shelf.old) (λ files. FindsBytes path.now (bytes_at files path.now) result) }
     ensures map_stays { S.told shelf.new ≡ S.told shelf.old }
     ensures fault_rose { HasCause (S.faults shelf.old) (S.faults shelf.new) result }
+    ensures no_other_fault { StaysUnless ReadFault (S.faults shelf.old) (S.faults shelf.new) result }
 {
     match shelf.read(alloc, path, MOST_BYTES) {
         Ok(bytes) => Ok(Some(bytes)),

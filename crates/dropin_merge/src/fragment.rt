@@ -2,10 +2,12 @@
 ghost use Rattle.std.specs.Prelude.{◌≡◌, IfOk, IfSome, map};
 ghost use Rattle.std.specs.List.{Contains};
 ghost use Rattle.std.specs.String.{string_bytes};
+ghost use Rattle.host_io.specs.Causes.{StaysUnless};
 ghost use Rattle.host_io.specs.Files.{bytes_at};
 ghost use Rattle.dropin_merge.specs.Answers.{HasCause, IsUnlessFailed};
 ghost use Rattle.dropin_merge.specs.Resolving.{fragment_of, fragment_read};
 ghost use Rattle.dropin_merge.specs.Steps.{fragment_at, RefusesAt};
+ghost use Rattle.dropin_merge.specs.declared.errors.ResolveError.TheVariants.{ReadFault};
 
 use crate::errors::ResolveError;
 use crate::files::{judge_file, read_file};
@@ -24,6 +26,7 @@ fn fragment_at<S: Shelf>(
     ensures reads_the_fragment { IfSome (S.told shelf.old) (λ files. IsUnlessFailed result (fragment_at path.now (bytes_at files path.now))) }
     ensures map_stays { S.told shelf.new ≡ S.told shelf.old }
     ensures fault_rose { HasCause (S.faults shelf.old) (S.faults shelf.new) result }
+    ensures no_other_fault { StaysUnless ReadFault (S.faults shelf.old) (S.faults shelf.new) result }
 {
     let Some(bytes) = read_file(alloc, shelf, path)? else {
         return Ok(None);
@@ -45,6 +48,7 @@ pub fn read_fragment<S: Shelf>(
     ensures reads_the_first { IfSome (S.told shelf.old) (λ files. IsUnlessFailed result (fragment_read files (fragment_of files (map string_bytes paths.now)))) }
     ensures map_stays { S.told shelf.new ≡ S.told shelf.old }
     ensures fault_rose { HasCause (S.faults shelf.old) (S.faults shelf.new) result }
+    ensures no_other_fault { StaysUnless ReadFault (S.faults shelf.old) (S.faults shelf.new) result }
 {
     for path in paths {
         if let Some(fragment) = fragment_at(alloc, shelf, path.as_str())? {

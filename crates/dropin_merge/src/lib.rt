@@ -6,7 +6,6 @@
 //! `resolve(alloc, &mut shelf, "web.service")?` has the files in force, in the order of use.
 #![tactic(auto)]
 
-mod copying;
 mod dropins;
 mod errors;
 mod files;
@@ -20,6 +19,3 @@ mod winners;
 pub use errors::ResolveError;
 pub use resolved::{Resolved, UnitFile, UnitFiles};
 pub use resolving::resolve;
-
-#[cfg(test)]
-mod tests;

@@ -1,16 +1,15 @@
 // A unit that has been resolved: its name and its files in force.
 //
-// Contracts see the files as a list; copies of what they say come from `copying`.
+// Contracts see the files as a list.
 ghost use Rattle.std.specs.Prelude.{◌≡◌, ◌++◌, ◌∷◌, [], IfOk};
 
-use crate::copying::copied_text;
 use std::alloc::{AllocError, Global};
 use std::marker::Model;
 use unit_grammar::{Text, UnitText};
 use unit_names::UnitName;
 
 /// A file in force.
-#[derive(Debug, Drop)]
+#[derive(Drop)]
 pub struct UnitFile {
     /// Where it lies; empty for a file that was put behind those of a unit.
     pub path: Text,
@@ -18,8 +17,20 @@ pub struct UnitFile {
     pub text: UnitText,
 }
 
+impl UnitFile {
+    // The same file once more.
+    fn copy(&self, alloc: Global) -> Result<UnitFile, AllocError>
+        ensures { IfOk result (λ copy. copy ≡ self.now) }
+    {
+        Ok(UnitFile {
+            path: Text::new(alloc, self.path.as_str())?,
+            text: self.text.copy(alloc)?,
+        })
+    }
+}
+
 /// Files in force, which contracts see as a list.
-#[derive(Debug, Drop)]
+#[derive(Drop)]
 pub struct UnitFiles {
     items: Vec<UnitFile>,
 }
@@ -47,34 +58,24 @@ impl UnitFiles {
     {
         &self.items
     }
+
+    // The same files once more.
+    fn copies(&self, alloc: Global) -> Result<Vec<UnitFile>, AllocError>
+        ensures { IfOk result (λ copies. copies.items ≡ self.now) }
+    {
+        let mut copies = Vec::new(alloc);
+        for file in &self.items {
+            copies.push(file.copy(alloc)?)?;
+        }
+        Ok(copies)
+    }
 }
 
 /// A unit with its files in force, in the order of use: the fragment, and then the drop-ins.
-#[derive(Debug, Drop)]
+#[derive(Drop)]
 pub struct Resolved {
     pub name: UnitName,
     pub files: UnitFiles,
-}
-
-// The same file once more.
-fn copied_file(alloc: Global, file: &UnitFile) -> Result<UnitFile, AllocError>
-    ensures { IfOk result (λ copy. copy ≡ file.now) }
-{
-    Ok(UnitFile {
-        path: Text::new(alloc, file.path.as_str())?,
-        text: copied_text(alloc, &file.text)?,
-    })
-}
-
-// The same files once more.
-fn copied_files(alloc: Global, files: &[UnitFile]) -> Result<Vec<UnitFile>, AllocError>
-    ensures { IfOk result (λ copies. copies.items ≡ files.now) }
-{
-    let mut copies = Vec::new(alloc);
-    for file in files {
-        copies.push(copied_file(alloc, file)?)?;
-    }
-    Ok(copies)
 }
 
 impl Resolved {
@@ -83,7 +84,7 @@ impl Resolved {
         ensures same_unit { IfOk result (λ longer. longer.name ≡ self.now.name) }
         ensures one_more_file { IfOk result (λ longer. longer.files ≡ self.now.files ++ record { path = []; text = more } ∷ []) }
     {
-        let mut files = copied_files(alloc, self.files.list())?;
+        let mut files = self.files.copies(alloc)?;
         files.push(UnitFile {
             path: Text::new(alloc, "")?,
             text: more,

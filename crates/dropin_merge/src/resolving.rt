@@ -1,5 +1,6 @@
 // A unit, resolved over a shelf.
 ghost use Rattle.std.specs.Prelude.{◌≡◌, ◌↔◌, List, ℕ, Some, IfOk, IfSome};
+ghost use Rattle.host_io.specs.Causes.{StaysUnless};
 ghost use Rattle.host_io.specs.Files.{Files};
 ghost use Rattle.unit_names.specs.Names.{Name};
 ghost use Rattle.dropin_merge.specs.Answers.{AreUnitFiles, HasCause, IsUnitPath, IsUnlessFailed, LiesInPlaces, NamesUnit};
@@ -7,6 +8,7 @@ ghost use Rattle.dropin_merge.specs.Ranks.{AreWinners};
 ghost use Rattle.dropin_merge.specs.Resolving.{for_unit, resolved_of};
 ghost use Rattle.dropin_merge.specs.Steps.{RefusesAt};
 ghost use Rattle.dropin_merge.specs.Winners.{winners_of};
+ghost use Rattle.dropin_merge.specs.declared.errors.ResolveError.TheVariants.{ReadFault};
 
 use crate::dropins::read_files;
 use crate::errors::ResolveError;
@@ -29,6 +31,7 @@ fn resolve_unit<S: Shelf>(
     ensures resolves_by_the_files { IfSome (S.told shelf.old) (λ files. IsUnlessFailed result (for_unit files (Some unit))) }
     ensures map_stays { S.told shelf.new ≡ S.told shelf.old }
     ensures fault_rose { HasCause (S.faults shelf.old) (S.faults shelf.new) result }
+    ensures no_other_fault { StaysUnless ReadFault (S.faults shelf.old) (S.faults shelf.new) result }
 {
     let paths = fragment_paths(alloc, &unit)?;
     let fragment = read_fragment(alloc, shelf, paths.as_slice())?;
@@ -47,6 +50,7 @@ fn resolve_text<S: Shelf>(
     ensures lies_in_its_places { LiesInPlaces text.now result }
     ensures map_stays { S.told shelf.new ≡ S.told shelf.old }
     ensures fault_rose { HasCause (S.faults shelf.old) (S.faults shelf.new) result }
+    ensures no_other_fault { StaysUnless ReadFault (S.faults shelf.old) (S.faults shelf.new) result }
 {
     match UnitName::read(alloc, text) {
         Ok(unit) => resolve_unit(alloc, shelf, unit),
@@ -66,7 +70,7 @@ fn resolve_text<S: Shelf>(
 /// The first of these refuses: `BadName`; `NotFound`; the fragment is `TooLarge` (above 1 MiB); it has zero
 /// bytes (`Masked`); `Text` of the fragment; `DropIns`, where a folder in one location has more than 4,096 files,
 /// or more than 256 drop-ins win; then `TooLarge` and `Text` of each drop-in in order. A file is judged before
-/// the next is read. `ReadFault` comes only where the shelf's count of faults rose. A drop-in that a shelf lists
+/// the next is read. `ReadFault` comes where the shelf's count of faults rose, and any other answer leaves it. A drop-in that a shelf lists
 /// and then answers `Missing` contributes nothing.
 pub fn resolve<S: Shelf>(alloc: Global, shelf: &mut S, name: &str) -> Result<Resolved, ResolveError>
     ensures resolves_by_the_files { IfSome (S.told shelf.old) (λ files. IsUnlessFailed result (resolved_of files name.now)) }
@@ -74,6 +78,7 @@ pub fn resolve<S: Shelf>(alloc: Global, shelf: &mut S, name: &str) -> Result<Res
     ensures lies_in_its_places { LiesInPlaces name.now result }
     ensures map_stays { S.told shelf.new ≡ S.told shelf.old }
     ensures fault_rose { HasCause (S.faults shelf.old) (S.faults shelf.new) result }
+    ensures no_other_fault { StaysUnless ReadFault (S.faults shelf.old) (S.faults shelf.new) result }
     // What winning means: of all drop-ins with a file name that the map has, the one of least rank.
     ensures winning_is_by_rank { (files : Files) (unit : Name) (winners : List (List ℕ × List ℕ)) → (winners_of files unit ≡ winners) ↔ AreWinners files unit winners }
 {

@@ -6,9 +6,11 @@ ghost use Rattle.std.specs.List.{Contains};
 ghost use Rattle.std.specs.Map.{values_of};
 ghost use Rattle.std.specs.String.{string_bytes};
 ghost use Rattle.std.specs.Option.{option_or};
+ghost use Rattle.host_io.specs.Causes.{StaysUnless};
 ghost use Rattle.dropin_merge.specs.Answers.{HasCause};
 ghost use Rattle.dropin_merge.specs.Winners.{ends_in_conf};
 ghost use Rattle.dropin_merge.specs.Steps.{winner_at, at_name, at_place, CollectsWinners, KeepsTo, RefusesAt};
+ghost use Rattle.dropin_merge.specs.declared.errors.ResolveError.TheVariants.{ReadFault};
 
 use crate::errors::ResolveError;
 use crate::listing::list_place;
@@ -71,6 +73,7 @@ pub fn collect_winners<S: Shelf>(
     ensures collects_the_winners { IfSome (S.told shelf.old) (λ files. CollectsWinners files (map string_bytes places.now) result) }
     ensures map_stays { S.told shelf.new ≡ S.told shelf.old }
     ensures fault_rose { HasCause (S.faults shelf.old) (S.faults shelf.new) result }
+    ensures no_other_fault { StaysUnless ReadFault (S.faults shelf.old) (S.faults shelf.new) result }
 {
     let mut winners = BTreeMap::new(alloc);
     for place in places {

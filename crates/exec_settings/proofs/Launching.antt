@@ -6,7 +6,6 @@ use Rattle.exec_settings.specs.declared.commands.Command.{Command}
 use Rattle.exec_settings.specs.declared.errors.SettingsError.{SettingsError}
 use Rattle.exec_settings.specs.declared.errors.SettingsError.TheVariants.{NoCommand, PrivilegedCommand, OutsideProfile}
 use Rattle.exec_settings.specs.Commands.{unit_command}
-use Rattle.exec_settings.specs.OutsideKeys.{name_of}
 use Rattle.exec_settings.specs.Profile.{outside_key}
 use Rattle.exec_settings.specs.Refusals.{command_refusal, first_reason, no_command, outside, privileged}
 
@@ -32,8 +31,8 @@ module _ (unit : Resolved) where
   alone None = refl
   alone (Some reason) = refl
 
-  pub outside_is_last : (command : Command) → unit_command unit ≡ Some command → command.is_privileged ≡ false → command_refusal unit ≡ option_map (λ key. OutsideProfile (name_of key)) (outside_key unit command)
+  pub outside_is_last : (command : Command) → unit_command unit ≡ Some command → command.is_privileged ≡ false → command_refusal unit ≡ option_map OutsideProfile (outside_key unit command)
   outside_is_last command is keeps =
       behind_command command is
       ∙ ap (λ b. first_reason (cond b (Some PrivilegedCommand) None ∷ outside unit (Some command) ∷ [])) keeps
-      ∙ alone (option_map (λ key. OutsideProfile (name_of key)) (outside_key unit command))
+      ∙ alone (option_map OutsideProfile (outside_key unit command))

@@ -1,4 +1,6 @@
-pub mod Keys
+pub mod FilterSame
+pub mod Alone
+pub mod Others
 pub mod Lasts
 pub mod Launching
 pub mod Noted
@@ -7,4 +9,5 @@ pub mod Outside
 pub mod Prefixed
 pub mod Reasons
 pub mod Seen
+pub mod Tabled
 pub mod Whole

@@ -1,30 +1,21 @@
 -- The mentions of a unit by what its keys come to.
-use Rattle.std.proofs.Common.{◌≡◌, ◌<◌, ◌≤◌, ℕ, Bool, cond, Some, None, Ok, Err, List, length, refl, sym, ap, ◌∙◌, arith}
+use Rattle.std.proofs.Common.{◌≡◌, ◌<◌, ◌≤◌, ℕ, Bool, cond, Some, None, Ok, Err, List, length, sym, ap, ◌∙◌, arith}
 use Rattle.std.specs.Prelude.{nat_lt}
 use Rattle.std.proofs.lemmas.Bool.{le-ltb, lt-ltb}
 use Rattle.call_table.specs.Table.{Table}
 use Rattle.dropin_merge.specs.declared.resolved.Resolved.{Resolved}
 use Rattle.filter_rules.specs.declared.settings.FilterSettings.{FilterSettings}
-use Rattle.path_settings.specs.declared.mentions.Mention.{Mention}
-use Rattle.site_table.specs.Table.{Site}
+use Rattle.mount_settings.specs.declared.protections.Switches.{Switches}
 use Rattle.mount_settings.specs.declared.written.WrittenPath.{WrittenPath}
-use Rattle.mount_settings.specs.Settings.{mentions_of, protections_of}
 use Rattle.mount_settings.specs.Written.{unit_written}
 use Rattle.exec_settings.specs.Dynamic.{is_dynamic, unit_filters}
 use Rattle.exec_settings.specs.declared.errors.SettingsError.TheVariants.{TooManyPaths}
-use Rattle.exec_settings.specs.Mounts.{paths_refusal, switches_of, unit_mentions, unit_switches}
+use Rattle.exec_settings.specs.Mounts.{paths_refusal, switches_of, unit_switches}
 
--- the filters' switches are those of the keys
-same_switches : (unit : Resolved) (table : Table) → switches_of (is_dynamic unit) (unit_filters unit table) ≡ unit_switches unit
+-- the switches of the filters are those of the keys
+pub switches_are : (unit : Resolved) (table : Table) (dynamic : Bool) (found : FilterSettings) (switches : Switches) → dynamic ≡ is_dynamic unit → found ≡ unit_filters unit table → switches ≡ switches_of dynamic found → switches ≡ unit_switches unit
 unfolding unit_filters unit_switches
-same_switches unit table = refl
-
-pub mentions_are : (unit : Resolved) (table : Table) (site : Site) (dynamic : Bool) (filters : FilterSettings) (mentions : List Mention) → dynamic ≡ is_dynamic unit → filters ≡ unit_filters unit table → mentions ≡ mentions_of site (switches_of dynamic filters) (protections_of unit (switches_of dynamic filters)) (unit_written unit) → mentions ≡ unit_mentions unit site
-unfolding unit_mentions
-mentions_are unit table site dynamic filters mentions by_key by_keys are =
-    are
-    ∙ ap (λ switches. mentions_of site switches (protections_of unit switches) (unit_written unit))
-    (ap (λ on. switches_of on filters) by_key ∙ ap (switches_of (is_dynamic unit)) by_keys ∙ same_switches unit table)
+switches_are unit table dynamic found switches by_key is are = are ∙ ap (λ on. switches_of on found) by_key ∙ ap (switches_of (is_dynamic unit)) is
 
 pub no_error : {A E : Type 0} (value : A) (error : E) → Ok value ≡ Err error → ⊥
 no_error value error is = cc

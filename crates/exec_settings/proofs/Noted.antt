@@ -1,5 +1,5 @@
 -- The notes of a unit, key by key and then in order.
-use Rattle.std.proofs.Common.{◌≡◌, List, [], ◌++◌, ap, ◌∙◌, append-nil, append_assoc, subst}
+use Rattle.std.proofs.Common.{◌≡◌, List, ◌++◌, subst}
 use Rattle.std.specs.Prelude.{IsPermutation}
 use Rattle.std.specs.List.Sorted.{IsSortedByKey, IsStableByKey}
 use Rattle.call_table.specs.Table.{Table}
@@ -8,23 +8,16 @@ use Rattle.filter_settings.specs.Settings.{filter_notes}
 use Rattle.mount_settings.specs.Notes.{written_notes}
 use Rattle.mount_settings.specs.Protections.{protection_notes}
 use Rattle.unit_values.specs.declared.value.FileNote.{FileNote}
-use Rattle.unit_values.proofs.OneMore.{five_parts}
 use Rattle.exec_settings.specs.Commands.{unit_command_notes}
-use Rattle.exec_settings.specs.Judged.{unjudged_notes}
-use Rattle.exec_settings.specs.Notes.{all_notes, credential_notes, grammar_notes}
+use Rattle.exec_settings.specs.Notes.{all_notes, credential_notes, text_notes}
 use Rattle.exec_settings.specs.Order.{AreInOrder, place_cmp, place_of}
 
--- those behind the notes on paths
-abbrev behind : Resolved → Table → List FileNote
-behind unit table = unit_command_notes unit ++ (credential_notes unit ++ (filter_notes unit table ++ (protection_notes unit ++ unjudged_notes unit)))
+six : {X : Type 0} (t w c i f p : List X) {k m n o q r : List X} → k ≡ t → m ≡ k ++ w → n ≡ m ++ c → o ≡ n ++ i → q ≡ o ++ f → r ≡ q ++ p → r ≡ ((((t ++ w) ++ c) ++ i) ++ f) ++ p
+six t w c i f p first second third fourth fifth sixth = cc
 
-pub key_by_key : (unit : Resolved) (table : Table) (first a b c d e f g : List FileNote) → first ≡ [] → a ≡ first ++ grammar_notes unit → b ≡ a ++ written_notes unit → c ≡ b ++ unit_command_notes unit → d ≡ c ++ credential_notes unit → e ≡ d ++ filter_notes unit table → f ≡ e ++ protection_notes unit → g ≡ f ++ unjudged_notes unit → g ≡ all_notes unit table
+pub key_by_key : (unit : Resolved) (table : Table) (k m n o q r : List FileNote) → k ≡ text_notes unit → m ≡ k ++ written_notes unit → n ≡ m ++ unit_command_notes unit → o ≡ n ++ credential_notes unit → q ≡ o ++ filter_notes unit table → r ≡ q ++ protection_notes unit → r ≡ all_notes unit table
 unfolding all_notes
-key_by_key unit table first a b c d e f g empty to_a to_b to_c to_d to_e to_f to_g =
-    five_parts b (unit_command_notes unit) (credential_notes unit) (filter_notes unit table) (protection_notes unit) (unjudged_notes unit) c d e f g to_c to_d to_e to_f to_g
-    ∙ ap (λ notes. b ++ (unit_command_notes unit ++ (credential_notes unit ++ (filter_notes unit table ++ (protection_notes unit ++ notes))))) (append-nil (unjudged_notes unit))
-    ∙ ap (λ notes. notes ++ behind unit table) (to_b ∙ ap (λ notes. notes ++ written_notes unit) (to_a ∙ ap (λ notes. notes ++ grammar_notes unit) empty))
-    ∙ append_assoc (grammar_notes unit) (written_notes unit) (behind unit table)
+key_by_key unit table k m n o q r = six (text_notes unit) (written_notes unit) (unit_command_notes unit) (credential_notes unit) (filter_notes unit table) (protection_notes unit)
 
 pub in_order : (wanted old new : List FileNote) → old ≡ wanted → IsPermutation old new → IsSortedByKey place_of place_cmp new → IsStableByKey place_of place_cmp old new → AreInOrder wanted new
 in_order wanted old new is same by_place stable = record {

@@ -1,4 +1,5 @@
 -- What holds where no key is outside of what is judged.
+use Rattle.std.specs.Option.{option_map}
 use Rattle.std.proofs.Common.{◌≡◌, ℕ, zero, suc, Bool, true, false, cond, Option, Some, None, List, [], ◌∷◌, refl, sym, ap, ◌∙◌, subst}
 use Rattle.std.specs.Prelude.{find, slice_get}
 use Rattle.dropin_merge.specs.declared.resolved.Resolved.{Resolved}
@@ -7,9 +8,8 @@ use Rattle.mount_settings.specs.Roots.{mentions_root, root_key}
 use Rattle.mount_settings.specs.Written.{unit_written}
 use Rattle.exec_settings.specs.declared.commands.Command.{Command}
 use Rattle.exec_settings.specs.declared.commands.Program.TheVariants.{Relative}
-use Rattle.exec_settings.specs.declared.outside_keys.OutsideKey.{OutsideKey}
-use Rattle.exec_settings.specs.declared.outside_keys.OutsideKey.TheVariants.{BindPaths, BindReadOnlyPaths, ExecStart, InaccessiblePaths, TemporaryFileSystem}
-use Rattle.exec_settings.specs.declared.outside_keys.TheConstants.{ALL_OUTSIDE_KEYS}
+use Rattle.exec_settings.specs.Keys.{keys}
+use Rattle.exec_settings.specs.declared.keys.Meaning.{Meaning}
 use Rattle.exec_settings.specs.Profile.{is_outside, is_relative, outside_key}
 
 passed : {X : Type 0} (b : Bool) (x : X) (found : Option X) → cond b (Some x) found ≡ None → (b ≡ false) × (found ≡ None)
@@ -29,17 +29,23 @@ none_of_four p a b c d not_a not_b not_c not_d =
     ∙ ap (λ v. cond v (Some c) (find p (d ∷ []))) not_c
     ∙ ap (λ v. cond v (Some d) None) not_d
 
+none_mapped : {X Y : Type 0} (f : X → Y) (o : Option X) → option_map f o ≡ None → o ≡ None
+none_mapped f None e = refl
+none_mapped f (Some x) e = cc
+
 module _ (unit : Resolved) (command : Command) (none : outside_key unit command ≡ None) where
-  unused : (i : ℕ) (key : OutsideKey) → slice_get ALL_OUTSIDE_KEYS i ≡ Some key → is_outside unit command key ≡ false
+  unused : (i : ℕ) (row : List ℕ × Meaning) → slice_get keys i ≡ Some row → is_outside unit command row ≡ false
   unfolding outside_key
-  unused i key is = none_passes (is_outside unit command) ALL_OUTSIDE_KEYS i key is none
+  unused i row is = none_passes (is_outside unit command) keys i row is (none_mapped (λ row. row.0) (find (is_outside unit command) keys) none)
 
   -- the program is an absolute path
   pub not_relative : command.program ≡ Relative → ⊥
-  not_relative is = let no : true ≡ false = sym (ap is_relative is) ∙ unused 2 ExecStart refl in cc
+  unfolding keys
+  not_relative is = let no : true ≡ false = sym (ap is_relative is) ∙ unused 7 _ refl in cc
 
   -- and nothing stands in the place of the root
   pub no_root_key : root_key (unit_written unit) ≡ None
+  unfolding keys
   no_root_key =
       none_of_four (mentions_root (unit_written unit)) path.BindPaths path.BindReadOnlyPaths path.InaccessiblePaths path.TemporaryFileSystem
-      (unused 0 BindPaths refl) (unused 1 BindReadOnlyPaths refl) (unused 5 InaccessiblePaths refl) (unused 11 TemporaryFileSystem refl)
+      (unused 1 _ refl) (unused 2 _ refl) (unused 11 _ refl) (unused 43 _ refl)

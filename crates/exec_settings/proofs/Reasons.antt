@@ -1,26 +1,29 @@
 -- Which reason is the first.
-use Rattle.std.proofs.Common.{◌≡◌, ℕ, Option, Some, None, List, [], ◌∷◌, refl, ap, ◌∙◌}
-use Rattle.std.specs.Option.{option_map}
+use Rattle.std.specs.Prelude.{Result, IsErrAnd}
+use Rattle.std.proofs.lemmas.Result.{err_from_is_err_and}
+use Rattle.std.proofs.Common.{◌≡◌, Option, Some, None, [], ◌∷◌, refl, ap, ◌∙◌}
 use Rattle.call_table.specs.Table.{Table}
 use Rattle.dropin_merge.specs.declared.resolved.Resolved.{Resolved}
 use Rattle.site_table.specs.Table.{Site}
 use Rattle.exec_settings.specs.declared.errors.SettingsError.{SettingsError}
 use Rattle.exec_settings.specs.declared.errors.SettingsError.TheVariants.{NoCommand, PrivilegedCommand, OutsideProfile, NoSuchUser, NoSuchGroup, MissingGroup, TooManyPaths, Memory}
-use Rattle.exec_settings.specs.Dynamic.{unit_filters}
-use Rattle.exec_settings.specs.Groups.{missing_group}
 use Rattle.exec_settings.specs.Mounts.{paths_refusal}
-use Rattle.exec_settings.specs.Refusals.{IsReason, command_refusal, first_reason, identity_refusal, refusal_of}
+use Rattle.exec_settings.specs.Refusals.{IsReason, RefusesFirst, command_refusal, first_reason, group_refusal, identity_refusal, refusal_of}
 
-abbrev four : Option SettingsError → Option SettingsError → Option (List ℕ) → Option SettingsError → Option SettingsError
-four command identity name paths = first_reason (command ∷ identity ∷ option_map MissingGroup name ∷ paths ∷ [])
+abbrev four : Option SettingsError → Option SettingsError → Option SettingsError → Option SettingsError → Option SettingsError
+four command identity group paths = first_reason (command ∷ identity ∷ group ∷ paths ∷ [])
 
 alone : (reason : Option SettingsError) → first_reason (reason ∷ []) ≡ reason
 alone None = refl
 alone (Some reason) = refl
 
+-- an error that is handed on
+pub handed_on : {X : Type 0} (reason : Option SettingsError) (error : SettingsError) (r : Result X SettingsError) → IsErrAnd r (λ told. told ≡ error) → IsReason reason error → RefusesFirst reason r
+handed_on reason error r told is = let p = err_from_is_err_and r told in rw (p.1, p.2) is
+
 module _ (unit : Resolved) (table : Table) (site : Site) where
-  abbrev missing : Option (List ℕ)
-  missing = missing_group table (unit_filters unit table)
+  abbrev missing : Option SettingsError
+  missing = group_refusal unit table
 
   reasons : refusal_of unit table site ≡ four (command_refusal unit) (identity_refusal unit site) missing (paths_refusal unit)
   unfolding refusal_of
@@ -53,11 +56,11 @@ module _ (unit : Resolved) (table : Table) (site : Site) where
       behind_somebody : refusal_of unit table site ≡ four None None missing (paths_refusal unit)
       behind_somebody = behind_launched ∙ ap (λ o. four None o missing (paths_refusal unit)) somebody
 
-      pub missing_next : (name : List ℕ) → missing_group table (unit_filters unit table) ≡ Some name → refusal_of unit table site ≡ Some (MissingGroup name)
-      missing_next name is = behind_somebody ∙ ap (λ o. four None None o (paths_refusal unit)) is
+      pub missing_next : (error : SettingsError) → IsReason (group_refusal unit table) error → IsReason (refusal_of unit table site) error
+      missing_next error is = as_reason (group_refusal unit table) error (λ found e. behind_somebody ∙ ap (λ o. four None None o (paths_refusal unit)) e) is
 
       -- with all groups of calls
-      module _ (grouped : missing_group table (unit_filters unit table) ≡ None) where
+      module _ (grouped : group_refusal unit table ≡ None) where
         behind_groups : refusal_of unit table site ≡ paths_refusal unit
         behind_groups = behind_somebody ∙ ap (λ o. four None None o (paths_refusal unit)) grouped ∙ alone (paths_refusal unit)
 

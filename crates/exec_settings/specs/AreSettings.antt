@@ -8,14 +8,16 @@ use Rattle.call_table.specs.Table.{Table}
 use Rattle.cred_settings.specs.Ambient.{ambient_of}
 use Rattle.cred_settings.specs.Identities.{identity_of}
 use Rattle.dropin_merge.specs.declared.resolved.Resolved.{Resolved}
-use Rattle.filter_rules.specs.Costs.{most_room}
+use Rattle.filter_rules.specs.Costs.{HasShortCases, most_room}
+use Rattle.filter_rules.specs.Refusing.{AreRefusing}
 use Rattle.filter_rules.specs.Names.{all_filters}
 use Rattle.filter_rules.specs.Wanted.{is_on, wanted_action}
 use Rattle.filter_rules.specs.declared.installed.Filter.{Filter}
 use Rattle.filter_rules.specs.declared.settings.FilterSettings.{FilterSettings}
-use Rattle.mount_settings.specs.Roots.{leaves_the_root}
+use Rattle.path_settings.specs.Mentions.{leaves_the_root}
+use Rattle.path_settings.specs.Short.{AreShort}
 use Rattle.site_table.specs.Table.{Site}
-use Rattle.exec_settings.specs.declared.settings.Settings.{Settings}
+use Rattle.exec_settings.specs.declared.service.Settings.{Settings}
 use Rattle.exec_settings.specs.Dynamic.{is_dynamic, unit_filters}
 use Rattle.exec_settings.specs.Mounts.{unit_mentions}
 use Rattle.exec_settings.specs.Notes.{all_notes}
@@ -26,13 +28,16 @@ use Rattle.exec_settings.specs.Settings.{unit_bounding, unit_new_privileges, uni
 abbrev pub HasWantedRules : FilterSettings → Table → Filter → Type 0
 HasWantedRules settings table one = (input : CallData) → case_action one.rules input ≡ wanted_action one.name settings table input
 
--- exactly the filters that are on, in the order in which they are installed; each can be compiled, and all fit into one
--- stack of programs
+-- exactly the filters that are on, in the order in which they are installed; each can be compiled, all fit into one stack of
+-- programs, at most eight cases stand for a call or one whole value of one argument for each, and what is refused ends the
+-- process or answers an error number
 pub record AreFilters (settings : FilterSettings) (table : Table) (filters : List Filter) : Type 0 where
   pub exactly_those_on : map (λ one. one.name) filters ≡ filter (is_on settings) all_filters
   pub do_as_wanted : All (HasWantedRules settings table) filters
   pub can_be_compiled : All (λ one. CanCompile one.rules) filters
   pub fit_into_a_stack : most_room filters ≤ 32768
+  pub cases_are_short : All (λ one. All HasShortCases one.rules.calls) filters
+  pub refuse_by_numbers : AreRefusing settings
 
 -- the settings of a unit, by the table of calls and the site
 pub record AreSettings (unit : Resolved) (table : Table) (site : Site) (made : Settings) : Type 0 where
@@ -44,4 +49,5 @@ pub record AreSettings (unit : Resolved) (table : Table) (site : Site) (made : S
   pub filters_as_wanted : AreFilters (unit_filters unit table) table made.filters.items
   pub mentions_written_and_implied : made.mentions ≡ unit_mentions unit site
   pub leaves_the_root : IsTrue (leaves_the_root made.mentions)
+  pub paths_are_short : AreShort made.mentions
   pub all_notes_in_order : AreInOrder (all_notes unit table) made.notes.items

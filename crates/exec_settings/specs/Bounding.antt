@@ -1,5 +1,6 @@
 -- Capabilities that the settings of a unit take from its bounding set (systemd.exec(5), Sandboxing; capabilities(7)).
 use Rattle.std.specs.Prelude.{ℕ, Bool, cond}
+use Rattle.linux_numbers.specs.Capabilities.{cap_sys_module, cap_sys_rawio, cap_sys_time, cap_mknod, cap_syslog, cap_wake_alarm}
 use Rattle.cap_sets.specs.Sets.{minus, none, single, union}
 use Rattle.filter_rules.specs.declared.settings.FilterSettings.{FilterSettings}
 
@@ -8,18 +9,18 @@ only_if on set = cond on set none
 
 -- ProtectClock= takes CAP_SYS_TIME and CAP_WAKE_ALARM
 abbrev pub clock_caps : ℕ
-clock_caps = union (union none (single 25)) (single 35)
+clock_caps = union (union none (single cap_sys_time)) (single cap_wake_alarm)
 
 -- PrivateDevices= takes CAP_MKNOD and CAP_SYS_RAWIO
 abbrev pub device_caps : ℕ
-device_caps = union (union none (single 27)) (single 17)
+device_caps = union (union none (single cap_mknod)) (single cap_sys_rawio)
 
 -- ProtectKernelModules= takes CAP_SYS_MODULE, ProtectKernelLogs= takes CAP_SYSLOG
 abbrev pub module_caps : ℕ
-module_caps = union none (single 16)
+module_caps = union none (single cap_sys_module)
 
 abbrev pub log_caps : ℕ
-log_caps = union none (single 34)
+log_caps = union none (single cap_syslog)
 
 -- all that are taken
 unfoldable pub taken_caps : FilterSettings → ℕ

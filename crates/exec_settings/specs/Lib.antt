@@ -1,5 +1,5 @@
 pub mod Commands
-pub mod OutsideKeys
+pub mod Keys
 pub mod Profile
 pub mod Dynamic
 pub mod Groups
@@ -11,3 +11,5 @@ pub mod Order
 pub mod Refusals
 pub mod Settings
 pub mod AreSettings
+pub mod Bare
+pub mod Sections

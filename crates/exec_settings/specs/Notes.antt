@@ -19,7 +19,7 @@ use Rattle.mount_settings.specs.Protections.{protection_notes}
 
 -- a note of the grammar of unit files, in the file of this number
 abbrev pub in_file : ℕ → Note → FileNote
-in_file number note = record { file = number; line = note.line; cause = note.cause }
+in_file number note = record { place = record { file = number; line = note.line }; cause = note.cause }
 
 abbrev pub grammar_notes_in : ℕ → UnitFile → List FileNote
 grammar_notes_in number file = map (in_file number) file.text.notes
@@ -28,12 +28,16 @@ grammar_notes_in number file = map (in_file number) file.text.notes
 unfoldable pub grammar_notes : Resolved → List FileNote
 grammar_notes unit = flat_map (λ place. grammar_notes_in place.0 place.1) (enumerate_from 0 unit.files)
 
--- those of users, groups and capabilities
-unfoldable pub credential_notes : Resolved → List FileNote
-credential_notes unit = dynamic_notes unit ++ (identity_notes unit ++ (bounding_notes unit ++ (ambient_notes unit ++ new_privileges_notes unit)))
+-- what is noted of the text: by the grammar, and of keys that are not judged
+unfoldable pub text_notes : Resolved → List FileNote
+text_notes unit = grammar_notes unit ++ unjudged_notes unit
 
--- those of the grammar come first, and those of one key stand in the order of its values and words
+-- of users, groups and capabilities
+unfoldable pub credential_notes : Resolved → List FileNote
+credential_notes unit = dynamic_notes unit ++ (bounding_notes unit ++ (ambient_notes unit ++ (new_privileges_notes unit ++ identity_notes unit)))
+
+-- all that is noted; of one key in the order of its values and words
 unfoldable pub all_notes : Resolved → Table → List FileNote
 all_notes unit table =
-    grammar_notes unit
-    ++ (written_notes unit ++ (unit_command_notes unit ++ (credential_notes unit ++ (filter_notes unit table ++ (protection_notes unit ++ unjudged_notes unit)))))
+    ((((text_notes unit ++ written_notes unit) ++ unit_command_notes unit) ++ credential_notes unit) ++ filter_notes unit table)
+    ++ protection_notes unit

@@ -6,7 +6,7 @@ use Rattle.std.specs.List.Sorted.{IsSortedByKey, IsStableByKey}
 use Rattle.unit_values.specs.declared.value.FileNote.{FileNote}
 
 abbrev pub place_of : FileNote → ℕ × ℕ
-place_of note = (note.file, note.line)
+place_of note = (note.place.file, note.place.line)
 
 abbrev pub place_cmp : ℕ × ℕ → ℕ × ℕ → Ordering
 place_cmp one other = ordering_then (nat_cmp one.0 other.0) (nat_cmp one.1 other.1)

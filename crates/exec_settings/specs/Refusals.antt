@@ -15,7 +15,6 @@ use Rattle.exec_settings.specs.Commands.{unit_command}
 use Rattle.exec_settings.specs.Dynamic.{is_dynamic, unit_filters}
 use Rattle.exec_settings.specs.Groups.{missing_group}
 use Rattle.exec_settings.specs.Mounts.{paths_refusal}
-use Rattle.exec_settings.specs.OutsideKeys.{name_of}
 use Rattle.exec_settings.specs.Profile.{outside_key}
 
 -- the first of these reasons that there is
@@ -34,7 +33,7 @@ privileged None = None
 privileged (Some command) = cond command.is_privileged (Some PrivilegedCommand) None
 
 abbrev pub outside : Resolved → Option Command → Option SettingsError
-outside unit command = option_map (λ key. OutsideProfile (name_of key)) (option_and_then (outside_key unit) command)
+outside unit command = option_map OutsideProfile (option_and_then (outside_key unit) command)
 
 -- why its command is not launched
 unfoldable pub command_refusal : Resolved → Option SettingsError
@@ -50,10 +49,14 @@ identity_reason (Err ids.Memory) = None
 unfoldable pub identity_refusal : Resolved → Site → Option SettingsError
 identity_refusal unit site = identity_reason (identity_of unit site (is_dynamic unit))
 
+-- the first group of calls that its filters rest on and that the table lacks
+unfoldable pub group_refusal : Resolved → Table → Option SettingsError
+group_refusal unit table = option_map MissingGroup (missing_group table (unit_filters unit table))
+
 -- the first of these: the command, users and groups, a group of calls that the table lacks, too many paths
 unfoldable pub refusal_of : Resolved → Table → Site → Option SettingsError
 refusal_of unit table site =
-    first_reason (command_refusal unit ∷ identity_refusal unit site ∷ option_map MissingGroup (missing_group table (unit_filters unit table)) ∷ paths_refusal unit ∷ [])
+    first_reason (command_refusal unit ∷ identity_refusal unit site ∷ group_refusal unit table ∷ paths_refusal unit ∷ [])
 
 -- an error is this reason; want of memory has none
 abbrev pub IsReason : Option SettingsError → SettingsError → Type 0

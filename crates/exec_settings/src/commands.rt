@@ -89,9 +89,7 @@ fn read_program(alloc: Global, text: &str) -> Result<Option<Program>, AllocError
             }
         }
         Err(PathError::Relative) => Ok(Some(Program::Relative)),
-        Err(PathError::TooLong) => Ok(None),
-        Err(PathError::HasNul) => Ok(None),
-        Err(PathError::DotDot) => Ok(None),
+        Err(PathError::TooLong | PathError::HasNul | PathError::DotDot) => Ok(None),
         Err(PathError::Memory) => Err(AllocError),
     }
 }
@@ -214,7 +212,7 @@ pub fn launched_command(
     ensures first_in_force { IfOk result (λ command. command ≡ unit_command unit.now) }
     ensures notes_the_others { OnOk result (notes.new.items ≡ notes.old.items ++ unit_command_notes unit.now) }
 {
-    let values = values_of_key(alloc, unit, "ExecStart", notes)?;
+    let values = values_of_key(alloc, unit, "ExecStart")?.noted_in(notes)?;
     note_unread(alloc, values.as_slice(), notes)?;
     let commands = in_force(values.as_slice());
     note_later(alloc, commands, notes)?;

@@ -2,8 +2,8 @@
 ghost use Rattle.std.specs.Prelude.{◌≡◌, ◌++◌, Ok, IfOk, OnOk};
 ghost use Rattle.cred_settings.specs.Ambient.{ambient_of};
 ghost use Rattle.cred_settings.specs.Bounding.{bounding_of};
-ghost use Rattle.cred_settings.specs.Identities.{identity_of};
-ghost use Rattle.exec_settings.specs.Dynamic.{is_dynamic, sets_new_privileges};
+ghost use Rattle.cred_settings.specs.Identities.{identity_of, identity_notes};
+ghost use Rattle.exec_settings.specs.Dynamic.{is_dynamic as is_dynamic_of, sets_new_privileges};
 ghost use Rattle.exec_settings.specs.Notes.{credential_notes};
 ghost use Rattle.exec_settings.specs.Refusals.{RefusesFirst, identity_refusal};
 
@@ -30,6 +30,28 @@ pub struct Credentials {
     pub is_dynamic: bool,
 }
 
+// The ids that the keys of users and groups say.
+#[tactic(auto, unfolding(crate::specs::Refusals::identity_refusal))]
+fn read_identity(
+    alloc: Global,
+    unit: &Resolved,
+    site: &SiteTable,
+    is_dynamic: bool,
+    notes: &mut Vec<FileNote>,
+) -> Result<Identity, SettingsError>
+    requires { is_dynamic ≡ is_dynamic_of unit.now }
+    ensures refuses_first { RefusesFirst (identity_refusal unit.now site.now) result }
+    ensures ids { IfOk result (λ made. identity_of unit.now site.now is_dynamic ≡ Ok made) }
+    ensures noted { OnOk result (notes.new.items ≡ notes.old.items ++ identity_notes unit.now) }
+{
+    match identity_of_unit(alloc, unit, site, is_dynamic) {
+        Ok(said) => Ok(said.noted_in(notes)?),
+        Err(IdentityError::NoSuchUser(word)) => Err(SettingsError::NoSuchUser(word)),
+        Err(IdentityError::NoSuchGroup(word)) => Err(SettingsError::NoSuchGroup(word)),
+        Err(IdentityError::Memory) => Err(SettingsError::Memory),
+    }
+}
+
 /// What the keys of users, groups and capabilities say, with their notes behind those that are there.
 #[tactic(auto, unfolding(crate::specs::Notes::credential_notes, crate::specs::Refusals::identity_refusal))]
 pub fn read_credentials(
@@ -39,25 +61,22 @@ pub fn read_credentials(
     notes: &mut Vec<FileNote>,
 ) -> Result<Credentials, SettingsError>
     ensures refuses_first { RefusesFirst (identity_refusal unit.now site.now) result }
-    ensures ids { IfOk result (λ made. identity_of unit.now site.now (is_dynamic unit.now) ≡ Ok made.identity) }
+    ensures ids { IfOk result (λ made. identity_of unit.now site.now (is_dynamic_of unit.now) ≡ Ok made.identity) }
     ensures bounding { IfOk result (λ made. made.bounding ≡ bounding_of unit.now) }
     ensures ambient { IfOk result (λ made. made.ambient ≡ ambient_of unit.now) }
     ensures sets { IfOk result (λ made. made.sets_no_new_privs ≡ sets_new_privileges unit.now) }
-    ensures dynamic { IfOk result (λ made. made.is_dynamic ≡ is_dynamic unit.now) }
+    ensures dynamic { IfOk result (λ made. made.is_dynamic ≡ is_dynamic_of unit.now) }
     ensures noted { OnOk result (notes.new.items ≡ notes.old.items ++ credential_notes unit.now) }
 {
     let is_dynamic = is_dynamic(alloc, unit, notes)?;
-    let identity = match identity_of_unit(alloc, unit, site, is_dynamic, notes) {
-        Ok(identity) => identity,
-        Err(IdentityError::NoSuchUser(word)) => return Err(SettingsError::NoSuchUser(word)),
-        Err(IdentityError::NoSuchGroup(word)) => return Err(SettingsError::NoSuchGroup(word)),
-        Err(IdentityError::Memory) => return Err(SettingsError::Memory),
-    };
+    let bounding = bounding_set(alloc, unit)?.noted_in(notes)?;
+    let ambient = ambient_set(alloc, unit)?.noted_in(notes)?;
+    let is_set = is_no_new_privileges_set(alloc, unit)?.noted_in(notes)?;
     Ok(Credentials {
-        identity,
-        bounding: bounding_set(alloc, unit, notes)?,
-        ambient: ambient_set(alloc, unit, notes)?,
-        sets_no_new_privs: is_no_new_privileges_set(alloc, unit, notes)? || is_dynamic,
+        identity: read_identity(alloc, unit, site, is_dynamic, notes)?,
+        bounding,
+        ambient,
+        sets_no_new_privs: is_set || is_dynamic,
         is_dynamic,
     })
 }

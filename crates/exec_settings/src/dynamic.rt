@@ -18,7 +18,7 @@ pub fn is_dynamic(
     ensures is { IfOk result (λ is. is ≡ is_dynamic unit.now) }
     ensures noted { OnOk result (notes.new.items ≡ notes.old.items ++ dynamic_notes unit.now) }
 {
-    flag_of_key(alloc, unit, "DynamicUser", notes)
+    flag_of_key(alloc, unit, "DynamicUser")?.noted_in(notes)
 }
 
 /// What the keys of the filters come to: with a dynamic user RestrictSUIDSGID= is on, whatever it says itself.

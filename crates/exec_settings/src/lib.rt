@@ -5,7 +5,7 @@
 //! stands on `filter_settings` and `filter_rules` for the filters of system calls, on `cred_settings` for users, groups and
 //! capabilities, on `mount_settings` for paths, and on `unit_values` for the values of keys.
 //!
-//! `settings_of_unit(alloc, &unit, &calls, &site)?` has the program, the ids, the capabilities, the filters with their
+//! `settings(alloc, &unit, &calls, &site)?` has the program, the ids, the capabilities, the filters with their
 //! rules, the mentions of paths, and the notes.
 #![tactic(auto)]
 
@@ -14,17 +14,18 @@ mod commands;
 mod credentials;
 mod dynamic;
 mod errors;
+mod filters;
 mod groups;
 mod judged;
+mod keys;
+pub mod laws;
 mod mounts;
 mod notes;
-mod outside_keys;
 mod profile;
 mod program;
-mod settings;
+mod reading;
+mod service;
 
 pub use errors::SettingsError;
-pub use settings::{Settings, settings_of_unit};
-
-#[cfg(test)]
-mod tests;
+pub use reading::settings;
+pub use service::Settings;

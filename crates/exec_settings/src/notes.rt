@@ -1,12 +1,13 @@
-//! The notes of the grammar, and the order of all notes.
-ghost use Rattle.std.specs.Prelude.{◌≡◌, ◌++◌, IsPermutation, OnOk};
+//! The notes on the text of a unit, and the order of all notes.
+ghost use Rattle.std.specs.Prelude.{◌≡◌, ◌++◌, IsPermutation, IfOk, OnOk};
 ghost use Rattle.std.specs.List.Sorted.{IsSortedByKey, IsStableByKey};
-ghost use Rattle.exec_settings.specs.Notes.{grammar_notes, grammar_notes_in};
+ghost use Rattle.exec_settings.specs.Notes.{grammar_notes, grammar_notes_in, text_notes};
 ghost use Rattle.exec_settings.specs.Order.{place_cmp, place_of};
 
+use crate::judged::note_unjudged;
 use dropin_merge::{Resolved, UnitFile};
-use std::alloc::AllocError;
-use unit_values::FileNote;
+use std::alloc::{AllocError, Global};
+use unit_values::{FileNote, Place};
 
 // The notes of one file.
 fn add_notes_in(number: usize, file: &UnitFile, notes: &mut Vec<FileNote>) -> Result<(), AllocError>
@@ -15,17 +16,19 @@ fn add_notes_in(number: usize, file: &UnitFile, notes: &mut Vec<FileNote>) -> Re
     let list = file.text.notes.list();
     for note in list {
         notes.push(FileNote {
-            file: number,
-            line: note.line,
+            place: Place {
+                file: number,
+                line: note.line,
+            },
             cause: note.cause,
         })?;
     }
     Ok(())
 }
 
-/// Puts what the grammar notes of the files of a unit behind the notes that are there.
+// Puts what the grammar notes of the files of a unit behind the notes that are there.
 #[tactic(auto, unfolding(crate::specs::Notes::grammar_notes))]
-pub fn add_grammar_notes(unit: &Resolved, notes: &mut Vec<FileNote>) -> Result<(), AllocError>
+fn add_grammar_notes(unit: &Resolved, notes: &mut Vec<FileNote>) -> Result<(), AllocError>
     ensures adds_each { OnOk result (notes.new.items ≡ notes.old.items ++ grammar_notes unit.now) }
 {
     let files = unit.files.list();
@@ -35,11 +38,22 @@ pub fn add_grammar_notes(unit: &Resolved, notes: &mut Vec<FileNote>) -> Result<(
     Ok(())
 }
 
+/// What is noted of the text of a unit: by the grammar, and of keys that are not judged.
+#[tactic(auto, unfolding(crate::specs::Notes::text_notes))]
+pub fn text_notes(alloc: Global, unit: &Resolved) -> Result<Vec<FileNote>, AllocError>
+    ensures { IfOk result (λ notes. notes.items ≡ text_notes unit.now) }
+{
+    let mut notes = Vec::new(alloc);
+    add_grammar_notes(unit, &mut notes)?;
+    note_unjudged(unit, &mut notes)?;
+    Ok(notes)
+}
+
 /// Puts notes in the order of files and lines; those of one line stay as they stand.
 pub fn put_in_order(notes: &mut Vec<FileNote>) -> Result<(), AllocError>
     ensures the_same { IsPermutation notes.old.items notes.new.items }
     ensures by_files_and_lines { OnOk result (IsSortedByKey place_of place_cmp notes.new.items) }
     ensures as_they_stood { IsStableByKey place_of place_cmp notes.old.items notes.new.items }
 {
-    notes.sort_by_key(|note| (note.file, note.line))
+    notes.sort_by_key(|note| (note.place.file, note.place.line))
 }

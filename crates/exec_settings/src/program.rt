@@ -4,7 +4,6 @@ ghost use Rattle.mount_settings.specs.Roots.{root_key};
 ghost use Rattle.mount_settings.specs.Written.{unit_written};
 ghost use Rattle.exec_settings.specs.declared.errors.SettingsError.TheVariants.{OutsideProfile};
 ghost use Rattle.exec_settings.specs.Commands.{unit_command, unit_command_notes};
-ghost use Rattle.exec_settings.specs.OutsideKeys.{name_of};
 ghost use Rattle.exec_settings.specs.Profile.{outside_key};
 ghost use Rattle.exec_settings.specs.Refusals.{RefusesFirst, command_refusal};
 ghost use Rattle.exec_settings.specs.Settings.{path_of, unit_program};
@@ -27,12 +26,12 @@ fn program_of(
     command: Command,
 ) -> Result<AbsPath, SettingsError>
     requires of_the_unit { paths.now ≡ unit_written unit.now }
-    ensures refuses { RefusesFirst (option_map (λ key. OutsideProfile (name_of key)) (outside_key unit.now command)) result }
+    ensures refuses { RefusesFirst (option_map OutsideProfile (outside_key unit.now command)) result }
     ensures leaves_the_root { IfOk result (λ path. root_key (unit_written unit.now) ≡ None) }
     ensures program { IfOk result (λ path. path_of command.program ≡ Some path) }
 {
     if let Some(key) = outside_key(unit, paths, &command) {
-        return Err(SettingsError::OutsideProfile(Text::new(alloc, key.name())?));
+        return Err(SettingsError::OutsideProfile(Text::new(alloc, key)?));
     }
     match command.program {
         Program::Absolute(path) => Ok(path),

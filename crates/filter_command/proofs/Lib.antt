@@ -1,4 +1,2 @@
-pub mod Endings
-pub mod Filters
-pub mod Printing
-pub mod Settled
+pub mod Wanted
+pub mod Prepared

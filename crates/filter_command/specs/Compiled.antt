@@ -1,24 +1,43 @@
 -- What compiled filters do (systemd.exec(5), seccomp(2)).
 use Rattle.std.specs.Prelude.{◌≡◌, ◌≤◌, ℕ, ◌+◌, List, filter, length, map}
-use Rattle.std.specs.List.{All, sum_by}
+use Rattle.std.specs.List.{All, AllZip, sum_by}
 use Rattle.bpf_code.specs.Meaning.{Answers, IsCallData}
+use Rattle.bpf_code.specs.Reading.{Accepts, IsProgram, bytes_of}
 use Rattle.bpf_code.specs.declared.machine.CallData.{CallData}
+use Rattle.call_rules.specs.Action.{word_of}
+use Rattle.call_rules.specs.Sizes.{most_insns}
 use Rattle.call_table.specs.Table.{Table}
 use Rattle.filter_rules.specs.Names.{all_filters}
 use Rattle.filter_rules.specs.Wanted.{is_on, wanted_action}
+use Rattle.filter_rules.specs.declared.installed.Filter.{Filter}
 use Rattle.filter_rules.specs.declared.settings.FilterSettings.{FilterSettings}
+use Rattle.seccomp_compile.specs.Compiled.{Decides}
 use Rattle.filter_command.specs.declared.compiled.Compiled.{Compiled}
+
+-- the program of a filter: it has its name, decides every call by its rules, is no longer than they allow, and its bytes are
+-- accepted
+pub record IsCompiled (rules : Filter) (one : Compiled) : Type 0 where
+  pub named : one.name ≡ rules.name
+  pub decides : Decides one.program rules.rules
+  pub short : length one.program ≤ most_insns rules.rules
+  pub accepted : IsProgram one.program
+
+-- each filter has its own program, in its place
+abbrev pub AreCompiled : List Filter → List Compiled → Type 0
+AreCompiled filters made = AllZip IsCompiled filters made
 
 -- whatever the data of a call, the program answers the action that the settings want of the filter of its name
 abbrev pub DoesAsWanted : FilterSettings → Table → Compiled → Type 0
-DoesAsWanted settings table one = (input : CallData) → IsCallData input → Answers one.program input (wanted_action one.name settings table input)
+DoesAsWanted settings table one = (input : CallData) → IsCallData input → Answers one.program input (word_of (wanted_action one.name settings table input))
 
 -- the room that programs take in a stack: each takes 4 beside its instructions (seccomp(2), ENOMEM)
 abbrev pub room_of : List Compiled → ℕ
 room_of programs = sum_by (λ one. length one.program + 4) programs
 
--- exactly the filters that are on, in the order in which they are installed; each does as wanted, and all fit into one stack
+-- exactly the filters that are on, in the order in which they are installed; each does as wanted, its bytes are accepted as
+-- the very program, and all fit into one stack
 pub record AreFilters (settings : FilterSettings) (table : Table) (filters : List Compiled) : Type 0 where
   pub named : map (λ one. one.name) filters ≡ filter (is_on settings) all_filters
   pub do_as_wanted : All (DoesAsWanted settings table) filters
+  pub accepted : All (λ one. Accepts (bytes_of one.program) one.program) filters
   pub fit_into_a_stack : room_of filters ≤ 32768

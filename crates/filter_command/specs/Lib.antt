@@ -1,4 +1,3 @@
 pub mod Lines
 pub mod Compiled
 pub mod Prints
-pub mod Steps

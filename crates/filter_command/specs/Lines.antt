@@ -1,9 +1,9 @@
 -- The lines of compiled filters, each ended by a line feed.
-use Rattle.std.specs.Prelude.{ℕ, ◌+◌, ◌/◌, ◌%◌, nat_lt, cond, List, [], ◌∷◌, ◌++◌, length, codes, flat_map, map}
+use Rattle.std.specs.Prelude.{ℕ, ◌+◌, ◌/◌, ◌%◌, nat_lt, cond, List, [], ◌∷◌, ◌++◌, length, codes, flat_map}
 use Rattle.std.specs.Fmt.{decimal}
-use Rattle.std.specs.Int.{w16, w32, to_le_bytes}
+use Rattle.bpf_code.specs.Reading.{bytes_of_insn}
 use Rattle.bpf_code.specs.declared.machine.Insn.{Insn}
-use Rattle.filter_rules.specs.Names.{text_of}
+use Rattle.filter_rules.specs.Names.{text_of as name_text}
 use Rattle.filter_command.specs.declared.compiled.Compiled.{Compiled}
 
 abbrev pub hex_digit : ℕ → ℕ
@@ -13,22 +13,22 @@ hex_digit n = cond (nat_lt n 10) (48 + n) (87 + n)
 abbrev pub hex_byte : ℕ → List ℕ
 hex_byte n = hex_digit (n / 16) ∷ hex_digit (n % 16) ∷ []
 
--- an instruction: its code, jt, jf and k in little endian
+-- an instruction: its eight bytes
 abbrev pub insn_line : Insn → List ℕ
-insn_line insn = flat_map hex_byte (to_le_bytes w16 insn.code) ++ flat_map hex_byte (insn.jt ∷ insn.jf ∷ []) ++ flat_map hex_byte (to_le_bytes w32 insn.k) ++ 10 ∷ []
+insn_line insn = flat_map hex_byte (bytes_of_insn insn) ++ 10 ∷ []
 
 -- the first line of a filter: its name, and how many instructions it has
 abbrev pub head_line : Compiled → List ℕ
-head_line filter = codes "filter " ++ (text_of filter.name ++ (codes " " ++ (decimal (length filter.program) ++ 10 ∷ [])))
+head_line filter = codes "filter " ++ (name_text filter.name ++ (codes " " ++ (decimal (length filter.program) ++ 10 ∷ [])))
 
 -- a filter: its first line, and its instructions
-abbrev pub filter_lines : Compiled → List (List ℕ)
-filter_lines filter = head_line filter ∷ map insn_line filter.program
+abbrev pub filter_text : Compiled → List ℕ
+filter_text filter = head_line filter ++ flat_map insn_line filter.program
 
 -- how many filters there are
 abbrev pub count_line : ℕ → List ℕ
 count_line count = codes "filters " ++ (decimal count ++ 10 ∷ [])
 
 -- all filters, in order, and how many there are
-abbrev pub lines_of : List Compiled → List (List ℕ)
-lines_of filters = flat_map filter_lines filters ++ count_line (length filters) ∷ []
+abbrev pub text_of : List Compiled → List ℕ
+text_of filters = flat_map filter_text filters ++ count_line (length filters)

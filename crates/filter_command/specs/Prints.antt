@@ -1,37 +1,38 @@
--- What `filter` prints and how it ends, by the files.
-use Rattle.std.specs.Prelude.{◌≡◌, ℕ, List, Option, Some, None, Ok, Err}
-use Rattle.std.specs.List.{concat}
+-- What `filter` prints, by the files.
+use Rattle.std.specs.Prelude.{◌≡◌, ℕ, IsSome, List, Some}
 use Rattle.host_io.specs.Files.{Files}
-use Rattle.call_table.specs.Table.{Table}
-use Rattle.filter_rules.specs.declared.settings.FilterSettings.{FilterSettings}
 use Rattle.exec_settings.specs.Dynamic.{unit_filters}
+use Rattle.command_answers.specs.Laws.{FileLaws}
 use Rattle.command_answers.specs.declared.ending.Ending.{Ending}
-use Rattle.command_answers.specs.declared.ending.Ending.TheVariants.{Done, Refused}
-use Rattle.unit_inputs.specs.declared.inputs.UnitInputs.{UnitInputs}
-use Rattle.unit_settings.specs.Endings.{EndsFor, EndsUntold}
-use Rattle.unit_settings.specs.Settled.{settled_of}
+use Rattle.command_answers.specs.declared.ending.Ending.TheVariants.{Done}
+use Rattle.unit_inputs.specs.Inputs.{Inputs, inputs_of}
+use Rattle.unit_names.specs.Cutting.{name_of}
+use Rattle.unit_settings.specs.Settled.{unit_refusals}
+use Rattle.filter_command.specs.declared.command.Filters.{Filters}
 use Rattle.filter_command.specs.declared.compiled.Compiled.{Compiled}
 use Rattle.filter_command.specs.Compiled.{AreFilters}
-use Rattle.filter_command.specs.Lines.{lines_of}
+use Rattle.filter_command.specs.Lines.{text_of}
 
--- the lines of any programs that are the unit's filters
-abbrev pub AreFilterLines : FilterSettings → Table → List (List ℕ) → Type 0
-AreFilterLines settings table lines = (filters : List Compiled) × AreFilters settings table filters × (lines ≡ lines_of filters)
+-- the text of any programs that are the unit's filters
+pub record PrintsFilters (files : Files) (unit text : List ℕ) : Type 0 where
+  pub inputs : Inputs
+  pub inputs_are : inputs_of files unit ≡ Some inputs
+  pub filters : List Compiled
+  pub are_filters : AreFilters (unit_filters inputs.unit inputs.calls) inputs.calls filters
+  pub is_their_text : text ≡ text_of filters
 
--- the unit resolves, calls.txt is a table, site.toml a site, and the unit has settings
-abbrev pub AcceptsFilter : Files → List ℕ → Type 0
-AcceptsFilter files unit = (inputs : UnitInputs) × (settled_of files unit ≡ Ok inputs)
+-- refused are the inputs and the settings of the unit, in this order; else the filters are printed
+abbrev pub filter_laws : List ℕ → FileLaws
+filter_laws unit = record {
+  refusals = λ files. unit_refusals files unit;
+  prints = λ files ending text. PrintsFilters files unit text;
+  may_end = λ ending. ending ≡ Done;
+  reads = IsSome (name_of unit);
+}
 
--- an input or a setting is refused, or the filters are printed
-pub data PrintsFilter (files : Files) (unit : List ℕ) : Ending → List ℕ → Type 0 where
-  refuses : (line : List ℕ) → settled_of files unit ≡ Err line → PrintsFilter files unit Refused line
-  prints : (inputs : UnitInputs) (lines : List (List ℕ)) → settled_of files unit ≡ Ok inputs → AreFilterLines (unit_filters inputs.unit inputs.calls) inputs.calls lines → PrintsFilter files unit Done (concat lines)
+-- what is ready
+abbrev pub filters_text : Filters → List ℕ
+filters_text filters = text_of filters.programs.items
 
--- as the files say where they are told
-abbrev pub PrintsTold : Option Files → List ℕ → Ending → List ℕ → Type 0
-PrintsTold None unit ending text = EndsUntold ending
-PrintsTold (Some files) unit ending text = PrintsFilter files unit ending text
-
--- how it ends, by the files
-abbrev pub EndsFilter : Files → List ℕ → Ending → Type 0
-EndsFilter files unit ending = EndsFor (AcceptsFilter files unit) unit ending
+abbrev pub ending_of : Filters → Ending
+ending_of filters = Done

@@ -1,13 +1,8 @@
 //! The filters of settings as programs.
-ghost use Rattle.std.specs.Prelude.{◌≡◌, ◌≤◌, IfOk, length, map};
+ghost use Rattle.std.specs.Prelude.{IfOk};
 ghost use Rattle.std.specs.List.{All};
-ghost use Rattle.call_rules.specs.Sizes.{CanCompile, most_insns};
-ghost use Rattle.call_table.specs.Table.{Table};
-ghost use Rattle.filter_rules.specs.Costs.{most_room};
-ghost use Rattle.filter_rules.specs.declared.settings.FilterSettings.{FilterSettings};
-ghost use Rattle.seccomp_compile.specs.Compiled.{Decides};
-ghost use Rattle.exec_settings.specs.AreSettings.{HasWantedRules};
-ghost use Rattle.filter_command.specs.Compiled.{DoesAsWanted, room_of};
+ghost use Rattle.call_rules.specs.Sizes.{CanCompile};
+ghost use Rattle.filter_command.specs.Compiled.{AreCompiled, IsCompiled};
 
 use bpf_code::Program;
 use filter_rules::{Filter, FilterName};
@@ -24,9 +19,7 @@ pub struct Compiled {
 // The program of a filter.
 fn compile_one(alloc: Global, filter: &Filter) -> Result<Compiled, AllocError>
     requires { CanCompile filter.now.rules }
-    ensures name { IfOk result (λ one. one.name ≡ filter.now.name) }
-    ensures decides { IfOk result (λ one. Decides one.program filter.now.rules) }
-    ensures keeps_within_the_length { IfOk result (λ one. length one.program ≤ most_insns filter.now.rules) }
+    ensures compiled { IfOk result (IsCompiled filter.now) }
 {
     Ok(Compiled {
         name: filter.name,
@@ -34,13 +27,10 @@ fn compile_one(alloc: Global, filter: &Filter) -> Result<Compiled, AllocError>
     })
 }
 
-/// The programs of these filters, in their order. Where the rules of each do what settings want of the filter of its
-/// name, so does its program, whatever the data of a call. In a stack they take no more room than the filters may.
+/// The programs of these filters: each has the name of the filter in its place, and decides every call by its rules.
 pub fn compile_all(alloc: Global, filters: &[Filter]) -> Result<Vec<Compiled>, AllocError>
     requires can_be_compiled { All (λ one. CanCompile one.rules) filters.now }
-    ensures each_in_its_place { IfOk result (λ made. map (λ one. one.name) made.items ≡ map (λ one. one.name) filters.now) }
-    ensures do_as_wanted { (settings : FilterSettings) → (table : Table) → All (HasWantedRules settings table) filters.now → IfOk result (λ made. All (DoesAsWanted settings table) made.items) }
-    ensures take_no_more_room { IfOk result (λ made. room_of made.items ≤ most_room filters.now) }
+    ensures each_by_its_own_rules { IfOk result (λ made. AreCompiled filters.now made.items) }
 {
     let mut made = Vec::new(alloc);
     'filters: for filter in filters {

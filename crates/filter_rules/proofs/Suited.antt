@@ -7,6 +7,7 @@ use Rattle.std.proofs.lemmas.List.{length-map}
 use Rattle.std.proofs.lemmas.List.Sums.{sum_by-le}
 use Rattle.std.proofs.lemmas.List.Elements.{All-from_recursion}
 use Rattle.std.proofs.Math.Nat.{mul-le-mul, le_trans, le_refl}
+use Rattle.call_rules.specs.declared.actions.Action.{Action}
 use Rattle.call_rules.specs.Tested.{Tested}
 use Rattle.call_rules.specs.declared.rules.CallRule.{CallRule}
 use Rattle.call_table.specs.declared.listed.CallLine.{CallLine}
@@ -47,11 +48,11 @@ pub all_rules : (P : CallRule → Type 0) (cases tests : ℕ) (choose : List ℕ
 all_rules P cases tests choose small h calls = All-from_recursion P (rules_of choose calls) (each P cases tests choose small h calls)
 
 -- how many tests a case has
-length_case : (given : Option Tested) (action : ℕ) (test : Tested) → length ((case_with given action test).tests) ≡ length (option_to_list given) + 1
+length_case : (given : Option Tested) (action : Action) (test : Tested) → length ((case_with given action test).tests) ≡ length (option_to_list given) + 1
 length_case None action test = refl
 length_case (Some first) action test = refl
 
-each_case : (most : ℕ) (given : Option Tested) (action : ℕ) (tests : List Tested) → length (option_to_list given) + 1 ≤ most → AllByRecursion (λ case. length case.tests ≤ most) (map (case_with given action) tests)
+each_case : (most : ℕ) (given : Option Tested) (action : Action) (tests : List Tested) → length (option_to_list given) + 1 ≤ most → AllByRecursion (λ case. length case.tests ≤ most) (map (case_with given action) tests)
 each_case most given action [] h = tt
 each_case most given action (test ∷ tests) h = (subst (λ n. n ≤ most) (sym (length_case given action test)) h, each_case most given action tests h)
 
@@ -70,7 +71,7 @@ test_bound cases tests number choice s =
     let each_fits = sum_by-le (λ case. length case.tests) tests ((rule_with number choice).cases) (cases_few tests number choice s.tests_fit) in
     le_trans each_fits (mul-le-mul (case_bound cases tests number choice s) (le_refl tests))
 
-whole_cases : (at action : ℕ) (values : List ℕ) → AllByRecursion (λ case. (value : ℕ) × (case.tests ≡ whole at value ∷ [])) (map (case_with None action) (map (whole at) values))
+whole_cases : (at : ℕ) (action : Action) (values : List ℕ) → AllByRecursion (λ case. (value : ℕ) × (case.tests ≡ whole at value ∷ [])) (map (case_with None action) (map (whole at) values))
 whole_cases at action [] = tt
 whole_cases at action (value ∷ values) = ((value, refl), whole_cases at action values)
 

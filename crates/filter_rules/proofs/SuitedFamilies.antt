@@ -10,6 +10,7 @@ use Rattle.std.proofs.lemmas.List.Elements.{recursion_from_All}
 use Rattle.std.proofs.lemmas.List.Sorted.{All-permutation, IsPermutation-reverse}
 use Rattle.std.proofs.lemmas.Map.Views.{any-filter_same}
 use Rattle.bpf_code.specs.declared.machine.CallData.{CallData}
+use Rattle.call_rules.specs.declared.actions.Action.TheVariants as action
 use Rattle.call_rules.specs.Tested.{Tested}
 use Rattle.call_rules.specs.Action.{test_holds}
 use Rattle.call_table.specs.Table.{Table}
@@ -19,7 +20,8 @@ use Rattle.filter_rules.specs.declared.mentions.Mode.{Mode}
 use Rattle.filter_rules.specs.declared.mentions.Mode.TheVariants.{Allow, Deny}
 use Rattle.filter_rules.specs.declared.mentions.FamilyMention.{FamilyMention}
 use Rattle.filter_rules.specs.declared.mentions.FamilyList.{FamilyList}
-use Rattle.filter_rules.specs.Actions.{allow, errno, eafnosupport, unless_refused, low}
+use Rattle.linux_numbers.specs.Errnos.{eafnosupport}
+use Rattle.filter_rules.specs.Actions.{unless_refused, low}
 use Rattle.filter_rules.specs.Choices.{choice_action, whole}
 use Rattle.filter_rules.specs.Known.{IsKnown}
 use Rattle.filter_rules.specs.Families.{last_family, is_listed_family, is_refused_by, is_refused_family, refuses_family}
@@ -73,24 +75,24 @@ some_family table mentions input h =
     ∙ listed_known table mentions (low input 0) h
 
 by_mode : (mode : Mode) (tests : List Tested) (listed : Bool) (input : CallData) → list_any (test_holds input) tests ≡ listed → choice_action input (family_choice mode tests) ≡ unless_refused eafnosupport (is_refused_by mode listed)
-by_mode Allow tests listed input e = ap (λ b. cond b allow (errno eafnosupport)) e ∙ turned listed
+by_mode Allow tests listed input e = ap (λ b. cond b action.Allow (action.Errno eafnosupport)) e ∙ turned listed
   where
-    turned : (b : Bool) → cond b allow (errno eafnosupport) ≡ cond (not b) (errno eafnosupport) allow
+    turned : (b : Bool) → cond b action.Allow (action.Errno eafnosupport) ≡ cond (not b) (action.Errno eafnosupport) action.Allow
     turned true = refl
     turned false = refl
-by_mode Deny tests listed input e = ap (λ b. cond b (errno eafnosupport) allow) e
+by_mode Deny tests listed input e = ap (λ b. cond b (action.Errno eafnosupport) action.Allow) e
 
 pub families_mean : (table : Table) (families : Option FamilyList) → ForSome families (λ list. All (IsKnown table) list.mentions) → (name : List ℕ) (input : CallData) →
-    option_map_or (choice_action input) (families_choice table families name) allow ≡ unless_refused eafnosupport (refuses_family families name input)
+    option_map_or (choice_action input) (families_choice table families name) action.Allow ≡ unless_refused eafnosupport (refuses_family families name input)
 families_mean table families h name input = by_name (bytes_eq name (codes "socket")) families h
   where
     by_list : (families : Option FamilyList) → ForSome families (λ list. All (IsKnown table) list.mentions) →
-        option_map_or (choice_action input) (option_and_then (λ list. Some (socket_choice table list)) families) allow ≡ unless_refused eafnosupport (option_map_or (λ list. is_refused_family list (low input 0)) families false)
+        option_map_or (choice_action input) (option_and_then (λ list. Some (socket_choice table list)) families) action.Allow ≡ unless_refused eafnosupport (option_map_or (λ list. is_refused_family list (low input 0)) families false)
     by_list None h = refl
     by_list (Some list) h = by_mode list.mode (family_tests list.mentions table.families) (is_listed_family list.mentions (low input 0)) input (some_family table list.mentions input (h list refl))
 
     by_name : (b : Bool) (families : Option FamilyList) → ForSome families (λ list. All (IsKnown table) list.mentions) →
-        option_map_or (choice_action input) (if b then option_and_then (λ list. Some (socket_choice table list)) families else None) allow ≡ unless_refused eafnosupport (b && option_map_or (λ list. is_refused_family list (low input 0)) families false)
+        option_map_or (choice_action input) (if b then option_and_then (λ list. Some (socket_choice table list)) families else None) action.Allow ≡ unless_refused eafnosupport (b && option_map_or (λ list. is_refused_family list (low input 0)) families false)
     by_name true families h = by_list families h
     by_name false families h = refl
 

@@ -5,7 +5,9 @@ use Rattle.std.specs.Option.{option_map_or, option_map, IfSome}
 use Rattle.std.specs.Str.{bytes_eq}
 use Rattle.std.proofs.lemmas.List.Folds.{list_any-append}
 use Rattle.bpf_code.specs.declared.machine.CallData.{CallData}
-use Rattle.filter_rules.specs.Actions.{allow, eperm, unless_refused, low, has_bits, is_one_of}
+use Rattle.linux_numbers.specs.Errnos.{eperm}
+use Rattle.call_rules.specs.declared.actions.Action.TheVariants.{Allow}
+use Rattle.filter_rules.specs.Actions.{unless_refused, low, has_bits, is_one_of}
 use Rattle.filter_rules.specs.Choices.{choice_action, bits}
 use Rattle.filter_rules.specs.Suid.{mode_argument, flags_argument, sets_id_bit, refuses_mode, set_user_id, set_group_id, o_creat}
 use Rattle.filter_rules.specs.SuidChoice.{suid_choice, mode_choice, mode_test}
@@ -14,14 +16,14 @@ use Rattle.filter_rules.proofs.Suited.{IsSmall, AreSmall}
 use Rattle.filter_rules.proofs.Counted.{AreAmong}
 
 by_arguments : (input : CallData) (flags mode : Option ℕ) →
-    option_map_or (choice_action input) (option_map (mode_choice (option_map (λ at. bits at o_creat) flags)) mode) allow
+    option_map_or (choice_action input) (option_map (mode_choice (option_map (λ at. bits at o_creat) flags)) mode) Allow
     ≡ unless_refused eperm (option_map_or (λ at. option_map_or (λ at. has_bits (low input at) o_creat) flags true && sets_id_bit (low input at)) mode false)
 by_arguments input flags None = refl
 by_arguments input None (Some at) = ap (λ b. unless_refused eperm (has_bits (low input at) set_user_id || b)) (or_false (has_bits (low input at) set_group_id))
 by_arguments input (Some other) (Some at) =
     ap (λ b. unless_refused eperm (has_bits (low input other) o_creat && (has_bits (low input at) set_user_id || b))) (or_false (has_bits (low input at) set_group_id))
 
-pub suid_means : (name : List ℕ) (input : CallData) → option_map_or (choice_action input) (suid_choice name) allow ≡ unless_refused eperm (refuses_mode name input)
+pub suid_means : (name : List ℕ) (input : CallData) → option_map_or (choice_action input) (suid_choice name) Allow ≡ unless_refused eperm (refuses_mode name input)
 suid_means name input = by_arguments input (flags_argument name) (mode_argument name)
 
 pub suid_small : AreSmall 2 2 suid_choice

@@ -11,7 +11,9 @@ use Rattle.call_rules.specs.Tested.{Tested}
 use Rattle.call_rules.specs.Action.{test_holds}
 use Rattle.filter_rules.specs.declared.namespace_types.NamespaceTypes.{NamespaceTypes}
 use Rattle.filter_rules.specs.NamespaceTypes.{all_types, permits}
-use Rattle.filter_rules.specs.Actions.{allow, eperm, unless_refused, low, is_one_of}
+use Rattle.linux_numbers.specs.Errnos.{eperm}
+use Rattle.call_rules.specs.declared.actions.Action.TheVariants.{Allow}
+use Rattle.filter_rules.specs.Actions.{unless_refused, low, is_one_of}
 use Rattle.filter_rules.specs.Choices.{choice_action, whole, refused_where}
 use Rattle.filter_rules.specs.Namespaces.{forbidden_types, types_argument, has_forbidden, enters_any, refuses_namespace}
 use Rattle.filter_rules.specs.NamespacesChoice.{any_type_tests, flag_test, namespace_tests, namespaces_choice}
@@ -40,12 +42,12 @@ none_enters false true zero_type e = cc
 none_enters false false zero_type e = refl
 
 by_argument : (types : NamespaceTypes) (name : List ℕ) (input : CallData) (at : Option ℕ) → types_argument name ≡ at →
-    option_map_or (choice_action input) (option_map (λ at. refused_where (namespace_tests types name at)) at) allow
+    option_map_or (choice_action input) (option_map (λ at. refused_where (namespace_tests types name at)) at) Allow
     ≡ unless_refused eperm (enters_any name input || option_map_or (λ at. has_forbidden types (low input at)) at false)
 by_argument types name input None e = ap (unless_refused eperm) (sym (none_enters (is_one_of name (codes "unshare" ∷ codes "clone" ∷ [])) (bytes_eq name (codes "setns")) (low input 1 == 0) e))
 by_argument types name input (Some at) e = ap (unless_refused eperm) (some_test types name input at)
 
-pub namespaces_means : (types : NamespaceTypes) (name : List ℕ) (input : CallData) → option_map_or (choice_action input) (namespaces_choice types name) allow ≡ unless_refused eperm (refuses_namespace types name input)
+pub namespaces_means : (types : NamespaceTypes) (name : List ℕ) (input : CallData) → option_map_or (choice_action input) (namespaces_choice types name) Allow ≡ unless_refused eperm (refuses_namespace types name input)
 namespaces_means types name input = by_argument types name input (types_argument name) refl
 
 pub length_filter_le : {X : Type 0} (test : X → Bool) (xs : List X) → length (filter test xs) ≤ length xs

@@ -2,9 +2,10 @@
 use Rattle.std.specs.Prelude.{ℕ, if◌then◌else◌, Option, Some, None, List}
 use Rattle.call_table.specs.Table.{Table}
 use Rattle.filter_rules.specs.declared.choice.Choice.{Choice}
-use Rattle.filter_rules.specs.Actions.{errno, eperm}
+use Rattle.linux_numbers.specs.Errnos.{eperm}
+use Rattle.call_rules.specs.declared.actions.Action.TheVariants.{Errno}
 use Rattle.filter_rules.specs.Blocked.{is_blocked}
 use Rattle.filter_rules.specs.Choices.{always}
 
 abbrev pub blocked_choice : Table → List (List ℕ) → List ℕ → Option Choice
-blocked_choice table words name = if is_blocked table words name then Some (always (errno eperm)) else None
+blocked_choice table words name = if is_blocked table words name then Some (always (Errno eperm)) else None

@@ -1,12 +1,14 @@
 -- systemd.exec(5), SystemCallFilter= and SystemCallErrorNumber=: which calls are listed, and what is done to them.
-use Rattle.std.specs.Prelude.{ℕ, if◌then◌else◌, Option, Some, None, List, find, reverse, unwrap_or, option_and_then}
+use Rattle.std.specs.Prelude.{ℕ, Bool, true, false, if◌then◌else◌, Option, Some, None, List, find, reverse, unwrap_or, option_and_then}
 use Rattle.std.specs.Option.{option_map_or}
+use Rattle.call_rules.specs.declared.actions.Action.{Action}
+use Rattle.call_rules.specs.declared.actions.Action.TheVariants as action
 use Rattle.call_table.specs.Table.{Table}
 use Rattle.filter_rules.specs.declared.mentions.Mode.{Mode}
 use Rattle.filter_rules.specs.declared.mentions.Mode.TheVariants.{Allow, Deny}
 use Rattle.filter_rules.specs.declared.mentions.Mention.{Mention}
 use Rattle.filter_rules.specs.declared.mentions.CallList.{CallList}
-use Rattle.filter_rules.specs.Actions.{allow}
+use Rattle.filter_rules.specs.declared.settings.FilterSettings.{FilterSettings}
 use Rattle.filter_rules.specs.Covers.{covers}
 
 -- the last word that covers the name
@@ -22,22 +24,31 @@ abbrev pub listed_by : Table → List Mention → List ℕ → Option Mention
 listed_by table mentions name = option_and_then if_adds (last_mention table mentions name)
 
 -- what is listed is allowed, or gets the action of its word and without one the default action
-abbrev pub listed_action : Mode → ℕ → Mention → ℕ
-listed_action Allow default mention = allow
+abbrev pub listed_action : Mode → Action → Mention → Action
+listed_action Allow default mention = action.Allow
 listed_action Deny default mention = unwrap_or mention.action default
 
 -- every other call, and every number without a name, gets the default action, or is allowed
-abbrev pub unlisted_action : Mode → ℕ → ℕ
+abbrev pub unlisted_action : Mode → Action → Action
 unlisted_action Allow default = default
-unlisted_action Deny default = allow
+unlisted_action Deny default = action.Allow
 
-abbrev pub list_action : Table → ℕ → List ℕ → CallList → ℕ
+abbrev pub list_action : Table → Action → List ℕ → CallList → Action
 list_action table default name list = option_map_or (listed_action list.mode default) (listed_by table list.mentions name) (unlisted_action list.mode default)
 
 -- to a call of this name; where the setting is not set, each call is allowed
-abbrev pub call_action : Table → Option CallList → ℕ → List ℕ → ℕ
-call_action table calls default name = option_map_or (list_action table default name) calls allow
+abbrev pub call_action : Table → Option CallList → Action → List ℕ → Action
+call_action table calls default name = option_map_or (list_action table default name) calls action.Allow
 
 -- to a number without a name
-abbrev pub rest_action : Option CallList → ℕ → ℕ
-rest_action calls default = option_map_or (λ list. unlisted_action list.mode default) calls allow
+abbrev pub rest_action : Option CallList → Action → Action
+rest_action calls default = option_map_or (λ list. unlisted_action list.mode default) calls action.Allow
+
+-- the calls of a name are let through
+abbrev pub is_allowed : Action → Bool
+is_allowed action.KillProcess = false
+is_allowed (action.Errno number) = false
+is_allowed action.Allow = true
+
+abbrev pub allows_call : Table → FilterSettings → List ℕ → Bool
+allows_call table settings name = is_allowed (call_action table settings.calls settings.default_action name)

@@ -1,6 +1,7 @@
 -- SystemCallFilter=: what the rules do to a call of a name.
 use Rattle.std.specs.Prelude.{ℕ, Option, List, option_and_then}
 use Rattle.std.specs.Option.{option_map}
+use Rattle.call_rules.specs.declared.actions.Action.{Action}
 use Rattle.call_table.specs.Table.{Table}
 use Rattle.filter_rules.specs.declared.choice.Choice.{Choice}
 use Rattle.filter_rules.specs.declared.mentions.CallList.{CallList}
@@ -8,8 +9,8 @@ use Rattle.filter_rules.specs.Calls.{listed_by, listed_action}
 use Rattle.filter_rules.specs.Choices.{always}
 
 -- a rule for what is listed, and none for any other call
-abbrev pub list_choice : Table → ℕ → List ℕ → CallList → Option Choice
+abbrev pub list_choice : Table → Action → List ℕ → CallList → Option Choice
 list_choice table default name list = option_map (λ mention. always (listed_action list.mode default mention)) (listed_by table list.mentions name)
 
-abbrev pub calls_choice : Table → Option CallList → ℕ → List ℕ → Option Choice
+abbrev pub calls_choice : Table → Option CallList → Action → List ℕ → Option Choice
 calls_choice table calls default name = option_and_then (list_choice table default name) calls

@@ -9,7 +9,8 @@ use Rattle.filter_rules.specs.declared.mentions.Mode.{Mode}
 use Rattle.filter_rules.specs.declared.mentions.Mode.TheVariants.{Allow, Deny}
 use Rattle.filter_rules.specs.declared.mentions.FamilyMention.{FamilyMention}
 use Rattle.filter_rules.specs.declared.mentions.FamilyList.{FamilyList}
-use Rattle.filter_rules.specs.Actions.{allow, errno, eafnosupport}
+use Rattle.linux_numbers.specs.Errnos.{eafnosupport}
+use Rattle.call_rules.specs.declared.actions.Action.TheVariants as action
 use Rattle.filter_rules.specs.Choices.{whole}
 use Rattle.filter_rules.specs.Families.{is_listed_family}
 
@@ -18,8 +19,8 @@ abbrev pub family_tests : List FamilyMention → List CallLine → List Tested
 family_tests mentions families = map (λ family. whole 0 family.number) (filter (λ family. is_listed_family mentions family.number) families)
 
 abbrev pub family_choice : Mode → List Tested → Choice
-family_choice Allow tests = record { given = None; any = tests; action = allow; rest = errno eafnosupport }
-family_choice Deny tests = record { given = None; any = tests; action = errno eafnosupport; rest = allow }
+family_choice Allow tests = record { given = None; any = tests; action = action.Allow; rest = action.Errno eafnosupport }
+family_choice Deny tests = record { given = None; any = tests; action = action.Errno eafnosupport; rest = action.Allow }
 
 abbrev pub socket_choice : Table → FamilyList → Choice
 socket_choice table list = family_choice list.mode (family_tests list.mentions table.families)

@@ -10,6 +10,7 @@ pub mod Namespaces
 pub mod Blocked
 pub mod Personality
 pub mod Calls
+pub mod Refusing
 pub mod Wanted
 pub mod Known
 pub mod Order

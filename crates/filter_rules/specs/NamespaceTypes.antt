@@ -1,11 +1,21 @@
 -- Types of namespaces (namespaces(7)), their flags (clone(2)), and which are permitted.
-use Rattle.std.specs.Prelude.{ℕ, Bool, List, [], ◌∷◌}
+use Rattle.std.specs.Prelude.{ℕ, Bool, List, [], ◌∷◌, codes}
 use Rattle.filter_rules.specs.declared.namespace_types.NamespaceType.{NamespaceType}
 use Rattle.filter_rules.specs.declared.namespace_types.NamespaceType.TheVariants.{Cgroup, Ipc, Net, Mnt, Pid, User, Uts}
 use Rattle.filter_rules.specs.declared.namespace_types.NamespaceTypes.{NamespaceTypes}
 
 abbrev pub all_types : List NamespaceType
 all_types = Cgroup ∷ Ipc ∷ Net ∷ Mnt ∷ Pid ∷ User ∷ Uts ∷ []
+
+-- as they are written (systemd.exec(5), RestrictNamespaces=)
+abbrev pub name_of : NamespaceType → List ℕ
+name_of Cgroup = codes "cgroup"
+name_of Ipc = codes "ipc"
+name_of Net = codes "net"
+name_of Mnt = codes "mnt"
+name_of Pid = codes "pid"
+name_of User = codes "user"
+name_of Uts = codes "uts"
 
 -- CLONE_NEWCGROUP, CLONE_NEWIPC, CLONE_NEWNET, CLONE_NEWNS, CLONE_NEWPID, CLONE_NEWUSER, CLONE_NEWUTS
 abbrev pub flag_of : NamespaceType → ℕ

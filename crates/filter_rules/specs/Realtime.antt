@@ -4,9 +4,17 @@ use Rattle.std.specs.Str.{bytes_eq}
 use Rattle.bpf_code.specs.declared.machine.CallData.{CallData}
 use Rattle.filter_rules.specs.Actions.{low}
 
--- SCHED_OTHER, SCHED_BATCH and SCHED_IDLE
+abbrev pub sched_other : ℕ
+sched_other = 0
+
+abbrev pub sched_batch : ℕ
+sched_batch = 3
+
+abbrev pub sched_idle : ℕ
+sched_idle = 5
+
 abbrev pub is_ordinary : ℕ → Bool
-is_ordinary policy = policy == 0 || (policy == 3 || policy == 5)
+is_ordinary policy = policy == sched_other || (policy == sched_batch || policy == sched_idle)
 
 -- sched_setscheduler(2) with another policy, which is argument 1
 abbrev pub refuses_policy : List ℕ → CallData → Bool

@@ -3,6 +3,7 @@ use Rattle.std.specs.Prelude.{ℕ, if◌then◌else◌, Option, Some, None, List
 use Rattle.std.specs.Str.{bytes_eq}
 use Rattle.filter_rules.specs.declared.choice.Choice.{Choice}
 use Rattle.filter_rules.specs.Choices.{whole, allowed_where}
+use Rattle.filter_rules.specs.Realtime.{sched_other, sched_batch, sched_idle}
 
 abbrev pub realtime_choice : List ℕ → Option Choice
-realtime_choice name = if bytes_eq name (codes "sched_setscheduler") then Some (allowed_where (whole 1 0 ∷ whole 1 3 ∷ whole 1 5 ∷ [])) else None
+realtime_choice name = if bytes_eq name (codes "sched_setscheduler") then Some (allowed_where (whole 1 sched_other ∷ whole 1 sched_batch ∷ whole 1 sched_idle ∷ [])) else None

@@ -3,7 +3,8 @@ use Rattle.std.specs.Prelude.{ℕ, Option, List, [], ◌∷◌}
 use Rattle.std.specs.Option.{option_map}
 use Rattle.call_rules.specs.Tested.{Tested}
 use Rattle.filter_rules.specs.declared.choice.Choice.{Choice}
-use Rattle.filter_rules.specs.Actions.{allow, errno, eperm}
+use Rattle.linux_numbers.specs.Errnos.{eperm}
+use Rattle.call_rules.specs.declared.actions.Action.TheVariants.{Errno, Allow}
 use Rattle.filter_rules.specs.Suid.{mode_argument, flags_argument, set_user_id, set_group_id, o_creat}
 use Rattle.filter_rules.specs.Choices.{bits}
 
@@ -12,7 +13,7 @@ abbrev pub mode_test : List ℕ → Option Tested
 mode_test name = option_map (λ at. bits at o_creat) (flags_argument name)
 
 abbrev pub mode_choice : Option Tested → ℕ → Choice
-mode_choice given at = record { given = given; any = bits at set_user_id ∷ bits at set_group_id ∷ []; action = errno eperm; rest = allow }
+mode_choice given at = record { given = given; any = bits at set_user_id ∷ bits at set_group_id ∷ []; action = Errno eperm; rest = Allow }
 
 abbrev pub suid_choice : List ℕ → Option Choice
 suid_choice name = option_map (mode_choice (mode_test name)) (mode_argument name)

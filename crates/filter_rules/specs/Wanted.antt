@@ -4,12 +4,15 @@ use Rattle.std.specs.Prelude.{ℕ, ◌==◌, not, if◌then◌else◌, Bool, Lis
 use Rattle.std.specs.Option.{option_map_or}
 use Rattle.std.specs.List.{list_all}
 use Rattle.bpf_code.specs.declared.machine.CallData.{CallData}
+use Rattle.call_rules.specs.declared.actions.Action.{Action}
+use Rattle.call_rules.specs.declared.actions.Action.TheVariants.{KillProcess, Allow}
 use Rattle.call_table.specs.Table.{Table}
 use Rattle.call_table.specs.Lookups.{numbered}
 use Rattle.filter_rules.specs.declared.settings.FilterSettings.{FilterSettings}
 use Rattle.filter_rules.specs.declared.names.FilterName.{FilterName}
 use Rattle.filter_rules.specs.declared.names.FilterName.TheVariants.{Families, MemoryDenyWriteExecute, Realtime, Suid, Namespaces, Hostname, Modules, Logs, Clock, Devices, Personality, Calls}
-use Rattle.filter_rules.specs.Actions.{allow, kill_process, eperm, eafnosupport, unless_refused}
+use Rattle.linux_numbers.specs.Errnos.{eperm, eafnosupport}
+use Rattle.filter_rules.specs.Actions.{unless_refused}
 use Rattle.filter_rules.specs.Families.{refuses_family}
 use Rattle.filter_rules.specs.Mapping.{refuses_mapping}
 use Rattle.filter_rules.specs.Realtime.{refuses_policy}
@@ -36,7 +39,7 @@ is_on settings Personality = settings.lock_personality
 is_on settings Calls = is_some settings.calls
 
 -- what a filter does to a call of this name
-abbrev pub named_action : FilterName → FilterSettings → Table → List ℕ → CallData → ℕ
+abbrev pub named_action : FilterName → FilterSettings → Table → List ℕ → CallData → Action
 named_action Families settings table name input = unless_refused eafnosupport (refuses_family settings.families name input)
 named_action MemoryDenyWriteExecute settings table name input = unless_refused eperm (refuses_mapping name input)
 named_action Realtime settings table name input = unless_refused eperm (refuses_policy name input)
@@ -51,23 +54,23 @@ named_action Personality settings table name input = unless_refused eperm (refus
 named_action Calls settings table name input = call_action table settings.calls settings.default_action name
 
 -- what a filter does to a number without a name
-abbrev pub unnamed_action : FilterName → FilterSettings → ℕ
-unnamed_action Families settings = allow
-unnamed_action MemoryDenyWriteExecute settings = allow
-unnamed_action Realtime settings = allow
-unnamed_action Suid settings = allow
-unnamed_action Namespaces settings = allow
-unnamed_action Hostname settings = allow
-unnamed_action Modules settings = allow
-unnamed_action Logs settings = allow
-unnamed_action Clock settings = allow
-unnamed_action Devices settings = allow
-unnamed_action Personality settings = allow
+abbrev pub unnamed_action : FilterName → FilterSettings → Action
+unnamed_action Families settings = Allow
+unnamed_action MemoryDenyWriteExecute settings = Allow
+unnamed_action Realtime settings = Allow
+unnamed_action Suid settings = Allow
+unnamed_action Namespaces settings = Allow
+unnamed_action Hostname settings = Allow
+unnamed_action Modules settings = Allow
+unnamed_action Logs settings = Allow
+unnamed_action Clock settings = Allow
+unnamed_action Devices settings = Allow
+unnamed_action Personality settings = Allow
 unnamed_action Calls settings = rest_action settings.calls settings.default_action
 
 -- another architecture than the table's ends the process; else the name of the number decides
-abbrev pub wanted_action : FilterName → FilterSettings → Table → CallData → ℕ
+abbrev pub wanted_action : FilterName → FilterSettings → Table → CallData → Action
 wanted_action filter settings table input =
     if input.arch == table.arch
     then option_map_or (λ call. named_action filter settings table call.name input) (numbered input.nr table.calls) (unnamed_action filter settings)
-    else kill_process
+    else KillProcess

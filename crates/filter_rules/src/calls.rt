@@ -1,13 +1,14 @@
 //! SystemCallFilter= and SystemCallErrorNumber=: which calls are listed, and what is done to them.
 ghost use Rattle.std.specs.Prelude.{◌≡◌};
 ghost use Rattle.std.specs.Option.{option_copied};
-ghost use Rattle.filter_rules.specs.Calls.{last_mention, listed_by, listed_action, unlisted_action, rest_action};
+ghost use Rattle.filter_rules.specs.Calls.{last_mention, listed_by, listed_action, unlisted_action, list_action, rest_action, allows_call};
 ghost use Rattle.filter_rules.specs.CallsChoice.{list_choice, calls_choice};
 
 use crate::choice::{Choice, always};
 use crate::covers::covers;
 use crate::mentions::{CallList, Mention, Mode};
-use call_rules::actions::ALLOW;
+use crate::settings::FilterSettings;
+use call_rules::Action;
 use call_table::CallTable;
 use std::alloc::Global;
 
@@ -30,38 +31,57 @@ fn listed_by<'m>(table: &CallTable, mentions: &'m [Mention], name: &str) -> Opti
     }
 }
 
-fn listed_action(mode: Mode, default: u32, mention: &Mention) -> u32
+fn listed_action(mode: Mode, default: Action, mention: &Mention) -> Action
     ensures { result ≡ listed_action mode default mention.now }
 {
     match mode {
-        Mode::Allow => ALLOW,
+        Mode::Allow => Action::Allow,
         Mode::Deny => mention.action.unwrap_or(default),
     }
 }
 
-fn unlisted_action(mode: Mode, default: u32) -> u32
+fn unlisted_action(mode: Mode, default: Action) -> Action
     ensures { result ≡ unlisted_action mode default }
 {
     match mode {
         Mode::Allow => default,
-        Mode::Deny => ALLOW,
+        Mode::Deny => Action::Allow,
     }
 }
 
 /// What is done to every call that is not listed, and to every number without a name.
-pub fn rest_action(calls: &Option<CallList>, default: u32) -> u32
+pub fn rest_action(calls: &Option<CallList>, default: Action) -> Action
     ensures { result ≡ rest_action calls.now default }
 {
     match calls {
         Some(list) => unlisted_action(list.mode, default),
-        None => ALLOW,
+        None => Action::Allow,
+    }
+}
+
+fn list_action(table: &CallTable, default: Action, name: &str, list: &CallList) -> Action
+    ensures { result ≡ list_action table.now default name.now list.now }
+{
+    match listed_by(table, list.mentions.list(), name) {
+        Some(mention) => listed_action(list.mode, default, mention),
+        None => unlisted_action(list.mode, default),
+    }
+}
+
+/// Whether SystemCallFilter= lets calls of this name through: it does where it is not set.
+pub fn allows_call(table: &CallTable, settings: &FilterSettings, name: &str) -> bool
+    ensures { result ≡ allows_call table.now settings.now name.now }
+{
+    match &settings.calls {
+        Some(list) => list_action(table, settings.default_action, name, list) == Action::Allow,
+        None => true,
     }
 }
 
 fn list_choice(
     alloc: Global,
     table: &CallTable,
-    default: u32,
+    default: Action,
     name: &str,
     list: &CallList,
 ) -> Option<Choice>
@@ -78,7 +98,7 @@ pub fn calls_choice(
     alloc: Global,
     table: &CallTable,
     calls: &Option<CallList>,
-    default: u32,
+    default: Action,
     name: &str,
 ) -> Option<Choice>
     ensures { result ≡ calls_choice table.now calls.now default name.now }

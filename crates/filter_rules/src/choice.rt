@@ -2,12 +2,12 @@
 ghost use Rattle.std.specs.Prelude.{◌≡◌, ◌≤◌, map, IfOk};
 ghost use Rattle.filter_rules.specs.Choices.{bits, whole, always, refused_where, allowed_where, case_with, rule_with};
 
-use call_rules::actions::ALLOW;
-use call_rules::{CallRule, Case, Cases, Test, Tests};
+use call_rules::{Action, CallRule, Case, Cases, Test, Tests};
+use linux_numbers::errnos::EPERM;
 use std::alloc::{AllocError, Global};
 
-/// SECCOMP_RET_ERRNO with EPERM: the call is not made, and is not permitted (seccomp(2), errno(3)).
-pub const NOT_PERMITTED: u32 = 0x0005_0001;
+/// The call is not permitted (errno(3)).
+pub const NOT_PERMITTED: Action = Action::Errno(EPERM as u16);
 
 /// One action where some test holds, and another for the rest.
 #[derive(Drop)]
@@ -16,8 +16,8 @@ pub struct Choice {
     pub given: Option<Test>,
     pub any: Tests,
     /// The action where one of them holds.
-    pub action: u32,
-    pub rest: u32,
+    pub action: Action,
+    pub rest: Action,
 }
 
 /// The test that these bits are set in the argument, which counts from 0.
@@ -37,7 +37,7 @@ pub fn whole(arg: u8, value: u32) -> Test
 }
 
 /// This action whatever the arguments are.
-pub fn always(alloc: Global, action: u32) -> Choice
+pub fn always(alloc: Global, action: Action) -> Choice
     ensures { result ≡ always action }
 {
     Choice {
@@ -66,7 +66,7 @@ pub fn refused_where(alloc: Global, tests: &[Test]) -> Result<Choice, AllocError
         given: None,
         any,
         action: NOT_PERMITTED,
-        rest: ALLOW,
+        rest: Action::Allow,
     })
 }
 
@@ -78,7 +78,7 @@ pub fn allowed_where(alloc: Global, tests: &[Test]) -> Result<Choice, AllocError
     Ok(Choice {
         given: None,
         any,
-        action: ALLOW,
+        action: Action::Allow,
         rest: NOT_PERMITTED,
     })
 }
@@ -86,7 +86,7 @@ pub fn allowed_where(alloc: Global, tests: &[Test]) -> Result<Choice, AllocError
 fn case_with(
     alloc: Global,
     given: Option<Test>,
-    action: u32,
+    action: Action,
     test: Test,
 ) -> Result<Case, AllocError>
     ensures { IfOk result (λ case. case ≡ case_with given action test) }

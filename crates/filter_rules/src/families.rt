@@ -1,18 +1,18 @@
 //! RestrictAddressFamilies=: which address families socket(2) may be asked for.
 ghost use Rattle.std.specs.Prelude.{◌≡◌, IfOk};
 ghost use Rattle.std.specs.Option.{option_copied};
-ghost use Rattle.filter_rules.specs.Families.{last_family, is_listed_family};
+ghost use Rattle.filter_rules.specs.Families.{last_family, is_listed_family, is_refused_by, permits_family};
 ghost use Rattle.filter_rules.specs.FamiliesChoice.{family_tests, family_choice, socket_choice, families_choice};
 
 use crate::choice::{Choice, whole};
 use crate::mentions::{FamilyList, FamilyMention, Mode};
-use call_rules::Tests;
-use call_rules::actions::ALLOW;
+use call_rules::{Action, Tests};
 use call_table::{CallLine, CallTable};
+use linux_numbers::errnos::EAFNOSUPPORT;
 use std::alloc::{AllocError, Global};
 
-/// SECCOMP_RET_ERRNO with EAFNOSUPPORT (seccomp(2), errno(3)).
-const FAMILY_NOT_SUPPORTED: u32 = 0x0005_0061;
+/// The address family is not supported (errno(3)).
+const FAMILY_NOT_SUPPORTED: Action = Action::Errno(EAFNOSUPPORT as u16);
 
 // The last word that mentions the family.
 fn last_family(mentions: &[FamilyMention], number: u32) -> Option<&FamilyMention>
@@ -30,6 +30,25 @@ fn is_listed(mentions: &[FamilyMention], number: u32) -> bool
     match last_family(mentions, number) {
         Some(mention) => mention.adds,
         None => false,
+    }
+}
+
+fn is_refused_by(mode: Mode, is_listed: bool) -> bool
+    ensures { result ≡ is_refused_by mode is_listed }
+{
+    match mode {
+        Mode::Allow => !is_listed,
+        Mode::Deny => is_listed,
+    }
+}
+
+/// Whether socket(2) may be asked for the family of this number, AF_* of socket(2).
+pub fn permits_family(families: &Option<FamilyList>, number: u32) -> bool
+    ensures { result ≡ permits_family families.now number }
+{
+    match families {
+        Some(list) => !is_refused_by(list.mode, is_listed(list.mentions.list(), number)),
+        None => true,
     }
 }
 
@@ -56,14 +75,14 @@ fn choice_by(mode: Mode, any: Tests) -> Choice
         Mode::Allow => Choice {
             given: None,
             any,
-            action: ALLOW,
+            action: Action::Allow,
             rest: FAMILY_NOT_SUPPORTED,
         },
         Mode::Deny => Choice {
             given: None,
             any,
             action: FAMILY_NOT_SUPPORTED,
-            rest: ALLOW,
+            rest: Action::Allow,
         },
     }
 }

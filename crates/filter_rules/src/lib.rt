@@ -6,7 +6,7 @@
 //! mean; the readers of unit files fill [`FilterSettings`].
 //!
 //! `filters(alloc, &table, &settings)?` has one [`Filter`] for each setting that is on, in the order in which
-//! filters are installed.
+//! filters are installed. [`permits_family`] and [`allows_call`] say what two of the settings let through.
 #![tactic(auto)]
 
 mod blocked;
@@ -15,7 +15,6 @@ mod choice;
 mod covers;
 mod families;
 mod installed;
-mod known;
 mod mapping;
 mod mentions;
 mod names;
@@ -28,12 +27,10 @@ mod rules;
 mod settings;
 mod suid;
 
+pub use calls::allows_call;
+pub use families::permits_family;
 pub use installed::{Filter, filters};
-pub use known::has_known_families;
 pub use mentions::{CallList, FamilyList, FamilyMention, FamilyMentions, Mention, Mentions, Mode};
-pub use names::{ALL_FILTERS, FilterName};
-pub use namespace_types::{ALL_NAMESPACE_TYPES, NamespaceType, NamespaceTypes};
+pub use names::FilterName;
+pub use namespace_types::{NamespaceType, NamespaceTypes, all_types};
 pub use settings::FilterSettings;
-
-#[cfg(test)]
-mod tests;

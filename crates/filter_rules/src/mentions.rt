@@ -3,12 +3,13 @@
 //! Nothing is taken out of such a list: of several mentions of one thing the last decides.
 ghost use Rattle.std.specs.Prelude.{◌≡◌, ◌++◌, ◌∷◌, [], OnOk, OnErr};
 
+use call_rules::Action;
 use std::alloc::AllocError;
 use std::marker::Model;
 use unit_grammar::Text;
 
 /// What a list is for (systemd.exec(5), SystemCallFilter= and RestrictAddressFamilies=).
-#[derive(Clone, Copy, Debug, PartialEq, Eq)]
+#[derive(Clone, Copy, PartialEq, Eq)]
 pub enum Mode {
     /// What is listed is allowed, and nothing else.
     Allow,
@@ -17,18 +18,18 @@ pub enum Mode {
 }
 
 /// One word of a SystemCallFilter= line that is in force.
-#[derive(Debug, Drop)]
+#[derive(Drop)]
 pub struct Mention {
     /// Whether the word puts calls on the list, or takes them off.
     pub adds: bool,
     /// The name of a call, or `@` and the name of a group.
     pub name: Text,
-    /// The action that the word's suffix asks for (seccomp(2)): only on an added word of a list that denies.
-    pub action: Option<u32>,
+    /// The action that the word's suffix asks for: only on an added word of a list that denies.
+    pub action: Option<Action>,
 }
 
 /// Words of SystemCallFilter= lines in their order, which contracts see as a list.
-#[derive(Debug, Drop)]
+#[derive(Drop)]
 pub struct Mentions {
     items: Vec<Mention>,
 }
@@ -68,14 +69,14 @@ impl Mentions {
 }
 
 /// A list of system calls. In allow mode the reader of the setting puts `@default` first.
-#[derive(Debug, Drop)]
+#[derive(Drop)]
 pub struct CallList {
     pub mode: Mode,
     pub mentions: Mentions,
 }
 
 /// One word of a RestrictAddressFamilies= line that is in force.
-#[derive(Clone, Copy, Debug, PartialEq, Eq)]
+#[derive(Clone, Copy)]
 pub struct FamilyMention {
     /// Whether the word puts the family on the list, or takes it off.
     pub adds: bool,
@@ -84,7 +85,7 @@ pub struct FamilyMention {
 }
 
 /// Words of RestrictAddressFamilies= lines in their order, which contracts see as a list.
-#[derive(Debug, Drop)]
+#[derive(Drop)]
 pub struct FamilyMentions {
     items: Vec<FamilyMention>,
 }
@@ -124,7 +125,7 @@ impl FamilyMentions {
 }
 
 /// A list of address families.
-#[derive(Debug, Drop)]
+#[derive(Drop)]
 pub struct FamilyList {
     pub mode: Mode,
     pub mentions: FamilyMentions,

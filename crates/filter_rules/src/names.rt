@@ -3,7 +3,7 @@ ghost use Rattle.std.specs.Prelude.{◌≡◌};
 ghost use Rattle.filter_rules.specs.Names.{all_filters, text_of};
 
 /// A filter, by the setting that asks for it (systemd.exec(5)).
-#[derive(Clone, Copy, Debug, PartialEq, Eq)]
+#[derive(Clone, Copy)]
 pub enum FilterName {
     /// RestrictAddressFamilies=
     Families,
@@ -31,22 +31,6 @@ pub enum FilterName {
     Calls,
 }
 
-/// The filters in the order in which they are installed.
-pub const ALL_FILTERS: [FilterName; 12] = [
-    FilterName::Families,
-    FilterName::MemoryDenyWriteExecute,
-    FilterName::Realtime,
-    FilterName::Suid,
-    FilterName::Namespaces,
-    FilterName::Hostname,
-    FilterName::Modules,
-    FilterName::Logs,
-    FilterName::Clock,
-    FilterName::Devices,
-    FilterName::Personality,
-    FilterName::Calls,
-];
-
 impl FilterName {
     /// The name as it is printed.
     pub fn text(self) -> &'static str
@@ -70,8 +54,21 @@ impl FilterName {
 }
 
 /// The filters in the order in which they are installed.
-pub(crate) fn all_filters() -> &'static [FilterName]
+pub fn all_filters() -> &'static [FilterName]
     ensures { result.now ≡ all_filters }
 {
-    &ALL_FILTERS
+    &[
+        FilterName::Families,
+        FilterName::MemoryDenyWriteExecute,
+        FilterName::Realtime,
+        FilterName::Suid,
+        FilterName::Namespaces,
+        FilterName::Hostname,
+        FilterName::Modules,
+        FilterName::Logs,
+        FilterName::Clock,
+        FilterName::Devices,
+        FilterName::Personality,
+        FilterName::Calls,
+    ]
 }

@@ -1,9 +1,9 @@
 //! Types of namespaces (namespaces(7)), and which of them are permitted.
 ghost use Rattle.std.specs.Prelude.{◌≡◌};
-ghost use Rattle.filter_rules.specs.NamespaceTypes.{all_types, flag_of, permits};
+ghost use Rattle.filter_rules.specs.NamespaceTypes.{all_types, flag_of, name_of, permits};
 
 /// A type of namespaces (namespaces(7)).
-#[derive(Clone, Copy, Debug, PartialEq, Eq)]
+#[derive(Clone, Copy)]
 pub enum NamespaceType {
     Cgroup,
     Ipc,
@@ -14,18 +14,22 @@ pub enum NamespaceType {
     Uts,
 }
 
-/// The types in their order (systemd.exec(5), RestrictNamespaces=).
-pub const ALL_NAMESPACE_TYPES: [NamespaceType; 7] = [
-    NamespaceType::Cgroup,
-    NamespaceType::Ipc,
-    NamespaceType::Net,
-    NamespaceType::Mnt,
-    NamespaceType::Pid,
-    NamespaceType::User,
-    NamespaceType::Uts,
-];
-
 impl NamespaceType {
+    /// The type as it is written (systemd.exec(5), RestrictNamespaces=).
+    pub fn name(self) -> &'static str
+        ensures { result.now ≡ name_of self }
+    {
+        match self {
+            NamespaceType::Cgroup => "cgroup",
+            NamespaceType::Ipc => "ipc",
+            NamespaceType::Net => "net",
+            NamespaceType::Mnt => "mnt",
+            NamespaceType::Pid => "pid",
+            NamespaceType::User => "user",
+            NamespaceType::Uts => "uts",
+        }
+    }
+
     /// The flag of this type, CLONE_NEW* of clone(2).
     pub fn flag(self) -> u32
         ensures { result ≡ flag_of self }
@@ -43,7 +47,7 @@ impl NamespaceType {
 }
 
 /// Which types of namespaces a process may make and enter: true is permitted.
-#[derive(Clone, Copy, Debug, PartialEq, Eq)]
+#[derive(Clone, Copy)]
 pub struct NamespaceTypes {
     pub cgroup: bool,
     pub ipc: bool,
@@ -71,9 +75,17 @@ impl NamespaceTypes {
     }
 }
 
-/// The types in their order.
-pub(crate) fn all_types() -> &'static [NamespaceType]
+/// The types in their order (systemd.exec(5), RestrictNamespaces=).
+pub fn all_types() -> &'static [NamespaceType]
     ensures { result.now ≡ all_types }
 {
-    &ALL_NAMESPACE_TYPES
+    &[
+        NamespaceType::Cgroup,
+        NamespaceType::Ipc,
+        NamespaceType::Net,
+        NamespaceType::Mnt,
+        NamespaceType::Pid,
+        NamespaceType::User,
+        NamespaceType::Uts,
+    ]
 }

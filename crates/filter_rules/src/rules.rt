@@ -19,8 +19,7 @@ use crate::personality::personality_choice;
 use crate::realtime::realtime_choice;
 use crate::settings::FilterSettings;
 use crate::suid::suid_choice;
-use call_rules::actions::ALLOW;
-use call_rules::{CallRule, CallRules, RuleSet};
+use call_rules::{Action, CallRule, CallRules, RuleSet};
 use call_table::{CallLine, CallTable};
 use std::alloc::{AllocError, Global};
 
@@ -57,12 +56,12 @@ fn choice_of(
 }
 
 // What the filter does to a number without a name.
-fn unnamed_action(settings: &FilterSettings, filter: FilterName) -> u32
+fn unnamed_action(settings: &FilterSettings, filter: FilterName) -> Action
     ensures { result ≡ unnamed_action filter settings.now }
 {
     match filter {
         FilterName::Calls => rest_action(&settings.calls, settings.default_action),
-        _ => ALLOW,
+        _ => Action::Allow,
     }
 }
 

@@ -1,14 +1,15 @@
 //! What the settings of a unit ask of its filters.
 use crate::mentions::{CallList, FamilyList};
 use crate::namespace_types::NamespaceTypes;
+use call_rules::Action;
 
 /// What the settings of a unit come to, as far as filters go (systemd.exec(5)).
-#[derive(Debug, Drop)]
+#[derive(Drop)]
 pub struct FilterSettings {
     /// SystemCallFilter=, where it is set.
     pub calls: Option<CallList>,
-    /// SystemCallErrorNumber= as an action of seccomp(2): what is done to the calls that SystemCallFilter= refuses.
-    pub default_action: u32,
+    /// SystemCallErrorNumber=: what is done to the calls that SystemCallFilter= refuses.
+    pub default_action: Action,
     /// RestrictAddressFamilies=, where it is set.
     pub families: Option<FamilyList>,
     /// RestrictNamespaces=

@@ -1,6 +1,8 @@
-pub mod Errors
-pub mod Fronts
-pub mod ListedCalls
-pub mod ListedFamilies
-pub mod Permitting
-pub mod KnownOnes
+mod Fronts
+mod Chained
+mod Each
+mod NextModes
+mod Permitting
+mod Joined
+mod KnownOnes
+pub mod Refusals

@@ -1,20 +1,20 @@
 -- systemd.exec(5), SystemCallFilter=: which calls are listed.
-use Rattle.std.specs.Prelude.{ℕ, ◌==◌, true, cond, Option, Some, None, List, [], ◌∷◌, ◌++◌, codes, length, flat_map}
+use Rattle.std.specs.Prelude.{ℕ, Bool, Option, Some, None, List, [], ◌∷◌, ◌++◌, codes, flat_map, true}
 use Rattle.std.specs.List.{filter_map}
-use Rattle.unit_grammar.specs.declared.notes.NoteCause.{NoteCause}
-use Rattle.unit_grammar.specs.declared.notes.NoteCause.TheVariants.{Value as ValueCause}
+use Rattle.unit_grammar.specs.Before.{with_before}
 use Rattle.dropin_merge.specs.declared.resolved.Resolved.{Resolved}
+use Rattle.unit_values.specs.declared.lines.Line.{Line}
+use Rattle.unit_values.specs.declared.listed.Listed.{Listed}
 use Rattle.unit_values.specs.declared.value.FileNote.{FileNote}
 use Rattle.unit_values.specs.declared.value.Value.{Value}
-use Rattle.unit_values.specs.Values.{values_of, notes_of}
+use Rattle.unit_values.specs.Listed.{unit_listed, unit_listed_notes}
+use Rattle.unit_values.specs.Notes.{notes_at}
 use Rattle.call_table.specs.Table.{Table}
 use Rattle.filter_rules.specs.declared.mentions.Mode.{Mode}
 use Rattle.filter_rules.specs.declared.mentions.Mode.TheVariants.{Allow, Deny}
 use Rattle.filter_rules.specs.declared.mentions.Mention.{Mention}
 use Rattle.filter_rules.specs.declared.mentions.CallList.{CallList}
-use Rattle.unit_values.specs.declared.lines.Line.{Line}
-use Rattle.unit_values.specs.Notes.{noted}
-use Rattle.unit_values.specs.Lines.{line_of, lines_of}
+use Rattle.filter_settings.specs.Lines.{in_force}
 use Rattle.filter_settings.specs.Modes.{mode_of, adds_to, mode_behind}
 use Rattle.filter_settings.specs.CallWords.{word_mention, word_causes}
 
@@ -27,31 +27,29 @@ abbrev pub implied : Mode → List Mention
 implied Allow = record { adds = true; name = codes "@default"; action = None } ∷ []
 implied Deny = []
 
+abbrev pub list_of : Table → Mode → List Listed → CallList
+list_of table mode lines = record { mode = mode; mentions = implied mode ++ flat_map (λ one. line_mentions table mode one.line) lines }
+
 -- the first line fixes the mode, and the mentions of all lines stand in their order
-abbrev pub listed : Table → List Line → Option CallList
-listed table [] = None
-listed table (first ∷ more) =
-    Some (record { mode = mode_of first; mentions = implied (mode_of first) ++ flat_map (line_mentions table (mode_of first)) (first ∷ more) })
+abbrev pub call_list : Table → List Listed → Option CallList
+call_list table [] = None
+call_list table (first ∷ more) = Some (list_of table (mode_of first.line) (first ∷ more))
 
-abbrev pub call_list_of : Table → List Value → Option CallList
-call_list_of table values = listed table (lines_of values)
+-- what is noted of a word, at the place of its value
+abbrev pub word_notes : Table → Mode → Bool → Value → List ℕ → List FileNote
+word_notes table mode adds value word = notes_at value (word_causes table mode adds word)
 
--- what is wrong with a line behind other lines: it cannot be split, or with its words
-abbrev pub line_causes : Table → List Line → Option Line → List NoteCause
-line_causes table lines None = ValueCause ∷ []
-line_causes table lines (Some line) = flat_map (word_causes table (mode_behind lines line) (adds_to (mode_behind lines line) line)) line.words
+abbrev pub line_notes : Table → Mode → Listed → List FileNote
+line_notes table mode one = flat_map (word_notes table mode (adds_to mode one.line) one.value) one.line.words
 
--- an empty value resets, and is not noted
-abbrev pub call_causes : Table → List Value × Value → List NoteCause
-call_causes table place = cond (length place.1.text == 0) [] (line_causes table (lines_of place.0) (line_of place.1.text))
-
-abbrev pub call_list_notes : Table → List Value → List FileNote
-call_list_notes table values = noted (call_causes table) values
+-- of each line by the mode of the list that it is added to; an empty value has no words
+abbrev pub call_notes : Table → List Listed → List FileNote
+call_notes table all = flat_map (λ place. line_notes table (mode_behind place.0 place.1) place.1) (with_before [] all)
 
 -- what the files of a unit say of such a key
 unfoldable pub unit_call_list : Resolved → Table → List ℕ → Option CallList
-unit_call_list unit table key = call_list_of table (values_of unit key)
+unit_call_list unit table key = call_list table (in_force (unit_listed unit key))
 
--- and what is noted: values that cannot be expanded, then the rest
+-- and what is noted: values that cannot be read, then words
 unfoldable pub unit_call_list_notes : Resolved → Table → List ℕ → List FileNote
-unit_call_list_notes unit table key = notes_of unit key ++ call_list_notes table (values_of unit key)
+unit_call_list_notes unit table key = unit_listed_notes unit key ++ call_notes table (unit_listed unit key)

@@ -1,9 +1,11 @@
 -- systemd.exec(5), SystemCallFilter=: what a word of a line says.
 use Rattle.std.specs.Prelude.{ℕ, is_some, Bool, true, false, if◌then◌else◌, Option, Some, None, List, [], ◌∷◌, ◌++◌}
 use Rattle.std.specs.Option.{option_map}
+use Rattle.std.specs.Str.{byte as ascii}
 use Rattle.unit_grammar.specs.Kinds.{cut_at}
 use Rattle.unit_grammar.specs.declared.notes.NoteCause.{NoteCause}
 use Rattle.unit_grammar.specs.declared.notes.NoteCause.TheVariants.{Value as ValueCause, UnknownName}
+use Rattle.call_rules.specs.declared.actions.Action.{Action}
 use Rattle.call_table.specs.Table.{Table}
 use Rattle.call_table.specs.Names.{behind_at}
 use Rattle.call_table.specs.Lookups.{place_named, group_named}
@@ -13,14 +15,10 @@ use Rattle.filter_rules.specs.declared.mentions.Mention.{Mention}
 use Rattle.filter_settings.specs.ErrorActions.{error_action}
 use Rattle.filter_settings.specs.declared.call_words.CallWord.{CallWord as ReadWord}
 
--- `:`
-abbrev pub colon : ℕ
-colon = 58
-
 -- a word as it is read: the name, the action of its suffix, and whether it has a suffix that counts for nothing
 pub record CallWord : Type 0 where
   pub name : List ℕ
-  pub action : Option ℕ
+  pub action : Option Action
   pub has_stray : Bool
 
 -- only an added word of a list that denies may have a suffix
@@ -39,7 +37,7 @@ word_of_sides may word (Some sides) = suffixed may sides.0 sides.1
 
 -- the suffix stands behind the first colon; names have none
 abbrev pub word_of : Bool → List ℕ → Option CallWord
-word_of may word = word_of_sides may word (cut_at colon word)
+word_of may word = word_of_sides may word (cut_at (ascii ":") word)
 
 abbrev pub is_known_by : Table → List ℕ → Option (List ℕ) → Bool
 is_known_by table name None = is_some (place_named name table.calls)

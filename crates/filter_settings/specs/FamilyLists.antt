@@ -1,23 +1,24 @@
 -- systemd.exec(5), RestrictAddressFamilies=: which address families are listed.
-use Rattle.std.specs.Prelude.{ℕ, ◌==◌, ◌&&◌, not, Bool, false, cond, Option, Some, None, List, [], ◌∷◌, ◌++◌, codes, length, flat_map}
+use Rattle.std.specs.Prelude.{ℕ, ◌&&◌, not, Bool, false, cond, Option, Some, None, List, [], ◌∷◌, ◌++◌, codes, flat_map}
 use Rattle.std.specs.Option.{option_map}
 use Rattle.std.specs.List.{filter_map, after_last, list_any}
 use Rattle.std.specs.Str.{bytes_eq}
 use Rattle.unit_grammar.specs.declared.notes.NoteCause.{NoteCause}
-use Rattle.unit_grammar.specs.declared.notes.NoteCause.TheVariants.{Value as ValueCause, UnknownName}
+use Rattle.unit_grammar.specs.declared.notes.NoteCause.TheVariants.{UnknownName}
 use Rattle.dropin_merge.specs.declared.resolved.Resolved.{Resolved}
+use Rattle.unit_values.specs.declared.lines.Line.{Line}
+use Rattle.unit_values.specs.declared.listed.Listed.{Listed}
 use Rattle.unit_values.specs.declared.value.FileNote.{FileNote}
 use Rattle.unit_values.specs.declared.value.Value.{Value}
-use Rattle.unit_values.specs.Values.{values_of, notes_of}
+use Rattle.unit_values.specs.Listed.{unit_listed, unit_listed_notes}
+use Rattle.unit_values.specs.Notes.{notes_at}
 use Rattle.call_table.specs.Table.{Table}
 use Rattle.call_table.specs.Lookups.{named}
 use Rattle.filter_rules.specs.declared.mentions.Mode.{Mode}
 use Rattle.filter_rules.specs.declared.mentions.Mode.TheVariants.{Allow}
 use Rattle.filter_rules.specs.declared.mentions.FamilyMention.{FamilyMention}
 use Rattle.filter_rules.specs.declared.mentions.FamilyList.{FamilyList}
-use Rattle.unit_values.specs.declared.lines.Line.{Line}
-use Rattle.unit_values.specs.Notes.{noted}
-use Rattle.unit_values.specs.Lines.{line_of, lines_of}
+use Rattle.filter_settings.specs.Lines.{in_force}
 use Rattle.filter_settings.specs.Modes.{mode_of, adds_to}
 
 -- the number that the table has for a family
@@ -37,46 +38,40 @@ is_none_word [] = false
 is_none_word (word ∷ []) = bytes_eq word (codes "none")
 is_none_word (word ∷ other ∷ words) = false
 
-abbrev pub is_none_line : Line → Bool
-is_none_line line = not line.is_inverted && is_none_word line.words
+abbrev pub is_none_line : Listed → Bool
+is_none_line one = not one.line.is_inverted && is_none_word one.line.words
+
+abbrev pub list_of : Table → Mode → List Listed → FamilyList
+list_of table mode lines = record { mode = mode; mentions = flat_map (λ one. family_mentions table mode one.line) lines }
 
 -- the first line fixes the mode, and the mentions of all lines stand in their order
-abbrev pub begun_by : Table → List Line → Option FamilyList
+abbrev pub begun_by : Table → List Listed → Option FamilyList
 begun_by table [] = None
-begun_by table (first ∷ more) = Some (record { mode = mode_of first; mentions = flat_map (family_mentions table (mode_of first)) (first ∷ more) })
+begun_by table (first ∷ more) = Some (list_of table (mode_of first.line) (first ∷ more))
 
--- behind `none` lines go on from a list that allows nothing
-abbrev pub behind_none : Table → List Line → FamilyList
-behind_none table lines = record { mode = Allow; mentions = flat_map (family_mentions table Allow) lines }
-
--- the last `none`, if there is one, stands for all up to it
-abbrev pub family_list : Table → List Line → Option FamilyList
-family_list table lines = cond (list_any is_none_line lines) (Some (behind_none table (after_last is_none_line lines))) (begun_by table lines)
-
-abbrev pub family_list_of : Table → List Value → Option FamilyList
-family_list_of table values = family_list table (lines_of values)
+-- behind the last `none`, if there is one, lines go on from a list that allows nothing
+abbrev pub family_list : Table → List Listed → Option FamilyList
+family_list table lines = cond (list_any is_none_line lines) (Some (list_of table Allow (after_last is_none_line lines))) (begun_by table lines)
 
 -- an unknown family is noted
 abbrev pub family_causes : Option ℕ → List NoteCause
 family_causes None = UnknownName ∷ []
 family_causes (Some number) = []
 
--- a line that cannot be split is noted, and else its words, but not `none`
-abbrev pub family_line_causes : Table → Option Line → List NoteCause
-family_line_causes table None = ValueCause ∷ []
-family_line_causes table (Some line) = cond (is_none_line line) [] (flat_map (λ word. family_causes (family_number table word)) line.words)
+abbrev pub word_notes : Table → Value → List ℕ → List FileNote
+word_notes table value word = notes_at value (family_causes (family_number table word))
 
--- an empty value resets, and is not noted
-abbrev pub family_value_causes : Table → List Value × Value → List NoteCause
-family_value_causes table place = cond (length place.1.text == 0) [] (family_line_causes table (line_of place.1.text))
+-- `none` is no family; an empty value has no words
+abbrev pub line_notes : Table → Listed → List FileNote
+line_notes table one = cond (is_none_line one) [] (flat_map (word_notes table one.value) one.line.words)
 
-abbrev pub family_list_notes : Table → List Value → List FileNote
-family_list_notes table values = noted (family_value_causes table) values
+abbrev pub family_notes : Table → List Listed → List FileNote
+family_notes table all = flat_map (line_notes table) all
 
 -- what the files of a unit say of such a key
 unfoldable pub unit_family_list : Resolved → Table → List ℕ → Option FamilyList
-unit_family_list unit table key = family_list_of table (values_of unit key)
+unit_family_list unit table key = family_list table (in_force (unit_listed unit key))
 
--- and what is noted: values that cannot be expanded, then the rest
+-- and what is noted: values that cannot be read, then words
 unfoldable pub unit_family_list_notes : Resolved → Table → List ℕ → List FileNote
-unit_family_list_notes unit table key = notes_of unit key ++ family_list_notes table (values_of unit key)
+unit_family_list_notes unit table key = unit_listed_notes unit key ++ family_notes table (unit_listed unit key)

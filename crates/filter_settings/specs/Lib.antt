@@ -1,4 +1,5 @@
 pub mod ErrorActions
+pub mod Lines
 pub mod Modes
 pub mod CallWords
 pub mod CallLists

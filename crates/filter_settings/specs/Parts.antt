@@ -3,8 +3,9 @@ use Rattle.std.specs.Prelude.{◌≡◌, codes}
 use Rattle.dropin_merge.specs.declared.resolved.Resolved.{Resolved}
 use Rattle.call_table.specs.Table.{Table}
 use Rattle.filter_settings.specs.declared.lists.Lists.{Lists}
-use Rattle.filter_settings.specs.declared.restrictions.Restrictions.{Restrictions}
-use Rattle.filter_settings.specs.declared.protections.Protections.{Protections}
+use Rattle.filter_settings.specs.declared.flags.Restrictions.{Restrictions}
+use Rattle.filter_settings.specs.declared.flags.Protections.{Protections}
+use Rattle.filter_rules.specs.declared.settings.FilterSettings.{FilterSettings}
 use Rattle.unit_values.specs.Flags.{unit_flag}
 use Rattle.filter_settings.specs.ErrorActions.{unit_error_action}
 use Rattle.filter_settings.specs.CallLists.{unit_call_list}
@@ -29,3 +30,22 @@ pub record ReadsProtections (unit : Resolved) (made : Protections) : Type 0 wher
   pub protect_kernel_logs : made.protect_kernel_logs ≡ unit_flag unit (codes "ProtectKernelLogs")
   pub protect_clock : made.protect_clock ≡ unit_flag unit (codes "ProtectClock")
   pub private_devices : made.private_devices ≡ unit_flag unit (codes "PrivateDevices")
+
+-- all of them together
+abbrev pub joined : Lists → Restrictions → Protections → FilterSettings
+joined lists restrictions protections =
+    record {
+      calls = lists.calls;
+      default_action = lists.default_action;
+      families = lists.families;
+      namespaces = lists.namespaces;
+      memory_deny_write_execute = restrictions.memory_deny_write_execute;
+      restrict_realtime = restrictions.restrict_realtime;
+      restrict_suid_sgid = restrictions.restrict_suid_sgid;
+      lock_personality = restrictions.lock_personality;
+      protect_hostname = protections.protect_hostname;
+      protect_kernel_modules = protections.protect_kernel_modules;
+      protect_kernel_logs = protections.protect_kernel_logs;
+      protect_clock = protections.protect_clock;
+      private_devices = protections.private_devices;
+    }

@@ -1,5 +1,5 @@
 -- What the keys of the system call filters say (systemd.exec(5)).
-use Rattle.std.specs.Prelude.{ℕ, List, [], ◌∷◌, ◌++◌, codes, flat_map, map}
+use Rattle.std.specs.Prelude.{List, ◌++◌, codes}
 use Rattle.dropin_merge.specs.declared.resolved.Resolved.{Resolved}
 use Rattle.unit_values.specs.declared.value.FileNote.{FileNote}
 use Rattle.call_table.specs.Table.{Table}
@@ -29,28 +29,27 @@ settings_of unit table =
       private_devices = unit_flag unit (codes "PrivateDevices");
     }
 
--- boolean keys that restrict what a service does
-abbrev pub restriction_keys : List (List ℕ)
-restriction_keys = codes "MemoryDenyWriteExecute" ∷ codes "RestrictRealtime" ∷ codes "RestrictSUIDSGID" ∷ codes "LockPersonality" ∷ []
+-- what is noted of the boolean keys that restrict what a service does, and of those that protect the system from it
+unfoldable pub restriction_notes : Resolved → List FileNote
+restriction_notes unit =
+    ((unit_flag_notes unit (codes "MemoryDenyWriteExecute") ++ unit_flag_notes unit (codes "RestrictRealtime"))
+    ++ unit_flag_notes unit (codes "RestrictSUIDSGID"))
+    ++ unit_flag_notes unit (codes "LockPersonality")
 
--- boolean keys that protect the system from it
-abbrev pub protection_keys : List (List ℕ)
-protection_keys =
-    codes "ProtectHostname" ∷ codes "ProtectKernelModules" ∷ codes "ProtectKernelLogs" ∷ codes "ProtectClock" ∷ codes "PrivateDevices" ∷ []
+unfoldable pub protection_notes : Resolved → List FileNote
+protection_notes unit =
+    (((unit_flag_notes unit (codes "ProtectHostname") ++ unit_flag_notes unit (codes "ProtectKernelModules"))
+    ++ unit_flag_notes unit (codes "ProtectKernelLogs"))
+    ++ unit_flag_notes unit (codes "ProtectClock"))
+    ++ unit_flag_notes unit (codes "PrivateDevices")
 
--- what is noted of each key: of lists and actions, and of the two kinds of boolean keys
-abbrev pub list_notes : Resolved → Table → List (List FileNote)
+-- of the keys that are actions or lists
+unfoldable pub list_notes : Resolved → Table → List FileNote
 list_notes unit table =
-    unit_call_list_notes unit table (codes "SystemCallFilter") ∷
-    unit_error_action_notes unit (codes "SystemCallErrorNumber") ∷
-    unit_family_list_notes unit table (codes "RestrictAddressFamilies") ∷ unit_namespaces_notes unit (codes "RestrictNamespaces") ∷ []
-
-abbrev pub flag_key_notes : Resolved → List (List ℕ) → List (List FileNote)
-flag_key_notes unit keys = map (unit_flag_notes unit) keys
-
-abbrev pub all_of : List (List FileNote) → List FileNote
-all_of notes = flat_map (λ each. each) notes
+    ((unit_error_action_notes unit (codes "SystemCallErrorNumber") ++ unit_namespaces_notes unit (codes "RestrictNamespaces"))
+    ++ unit_family_list_notes unit table (codes "RestrictAddressFamilies"))
+    ++ unit_call_list_notes unit table (codes "SystemCallFilter")
 
 -- all notes, key by key
-abbrev pub filter_notes : Resolved → Table → List FileNote
-filter_notes unit table = all_of (list_notes unit table ++ flag_key_notes unit (restriction_keys ++ protection_keys))
+unfoldable pub filter_notes : Resolved → Table → List FileNote
+filter_notes unit table = (restriction_notes unit ++ protection_notes unit) ++ list_notes unit table

@@ -1,19 +1,18 @@
 //! SystemCallFilter=: a list of calls and groups that is allowed, or denied (systemd.exec(5)).
-ghost use Rattle.std.specs.Prelude.{◌≡◌, ◌++◌, IfOk, OnOk, Some, flat_map};
+ghost use Rattle.std.specs.Prelude.{◌≡◌, ◌++◌, IfOk, OnOk, flat_map};
 ghost use Rattle.std.specs.List.{filter_map};
-ghost use Rattle.unit_values.specs.Notes.{notes_at};
-ghost use Rattle.filter_settings.specs.CallWords.{word_mention, word_causes};
-ghost use Rattle.filter_settings.specs.CallLists.{implied, call_list_of, call_list_notes, unit_call_list, unit_call_list_notes};
-ghost use Rattle.filter_settings.specs.Steps.{started, longer, with_value, causes_in, causes_of_line, causes_of_value};
+ghost use Rattle.filter_settings.specs.CallWords.{word_mention};
+ghost use Rattle.filter_settings.specs.CallLists.{line_mentions, implied, list_of, call_list, word_notes, line_notes, call_notes, unit_call_list, unit_call_list_notes};
 
-use crate::call_words::add_word;
-use crate::modes::{adds_to, mode_of};
+use crate::call_words::{add_mention, note_word};
+use crate::lines::in_force;
+use crate::modes::{adds_to, mode_of, next_mode};
 use call_table::CallTable;
 use dropin_merge::Resolved;
 use filter_rules::{CallList, Mention, Mentions, Mode};
 use std::alloc::{AllocError, Global};
-use unit_grammar::{NoteCause, Text};
-use unit_values::{FileNote, Line, Value, note_causes, note_value, read_line, values_of_key};
+use unit_grammar::Text;
+use unit_values::{FileNote, Line, Listed, Said, Value, lines_of_key};
 
 // What a list of this mode begins with.
 fn implied(alloc: Global, mode: Mode) -> Result<Mentions, AllocError>
@@ -33,22 +32,6 @@ fn implied(alloc: Global, mode: Mode) -> Result<Mentions, AllocError>
     }
 }
 
-// The list that a line is added to.
-fn started(alloc: Global, list: Option<CallList>, line: &Line) -> Result<CallList, AllocError>
-    ensures { IfOk result (λ made. made ≡ started list line.now) }
-{
-    match list {
-        Some(list) => Ok(list),
-        None => {
-            let mode = mode_of(line);
-            Ok(CallList {
-                mode,
-                mentions: implied(alloc, mode)?,
-            })
-        }
-    }
-}
-
 fn add_words(
     alloc: Global,
     table: &CallTable,
@@ -56,114 +39,114 @@ fn add_words(
     adds: bool,
     words: &[Text],
     mentions: &mut Mentions,
-    causes: &mut Vec<NoteCause>,
 ) -> Result<(), AllocError>
-    ensures mentioned { OnOk result (mentions.new ≡ mentions.old ++ filter_map (word_mention table.now mode adds) words.now) }
-    ensures noted { OnOk result (causes.new.items ≡ causes.old.items ++ flat_map (word_causes table.now mode adds) words.now) }
+    ensures { OnOk result (mentions.new ≡ mentions.old ++ filter_map (word_mention table.now mode adds) words.now) }
 {
     'words: for word in words {
-        add_word(alloc, table, mode, adds, word.as_str(), mentions, causes)?;
+        add_mention(alloc, table, mode, adds, word.as_str(), mentions)?;
     }
     Ok(())
 }
 
-// The list with the words of one more line, and the causes of notes on them.
-fn with_line(
+fn add_line(
     alloc: Global,
     table: &CallTable,
-    list: CallList,
+    mode: Mode,
     line: &Line,
-    causes: &mut Vec<NoteCause>,
-) -> Result<CallList, AllocError>
-    ensures means { IfOk result (λ made. made ≡ longer table.now list line.now) }
-    ensures noted { OnOk result (causes.new.items ≡ causes.old.items ++ causes_in table.now list.mode line.now) }
+    mentions: &mut Mentions,
+) -> Result<(), AllocError>
+    ensures { OnOk result (mentions.new ≡ mentions.old ++ line_mentions table.now mode line.now) }
 {
-    let CallList { mode, mut mentions } = list;
     let adds = adds_to(mode, line);
-    add_words(
-        alloc,
-        table,
-        mode,
-        adds,
-        line.words.list(),
-        &mut mentions,
-        causes,
-    )?;
+    add_words(alloc, table, mode, adds, line.words.list(), mentions)
+}
+
+// The list of these lines.
+fn list_of(
+    alloc: Global,
+    table: &CallTable,
+    mode: Mode,
+    lines: &[Listed],
+) -> Result<CallList, AllocError>
+    ensures { IfOk result (λ list. list ≡ list_of table.now mode lines.now) }
+{
+    let mut mentions = implied(alloc, mode)?;
+    'lines: for one in lines {
+        add_line(alloc, table, mode, &one.line, &mut mentions)?;
+    }
     Ok(CallList { mode, mentions })
 }
 
-// What the list is behind one more line, with notes on its words.
-fn with_words(
-    alloc: Global,
-    table: &CallTable,
-    list: Option<CallList>,
-    line: &Line,
-    value: &Value,
-    notes: &mut Vec<FileNote>,
-) -> Result<CallList, AllocError>
-    ensures means { IfOk result (λ made. made ≡ longer table.now (started list line.now) line.now) }
-    ensures noted { OnOk result (notes.new.items ≡ notes.old.items ++ notes_at value.now (causes_of_line table.now list (Some line.now))) }
-{
-    let mut causes = Vec::new(alloc);
-    let list = started(alloc, list, line)?;
-    let list = with_line(alloc, table, list, line, &mut causes)?;
-    note_causes(notes, value, causes.as_slice())?;
-    Ok(list)
-}
-
-// What the list is behind one more value.
-fn with_value(
-    alloc: Global,
-    table: &CallTable,
-    list: Option<CallList>,
-    value: &Value,
-    notes: &mut Vec<FileNote>,
-) -> Result<Option<CallList>, AllocError>
-    ensures means { IfOk result (λ made. made ≡ with_value table.now list value.now) }
-    ensures noted { OnOk result (notes.new.items ≡ notes.old.items ++ notes_at value.now (causes_of_value table.now list value.now)) }
-{
-    if value.text.as_str().is_empty() {
-        return Ok(None);
-    }
-    match read_line(alloc, value.text.as_str())? {
-        Some(line) => Ok(Some(with_words(alloc, table, list, &line, value, notes)?)),
-        None => {
-            note_value(notes, value, NoteCause::Value)?;
-            Ok(list)
-        }
-    }
-}
-
-// What the values of such a key come to.
+// The list that lines in force make, whose first fixes the mode.
 fn call_list(
     alloc: Global,
     table: &CallTable,
-    values: &[Value],
-    notes: &mut Vec<FileNote>,
+    lines: &[Listed],
 ) -> Result<Option<CallList>, AllocError>
-    ensures means { IfOk result (λ list. list ≡ call_list_of table.now values.now) }
-    ensures noted { OnOk result (notes.new.items ≡ notes.old.items ++ call_list_notes table.now values.now) }
+    ensures { IfOk result (λ list. list ≡ call_list table.now lines.now) }
 {
-    let mut list = None;
-    'values: for value in values {
-        list = with_value(alloc, table, list, value, notes)?;
+    match lines {
+        [] => Ok(None),
+        [first, ..] => Ok(Some(list_of(alloc, table, mode_of(&first.line), lines)?)),
     }
-    Ok(list)
 }
 
-/// What the files of a unit say of a key such as SystemCallFilter, and notes on what cannot be read behind those
-/// that are there.
+fn note_words(
+    table: &CallTable,
+    mode: Mode,
+    adds: bool,
+    value: &Value,
+    words: &[Text],
+    notes: &mut Vec<FileNote>,
+) -> Result<(), AllocError>
+    ensures { OnOk result (notes.new.items ≡ notes.old.items ++ flat_map (word_notes table.now mode adds value.now) words.now) }
+{
+    'words: for word in words {
+        note_word(table, mode, adds, value, word.as_str(), notes)?;
+    }
+    Ok(())
+}
+
+fn note_line(
+    table: &CallTable,
+    mode: Mode,
+    one: &Listed,
+    notes: &mut Vec<FileNote>,
+) -> Result<(), AllocError>
+    ensures { OnOk result (notes.new.items ≡ notes.old.items ++ line_notes table.now mode one.now) }
+{
+    let adds = adds_to(mode, &one.line);
+    note_words(table, mode, adds, &one.value, one.line.words.list(), notes)
+}
+
+// Notes the words of all lines, each by the mode of its list.
+fn note_all(table: &CallTable, all: &[Listed], notes: &mut Vec<FileNote>) -> Result<(), AllocError>
+    ensures { OnOk result (notes.new.items ≡ notes.old.items ++ call_notes table.now all.now) }
+{
+    let mut mode = None;
+    'lines: for one in all {
+        note_line(table, mode.unwrap_or(mode_of(&one.line)), one, notes)?;
+        mode = next_mode(mode, one);
+    }
+    Ok(())
+}
+
+/// What the files of a unit say of a key such as SystemCallFilter, with its notes.
 #[tactic(auto, unfolding(crate::specs::CallLists::unit_call_list, crate::specs::CallLists::unit_call_list_notes))]
 pub fn call_list_of_key(
     alloc: Global,
     unit: &Resolved,
     table: &CallTable,
     key: &str,
-    notes: &mut Vec<FileNote>,
-) -> Result<Option<CallList>, AllocError>
-    ensures means { IfOk result (λ list. list ≡ unit_call_list unit.now table.now key.now) }
-    ensures noted { OnOk result (notes.new.items ≡ notes.old.items ++ unit_call_list_notes unit.now table.now key.now) }
+) -> Result<Said<Option<CallList>>, AllocError>
+    ensures means { IfOk result (λ said. said.what ≡ unit_call_list unit.now table.now key.now) }
+    ensures noted { IfOk result (λ said. said.notes.items ≡ unit_call_list_notes unit.now table.now key.now) }
 {
-    let values = values_of_key(alloc, unit, key, notes)?;
-    call_list(alloc, table, values.as_slice(), notes)
+    let Said {
+        what: all,
+        mut notes,
+    } = lines_of_key(alloc, unit, key)?;
+    note_all(table, all.as_slice(), &mut notes)?;
+    let what = call_list(alloc, table, in_force(all.as_slice()))?;
+    Ok(Said { what, notes })
 }

@@ -1,25 +1,28 @@
 //! What a word of SystemCallFilter= says (systemd.exec(5)).
-ghost use Rattle.std.specs.Prelude.{◌≡◌, ◌++◌, ◌∷◌, [], is_some, if◌then◌else◌, OnOk, Some};
+ghost use Rattle.std.specs.Prelude.{◌≡◌, ◌++◌, ◌∷◌, [], is_some, if◌then◌else◌, OnOk};
 ghost use Rattle.std.specs.List.{cons_option};
 ghost use Rattle.std.specs.Option.{option_map};
-ghost use Rattle.unit_grammar.specs.Kinds.{cut_at};
 ghost use Rattle.unit_grammar.specs.declared.notes.NoteCause.TheVariants.{Value as ValueCause, UnknownName};
+ghost use Rattle.unit_values.specs.Notes.{notes_at};
 ghost use Rattle.call_table.specs.Names.{behind_at};
 ghost use Rattle.call_table.specs.Lookups.{group_named};
-ghost use Rattle.filter_settings.specs.CallWords.{colon, may_have_suffix, suffixed, word_of, is_known, mention_of, word_mention, word_causes, seen};
+ghost use Rattle.filter_settings.specs.CallWords.{may_have_suffix, suffixed, word_of, is_known, mention_of, word_mention, seen};
+ghost use Rattle.filter_settings.specs.CallLists.{word_notes};
 
 use crate::error_actions::error_action;
+use call_rules::Action;
 use call_table::CallTable;
 use filter_rules::{Mention, Mentions, Mode};
 use std::alloc::{AllocError, Global};
 use unit_grammar::{NoteCause, Text};
+use unit_values::{FileNote, Value, note_value};
 
 /// A word of a line.
 #[derive(Clone, Copy)]
 struct CallWord<'a> {
     name: &'a str,
     // The action of its suffix.
-    action: Option<u32>,
+    action: Option<Action>,
     // Whether it has a suffix that counts for nothing.
     has_stray: bool,
 }
@@ -90,27 +93,16 @@ fn is_known(table: &CallTable, name: &str) -> bool
     }
 }
 
-fn add_stray(has_stray: bool, causes: &mut Vec<NoteCause>) -> Result<(), AllocError>
-    ensures { OnOk result (causes.new.items ≡ causes.old.items ++ (if has_stray then ValueCause ∷ [] else [])) }
-{
-    if has_stray {
-        causes.push(NoteCause::Value)?;
-    }
-    Ok(())
-}
-
-// Mentions a known name, and adds the cause of a note on any other.
-fn add_name(
+// Mentions a name that is known.
+fn add_known(
     alloc: Global,
     table: &CallTable,
     adds: bool,
     name: &str,
-    action: Option<u32>,
+    action: Option<Action>,
     mentions: &mut Mentions,
-    causes: &mut Vec<NoteCause>,
 ) -> Result<(), AllocError>
-    ensures mentioned { OnOk result (mentions.new ≡ mentions.old ++ (if is_known table.now name.now then record { adds = adds; name = name.now; action = action } ∷ [] else [])) }
-    ensures noted { OnOk result (causes.new.items ≡ causes.old.items ++ (if is_known table.now name.now then [] else UnknownName ∷ [])) }
+    ensures { OnOk result (mentions.new ≡ mentions.old ++ (if is_known table.now name.now then record { adds = adds; name = name.now; action = action } ∷ [] else [])) }
 {
     if is_known(table, name) {
         mentions.push(Mention {
@@ -118,33 +110,67 @@ fn add_name(
             name: Text::new(alloc, name)?,
             action,
         })?;
-    } else {
-        causes.push(NoteCause::UnknownName)?;
     }
     Ok(())
 }
 
-/// Adds what a word of a line says, and the causes of notes on it.
-pub fn add_word(
+/// Mentions what a word of a line speaks of, where the word can be read and the table has its name.
+pub fn add_mention(
     alloc: Global,
     table: &CallTable,
     mode: Mode,
     adds: bool,
     word: &str,
     mentions: &mut Mentions,
-    causes: &mut Vec<NoteCause>,
 ) -> Result<(), AllocError>
-    ensures mentioned { OnOk result (mentions.new ≡ mentions.old ++ cons_option (word_mention table.now mode adds word.now) []) }
-    ensures noted { OnOk result (causes.new.items ≡ causes.old.items ++ word_causes table.now mode adds word.now) }
+    ensures { OnOk result (mentions.new ≡ mentions.old ++ cons_option (word_mention table.now mode adds word.now) []) }
+{
+    match read_word(may_have_suffix(mode, adds), word) {
+        Some(read) => add_known(alloc, table, adds, read.name, read.action, mentions),
+        None => Ok(()),
+    }
+}
+
+fn note_stray(has_stray: bool, value: &Value, notes: &mut Vec<FileNote>) -> Result<(), AllocError>
+    ensures { OnOk result (notes.new.items ≡ notes.old.items ++ notes_at value.now (if has_stray then ValueCause ∷ [] else [])) }
+{
+    if has_stray {
+        note_value(notes, value, NoteCause::Value)?;
+    }
+    Ok(())
+}
+
+fn note_unknown(
+    table: &CallTable,
+    name: &str,
+    value: &Value,
+    notes: &mut Vec<FileNote>,
+) -> Result<(), AllocError>
+    ensures { OnOk result (notes.new.items ≡ notes.old.items ++ notes_at value.now (if is_known table.now name.now then [] else UnknownName ∷ [])) }
+{
+    if !is_known(table, name) {
+        note_value(notes, value, NoteCause::UnknownName)?;
+    }
+    Ok(())
+}
+
+/// Notes what is wrong with a word of a line: that it cannot be read, or else a suffix that counts for nothing, and
+/// then a name that the table lacks.
+pub fn note_word(
+    table: &CallTable,
+    mode: Mode,
+    adds: bool,
+    value: &Value,
+    word: &str,
+    notes: &mut Vec<FileNote>,
+) -> Result<(), AllocError>
+    ensures { OnOk result (notes.new.items ≡ notes.old.items ++ word_notes table.now mode adds value.now word.now) }
 {
     match read_word(may_have_suffix(mode, adds), word) {
         Some(read) => {
-            add_stray(read.has_stray, causes)?;
-            add_name(alloc, table, adds, read.name, read.action, mentions, causes)
+            note_stray(read.has_stray, value, notes)?;
+            note_unknown(table, read.name, value, notes)
         }
-        None => {
-            causes.push(NoteCause::Value)?;
-            Ok(())
-        }
+        None => note_value(notes, value, NoteCause::Value),
     }
 }

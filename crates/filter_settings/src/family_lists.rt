@@ -1,17 +1,16 @@
 //! RestrictAddressFamilies=: a list of address families that is allowed, or denied (systemd.exec(5)).
-ghost use Rattle.std.specs.Prelude.{◌≡◌, ◌++◌, [], IfOk, OnOk, Some, flat_map};
-ghost use Rattle.std.specs.List.{cons_option, filter_map};
-ghost use Rattle.unit_values.specs.Notes.{notes_at};
-ghost use Rattle.filter_settings.specs.FamilyLists.{family_number, family_mention, family_causes, family_line_causes, family_value_causes, is_none_word, is_none_line, family_list_of, family_list_notes, unit_family_list, unit_family_list_notes};
-ghost use Rattle.filter_settings.specs.Steps.{families_started, more_families, with_family_line, with_family_value};
+ghost use Rattle.std.specs.Prelude.{◌≡◌, ◌++◌, [], IfOk, OnOk, not, flat_map};
+ghost use Rattle.std.specs.List.{after_last, cons_option, filter_map, list_any, suffix_len};
+ghost use Rattle.filter_settings.specs.FamilyLists.{family_mention, family_mentions, is_none_word, is_none_line, list_of, begun_by, family_list, word_notes, line_notes, family_notes, unit_family_list, unit_family_list_notes};
 
+use crate::lines::in_force;
 use crate::modes::{adds_to, mode_of};
 use call_table::CallTable;
 use dropin_merge::Resolved;
 use filter_rules::{FamilyList, FamilyMention, FamilyMentions, Mode};
 use std::alloc::{AllocError, Global};
 use unit_grammar::{NoteCause, Text};
-use unit_values::{FileNote, Line, Value, note_causes, note_value, read_line, values_of_key};
+use unit_values::{FileNote, Line, Listed, Said, Value, lines_of_key, note_value};
 
 fn is_none_word(words: &[Text]) -> bool
     ensures { result ≡ is_none_word words.now }
@@ -22,11 +21,34 @@ fn is_none_word(words: &[Text]) -> bool
     }
 }
 
-// Whether a line is the word `none` alone.
-fn is_none_line(line: &Line) -> bool
-    ensures { result ≡ is_none_line line.now }
+// Whether a value is the word `none` alone.
+fn is_none_line(one: &Listed) -> bool
+    ensures { result ≡ is_none_line one.now }
 {
-    !line.is_inverted && is_none_word(line.words.list())
+    !one.line.is_inverted && is_none_word(one.line.words.list())
+}
+
+fn has_none(lines: &[Listed]) -> bool
+    ensures { result ≡ list_any is_none_line lines.now }
+{
+    lines.iter().any(|one| is_none_line(one))
+}
+
+fn count_behind_none(lines: &[Listed]) -> usize
+    ensures { result ≡ suffix_len (λ one. not (is_none_line one)) lines.now }
+{
+    lines
+        .iter()
+        .rev()
+        .take_while(|one| !is_none_line(one))
+        .count()
+}
+
+// The lines behind the last `none`.
+fn behind_none(lines: &[Listed]) -> &[Listed]
+    ensures { result.now ≡ after_last is_none_line lines.now }
+{
+    &lines[lines.len() - count_behind_none(lines)..]
 }
 
 fn add_family(
@@ -34,16 +56,13 @@ fn add_family(
     adds: bool,
     word: &str,
     mentions: &mut FamilyMentions,
-    causes: &mut Vec<NoteCause>,
 ) -> Result<(), AllocError>
-    ensures mentioned { OnOk result (mentions.new ≡ mentions.old ++ cons_option (family_mention table.now adds word.now) []) }
-    ensures noted { OnOk result (causes.new.items ≡ causes.old.items ++ family_causes (family_number table.now word.now)) }
+    ensures { OnOk result (mentions.new ≡ mentions.old ++ cons_option (family_mention table.now adds word.now) []) }
 {
     match table.family(word) {
-        Some(number) => mentions.push(FamilyMention { adds, number })?,
-        None => causes.push(NoteCause::UnknownName)?,
+        Some(number) => mentions.push(FamilyMention { adds, number }),
+        None => Ok(()),
     }
-    Ok(())
 }
 
 fn add_families(
@@ -51,123 +70,134 @@ fn add_families(
     adds: bool,
     words: &[Text],
     mentions: &mut FamilyMentions,
-    causes: &mut Vec<NoteCause>,
 ) -> Result<(), AllocError>
-    ensures mentioned { OnOk result (mentions.new ≡ mentions.old ++ filter_map (family_mention table.now adds) words.now) }
-    ensures noted { OnOk result (causes.new.items ≡ causes.old.items ++ flat_map (λ word. family_causes (family_number table.now word)) words.now) }
+    ensures { OnOk result (mentions.new ≡ mentions.old ++ filter_map (family_mention table.now adds) words.now) }
 {
     'words: for word in words {
-        add_family(table, adds, word.as_str(), mentions, causes)?;
+        add_family(table, adds, word.as_str(), mentions)?;
     }
     Ok(())
 }
 
-// The list that a line is added to: the one that stands, or an empty one.
-fn started(alloc: Global, list: Option<FamilyList>, line: &Line) -> FamilyList
-    ensures { result ≡ families_started list line.now }
+fn add_line(
+    table: &CallTable,
+    mode: Mode,
+    line: &Line,
+    mentions: &mut FamilyMentions,
+) -> Result<(), AllocError>
+    ensures { OnOk result (mentions.new ≡ mentions.old ++ family_mentions table.now mode line.now) }
 {
-    match list {
-        Some(list) => list,
-        None => FamilyList {
-            mode: mode_of(line),
-            mentions: FamilyMentions::new(Vec::new(alloc)),
-        },
-    }
+    add_families(table, adds_to(mode, line), line.words.list(), mentions)
 }
 
-// The list with the words of one more line, and the causes of notes on them.
-fn with_words(
+// The list of these lines.
+fn list_of(
+    alloc: Global,
     table: &CallTable,
-    list: FamilyList,
-    line: &Line,
-    causes: &mut Vec<NoteCause>,
+    mode: Mode,
+    lines: &[Listed],
 ) -> Result<FamilyList, AllocError>
-    ensures means { IfOk result (λ made. made ≡ more_families table.now list line.now) }
-    ensures noted { OnOk result (causes.new.items ≡ causes.old.items ++ flat_map (λ word. family_causes (family_number table.now word)) line.now.words) }
+    ensures { IfOk result (λ list. list ≡ list_of table.now mode lines.now) }
 {
-    let FamilyList { mode, mut mentions } = list;
-    let adds = adds_to(mode, line);
-    add_families(table, adds, line.words.list(), &mut mentions, causes)?;
+    let mut mentions = FamilyMentions::new(Vec::new(alloc));
+    'lines: for one in lines {
+        add_line(table, mode, &one.line, &mut mentions)?;
+    }
     Ok(FamilyList { mode, mentions })
 }
 
-// What the list is behind one more line, with notes on its words.
-fn with_line(
+// The list of lines of which none is `none`: the first fixes the mode.
+fn begun_by(
     alloc: Global,
     table: &CallTable,
-    list: Option<FamilyList>,
-    line: &Line,
-    value: &Value,
-    notes: &mut Vec<FileNote>,
-) -> Result<FamilyList, AllocError>
-    ensures means { IfOk result (λ made. with_family_line table.now list (Some line.now) ≡ Some made) }
-    ensures noted { OnOk result (notes.new.items ≡ notes.old.items ++ notes_at value.now (family_line_causes table.now (Some line.now))) }
-{
-    if is_none_line(line) {
-        return Ok(FamilyList {
-            mode: Mode::Allow,
-            mentions: FamilyMentions::new(Vec::new(alloc)),
-        });
-    }
-    let mut causes = Vec::new(alloc);
-    let list = with_words(table, started(alloc, list, line), line, &mut causes)?;
-    note_causes(notes, value, causes.as_slice())?;
-    Ok(list)
-}
-
-// What the list is behind one more value.
-fn with_value(
-    alloc: Global,
-    table: &CallTable,
-    list: Option<FamilyList>,
-    value: &Value,
-    notes: &mut Vec<FileNote>,
+    lines: &[Listed],
 ) -> Result<Option<FamilyList>, AllocError>
-    ensures means { IfOk result (λ made. made ≡ with_family_value table.now list value.now) }
-    ensures noted { OnOk result (notes.new.items ≡ notes.old.items ++ notes_at value.now (family_value_causes table.now ([], value.now))) }
+    ensures { IfOk result (λ list. list ≡ begun_by table.now lines.now) }
 {
-    if value.text.as_str().is_empty() {
-        return Ok(None);
-    }
-    match read_line(alloc, value.text.as_str())? {
-        Some(line) => Ok(Some(with_line(alloc, table, list, &line, value, notes)?)),
-        None => {
-            note_value(notes, value, NoteCause::Value)?;
-            Ok(list)
-        }
+    match lines {
+        [] => Ok(None),
+        [first, ..] => Ok(Some(list_of(alloc, table, mode_of(&first.line), lines)?)),
     }
 }
 
-// What the values of such a key come to.
+// The list that lines in force make: behind the last `none` they go on from a list that allows nothing.
 fn family_list(
     alloc: Global,
     table: &CallTable,
-    values: &[Value],
-    notes: &mut Vec<FileNote>,
+    lines: &[Listed],
 ) -> Result<Option<FamilyList>, AllocError>
-    ensures means { IfOk result (λ list. list ≡ family_list_of table.now values.now) }
-    ensures noted { OnOk result (notes.new.items ≡ notes.old.items ++ family_list_notes table.now values.now) }
+    ensures { IfOk result (λ list. list ≡ family_list table.now lines.now) }
 {
-    let mut list = None;
-    'values: for value in values {
-        list = with_value(alloc, table, list, value, notes)?;
+    if has_none(lines) {
+        Ok(Some(list_of(alloc, table, Mode::Allow, behind_none(lines))?))
+    } else {
+        begun_by(alloc, table, lines)
     }
-    Ok(list)
 }
 
-/// What the files of a unit say of a key such as RestrictAddressFamilies, and notes on what cannot be read behind
-/// those that are there.
+fn note_word(
+    table: &CallTable,
+    value: &Value,
+    word: &str,
+    notes: &mut Vec<FileNote>,
+) -> Result<(), AllocError>
+    ensures { OnOk result (notes.new.items ≡ notes.old.items ++ word_notes table.now value.now word.now) }
+{
+    match table.family(word) {
+        Some(_) => Ok(()),
+        None => note_value(notes, value, NoteCause::UnknownName),
+    }
+}
+
+fn note_words(
+    table: &CallTable,
+    value: &Value,
+    words: &[Text],
+    notes: &mut Vec<FileNote>,
+) -> Result<(), AllocError>
+    ensures { OnOk result (notes.new.items ≡ notes.old.items ++ flat_map (word_notes table.now value.now) words.now) }
+{
+    'words: for word in words {
+        note_word(table, value, word.as_str(), notes)?;
+    }
+    Ok(())
+}
+
+fn note_line(table: &CallTable, one: &Listed, notes: &mut Vec<FileNote>) -> Result<(), AllocError>
+    ensures { OnOk result (notes.new.items ≡ notes.old.items ++ line_notes table.now one.now) }
+{
+    if is_none_line(one) {
+        return Ok(());
+    }
+    note_words(table, &one.value, one.line.words.list(), notes)
+}
+
+// Notes the words of all lines.
+fn note_all(table: &CallTable, all: &[Listed], notes: &mut Vec<FileNote>) -> Result<(), AllocError>
+    ensures { OnOk result (notes.new.items ≡ notes.old.items ++ family_notes table.now all.now) }
+{
+    'lines: for one in all {
+        note_line(table, one, notes)?;
+    }
+    Ok(())
+}
+
+/// What the files of a unit say of a key such as RestrictAddressFamilies, with its notes.
 #[tactic(auto, unfolding(crate::specs::FamilyLists::unit_family_list, crate::specs::FamilyLists::unit_family_list_notes))]
 pub fn family_list_of_key(
     alloc: Global,
     unit: &Resolved,
     table: &CallTable,
     key: &str,
-    notes: &mut Vec<FileNote>,
-) -> Result<Option<FamilyList>, AllocError>
-    ensures means { IfOk result (λ list. list ≡ unit_family_list unit.now table.now key.now) }
-    ensures noted { OnOk result (notes.new.items ≡ notes.old.items ++ unit_family_list_notes unit.now table.now key.now) }
+) -> Result<Said<Option<FamilyList>>, AllocError>
+    ensures means { IfOk result (λ said. said.what ≡ unit_family_list unit.now table.now key.now) }
+    ensures noted { IfOk result (λ said. said.notes.items ≡ unit_family_list_notes unit.now table.now key.now) }
 {
-    let values = values_of_key(alloc, unit, key, notes)?;
-    family_list(alloc, table, values.as_slice(), notes)
+    let Said {
+        what: all,
+        mut notes,
+    } = lines_of_key(alloc, unit, key)?;
+    note_all(table, all.as_slice(), &mut notes)?;
+    let what = family_list(alloc, table, in_force(all.as_slice()))?;
+    Ok(Said { what, notes })
 }

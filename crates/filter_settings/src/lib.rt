@@ -4,22 +4,18 @@
 //! systemd.exec(5) has the keys. It stands on `unit_values` for the values, on `call_table` for names and numbers,
 //! and on `filter_rules` for what the settings are.
 //!
-//! `filter_settings(alloc, &unit, &table, &mut notes)?` has the settings that `filter_rules::filters` takes.
+//! `filter_settings(alloc, &unit, &table)?` has the settings that `filter_rules::filters` takes, with the notes.
 #![tactic(auto)]
 
 mod call_lists;
 mod call_words;
 mod error_actions;
 mod family_lists;
+mod flags;
+mod lines;
 mod lists;
 mod modes;
 mod namespaces;
-mod protections;
-mod restrictions;
 mod settings;
 
-pub use error_actions::{error_action, error_action_of_key};
 pub use settings::filter_settings;
-
-#[cfg(test)]
-mod tests;

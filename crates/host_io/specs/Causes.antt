@@ -1,5 +1,5 @@
 -- When a count of faults shows that what lies outside has failed.
-use Rattle.std.specs.Prelude.{ℕ, ◌+◌, ◌-◌, ◌^◌, ◌≤◌, min}
+use Rattle.std.specs.Prelude.{◌≡◌, ◌≢◌, ℕ, ◌+◌, ◌-◌, ◌^◌, ◌≤◌, min, Result, Ok, Err}
 
 -- one more, where a count stands still at the last value of its type
 abbrev pub next_of : ℕ → ℕ
@@ -8,3 +8,8 @@ next_of n = min (n + 1) (2 ^ 64 - 1)
 -- the count has risen in a call, or stands at its last value
 abbrev pub Rose : ℕ → ℕ → Type 0
 Rose before now = next_of before ≤ now
+
+-- the count stays as it was, unless the answer is this error
+abbrev pub StaysUnless : {T E : Type 0} → E → ℕ → ℕ → Result T E → Type 0
+StaysUnless fault before now (Ok value) = now ≡ before
+StaysUnless fault before now (Err error) = error ≢ fault → now ≡ before

@@ -12,9 +12,12 @@ Files = List (List ℕ × List ℕ)
 abbrev pub bytes_at : Files → List ℕ → Option (List ℕ)
 bytes_at files path = option_map (λ file. file.1) (find (λ file. bytes_eq file.0 path) files)
 
+abbrev pub begins_with_slash : List ℕ → Bool
+begins_with_slash path = starts_with nat_eq path (47 ∷ [])
+
 -- the path has no slash at its front, and none of these files has it
 abbrev pub is_new_path : List ℕ → Files → Bool
-is_new_path path files = not (starts_with nat_eq path (47 ∷ [])) && is_none (bytes_at files path)
+is_new_path path files = not (begins_with_slash path) && is_none (bytes_at files path)
 
 -- no path begins with a slash or stands twice
 abbrev pub is_file_map : Files → Bool

@@ -1,10 +1,10 @@
 //! A shelf in memory, whose calls of given numbers fail.
 //!
 //! It tells its map. Its calls of `read` and `list` are numbered together from 1.
-ghost use Rattle.std.specs.Prelude.{◌≡◌, ◌≤◌, ◌↔◌, map, IfOk, IsTrue, IsErrOf, vec_len, string_bytes};
+ghost use Rattle.std.specs.Prelude.{◌≡◌, ◌≤◌, ◌↔◌, map, IfOk, IsTrue, IsFalse, IsErrOf, vec_len, string_bytes};
 ghost use Rattle.std.specs.Option.{option_map};
 ghost use Rattle.host_io.specs.declared.reading.ShelfError.TheVariants.{Failed};
-ghost use Rattle.host_io.specs.Causes.{Rose};
+ghost use Rattle.host_io.specs.Causes.{Rose, StaysUnless};
 ghost use Rattle.host_io.specs.Files.{is_file_map, is_new_path, behind, bytes_at, name_in, names_in};
 ghost use Rattle.host_io.specs.MemoryFiles.{file_of, told_files, fails_now, after_call};
 ghost use Rattle.host_io.specs.Reading.{Reads, Lists, HasCause};
@@ -71,6 +71,7 @@ impl MemShelf {
         ensures counts { self.new ≡ after_call self.old }
         ensures later { self.old.faults ≤ self.new.faults }
         ensures rose { IsTrue result → Rose self.old.faults self.new.faults }
+        ensures stays { IsFalse result → self.new.faults ≡ self.old.faults }
     {
         self.calls = self.calls.saturating_add(1);
         let fails = self.failing.contains(&self.calls);
@@ -104,18 +105,11 @@ fn text_behind<'a>(front: &str, text: &'a str) -> Option<&'a str>
 fn name_of<'a>(folder: &str, path: &'a str) -> Option<&'a str>
     ensures { option_map (λ name. name.now) result ≡ name_in folder.now path.now }
 {
-    match text_behind(folder, path) {
-        None => None,
-        Some(rest) => match text_behind("/", rest) {
-            None => None,
-            Some(name) => {
-                if !name.is_empty() && !name.as_bytes().contains(&b'/') {
-                    Some(name)
-                } else {
-                    None
-                }
-            }
-        },
+    let name = text_behind("/", text_behind(folder, path)?)?;
+    if name.is_empty() || name.as_bytes().contains(&b'/') {
+        None
+    } else {
+        Some(name)
     }
 }
 
@@ -150,6 +144,7 @@ impl Shelf for MemShelf {
         ensures within_limit { IfOk result (λ bytes. vec_len bytes ≤ limit) }
         ensures map_stays { told_files self.new.files ≡ told_files self.old.files }
         ensures fault_rose { HasCause self.old.faults self.new.faults result }
+        ensures no_other_fault { StaysUnless Failed self.old.faults self.new.faults result }
         ensures fails_as_told { IsErrOf result Failed ↔ IsTrue (fails_now self.old) }
         ensures counts_the_call { self.new ≡ after_call self.old }
     {
@@ -168,6 +163,7 @@ impl Shelf for MemShelf {
         ensures within_limit { IfOk result (λ names. vec_len names ≤ 4096) }
         ensures map_stays { told_files self.new.files ≡ told_files self.old.files }
         ensures fault_rose { HasCause self.old.faults self.new.faults result }
+        ensures no_other_fault { StaysUnless Failed self.old.faults self.new.faults result }
         ensures fails_as_told { IsErrOf result Failed ↔ IsTrue (fails_now self.old) }
         ensures counts_the_call { self.new ≡ after_call self.old }
     {

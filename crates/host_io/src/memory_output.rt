@@ -1,9 +1,9 @@
 //! A sink in memory, whose puts of given numbers fail.
 //!
 //! It tells the bytes that it took. Its puts are numbered from 1.
-ghost use Rattle.std.specs.Prelude.{◌≡◌, ◌<◌, ◌≤◌, ◌↔◌, [], ◌++◌, length, min, Some, IfOk, MatchResult, IsTrue, IsErrOf};
+ghost use Rattle.std.specs.Prelude.{◌≡◌, ◌<◌, ◌≤◌, ◌↔◌, [], ◌++◌, length, min, Some, IfOk, MatchResult, IsTrue, IsFalse, IsErrOf};
 ghost use Rattle.host_io.specs.declared.writing.SinkError.TheVariants.{Failed, Memory};
-ghost use Rattle.host_io.specs.Causes.{Rose};
+ghost use Rattle.host_io.specs.Causes.{Rose, StaysUnless};
 ghost use Rattle.host_io.specs.MemoryOutput.{fails_now, after_put};
 ghost use Rattle.host_io.specs.Writing.{Takes, HasCause};
 
@@ -60,6 +60,7 @@ impl MemSink {
         ensures counts { self.new ≡ after_put self.old }
         ensures later { self.old.faults ≤ self.new.faults }
         ensures rose { IsTrue result → Rose self.old.faults self.new.faults }
+        ensures stays { IsFalse result → self.new.faults ≡ self.old.faults }
     {
         self.puts = self.puts.saturating_add(1);
         let fails = self.failing.contains(&self.puts);
@@ -86,6 +87,7 @@ impl Sink for MemSink {
     fn put(&mut self, piece: &[u8]) -> Result<usize, SinkError>
         ensures takes_a_prefix { Takes (Some self.old.bytes) (Some self.new.bytes) piece.now result }
         ensures fault_rose { HasCause self.old.faults self.new.faults result }
+        ensures no_other_fault { StaysUnless Failed self.old.faults self.new.faults result }
         ensures takes_what_fits { IfOk result (λ count. count ≡ min (length piece.now) self.old.limit) }
         ensures fails_as_told { IsErrOf result Failed ↔ IsTrue (fails_now self.old) }
         ensures counts_the_put { self.new ≡ record (after_put self.old) { bytes = self.new.bytes } }

@@ -2,7 +2,8 @@
 //!
 //! The meanings of a shelf are a count of faults and, where it tells it, a map from paths to bytes.
 ghost use Rattle.std.specs.Prelude.{◌≡◌, ℕ, ◌≤◌, Option, IfOk, IfSome, IsTrue, vec_len};
-ghost use Rattle.host_io.specs.declared.reading.ShelfError.TheVariants.{Memory};
+ghost use Rattle.host_io.specs.declared.reading.ShelfError.TheVariants.{Failed, Memory};
+ghost use Rattle.host_io.specs.Causes.{StaysUnless};
 ghost use Rattle.host_io.specs.Files.{Files, is_file_map};
 ghost use Rattle.host_io.specs.Reading.{Reads, Lists, HasCause};
 
@@ -53,22 +54,24 @@ pub trait Shelf {
     /// The bytes of the file at `path`, of which there are at most `limit`.
     ///
     /// `Missing` where no file has the path, `TooLarge` where it has more than `limit` bytes, `Failed`
-    /// only where the count of faults rose, `Memory` for want of memory.
+    /// where what lies outside failed, and only then does the count of faults rise, `Memory` for want of memory.
     fn read(&mut self, alloc: Global, path: &str, limit: u64) -> Result<Vec<u8>, ShelfError>
         ensures answers_by_the_map { Reads (told self.old) path.now limit result }
         ensures within_limit { IfOk result (λ bytes. vec_len bytes ≤ limit) }
         ensures map_stays { told self.new ≡ told self.old }
-        ensures fault_rose { HasCause (faults self.old) (faults self.new) result };
+        ensures fault_rose { HasCause (faults self.old) (faults self.new) result }
+        ensures no_other_fault { StaysUnless Failed (faults self.old) (faults self.new) result };
 
     /// The names of the files directly in the folder `dir`, each once, in no promised order.
     ///
-    /// `Missing` where there is none, `TooLarge` where there are more than 4,096, `Failed` only where the
-    /// count of faults rose, `Memory` for want of memory.
+    /// `Missing` where there is none, `TooLarge` where there are more than 4,096, `Failed` where what lies
+    /// outside failed, and only then does the count of faults rise, `Memory` for want of memory.
     fn list(&mut self, alloc: Global, dir: &str) -> Result<Vec<String>, ShelfError>
         ensures answers_by_the_map { Lists (told self.old) dir.now result }
         ensures within_limit { IfOk result (λ names. vec_len names ≤ 4096) }
         ensures map_stays { told self.new ≡ told self.old }
-        ensures fault_rose { HasCause (faults self.old) (faults self.new) result };
+        ensures fault_rose { HasCause (faults self.old) (faults self.new) result }
+        ensures no_other_fault { StaysUnless Failed (faults self.old) (faults self.new) result };
 
     /// No path of a told map begins with a slash or stands in it twice.
     ghost tells_a_map: { (shelf : Self) → IfSome (told shelf) (λ files. IsTrue (is_file_map files)) };

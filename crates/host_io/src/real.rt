@@ -2,21 +2,32 @@
 //!
 //! Neither tells what it holds. A missing file and want of memory are no faults; every other error of the
 //! system is one.
-ghost use Rattle.std.specs.Prelude.{◌≡◌, ◌≤◌, None};
-ghost use Rattle.host_io.specs.Causes.{Rose};
+ghost use Rattle.std.specs.Prelude.{◌≡◌, ◌≢◌, ◌≤◌, None, Err, IfOk, IsTrue, vec_len};
+ghost use Rattle.host_io.specs.declared.reading.ShelfError.TheVariants.{Missing, Failed};
+ghost use Rattle.host_io.specs.Causes.{Rose, StaysUnless};
+ghost use Rattle.host_io.specs.Files.{begins_with_slash};
+ghost use Rattle.host_io.specs.Reading.{Reads, Lists, HasCause};
 
 use crate::reading::{Shelf, ShelfError};
 use crate::writing::{Sink, SinkError};
 use std::alloc::Global;
-use std::fs::DirEntry;
+use std::fs::Metadata;
 use std::io::{ErrorKind, Read, Write};
+use std::os::unix::fs::{FileTypeExt, MetadataExt};
+use std::path::AsPath;
 use std::rt::Files;
 use std::{fs, io};
 
 /// The most names that a listing answers.
 const MOST_NAMES: usize = 4096;
 
+/// The device number of /dev/null, null(4).
+const NULL_DEVICE: u64 = 0x103;
+
 /// Reads files below the current folder.
+///
+/// A file is a regular file or the null device, or a link that leads to one: a pipe, a socket and a link
+/// that leads nowhere are none, and none of them is opened.
 #[derive(Drop)]
 pub struct DirShelf<R: Files + AllocGlobal + Clone + Drop> {
     rt: R,
@@ -25,55 +36,73 @@ pub struct DirShelf<R: Files + AllocGlobal + Clone + Drop> {
 
 impl<R: Files + AllocGlobal + Clone + Drop> DirShelf<R> {
     /// The current folder, with no fault so far.
-    pub fn new(rt: R) -> Self {
+    pub fn new(rt: R) -> Self
+        ensures no_fault_so_far { result.faults ≡ 0 }
+    {
         DirShelf { rt, faults: 0 }
     }
 
-    // The answer for an error of the system, which is a fault unless the error says that no such file is
-    // there or that memory is out.
+    // The answer for an error of the system: want of memory, or a fault, which is counted.
     fn answer(&mut self, kind: ErrorKind) -> ShelfError
         ensures later { self.old.faults ≤ self.new.faults }
-        ensures failed { result ≡ ShelfError.Failed → Rose self.old.faults self.new.faults }
+        ensures failed { result ≡ Failed → Rose self.old.faults self.new.faults }
+        ensures no_other_fault { result ≢ Failed → self.new.faults ≡ self.old.faults }
     {
-        match kind {
+        if kind == ErrorKind::OutOfMemory {
+            return ShelfError::Memory;
+        }
+        self.faults = self.faults.saturating_add(1);
+        ShelfError::Failed
+    }
+}
+
+// What was found, or nothing where the system says that nothing can be there: no such entry, a part of the
+// path that is no folder, a name that is too long, or links in a circle.
+fn if_there<T: Drop>(found: io::Result<T>) -> io::Result<Option<T>> {
+    match found {
+        Ok(found) => Ok(Some(found)),
+        Err(error) => match error.kind() {
             ErrorKind::NotFound
             | ErrorKind::NotADirectory
-            | ErrorKind::IsADirectory
-            | ErrorKind::InvalidFilename => ShelfError::Missing,
-            ErrorKind::OutOfMemory => ShelfError::Memory,
-            _ => {
-                self.faults = self.faults.saturating_add(1);
-                ShelfError::Failed
-            }
-        }
+            | ErrorKind::InvalidFilename
+            | ErrorKind::FilesystemLoop => Ok(None),
+            _ => Err(error),
+        },
+    }
+}
+
+// Whether this is a regular file or the null device.
+fn holds_bytes(found: &Metadata) -> bool {
+    found.is_file() || (found.file_type().is_char_device() && found.rdev() == NULL_DEVICE)
+}
+
+// Whether a file is at the path, or a link that leads to one.
+fn is_file<R: Files, P: AsPath>(rt: &R, path: P) -> io::Result<bool> {
+    match if_there(fs::metadata(rt, path))? {
+        Some(found) => Ok(holds_bytes(&found)),
+        None => Ok(false),
     }
 }
 
 // At most `limit` bytes of a file.
-fn read_file<R: Files>(rt: &R, alloc: Global, path: &str, limit: u64) -> io::Result<Vec<u8>> {
-    let file = fs::open(rt, path)?;
+fn read_file<R: Files>(
+    rt: &R,
+    alloc: Global,
+    path: &str,
+    limit: u64,
+) -> io::Result<Option<Vec<u8>>> {
+    if !is_file(rt, path)? {
+        return Ok(None);
+    }
+    let Some(file) = if_there(fs::open(rt, path))? else {
+        return Ok(None);
+    };
     let mut bytes = Vec::new(alloc);
     file.take(limit).read_to_end(&mut bytes)?;
-    Ok(bytes)
+    Ok(Some(bytes))
 }
 
-// Whether an entry of a folder is a regular file, or a link that leads to one or to the null device.
-fn is_file<R: Files + AllocGlobal + Clone + Drop>(
-    rt: &R,
-    entry: &DirEntry<R, Global>,
-) -> io::Result<bool> {
-    let kind = entry.file_type()?;
-    if !kind.is_symlink() {
-        return Ok(kind.is_file());
-    }
-    match fs::metadata(rt, entry.path()) {
-        Ok(target) => Ok(!target.is_dir()),
-        Err(error) if error.kind() == ErrorKind::NotFound => Ok(false),
-        Err(error) => Err(error),
-    }
-}
-
-// At most `limit` names of files of a folder.
+// At most `limit` names of files of a folder, none where no folder is there.
 fn read_names<R: Files + AllocGlobal + Clone + Drop>(
     rt: &R,
     alloc: Global,
@@ -81,9 +110,12 @@ fn read_names<R: Files + AllocGlobal + Clone + Drop>(
     limit: usize,
 ) -> io::Result<Vec<String>> {
     let mut names = Vec::new(alloc);
-    for entry in fs::read_dir(rt, dir)? {
+    let Some(entries) = if_there(fs::read_dir(rt, dir))? else {
+        return Ok(names);
+    };
+    for entry in entries {
         let entry = entry?;
-        if names.len() < limit && is_file(rt, &entry)? {
+        if names.len() < limit && is_file(rt, entry.path())? {
             names.push(String::from_str(alloc, entry.file_name())?)?;
         }
     }
@@ -97,18 +129,31 @@ impl<R: Files + AllocGlobal + Clone + Drop> Shelf for DirShelf<R> {
 
     ghost tells_a_map = { λ _. tt };
 
-    fn read(&mut self, alloc: Global, path: &str, limit: u64) -> Result<Vec<u8>, ShelfError> {
+    fn read(&mut self, alloc: Global, path: &str, limit: u64) -> Result<Vec<u8>, ShelfError>
+        ensures answers_by_the_map { Reads None path.now limit result }
+        ensures within_limit { IfOk result (λ bytes. vec_len bytes ≤ limit) }
+        ensures fault_rose { HasCause self.old.faults self.new.faults result }
+        ensures no_other_fault { StaysUnless Failed self.old.faults self.new.faults result }
+        ensures slash_is_missing { IsTrue (begins_with_slash path.now) → result ≡ Err Missing }
+    {
         if path.starts_with('/') {
             return Err(ShelfError::Missing);
         }
         match read_file(&self.rt, alloc, path, limit.saturating_add(1)) {
-            Ok(bytes) if bytes.len() as u64 > limit => Err(ShelfError::TooLarge),
-            Ok(bytes) => Ok(bytes),
+            Ok(None) => Err(ShelfError::Missing),
+            Ok(Some(bytes)) if bytes.len() as u64 > limit => Err(ShelfError::TooLarge),
+            Ok(Some(bytes)) => Ok(bytes),
             Err(error) => Err(self.answer(error.kind())),
         }
     }
 
-    fn list(&mut self, alloc: Global, dir: &str) -> Result<Vec<String>, ShelfError> {
+    fn list(&mut self, alloc: Global, dir: &str) -> Result<Vec<String>, ShelfError>
+        ensures answers_by_the_map { Lists None dir.now result }
+        ensures within_limit { IfOk result (λ names. vec_len names ≤ 4096) }
+        ensures fault_rose { HasCause self.old.faults self.new.faults result }
+        ensures no_other_fault { StaysUnless Failed self.old.faults self.new.faults result }
+        ensures slash_is_missing { IsTrue (begins_with_slash dir.now) → result ≡ Err Missing }
+    {
         if dir.starts_with('/') {
             return Err(ShelfError::Missing);
         }
@@ -130,7 +175,9 @@ pub struct StdSink<R: Print + Clone + Drop> {
 
 impl<R: Print + Clone + Drop> StdSink<R> {
     /// Standard output, with no fault so far.
-    pub fn new(rt: R) -> Self {
+    pub fn new(rt: R) -> Self
+        ensures no_fault_so_far { result.faults ≡ 0 }
+    {
         StdSink { rt, faults: 0 }
     }
 }

@@ -2,7 +2,8 @@
 //!
 //! The meanings of a sink are a count of faults and, where it tells them, the bytes taken so far.
 ghost use Rattle.std.specs.Prelude.{◌≡◌, ℕ, List, Option};
-ghost use Rattle.host_io.specs.declared.writing.SinkError.TheVariants.{Memory};
+ghost use Rattle.host_io.specs.declared.writing.SinkError.TheVariants.{Failed, Memory};
+ghost use Rattle.host_io.specs.Causes.{StaysUnless};
 ghost use Rattle.host_io.specs.Writing.{Takes, TakesWhole, HasCause};
 
 use std::alloc::AllocError;
@@ -37,20 +38,22 @@ pub trait Sink {
 
     /// Takes a prefix of the piece and answers its length, at least one byte of a piece that is not empty.
     ///
-    /// At an error it has taken nothing: `Failed` comes only where the count of faults rose, `Memory` for
-    /// want of memory.
+    /// At an error it has taken nothing: `Failed` comes where what lies outside failed, and only then does
+    /// the count of faults rise, `Memory` for want of memory.
     fn put(&mut self, piece: &[u8]) -> Result<usize, SinkError>
         ensures takes_a_prefix { Takes (taken self.old) (taken self.new) piece.now result }
-        ensures fault_rose { HasCause (faults self.old) (faults self.new) result };
+        ensures fault_rose { HasCause (faults self.old) (faults self.new) result }
+        ensures no_other_fault { StaysUnless Failed (faults self.old) (faults self.new) result };
 }
 
 /// Puts the whole piece, in at most as many turns as it has bytes.
 ///
-/// At an error a prefix was taken, and not the whole: `Failed` comes only where the count of faults rose,
-/// `Memory` for want of memory.
+/// At an error a prefix was taken, and not the whole: `Failed` comes where a put failed, and only then does
+/// the count of faults rise, `Memory` for want of memory.
 pub fn write_whole<K: Sink>(out: &mut K, piece: &[u8]) -> Result<(), SinkError>
     ensures takes_the_piece { TakesWhole (K.taken out.old) (K.taken out.new) piece.now result }
     ensures fault_rose { HasCause (K.faults out.old) (K.faults out.new) result }
+    ensures no_other_fault { StaysUnless Failed (K.faults out.old) (K.faults out.new) result }
 {
     let mut at = 0;
     'turns: while at < piece.len() {

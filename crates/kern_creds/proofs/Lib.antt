@@ -1,3 +1,5 @@
+pub mod MadeIds
+pub mod ExecRules
 pub mod Words
 pub mod Answers
 pub mod SoundCalls

@@ -2,7 +2,8 @@
 use Rattle.std.specs.Prelude.{ℕ, Bool, Result, Ok, Err, if◌then◌else◌, ◌&&◌, ◌||◌}
 use Rattle.cap_sets.specs.Sets.{has, union, cut, within}
 use Rattle.kern_creds.specs.declared.creds.Creds.{Creds}
-use Rattle.kern_creds.specs.declared.numbers.TheConstants.{EPERM, CAP_SETPCAP}
+use Rattle.linux_numbers.specs.Errnos.{eperm}
+use Rattle.linux_numbers.specs.Capabilities.{cap_setpcap}
 
 -- the new permitted set is a subset of the old one, the new effective set of the new permitted one, the new
 -- inheritable set of the old one with the bounding set and, without CAP_SETPCAP, of the old one with the old permitted set
@@ -10,7 +11,7 @@ abbrev pub may_capset : Creds → ℕ → ℕ → ℕ → Bool
 may_capset creds permitted effective inheritable =
     (within permitted creds.permitted && within effective permitted)
     && (within inheritable (union creds.inheritable creds.bounding)
-    && (has creds.effective CAP_SETPCAP || within inheritable (union creds.inheritable creds.permitted)))
+    && (has creds.effective cap_setpcap || within inheritable (union creds.inheritable creds.permitted)))
 
 -- an ambient capability that is no longer both permitted and inheritable is lowered
 abbrev pub with_sets : Creds → ℕ → ℕ → ℕ → Creds
@@ -24,4 +25,4 @@ with_sets creds permitted effective inheritable =
 
 abbrev pub after_capset : Creds → ℕ → ℕ → ℕ → Result Creds ℕ
 after_capset creds permitted effective inheritable =
-    if may_capset creds permitted effective inheritable then Ok (with_sets creds permitted effective inheritable) else Err EPERM
+    if may_capset creds permitted effective inheritable then Ok (with_sets creds permitted effective inheritable) else Err eperm

@@ -4,7 +4,7 @@ use Rattle.cap_sets.specs.Sets.{none, union, cut, within}
 use Rattle.kern_creds.specs.declared.ids.Ids.{Ids}
 use Rattle.kern_creds.specs.declared.file.FileCreds.{FileCreds}
 use Rattle.kern_creds.specs.declared.creds.Creds.{Creds}
-use Rattle.kern_creds.specs.declared.numbers.TheConstants.{EPERM}
+use Rattle.linux_numbers.specs.Errnos.{eperm}
 
 -- "Safety checking for capability-dumb binaries": the file's effective bit is set and the bounding set withholds one of
 -- its capabilities. On a mount with nosuid the file's marks are not looked at.
@@ -78,4 +78,4 @@ exec_done creds file nosuid =
     }
 
 abbrev pub after_exec : Creds → FileCreds → Bool → Result Creds ℕ
-after_exec creds file nosuid = if is_refused creds file nosuid then Err EPERM else Ok (exec_done creds file nosuid)
+after_exec creds file nosuid = if is_refused creds file nosuid then Err eperm else Ok (exec_done creds file nosuid)

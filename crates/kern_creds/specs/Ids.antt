@@ -1,7 +1,7 @@
 -- Real, effective and saved ids: credentials(7), and what setresuid(2) and setresgid(2) ask of an id.
 use Rattle.std.specs.Prelude.{ℕ, Bool, if◌then◌else◌, ◌==◌, ◌&&◌, ◌||◌}
 use Rattle.kern_creds.specs.declared.ids.Ids.{Ids}
-use Rattle.kern_creds.specs.declared.numbers.TheConstants.{NO_ID}
+use Rattle.linux_numbers.specs.Limits.{no_id}
 
 -- the id is one of the three
 abbrev pub is_one_of : Ids → ℕ → Bool
@@ -9,14 +9,14 @@ is_one_of ids id = (id == ids.real || id == ids.effective) || id == ids.saved
 
 -- without a capability an id may be left alone (-1), or be one of the three
 abbrev pub may_take : Ids → ℕ → Bool
-may_take ids id = id == NO_ID || is_one_of ids id
+may_take ids id = id == no_id || is_one_of ids id
 
 abbrev pub may_take_all : Ids → ℕ → ℕ → ℕ → Bool
 may_take_all ids real effective saved = (may_take ids real && may_take ids effective) && may_take ids saved
 
 -- -1 leaves the id as it was
 abbrev pub kept_id : ℕ → ℕ → ℕ
-kept_id old id = if id == NO_ID then old else id
+kept_id old id = if id == no_id then old else id
 
 abbrev pub kept_ids : Ids → ℕ → ℕ → ℕ → Ids
 kept_ids old real effective saved =

@@ -2,26 +2,27 @@
 use Rattle.std.specs.Prelude.{ℕ, Bool, true, Result, Ok, Err, if◌then◌else◌, ◌&&◌, not, nat_lt}
 use Rattle.cap_sets.specs.Sets.{has, none, union, minus, single}
 use Rattle.kern_creds.specs.declared.creds.Creds.{Creds}
-use Rattle.kern_creds.specs.declared.numbers.TheConstants.{EPERM, EINVAL, CAP_SETPCAP, CAP_LAST_CAP}
+use Rattle.linux_numbers.specs.Errnos.{eperm, einval}
+use Rattle.linux_numbers.specs.Capabilities.{cap_setpcap, cap_last_cap}
 
 -- PR_CAPBSET_DROP: the capability leaves the bounding set
 abbrev pub after_drop_bounding : Creds → ℕ → Result Creds ℕ
 after_drop_bounding creds cap =
-    if nat_lt CAP_LAST_CAP cap then Err EINVAL
-    else if not (has creds.effective CAP_SETPCAP) then Err EPERM
+    if nat_lt cap_last_cap cap then Err einval
+    else if not (has creds.effective cap_setpcap) then Err eperm
     else Ok (record creds { bounding = minus creds.bounding (single cap) })
 
 -- PR_CAP_AMBIENT_RAISE: the capability has to be permitted and inheritable
 abbrev pub after_raise : Creds → ℕ → Result Creds ℕ
 after_raise creds cap =
-    if nat_lt CAP_LAST_CAP cap then Err EINVAL
-    else if not (has creds.permitted cap && has creds.inheritable cap) then Err EPERM
+    if nat_lt cap_last_cap cap then Err einval
+    else if not (has creds.permitted cap && has creds.inheritable cap) then Err eperm
     else Ok (record creds { ambient = union creds.ambient (single cap) })
 
 -- PR_CAP_AMBIENT_LOWER
 abbrev pub after_lower : Creds → ℕ → Result Creds ℕ
 after_lower creds cap =
-    if nat_lt CAP_LAST_CAP cap then Err EINVAL
+    if nat_lt cap_last_cap cap then Err einval
     else Ok (record creds { ambient = minus creds.ambient (single cap) })
 
 -- PR_CAP_AMBIENT_CLEAR_ALL

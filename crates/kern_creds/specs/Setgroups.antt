@@ -2,10 +2,12 @@
 use Rattle.std.specs.Prelude.{ℕ, List, length, Result, Ok, Err, if◌then◌else◌, not, nat_lt}
 use Rattle.cap_sets.specs.Sets.{has}
 use Rattle.kern_creds.specs.declared.creds.Creds.{Creds}
-use Rattle.kern_creds.specs.declared.numbers.TheConstants.{EPERM, EINVAL, CAP_SETGID, NGROUPS_MAX}
+use Rattle.linux_numbers.specs.Errnos.{eperm, einval}
+use Rattle.linux_numbers.specs.Limits.{ngroups_max}
+use Rattle.linux_numbers.specs.Capabilities.{cap_setgid}
 
 abbrev pub after_setgroups : Creds → List ℕ → Result Creds ℕ
 after_setgroups creds ids =
-    if not (has creds.effective CAP_SETGID) then Err EPERM
-    else if nat_lt NGROUPS_MAX (length ids) then Err EINVAL
+    if not (has creds.effective cap_setgid) then Err eperm
+    else if nat_lt ngroups_max (length ids) then Err einval
     else Ok (record creds { groups = ids })

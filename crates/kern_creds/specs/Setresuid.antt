@@ -1,20 +1,23 @@
 -- setresuid(2) and setresgid(2). A privileged caller sets the ids to any values, another each to one of its three;
 -- an id of -1 stays; EPERM where an unprivileged caller asks for another id.
-use Rattle.std.specs.Prelude.{ℕ, Result, Ok, Err, if◌then◌else◌, ◌||◌}
+use Rattle.std.specs.Prelude.{ℕ, Bool, Result, Ok, Err, if◌then◌else◌, ◌||◌}
 use Rattle.cap_sets.specs.Sets.{has}
+use Rattle.linux_numbers.specs.Errnos.{eperm}
+use Rattle.linux_numbers.specs.Capabilities.{cap_setgid, cap_setuid}
 use Rattle.kern_creds.specs.Ids.{may_take_all, kept_ids}
 use Rattle.kern_creds.specs.RootChange.{with_uids}
+use Rattle.kern_creds.specs.declared.ids.Ids.{Ids}
 use Rattle.kern_creds.specs.declared.creds.Creds.{Creds}
-use Rattle.kern_creds.specs.declared.numbers.TheConstants.{EPERM, CAP_SETGID, CAP_SETUID}
+
+-- what the new ids make, by whether the caller is privileged and by its old ids
+abbrev pub set_all_ids : {X : Type 0} → (Ids → X) → Bool → Ids → ℕ → ℕ → ℕ → Result X ℕ
+set_all_ids made privileged old real effective saved =
+    if privileged || may_take_all old real effective saved then Ok (made (kept_ids old real effective saved)) else Err eperm
 
 abbrev pub after_setresuid : Creds → ℕ → ℕ → ℕ → Result Creds ℕ
 after_setresuid creds real effective saved =
-    if has creds.effective CAP_SETUID || may_take_all creds.uids real effective saved
-    then Ok (with_uids creds (kept_ids creds.uids real effective saved))
-    else Err EPERM
+    set_all_ids (with_uids creds) (has creds.effective cap_setuid) creds.uids real effective saved
 
 abbrev pub after_setresgid : Creds → ℕ → ℕ → ℕ → Result Creds ℕ
 after_setresgid creds real effective saved =
-    if has creds.effective CAP_SETGID || may_take_all creds.gids real effective saved
-    then Ok (record creds { gids = kept_ids creds.gids real effective saved })
-    else Err EPERM
+    set_all_ids (λ gids. record creds { gids = gids }) (has creds.effective cap_setgid) creds.gids real effective saved

@@ -1,22 +1,25 @@
 -- setuid(2) and setgid(2). A privileged caller sets all three ids, another the effective one to its real or saved one.
-use Rattle.std.specs.Prelude.{ℕ, Result, Ok, Err, if◌then◌else◌, ◌==◌, ◌||◌}
+use Rattle.std.specs.Prelude.{ℕ, Bool, Result, Ok, Err, if◌then◌else◌, ◌==◌, ◌||◌}
 use Rattle.cap_sets.specs.Sets.{has}
+use Rattle.linux_numbers.specs.Errnos.{eperm, einval}
+use Rattle.linux_numbers.specs.Limits.{no_id}
+use Rattle.linux_numbers.specs.Capabilities.{cap_setgid, cap_setuid}
 use Rattle.kern_creds.specs.Ids.{all_of}
 use Rattle.kern_creds.specs.RootChange.{with_uids}
+use Rattle.kern_creds.specs.declared.ids.Ids.{Ids}
 use Rattle.kern_creds.specs.declared.creds.Creds.{Creds}
-use Rattle.kern_creds.specs.declared.numbers.TheConstants.{EPERM, EINVAL, NO_ID, CAP_SETGID, CAP_SETUID}
 
--- EINVAL where the id is -1, which is none; EPERM where an unprivileged caller asks for another id
+-- what the new ids make, by whether the caller is privileged and by its old ids: EINVAL where the id is -1, which is
+-- none; EPERM where an unprivileged caller asks for another id
+abbrev pub set_id : {X : Type 0} → (Ids → X) → Bool → Ids → ℕ → Result X ℕ
+set_id made privileged old id =
+    if id == no_id then Err einval
+    else if privileged then Ok (made (all_of id))
+    else if id == old.real || id == old.saved then Ok (made (record old { effective = id }))
+    else Err eperm
+
 abbrev pub after_setuid : Creds → ℕ → Result Creds ℕ
-after_setuid creds id =
-    if id == NO_ID then Err EINVAL
-    else if has creds.effective CAP_SETUID then Ok (with_uids creds (all_of id))
-    else if id == creds.uids.real || id == creds.uids.saved then Ok (with_uids creds (record creds.uids { effective = id }))
-    else Err EPERM
+after_setuid creds id = set_id (with_uids creds) (has creds.effective cap_setuid) creds.uids id
 
 abbrev pub after_setgid : Creds → ℕ → Result Creds ℕ
-after_setgid creds id =
-    if id == NO_ID then Err EINVAL
-    else if has creds.effective CAP_SETGID then Ok (record creds { gids = all_of id })
-    else if id == creds.gids.real || id == creds.gids.saved then Ok (record creds { gids = record creds.gids { effective = id } })
-    else Err EPERM
+after_setgid creds id = set_id (λ gids. record creds { gids = gids }) (has creds.effective cap_setgid) creds.gids id

@@ -9,9 +9,9 @@ ghost use Rattle.kern_creds.specs.Exec.{is_refused, honours, is_privileged, exec
 use crate::creds::Creds;
 use crate::file::FileCreds;
 use crate::ids::Ids;
-use crate::numbers::EPERM;
 use crate::sets::is_empty;
 use cap_sets::CapSet;
+use linux_numbers::errnos::EPERM;
 
 impl FileCreds {
     // Whether there is a set-id bit or a capability.
@@ -28,8 +28,8 @@ impl Ids {
         ensures { result ≡ exec_ids honoured self owner }
     {
         let id = match owner {
-            Some(owner) => if honoured { owner } else { self.effective },
-            None => self.effective,
+            Some(owner) if honoured => owner,
+            _ => self.effective,
         };
         Ids {
             real: self.real,

@@ -3,7 +3,7 @@
 use cap_sets::CapSet;
 
 /// The marks of an executable file: its set-id bits and its capabilities, capabilities(7), "File capabilities".
-#[derive(Clone, Copy, Debug, PartialEq, Eq)]
+#[derive(Clone, Copy)]
 pub struct FileCreds {
     /// The owner, where the set-user-id bit is on.
     pub setuid: Option<u32>,

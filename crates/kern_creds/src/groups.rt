@@ -29,11 +29,11 @@ impl Groups {
         }
     }
 
-    /// The groups of this list.
-    pub fn from_slice(alloc: Global, ids: &[u32]) -> Result<Groups, AllocError>
+    // These ids as groups, with memory from where these groups have theirs.
+    pub(crate) fn with(&self, ids: &[u32]) -> Result<Groups, AllocError>
         ensures { IfOk result (λ groups. groups ≡ ids.now) }
     {
-        let mut copied = Vec::new(alloc);
+        let mut copied = Vec::new(*self.ids.allocator());
         copied.extend_from_slice(ids)?;
         Ok(Groups { ids: copied })
     }
@@ -49,8 +49,6 @@ impl Groups {
     pub fn copy(&self) -> Result<Groups, AllocError>
         ensures { IfOk result (λ groups. groups ≡ self.now) }
     {
-        Ok(Groups {
-            ids: self.ids.clone()?,
-        })
+        self.with(self.ids())
     }
 }

@@ -2,16 +2,49 @@
 
 ghost use Rattle.std.specs.Prelude.{◌≡◌};
 ghost use Rattle.kern_creds.specs.Answer.{Becomes, BecomesOrMemory};
-ghost use Rattle.kern_creds.specs.Setuid.{after_setuid, after_setgid};
-ghost use Rattle.kern_creds.specs.Setresuid.{after_setresuid, after_setresgid};
+ghost use Rattle.kern_creds.specs.Setuid.{set_id, after_setuid, after_setgid};
+ghost use Rattle.kern_creds.specs.Setresuid.{set_all_ids, after_setresuid, after_setresgid};
 ghost use Rattle.kern_creds.specs.Setgroups.{after_setgroups};
 
 use crate::creds::Creds;
 use crate::error::CredError;
-use crate::groups::Groups;
 use crate::ids::Ids;
-use crate::numbers::{CAP_SETGID, CAP_SETUID, EINVAL, EPERM, NGROUPS_MAX, NO_ID};
-use std::alloc::Global;
+use linux_numbers::capabilities::{CAP_SETGID, CAP_SETUID};
+use linux_numbers::errnos::{EINVAL, EPERM};
+use linux_numbers::limits::{NGROUPS_MAX, NO_ID};
+
+impl Ids {
+    // The ids after setuid(2) or setgid(2) by a caller with the capability, or without it.
+    fn set(self, privileged: bool, id: u32) -> Result<Ids, u32>
+        ensures { result ≡ set_id (λ ids. ids) privileged self id }
+    {
+        if id == NO_ID {
+            return Err(EINVAL);
+        }
+        if privileged {
+            return Ok(Ids::all_of(id));
+        }
+        if id == self.real || id == self.saved {
+            return Ok(Ids {
+                real: self.real,
+                effective: id,
+                saved: self.saved,
+            });
+        }
+        Err(EPERM)
+    }
+
+    // The ids after setresuid(2) or setresgid(2) by a caller with the capability, or without it.
+    fn set_all(self, privileged: bool, real: u32, effective: u32, saved: u32) -> Result<Ids, u32>
+        ensures { result ≡ set_all_ids (λ ids. ids) privileged self real effective saved }
+    {
+        if privileged || self.may_take_all(real, effective, saved) {
+            Ok(self.with(real, effective, saved))
+        } else {
+            Err(EPERM)
+        }
+    }
+}
 
 impl Creds {
     /// setuid(2): all three uids with CAP_SETUID; without it the effective one, to the real or the saved one.
@@ -20,41 +53,18 @@ impl Creds {
     pub fn setuid(&mut self, id: u32) -> Result<(), u32>
         ensures { Becomes self.old self.new result (after_setuid self.old id) }
     {
-        if id == NO_ID {
-            return Err(EINVAL);
-        }
-        if self.effective.contains(CAP_SETUID) {
-            self.take_uids(Ids::all_of(id));
-            return Ok(());
-        }
-        if id == self.uids.real || id == self.uids.saved {
-            let uids = Ids {
-                real: self.uids.real,
-                effective: id,
-                saved: self.uids.saved,
-            };
-            self.take_uids(uids);
-            return Ok(());
-        }
-        Err(EPERM)
+        let uids = self.uids.set(self.effective.contains(CAP_SETUID), id)?;
+        self.take_uids(uids);
+        Ok(())
     }
 
     /// setgid(2): as `setuid`, of the gids and with CAP_SETGID.
     pub fn setgid(&mut self, id: u32) -> Result<(), u32>
         ensures { Becomes self.old self.new result (after_setgid self.old id) }
     {
-        if id == NO_ID {
-            return Err(EINVAL);
-        }
-        if self.effective.contains(CAP_SETGID) {
-            self.gids = Ids::all_of(id);
-            return Ok(());
-        }
-        if id == self.gids.real || id == self.gids.saved {
-            self.gids.effective = id;
-            return Ok(());
-        }
-        Err(EPERM)
+        let gids = self.gids.set(self.effective.contains(CAP_SETGID), id)?;
+        self.gids = gids;
+        Ok(())
     }
 
     /// setresuid(2): the real, the effective and the saved uid; -1 leaves one as it is.
@@ -63,11 +73,9 @@ impl Creds {
     pub fn setresuid(&mut self, real: u32, effective: u32, saved: u32) -> Result<(), u32>
         ensures { Becomes self.old self.new result (after_setresuid self.old real effective saved) }
     {
-        let old = self.uids;
-        if !(self.effective.contains(CAP_SETUID) || old.may_take_all(real, effective, saved)) {
-            return Err(EPERM);
-        }
-        self.take_uids(old.with(real, effective, saved));
+        let privileged = self.effective.contains(CAP_SETUID);
+        let uids = self.uids.set_all(privileged, real, effective, saved)?;
+        self.take_uids(uids);
         Ok(())
     }
 
@@ -75,18 +83,16 @@ impl Creds {
     pub fn setresgid(&mut self, real: u32, effective: u32, saved: u32) -> Result<(), u32>
         ensures { Becomes self.old self.new result (after_setresgid self.old real effective saved) }
     {
-        let old = self.gids;
-        if !(self.effective.contains(CAP_SETGID) || old.may_take_all(real, effective, saved)) {
-            return Err(EPERM);
-        }
-        self.gids = old.with(real, effective, saved);
+        let privileged = self.effective.contains(CAP_SETGID);
+        let gids = self.gids.set_all(privileged, real, effective, saved)?;
+        self.gids = gids;
         Ok(())
     }
 
     /// setgroups(2): these supplementary groups, in place of the old ones.
     ///
     /// EPERM without CAP_SETGID; EINVAL of more than 65,536 ids; Memory, and then nothing changes.
-    pub fn setgroups(&mut self, alloc: Global, ids: &[u32]) -> Result<(), CredError>
+    pub fn setgroups(&mut self, ids: &[u32]) -> Result<(), CredError>
         ensures { BecomesOrMemory self.old self.new result (after_setgroups self.old ids.now) }
     {
         if !self.effective.contains(CAP_SETGID) {
@@ -95,7 +101,7 @@ impl Creds {
         if ids.len() > NGROUPS_MAX {
             return Err(CredError::Errno(EINVAL));
         }
-        self.groups = Groups::from_slice(alloc, ids)?;
+        self.groups = self.groups.with(ids)?;
         Ok(())
     }
 }

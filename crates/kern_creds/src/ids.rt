@@ -4,10 +4,10 @@ ghost use Rattle.std.specs.Prelude.{◌≡◌};
 ghost use Rattle.kern_creds.specs.Ids.{may_take, may_take_all, kept_id, kept_ids, all_of};
 ghost use Rattle.kern_creds.specs.RootChange.{has_root};
 
-use crate::numbers::NO_ID;
+use linux_numbers::limits::NO_ID;
 
 /// Real, effective and saved id: three of a user, or three of a group.
-#[derive(Clone, Copy, Debug, PartialEq, Eq)]
+#[derive(Clone, Copy)]
 pub struct Ids {
     /// Whose process it is.
     pub real: u32,

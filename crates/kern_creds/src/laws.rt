@@ -2,13 +2,13 @@
 //!
 //! They speak of the definitions that the calls' contracts name, for any file that is executed.
 
-ghost use Rattle.std.specs.Prelude.{◌≡◌, Bool, true, false, Ok};
-ghost use Rattle.cap_sets.specs.Sets.{has, union, IsWithin};
+ghost use Rattle.std.specs.Prelude.{◌≡◌, ◌≢◌, ℕ, ◌&&◌, Bool, true, false, Ok, Some};
+ghost use Rattle.cap_sets.specs.Sets.{has, union, cut, none, IsWithin};
 ghost use Rattle.kern_creds.specs.declared.creds.Creds.{Creds};
 ghost use Rattle.kern_creds.specs.declared.file.FileCreds.{FileCreds};
-ghost use Rattle.kern_creds.specs.declared.numbers.TheConstants.{CAP_SETGID, CAP_SETUID};
+ghost use Rattle.linux_numbers.specs.Capabilities.{cap_setgid, cap_setuid};
 ghost use Rattle.kern_creds.specs.Start.{start};
-ghost use Rattle.kern_creds.specs.Exec.{after_exec};
+ghost use Rattle.kern_creds.specs.Exec.{after_exec, honours, is_privileged, runs_as_root};
 ghost use Rattle.kern_creds.specs.Calls.{Call};
 ghost use Rattle.kern_creds.specs.Sound.{IsSound};
 ghost use Rattle.kern_creds.specs.Guarded.{AreAmong, is_set_user, is_set_group};
@@ -55,10 +55,61 @@ pub fn permitted_grows_by_execve()
 /// A process without CAP_SETUID keeps to its own uids, and one without CAP_SETGID to its own gids and groups, whatever it
 /// calls, but for the owner and the group of a set-id file that it executes.
 pub fn ids_are_guarded()
-    ensures own_uids { (creds now : Creds) (call : Call) → has creds.effective CAP_SETUID ≡ false → is_set_user creds call ≡ false
+    ensures own_uids { (creds now : Creds) (call : Call) → has creds.effective cap_setuid ≡ false → is_set_user creds call ≡ false
         → Leads creds call now → AreAmong now.uids creds.uids }
-    ensures own_gids { (creds now : Creds) (call : Call) → has creds.effective CAP_SETGID ≡ false → is_set_group creds call ≡ false
+    ensures own_gids { (creds now : Creds) (call : Call) → has creds.effective cap_setgid ≡ false → is_set_group creds call ≡ false
         → Leads creds call now → AreAmong now.gids creds.gids }
-    ensures own_groups { (creds now : Creds) (call : Call) → has creds.effective CAP_SETGID ≡ false
+    ensures own_groups { (creds now : Creds) (call : Call) → has creds.effective cap_setgid ≡ false
         → Leads creds call now → now.groups ≡ creds.groups }
+{}
+
+/// Every execve turns keepcaps off and makes the saved ids the effective ones; the real ids, the groups, the inheritable
+/// and the bounding set and no_new_privs stay.
+pub fn execve_leaves_by_rule()
+    ensures keepcaps_is_cleared { (creds now : Creds) (file : FileCreds) (nosuid : Bool) → after_exec creds file nosuid ≡ Ok now
+        → now.keepcaps ≡ false }
+    ensures saved_uid_is_the_effective { (creds now : Creds) (file : FileCreds) (nosuid : Bool) → after_exec creds file nosuid ≡ Ok now
+        → now.uids.saved ≡ now.uids.effective }
+    ensures saved_gid_is_the_effective { (creds now : Creds) (file : FileCreds) (nosuid : Bool) → after_exec creds file nosuid ≡ Ok now
+        → now.gids.saved ≡ now.gids.effective }
+    ensures owner_becomes_effective { (creds now : Creds) (file : FileCreds) (nosuid : Bool) (owner : ℕ) → honours creds nosuid ≡ true
+        → file.setuid ≡ Some owner → after_exec creds file nosuid ≡ Ok now → now.uids.effective ≡ owner }
+    ensures group_becomes_effective { (creds now : Creds) (file : FileCreds) (nosuid : Bool) (group : ℕ) → honours creds nosuid ≡ true
+        → file.setgid ≡ Some group → after_exec creds file nosuid ≡ Ok now → now.gids.effective ≡ group }
+    ensures the_rest_stays { (creds now : Creds) (file : FileCreds) (nosuid : Bool) → after_exec creds file nosuid ≡ Ok now
+        → (now.uids.real ≡ creds.uids.real) × (now.gids.real ≡ creds.gids.real) × (now.groups ≡ creds.groups)
+        × (now.inheritable ≡ creds.inheritable) × (now.bounding ≡ creds.bounding) × (now.no_new_privs ≡ creds.no_new_privs) }
+{}
+
+/// What execve gives whoever then is root, by real or effective uid: the inheritable and the bounding set, of which only
+/// what was permitted is left under no_new_privs.
+pub fn execve_gives_root()
+    ensures all_without_no_new_privs { (creds now : Creds) (file : FileCreds) (nosuid : Bool) → creds.no_new_privs ≡ false
+        → after_exec creds file nosuid ≡ Ok now → runs_as_root now.uids ≡ true
+        → now.permitted ≡ union creds.inheritable creds.bounding }
+    ensures permitted_ones_with_it { (creds now : Creds) (file : FileCreds) (nosuid : Bool) → creds.no_new_privs ≡ true
+        → after_exec creds file nosuid ≡ Ok now → runs_as_root now.uids ≡ true
+        → now.permitted ≡ cut (union creds.inheritable creds.bounding) creds.permitted }
+    ensures effective_with_the_effective_uid { (creds now : Creds) (file : FileCreds) (nosuid : Bool)
+        → after_exec creds file nosuid ≡ Ok now → now.uids.effective ≡ 0 → now.effective ≡ now.permitted }
+{}
+
+/// What execve gives whoever is not root then: what the file gives of the bounding set, where its marks count, with the
+/// ambient set, which a privileged file empties; and of these the effective ones by the file's bit.
+pub fn execve_gives_others()
+    ensures by_the_file { (creds now : Creds) (file : FileCreds) (nosuid : Bool) → honours creds nosuid ≡ true
+        → after_exec creds file nosuid ≡ Ok now → runs_as_root now.uids ≡ false
+        → now.permitted ≡ union (cut file.caps creds.bounding) now.ambient }
+    ensures by_ambient_alone { (creds now : Creds) (file : FileCreds) (nosuid : Bool) → nosuid ≡ true → creds.no_new_privs ≡ false
+        → after_exec creds file nosuid ≡ Ok now → runs_as_root now.uids ≡ false → now.permitted ≡ now.ambient }
+    ensures by_what_was_permitted { (creds now : Creds) (file : FileCreds) (nosuid : Bool) → creds.no_new_privs ≡ true
+        → after_exec creds file nosuid ≡ Ok now → runs_as_root now.uids ≡ false → now.permitted ≡ cut now.ambient creds.permitted }
+    ensures effective_by_the_bit { (creds now : Creds) (file : FileCreds) (nosuid : Bool) → honours creds nosuid ≡ true
+        → file.effective ≡ true → after_exec creds file nosuid ≡ Ok now → now.effective ≡ now.permitted }
+    ensures effective_without_it { (creds now : Creds) (file : FileCreds) (nosuid : Bool) → (honours creds nosuid && file.effective) ≡ false
+        → after_exec creds file nosuid ≡ Ok now → now.uids.effective ≢ 0 → now.effective ≡ now.ambient }
+    ensures ambient_is_emptied { (creds now : Creds) (file : FileCreds) (nosuid : Bool) → honours creds nosuid ≡ true
+        → is_privileged file ≡ true → after_exec creds file nosuid ≡ Ok now → now.ambient ≡ none }
+    ensures ambient_stays { (creds now : Creds) (file : FileCreds) (nosuid : Bool) → honours creds nosuid ≡ false
+        → after_exec creds file nosuid ≡ Ok now → now.ambient ≡ creds.ambient }
 {}

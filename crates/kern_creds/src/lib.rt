@@ -1,22 +1,19 @@
 //! Credentials of processes in a modelled Linux kernel, and the calls that change them (credentials(7), capabilities(7)).
 //!
 //! Each call is its rule in the manual, and either changes the credentials or answers an errno and changes nothing.
-//! The crate rests on `cap_sets`; `Creds::start(alloc).setuid(33)` leaves a process that has no capability.
+//! The crate rests on `linux_numbers` and `cap_sets`; `Creds::start(alloc).setuid(33)` leaves a process that has no capability.
 #![tactic(auto)]
 
-pub mod creds;
-pub mod error;
-pub mod exec;
-pub mod file;
-pub mod groups;
-pub mod identity;
-pub mod ids;
+mod creds;
+mod error;
+mod exec;
+mod file;
+mod groups;
+mod identity;
+mod ids;
 pub mod laws;
-pub mod numbers;
-pub mod prctl;
+mod prctl;
 mod sets;
-#[cfg(test)]
-mod tests;
 
 pub use creds::Creds;
 pub use error::CredError;

@@ -6,9 +6,10 @@ ghost use Rattle.kern_creds.specs.Capset.{may_capset, after_capset};
 ghost use Rattle.kern_creds.specs.Prctl.{after_drop_bounding, after_raise, after_lower, after_clear_ambient, after_set_keepcaps, after_set_no_new_privs};
 
 use crate::creds::Creds;
-use crate::numbers::{CAP_LAST_CAP, CAP_SETPCAP, EINVAL, EPERM};
 use crate::sets::single;
 use cap_sets::CapSet;
+use linux_numbers::capabilities::{CAP_LAST_CAP, CAP_SETPCAP};
+use linux_numbers::errnos::{EINVAL, EPERM};
 
 impl Creds {
     fn may_capset(&self, permitted: CapSet, effective: CapSet, inheritable: CapSet) -> bool
@@ -50,7 +51,7 @@ impl Creds {
     pub fn drop_bounding(&mut self, cap: u32) -> Result<(), u32>
         ensures { Becomes self.old self.new result (after_drop_bounding self.old cap) }
     {
-        if cap > CAP_LAST_CAP {
+        if cap > CAP_LAST_CAP as u32 {
             return Err(EINVAL);
         }
         if !self.effective.contains(CAP_SETPCAP) {
@@ -66,7 +67,7 @@ impl Creds {
     pub fn raise(&mut self, cap: u32) -> Result<(), u32>
         ensures { Becomes self.old self.new result (after_raise self.old cap) }
     {
-        if cap > CAP_LAST_CAP {
+        if cap > CAP_LAST_CAP as u32 {
             return Err(EINVAL);
         }
         let cap = cap as u8;
@@ -83,7 +84,7 @@ impl Creds {
     pub fn lower(&mut self, cap: u32) -> Result<(), u32>
         ensures { Becomes self.old self.new result (after_lower self.old cap) }
     {
-        if cap > CAP_LAST_CAP {
+        if cap > CAP_LAST_CAP as u32 {
             return Err(EINVAL);
         }
         self.ambient = self.ambient.minus(single(cap as u8));

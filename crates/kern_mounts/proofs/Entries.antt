@@ -1,6 +1,6 @@
 -- The entry of a path, by its number and by itself.
 use Rattle.std.proofs.Common.{◌≡◌, ℕ, zero, suc, ◌+◌, ◌<◌, ◌≤◌, ◌⊎◌, inl, inr, Bool, true, false, cond, filter, List, [], ◌∷◌, ◌++◌, map, length, get_or, Option, Some, None, refl, sym, ap, ◌∙◌, subst, arith, append-nil}
-use Rattle.std.specs.List.{AllByRecursion, Contains, slice_get}
+use Rattle.std.specs.List.{AllByRecursion, Contains, slice_get, last_or}
 use Rattle.std.proofs.lemmas.Bool.{false≢true, cases_lt}
 use Rattle.std.proofs.lemmas.List.Elements.{filter-append, recursion_from_All, All-from_recursion, All-contains}
 use Rattle.std.proofs.lemmas.Option.{slice_get-get_or}
@@ -11,7 +11,7 @@ use Rattle.abs_path.proofs.Prefixes.{prefix_itself, prefix_chain}
 use Rattle.abs_path.proofs.ByteOrder.{prefix_before, not_before_itself, before_trans}
 use Rattle.kern_mounts.specs.declared.step.MountStep.{MountStep}
 use Rattle.kern_mounts.specs.Table.{StartsAtRoot}
-use Rattle.kern_mounts.specs.Entry.{leads_to, Belongs, last_of, entry_of}
+use Rattle.kern_mounts.specs.Entry.{leads_to, Belongs, entry_of}
 
 -- a later entry, or else this one where it leads to the path
 abbrev pub later_of : Option MountStep → Bool → MountStep → Option MountStep
@@ -19,14 +19,14 @@ later_of (Some later) leads step = Some later
 later_of None true step = Some step
 later_of None false step = None
 
-last_some : {X : Type 0} (x : X) (xs : List X) → (y : X) × (last_of (x ∷ xs) ≡ Some y)
+last_some : {X : Type 0} (x : X) (xs : List X) → (y : X) × (last_or (Some x) xs ≡ Some y)
 last_some x [] = (x, refl)
 last_some x (y ∷ xs) = last_some y xs
 
 pub entry_more : (first : MountStep) (steps : List MountStep) (path : Path) → entry_of (first ∷ steps) path ≡ later_of (entry_of steps path) (leads_to path first) first
 entry_more first steps path = by (leads_to path first) (filter (leads_to path) steps)
   where
-    by : (b : Bool) (later : List MountStep) → last_of (cond b (first ∷ later) later) ≡ later_of (last_of later) b first
+    by : (b : Bool) (later : List MountStep) → last_or None (cond b (first ∷ later) later) ≡ later_of (last_or None later) b first
     by true [] = refl
     by false [] = refl
     by true (x ∷ later) = let some = last_some x later in some.1 ∙ ap (λ o. later_of o true first) (sym some.1)
@@ -73,7 +73,7 @@ filter_none test [] h = refl
 filter_none test (x ∷ xs) h = let here = h.0 in let more = filter_none test xs h.1 in cc
 
 no_entry : (steps : List MountStep) (path : Path) → AllByRecursion (λ step. leads_to path step ≡ false) steps → entry_of steps path ≡ None
-no_entry steps path h = ap last_of (filter_none (leads_to path) steps h)
+no_entry steps path h = ap (last_or None) (filter_none (leads_to path) steps h)
 
 -- the same among the entries behind the first
 behind_first : (first : MountStep) (steps : List MountStep) (path : Path) (at : ℕ) → Belongs (first ∷ steps) path (suc at) → Belongs steps path at
@@ -144,18 +144,17 @@ has_entry (first ∷ steps) path h =
 pub has_place : (table : List MountStep) (path : Path) → StartsAtRoot table → (at : ℕ) × Belongs table path at
 has_place table path h = let found = has_entry table path h in some_place table path found.0 found.1
 
-last_push : {X : Type 0} (xs : List X) (x : X) → last_of (xs ++ x ∷ []) ≡ Some x
-last_push [] x = refl
-last_push (y ∷ []) x = refl
-last_push (y ∷ z ∷ xs) x = last_push (z ∷ xs) x
+last_push : {X : Type 0} (one : Option X) (xs : List X) (x : X) → last_or one (xs ++ x ∷ []) ≡ Some x
+last_push one [] x = refl
+last_push one (y ∷ xs) x = last_push (Some y) xs x
 
 -- one more entry decides at its place and below, and nowhere else
 pub entry_push : (table : List MountStep) (step : MountStep) (path : Path) → entry_of (table ++ step ∷ []) path ≡ cond (leads_to path step) (Some step) (entry_of table path)
-entry_push table step path = ap last_of (filter-append (leads_to path) table (step ∷ [])) ∙ by (leads_to path step)
+entry_push table step path = ap (last_or None) (filter-append (leads_to path) table (step ∷ [])) ∙ by (leads_to path step)
   where
-    by : (b : Bool) → last_of (filter (leads_to path) table ++ cond b (step ∷ []) []) ≡ cond b (Some step) (entry_of table path)
-    by true = last_push (filter (leads_to path) table) step
-    by false = ap last_of (append-nil (filter (leads_to path) table))
+    by : (b : Bool) → last_or None (filter (leads_to path) table ++ cond b (step ∷ []) []) ≡ cond b (Some step) (entry_of table path)
+    by true = last_push None (filter (leads_to path) table) step
+    by false = ap (last_or None) (append-nil (filter (leads_to path) table))
 
 -- where one of two prefixes of a path comes before the other, it leads to it
 earlier_leads : (one other path : Path) → is_before one other ≡ true → is_prefix one path ≡ true → is_prefix other path ≡ true → is_prefix one other ≡ true

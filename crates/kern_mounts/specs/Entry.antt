@@ -1,7 +1,7 @@
 -- The entry of a mount table that a path belongs to: a mount hides what earlier ones show at its place and below
 -- (mount_namespaces(7)), so the last whose place leads to the path decides.
-use Rattle.std.specs.Prelude.{◌≡◌, ◌+◌, ◌<◌, ℕ, Bool, true, false, filter, List, [], ◌∷◌, length, Option, Some, None}
-use Rattle.std.specs.List.{AllWithin, HoldsAt}
+use Rattle.std.specs.Prelude.{◌≡◌, ◌+◌, ◌<◌, ℕ, Bool, true, false, filter, List, length, Option, None}
+use Rattle.std.specs.List.{AllWithin, HoldsAt, last_or}
 use Rattle.abs_path.specs.Paths.{Path}
 use Rattle.abs_path.specs.Prefix.{is_prefix}
 use Rattle.kern_mounts.specs.declared.step.MountStep.{MountStep}
@@ -16,12 +16,6 @@ pub record Belongs (table : List MountStep) (path : Path) (at : ℕ) : Type 0 wh
   pub leads : HoldsAt (λ step. leads_to path step ≡ true) table at
   pub none_later : AllWithin (λ step. leads_to path step ≡ false) table (at + 1) (length table)
 
--- the last of a list
-abbrev pub last_of : {X : Type 0} → List X → Option X
-last_of [] = None
-last_of (x ∷ []) = Some x
-last_of (x ∷ y ∷ xs) = last_of (y ∷ xs)
-
 -- the entry that a path belongs to: of those whose places lead to the path, the last
 abbrev pub entry_of : List MountStep → Path → Option MountStep
-entry_of table path = last_of (filter (leads_to path) table)
+entry_of table path = last_or None (filter (leads_to path) table)

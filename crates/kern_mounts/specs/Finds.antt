@@ -3,10 +3,10 @@
 use Rattle.std.specs.Prelude.{ℕ, cond, List, ◌++◌, Option, Some, None, option_and_then}
 use Rattle.abs_path.specs.Paths.{Path}
 use Rattle.abs_path.specs.Prefix.{is_same, rest_of}
+use Rattle.linux_numbers.specs.Errnos.{enoent, eacces}
 use Rattle.kern_mounts.specs.declared.step.What.{What}
 use Rattle.kern_mounts.specs.declared.step.What.TheVariants.{Host, Empty, Hidden}
 use Rattle.kern_mounts.specs.declared.step.MountStep.{MountStep}
-use Rattle.kern_mounts.specs.declared.numbers.TheConstants.{ENOENT, EACCES}
 use Rattle.kern_mounts.specs.Entry.{entry_of}
 
 -- where the host has what a mount at the place shows at a path: its source, followed by what the path has behind the place
@@ -26,17 +26,17 @@ pub data Found (Row : Type 0) : Type 0 where
   nothing : ℕ → Found Row
 
 abbrev pub row_or_nothing : {Row : Type 0} → Option Row → Found Row
-row_or_nothing None = nothing ENOENT
+row_or_nothing None = nothing enoent
 row_or_nothing (Some found) = row found
 
 -- what a mount at the place shows at a path that it leads to
 abbrev pub found_by : {Row : Type 0} → (Path → Option Row) → What → Path → Path → Found Row
 found_by rows (Host source) place path = row_or_nothing (rows (source ++ rest_of place path))
-found_by rows Empty place path = cond (is_same place path) empty_directory (nothing ENOENT)
-found_by rows (Hidden directory) place path = nothing EACCES
+found_by rows Empty place path = cond (is_same place path) empty_directory (nothing enoent)
+found_by rows (Hidden directory) place path = nothing eacces
 
 abbrev pub found_at : {Row : Type 0} → (Path → Option Row) → Path → Option MountStep → Found Row
-found_at rows path None = nothing ENOENT
+found_at rows path None = nothing enoent
 found_at rows path (Some step) = found_by rows step.what step.place path
 
 -- what a path finds, by the entry that it belongs to

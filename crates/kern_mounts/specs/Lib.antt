@@ -1,3 +1,4 @@
 pub mod Table
 pub mod Entry
 pub mod Finds
+pub mod Launch

@@ -1,11 +1,12 @@
 -- What every mount table has, the table that a namespace starts with, and when there is no room for another entry.
 use Rattle.std.specs.Prelude.{◌≡◌, ◌≤◌, false, List, [], ◌∷◌, length, Result, Ok, Err, ⊤}
+use Rattle.linux_numbers.specs.Errnos.{enospc}
+use Rattle.linux_numbers.specs.Limits.{mount_max}
 use Rattle.kern_mounts.specs.declared.step.Flags.{Flags}
 use Rattle.kern_mounts.specs.declared.step.What.TheVariants.{Host}
 use Rattle.kern_mounts.specs.declared.step.MountStep.{MountStep}
 use Rattle.kern_mounts.specs.declared.error.MountError.{MountError}
 use Rattle.kern_mounts.specs.declared.error.MountError.TheVariants.{Errno, Memory}
-use Rattle.kern_mounts.specs.declared.numbers.TheConstants.{ENOSPC, MOUNT_MAX}
 
 -- written and executed, and with set-user-id programs, mount(2)
 abbrev pub no_flags : Flags
@@ -23,16 +24,10 @@ StartsAtRoot (step ∷ steps) = step.place ≡ []
 -- what holds of each table
 pub record IsTable (table : List MountStep) : Type 0 where
   pub root : StartsAtRoot table
-  pub few : length table ≤ MOUNT_MAX
+  pub few : length table ≤ mount_max
 
--- there is no room for another entry, mount(2)
-abbrev pub IsRefusedAsFull : Result (Unit {0}) MountError → Type 0
-IsRefusedAsFull (Ok done) = ⊥
-IsRefusedAsFull (Err (Errno errno)) = errno ≡ ENOSPC
-IsRefusedAsFull (Err Memory) = ⊥
-
--- where a call is refused, that is the cause, or want of memory
+-- where a call is refused, there is no room for another entry, mount(2), or no memory
 abbrev pub IsFullOrMemory : Result (Unit {0}) MountError → Type 0
 IsFullOrMemory (Ok done) = ⊤
-IsFullOrMemory (Err (Errno errno)) = errno ≡ ENOSPC
+IsFullOrMemory (Err (Errno errno)) = errno ≡ enospc
 IsFullOrMemory (Err Memory) = ⊤

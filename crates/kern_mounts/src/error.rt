@@ -3,7 +3,7 @@
 ghost use Rattle.std.specs.Prelude.{◌≡◌};
 ghost use Rattle.kern_mounts.specs.declared.error.MountError.TheVariants.{Memory};
 
-use std::alloc::{AllocError, AllocFailed};
+use std::alloc::AllocFailed;
 use thiserror::Error;
 
 /// Why a call that adds entries is refused.
@@ -15,14 +15,6 @@ pub enum MountError {
     /// Memory ran out.
     #[error("out of memory")]
     Memory,
-}
-
-impl From<AllocError> for MountError {
-    ghost from_gives = { λ _ e. e ≡ Memory };
-
-    fn from(_: AllocError) -> Self {
-        MountError::Memory
-    }
 }
 
 impl<T: Drop> From<AllocFailed<T>> for MountError {

@@ -6,9 +6,10 @@ ghost use Rattle.abs_path.specs.Prefix.{is_prefix, rest_of};
 ghost use Rattle.abs_path.specs.ByteOrder.{AreAscending};
 ghost use Rattle.kern_mounts.specs.declared.step.MountStep.{MountStep};
 ghost use Rattle.kern_mounts.specs.declared.step.What.TheVariants.{Empty, Hidden};
-ghost use Rattle.kern_mounts.specs.declared.numbers.TheConstants.{ENOENT, EACCES};
+ghost use Rattle.linux_numbers.specs.Errnos.{enoent, eacces};
 ghost use Rattle.kern_mounts.specs.Table.{start, IsTable};
 ghost use Rattle.kern_mounts.specs.Entry.{Belongs, entry_of};
+ghost use Rattle.kern_mounts.specs.Launch.{CanBeMounted, NoneTwice, mounted};
 ghost use Rattle.kern_mounts.specs.Finds.{host_place, finds, row_or_nothing, empty_directory, nothing};
 
 /// Each path belongs to exactly one entry of a table, and the entry is the one of that number.
@@ -53,8 +54,19 @@ pub fn finding()
         → finds rows table step.place ≡ empty_directory }
     ensures nothing_below_an_empty_directory { (rows : Path → Option ℕ) (table : List MountStep) (path : Path) (step : MountStep)
         → entry_of table path ≡ Some step → step.what ≡ Empty → (step.place ≡ path → ⊥)
-        → finds rows table path ≡ nothing ENOENT }
+        → finds rows table path ≡ nothing enoent }
     ensures no_access_to_what_is_hidden { (rows : Path → Option ℕ) (table : List MountStep) (path : Path) (step : MountStep) (directory : Bool)
         → entry_of table path ≡ Some step → step.what ≡ Hidden directory
-        → finds rows table path ≡ nothing EACCES }
+        → finds rows table path ≡ nothing eacces }
+{}
+
+/// A table that can be mounted is a table of the kernel, mounting it step by step makes the very table, and no step covers
+/// the place of another.
+pub fn mounted_tables()
+    ensures is_a_table { (rows : Path → Option Bool) (table : List MountStep)
+        → CanBeMounted rows table → IsTable table }
+    ensures mounting_makes_it { (rows : Path → Option Bool) (table : List MountStep)
+        → CanBeMounted rows table → mounted table ≡ table }
+    ensures no_place_twice { (rows : Path → Option Bool) (table : List MountStep)
+        → CanBeMounted rows table → NoneTwice (map (λ step. step.place) table) }
 {}

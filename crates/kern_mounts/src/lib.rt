@@ -2,16 +2,13 @@
 //! (mount_namespaces(7)).
 //!
 //! A later mount hides what an earlier one shows, so a path belongs to the last entry whose place leads to it.
-//! The crate rests on `abs_path`; `MountTable::new(alloc)?` shows the host itself at every path.
+//! The crate rests on `abs_path` and `linux_numbers`; `MountTable::new(alloc)?` shows the host itself at every path.
 #![tactic(auto)]
 
-pub mod error;
+mod error;
 pub mod laws;
-pub mod numbers;
-pub mod step;
-pub mod table;
-#[cfg(test)]
-mod tests;
+mod step;
+mod table;
 
 pub use error::MountError;
 pub use step::{Flags, MountStep, What};

@@ -2,14 +2,17 @@
 //!
 //! A contract sees a table as the list of its entries.
 
-ghost use Rattle.std.specs.Prelude.{◌≡◌, ◌++◌, ◌∷◌, [], ◌<◌, ◌≤◌, ◌↔◌, length, slice_get, Some, IfOk, OnOk, OnErr};
-ghost use Rattle.kern_mounts.specs.Table.{start, StartsAtRoot, IsTable, IsFullOrMemory, IsRefusedAsFull};
+ghost use Rattle.std.specs.Prelude.{◌≡◌, ◌++◌, ◌∷◌, [], ◌<◌, ◌↔◌, length, slice_get, Some, IfOk, OnOk, OnErr, IsErrOf};
+ghost use Rattle.linux_numbers.specs.Errnos.{enospc};
+ghost use Rattle.linux_numbers.specs.Limits.{mount_max};
+ghost use Rattle.kern_mounts.specs.Table.{start, StartsAtRoot, IsTable, IsFullOrMemory};
 ghost use Rattle.kern_mounts.specs.Entry.{Belongs, entry_of};
 
 use crate::error::MountError;
-use crate::numbers::{ENOSPC, MOUNT_MAX};
 use crate::step::{Flags, MountStep, What};
 use abs_path::AbsPath;
+use linux_numbers::errnos::ENOSPC;
+use linux_numbers::limits::MOUNT_MAX;
 use std::alloc::{AllocError, Global};
 use std::marker::Model;
 
@@ -74,7 +77,7 @@ impl MountTable {
     pub fn push(&mut self, step: MountStep) -> Result<(), MountError>
         ensures appended { OnOk result (self.new ≡ self.old ++ step ∷ []) }
         ensures unchanged_on_error { OnErr result (self.new ≡ self.old) }
-        ensures full_exactly_at_the_limit { IsRefusedAsFull result ↔ (length self.old ≡ MOUNT_MAX) }
+        ensures full_exactly_at_the_limit { IsErrOf result (MountError.Errno enospc) ↔ (length self.old ≡ mount_max) }
         ensures no_other_errno { IsFullOrMemory result }
     {
         if self.entries.len() >= MOUNT_MAX {
@@ -85,13 +88,13 @@ impl MountTable {
     }
 }
 
-// the number of the last entry whose place leads to the path
+// The number of the last entry whose place leads to the path.
 fn last_that_leads(entries: &[MountStep], path: &AbsPath) -> usize
     requires { StartsAtRoot entries.now }
     ensures { Belongs entries.now path.now result }
 {
     let mut found = 0;
-    'entries: for (index, entry) in entries.iter().enumerate() {
+    for (index, entry) in entries.iter().enumerate() {
         if entry.place.is_prefix(path) {
             found = index;
         }

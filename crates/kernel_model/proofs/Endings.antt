@@ -6,13 +6,13 @@ use Rattle.bpf_code.specs.declared.decision.Decision.TheVariants.{Pass, Errno, K
 use Rattle.bpf_code.specs.declared.machine.Insn.{Insn}
 use Rattle.bpf_code.specs.Reading.{Accepts}
 use Rattle.bpf_code.specs.Meaning.{Answers}
-use Rattle.bpf_code.specs.Stack.{answer_of, deciding, decision_by, room_of}
+use Rattle.bpf_code.specs.Stack.{deciding, decision_by, room_of}
 use Rattle.bpf_code.proofs.Computed.{program_of-accepts}
 use Rattle.bpf_code.proofs.Stacks.{answer_is}
 use Rattle.kernel_model.specs.declared.call.Reply.{Reply}
 use Rattle.kernel_model.specs.declared.call.Reply.TheVariants as reply
 use Rattle.kernel_model.specs.declared.call.ThinCall.{ThinCall}
-use Rattle.kernel_model.specs.declared.errnos.TheConstants.{ENOMEM}
+use Rattle.linux_numbers.specs.Errnos.{enomem}
 use Rattle.kernel_model.specs.declared.outcome.Ending.{Ending}
 use Rattle.kernel_model.specs.declared.outcome.Ending.TheVariants as ending
 use Rattle.kernel_model.specs.declared.outcome.Launch.{Launch}
@@ -26,7 +26,7 @@ use Rattle.kernel_model.specs.Runs.{AllDone, IsDone, moments, run}
 use Rattle.kernel_model.specs.Step.{decided, replied, step}
 use Rattle.kernel_model.specs.Table.{IsTable, NamedCall}
 use Rattle.kernel_model.specs.World.{World, Call, call_view, start_world}
-use Rattle.kernel_model.proofs.Tables.{and_left, and_right, rule_of_number}
+use Rattle.kernel_model.proofs.Tables.{and_left, and_right, rule_of_number, rule_of-setgroups, rule_of-setresgid, rule_of-capset, rule_of-seccomp, rule_of-execve}
 
 -- how calls end, of which the first has this number
 abbrev ending_of : World → List Call → ℕ → Ending
@@ -74,7 +74,7 @@ plain_done world call process rule code =
     ∙ ap (λ c. replied world (answer_by (Some Plain) world process (record call { code = c }))) code
 
 installed_done : (process : Process) (program : List Insn) → nat_le (room_of process.stack + length program) 32768 ≡ true → installed process (Some program) ≡ Ok (0, record process { stack = process.stack ++ program ∷ [] })
-installed_done process program fits = ap (λ t. cond t (Ok (0, record process { stack = process.stack ++ program ∷ [] })) (Err ENOMEM)) fits
+installed_done process program fits = ap (λ t. cond t (Ok (0, record process { stack = process.stack ++ program ∷ [] })) (Err enomem)) fits
 
 room_enough : (count : ℕ) → count ≤ 4096 → nat_le (0 + count) 32768 ≡ true
 room_enough count short = grind (arith, short)
@@ -110,17 +110,17 @@ launch_ending arch calls bytes program table can reads =
     let can_f = and_right _ _ can_c in
     let has_f = and_left _ _ can_f in
     let has_g = and_left _ _ (and_right _ _ can_f) in
-    let rule_f : rule_at calls f.nr ≡ Some Seccomp = rule_of_number calls (codes "seccomp") table.apart has_f in
+    let rule_f : rule_at calls f.nr ≡ Some Seccomp = rule_of_number calls (codes "seccomp") table.apart has_f ∙ rule_of-seccomp in
     let fits = fits_alone program reads.accepted.short in
     let read = program_of-accepts bytes program reads in
-    let step_a : step start a ≡ (reply.Done 0, start) = plain_done start a bare (rule_of_number calls (codes "setgroups") table.apart has_a) refl in
-    let step_b : step start b ≡ (reply.Done 0, start) = plain_done start b bare (rule_of_number calls (codes "setresgid") table.apart has_b) refl in
-    let step_c : step start c ≡ (reply.Done 0, start) = plain_done start c bare (rule_of_number calls (codes "capset") table.apart has_c) refl in
+    let step_a : step start a ≡ (reply.Done 0, start) = plain_done start a bare (rule_of_number calls (codes "setgroups") table.apart has_a ∙ rule_of-setgroups) refl in
+    let step_b : step start b ≡ (reply.Done 0, start) = plain_done start b bare (rule_of_number calls (codes "setresgid") table.apart has_b ∙ rule_of-setresgid) refl in
+    let step_c : step start c ≡ (reply.Done 0, start) = plain_done start c bare (rule_of_number calls (codes "capset") table.apart has_c ∙ rule_of-capset) refl in
     let step_f : step start f ≡ (reply.Done 0, launched) =
     ap (λ r. replied start (answer_by r start bare f)) rule_f
     ∙ ap (λ p. replied start (on_caller start 1 (installed bare p))) read
     ∙ ap (λ answer. replied start (on_caller start 1 answer)) (installed_done bare program fits) in
-    let done_g = plain_done launched g filtered (rule_of_number calls (codes "execve") table.apart has_g) refl in
+    let done_g = plain_done launched g filtered (rule_of_number calls (codes "execve") table.apart has_g ∙ rule_of-execve) refl in
     next start start a (b ∷ c ∷ f ∷ g ∷ []) 1 0 step_a
     ∙ next start start b (c ∷ f ∷ g ∷ []) 2 0 step_b
     ∙ next start start c (f ∷ g ∷ []) 3 0 step_c

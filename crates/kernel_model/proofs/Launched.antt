@@ -9,7 +9,7 @@ use Rattle.bpf_code.proofs.Computed.{program_of-accepts}
 use Rattle.bpf_code.proofs.Stacks.{answer_is}
 use Rattle.kernel_model.specs.declared.call.Reply.{Reply}
 use Rattle.kernel_model.specs.declared.call.ThinCall.{ThinCall}
-use Rattle.kernel_model.specs.declared.errnos.TheConstants.{ENOMEM, EFAULT, EINVAL}
+use Rattle.linux_numbers.specs.Errnos.{enomem, efault, einval}
 use Rattle.kernel_model.specs.declared.outcome.Ending.{Ending}
 use Rattle.kernel_model.specs.declared.outcome.Ending.TheVariants as ending
 use Rattle.kernel_model.specs.declared.process.Process.{Process}
@@ -23,7 +23,7 @@ use Rattle.kernel_model.specs.StepCases.{StepCase, absent, filtered, killed, ref
 use Rattle.kernel_model.specs.Table.{IsTable, NamedCall}
 use Rattle.kernel_model.specs.World.{World, Call, call_view, living_of, start_world, with_process}
 use Rattle.kernel_model.proofs.Steps.{step_case}
-use Rattle.kernel_model.proofs.Tables.{and_left, and_right, rule_of_number}
+use Rattle.kernel_model.proofs.Tables.{and_left, and_right, rule_of_number, rule_of-setgroups, rule_of-setresgid, rule_of-capset, rule_of-seccomp, rule_of-execve}
 
 abbrev second : {X : Type 0} → X → Answer X → X
 second d (Ok p) = p.1
@@ -56,7 +56,7 @@ done_step_by world call out (done p v after h a) d = record { process = p; value
 done_step : (world : World) (call : Call) → IsDone (step world call).0 → DoneStep world call (step world call)
 done_step world call d = done_step_by world call (step world call) (step_case world call) d
 
-plain_by : (t : Bool) (world after : World) (v : ℕ) → ◌≡◌ {A = Answer World} (cond t (Ok (0, world)) (Err EFAULT)) (Ok (v, after)) → after ≡ world
+plain_by : (t : Bool) (world after : World) (v : ℕ) → ◌≡◌ {A = Answer World} (cond t (Ok (0, world)) (Err efault)) (Ok (v, after)) → after ≡ world
 plain_by true world after v e = sym (same_new 0 v world after e)
 plain_by false world after v e = cc
 
@@ -70,7 +70,7 @@ plain_step world call rule d =
 abbrev with_program : Process → List Insn → Process
 with_program process program = record process { stack = process.stack ++ program ∷ [] }
 
-pushes_by : (t u : Bool) (process after : Process) (program : List Insn) (v : ℕ) → ◌≡◌ {A = Answer Process} (cond t (cond u (Ok (0, with_program process program)) (Err ENOMEM)) (Err EINVAL)) (Ok (v, after)) → after ≡ with_program process program
+pushes_by : (t u : Bool) (process after : Process) (program : List Insn) (v : ℕ) → ◌≡◌ {A = Answer Process} (cond t (cond u (Ok (0, with_program process program)) (Err enomem)) (Err einval)) (Ok (v, after)) → after ≡ with_program process program
 pushes_by true true process after program v e = sym (same_new 0 v (with_program process program) after e)
 pushes_by true false process after program v e = cc
 pushes_by false u process after program v e = cc
@@ -95,13 +95,13 @@ seccomp_step world call bytes program process rule code reads lives d =
     let after = (step world call).1 in
     let same : h.process ≡ process = (let f : Some h.process ≡ Some process = sym h.passes.living ∙ lives in cc) in
     let answered : on_caller world call.pid (seccomp_answer process call.args call.code) ≡ Ok (h.value, after) =
-    formed (has_form Seccomp call.code) _ EFAULT h.value after
+    formed (has_form Seccomp call.code) _ efault h.value after
     (ap (λ p. answer_by (Some Seccomp) world p call) (sym same) ∙ ap (λ r. answer_by r world h.process call) (sym rule) ∙ h.answered) in
     let given : on_caller world call.pid (seccomp_answer process call.args (Some bytes)) ≡ Ok (h.value, after) = ap (λ c. on_caller world call.pid (seccomp_answer process call.args c)) (sym code) ∙ answered in
     let (new, is, after_is) = lifted world after call.pid h.value (seccomp_answer process call.args (Some bytes)) given in
     let read = program_of-accepts bytes program reads in
     let t = low_word call.args 0 == 1 && low_word call.args 1 == 0 in
-    let pushed = pushes_by t (nat_le (room_of process.stack + length program) 32768) process new program h.value (ap (λ p. cond t (installed process p) (Err EINVAL)) (sym read) ∙ is) in
+    let pushed = pushes_by t (nat_le (room_of process.stack + length program) 32768) process new program h.value (ap (λ p. cond t (installed process p) (Err einval)) (sym read) ∙ is) in
     after_is ∙ ap (with_process world call.pid) pushed
 
 -- the calls of a launch that are done leave the launched world
@@ -123,16 +123,16 @@ launched_run arch calls bytes program table can reads finished =
     let can_f = and_right _ _ can_c in
     let has_f = (and_left _ _ can_f) in
     let has_g = (and_left _ _ (and_right _ _ can_f)) in
-    let after_a : (step start a).1 ≡ start = plain_step start a (rule_of_number calls (codes "setgroups") table.apart has_a) finished.0 in
+    let after_a : (step start a).1 ≡ start = plain_step start a (rule_of_number calls (codes "setgroups") table.apart has_a ∙ rule_of-setgroups) finished.0 in
     let done_b = subst (λ w. AllDone (moments w (b ∷ c ∷ f ∷ g ∷ []))) after_a finished.1 in
-    let after_b : (step start b).1 ≡ start = plain_step start b (rule_of_number calls (codes "setresgid") table.apart has_b) done_b.0 in
+    let after_b : (step start b).1 ≡ start = plain_step start b (rule_of_number calls (codes "setresgid") table.apart has_b ∙ rule_of-setresgid) done_b.0 in
     let done_c = subst (λ w. AllDone (moments w (c ∷ f ∷ g ∷ []))) after_b done_b.1 in
-    let after_c : (step start c).1 ≡ start = plain_step start c (rule_of_number calls (codes "capset") table.apart has_c) done_c.0 in
+    let after_c : (step start c).1 ≡ start = plain_step start c (rule_of_number calls (codes "capset") table.apart has_c ∙ rule_of-capset) done_c.0 in
     let done_f = subst (λ w. AllDone (moments w (f ∷ g ∷ []))) after_c done_c.1 in
     let launched = launched_world arch calls program in
-    let after_f : (step start f).1 ≡ launched = seccomp_step start f bytes program process (rule_of_number calls (codes "seccomp") table.apart has_f) refl reads refl done_f.0 in
+    let after_f : (step start f).1 ≡ launched = seccomp_step start f bytes program process (rule_of_number calls (codes "seccomp") table.apart has_f ∙ rule_of-seccomp) refl reads refl done_f.0 in
     let done_g = subst (λ w. AllDone (moments w (g ∷ []))) after_f done_f.1 in
-    let after_g : (step launched g).1 ≡ launched = plain_step launched g (rule_of_number calls (codes "execve") table.apart has_g) done_g.0 in
+    let after_g : (step launched g).1 ≡ launched = plain_step launched g (rule_of_number calls (codes "execve") table.apart has_g ∙ rule_of-execve) done_g.0 in
     ap (λ w. run w (b ∷ c ∷ f ∷ g ∷ [])) after_a ∙ ap (λ w. run w (c ∷ f ∷ g ∷ [])) after_b ∙ ap (λ w. run w (f ∷ g ∷ [])) after_c ∙ ap (λ w. run w (g ∷ [])) after_f ∙ after_g
 
 -- one program whose answer goes by the number

@@ -1,14 +1,14 @@
 -- Laws of tables of calls.
 use Rattle.std.proofs.Common.{◌≡◌, ℕ, zero, suc, ◌==◌, Bool, true, false, cond, List, [], ◌∷◌, Some, refl, sym, ap, ◌∙◌, arith}
-use Rattle.std.specs.Prelude.{◌&&◌, ◌||◌, not, codes, find, slice_get, IsTrue, option_and_then}
+use Rattle.std.specs.Prelude.{◌&&◌, ◌||◌, not, codes, find, slice_get, IsTrue, Option, None, is_some, option_and_then}
 use Rattle.std.specs.List.{list_any}
 use Rattle.std.specs.Option.{option_map_or}
-use Rattle.std.specs.Str.{bytes_eq}
 use Rattle.std.proofs.lemmas.Slice.Eq.{bytes_eq-Decides}
-use Rattle.kernel_model.specs.declared.rules.Rule.TheVariants.{Plain}
+use Rattle.call_names.specs.Known.{known_call}
+use Rattle.call_names.specs.declared.known.KnownCall.{KnownCall}
+use Rattle.kernel_model.specs.declared.rules.Rule.TheVariants.{Plain, Seccomp}
 use Rattle.kernel_model.specs.Laws.{PlainNamesArePlainCalls}
-use Rattle.kernel_model.specs.Plain.{is_plain_name}
-use Rattle.kernel_model.specs.Rules.{absent_calls, is_one_of, rule_of, rule_at}
+use Rattle.kernel_model.specs.Rules.{rule_by, rule_of, rule_at}
 use Rattle.kernel_model.specs.Table.{NamedCall, named, numbered, stand_apart, is_called, number_of}
 
 pub and_left : (t u : Bool) → IsTrue (t && u) → IsTrue t
@@ -83,24 +83,31 @@ rule_of_call (first ∷ calls) (suc at) call apart is =
     let elsewhere : (call.number == first.number) ≡ false = grind (arith, another) in
     ap (λ t. option_and_then (λ c. rule_of c.name) (cond t (Some first) (find (numbered call.number) calls))) elsewhere ∙ rule_of_call calls at call (and_right _ _ apart) is
 
-differs_by : (t : Bool) (name other : List ℕ) → bytes_eq name other ≡ t → is_plain_name name ≡ true → is_plain_name other ≡ false → t ≡ false
-differs_by true name other is plain not_plain = let same = (bytes_eq-Decides name other).0 is in let e = ap is_plain_name same in cc
-differs_by false name other is plain not_plain = refl
+-- the rules of the calls that a launch makes
+pub rule_of-setgroups : rule_of (codes "setgroups") ≡ Some Plain
+unfolding known_call
+rule_of-setgroups = refl
 
--- a plain name is none of the others
-differs : (name other : List ℕ) → is_plain_name name ≡ true → is_plain_name other ≡ false → bytes_eq name other ≡ false
-differs name other plain not_plain = differs_by (bytes_eq name other) name other refl plain not_plain
+pub rule_of-setresgid : rule_of (codes "setresgid") ≡ Some Plain
+unfolding known_call
+rule_of-setresgid = refl
 
-plain_rule : (name : List ℕ) → is_plain_name name ≡ true → rule_of name ≡ Some Plain
-plain_rule name plain =
-    let present : is_one_of absent_calls name ≡ false = not_true _ (and_left _ _ plain) in
-    let fork = differs name (codes "fork") plain refl in
-    let vfork = differs name (codes "vfork") plain refl in
-    let exit = differs name (codes "exit") plain refl in
-    let exit_group = differs name (codes "exit_group") plain refl in
-    let seccomp = differs name (codes "seccomp") plain refl in
-    rw (present, fork, vfork, exit, exit_group, seccomp) refl
+pub rule_of-capset : rule_of (codes "capset") ≡ Some Plain
+unfolding known_call
+rule_of-capset = refl
+
+pub rule_of-seccomp : rule_of (codes "seccomp") ≡ Some Seccomp
+unfolding known_call
+rule_of-seccomp = refl
+
+pub rule_of-execve : rule_of (codes "execve") ≡ Some Plain
+unfolding known_call
+rule_of-execve = refl
+
+plain_by : (known : Option KnownCall) → not (is_some known) ≡ true → rule_by known ≡ Some Plain
+plain_by None plain = refl
+plain_by (Some known) plain = cc
 
 -- a call of the table with a plain name changes nothing
 pub plain_names_are_plain_calls : PlainNamesArePlainCalls
-plain_names_are_plain_calls calls at call table is plain = rule_of_call calls at call table.apart is ∙ plain_rule call.name plain
+plain_names_are_plain_calls calls at call table is plain = rule_of_call calls at call table.apart is ∙ plain_by (known_call call.name) plain

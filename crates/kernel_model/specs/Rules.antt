@@ -1,32 +1,30 @@
 -- What each call does that its caller's stack lets through.
-use Rattle.std.specs.Prelude.{ℕ, ◌+◌, ◌%◌, ◌^◌, ◌==◌, nat_lt, nat_le, ◌&&◌, ◌||◌, Bool, if◌then◌else◌, codes, find, length, List, [], ◌∷◌, ◌++◌, slice_index, Option, Some, None, is_some, is_none, option_and_then, Result, Ok, Err}
-use Rattle.std.specs.List.{list_any}
-use Rattle.std.specs.Str.{bytes_eq}
+use Rattle.std.specs.Prelude.{ℕ, ◌+◌, ◌%◌, ◌^◌, ◌==◌, nat_lt, nat_le, ◌&&◌, Bool, if◌then◌else◌, find, length, List, [], ◌∷◌, ◌++◌, slice_index, Option, Some, None, is_some, is_none, option_and_then, Result, Ok, Err}
+use Rattle.linux_numbers.specs.Errnos.{eagain, enomem, efault, einval, enosys}
+use Rattle.call_names.specs.Known.{known_call}
+use Rattle.call_names.specs.declared.known.KnownCall.{KnownCall}
+use Rattle.call_names.specs.declared.known.KnownCall.TheVariants.{Modelled, Absent}
+use Rattle.call_names.specs.declared.rule.CallRule.TheVariants as call
 use Rattle.bpf_code.specs.declared.machine.Insn.{Insn}
 use Rattle.bpf_code.specs.ProgramOf.{program_of}
 use Rattle.bpf_code.specs.Stack.{room_of}
 use Rattle.kernel_model.specs.declared.rules.Rule.{Rule}
 use Rattle.kernel_model.specs.declared.rules.Rule.TheVariants.{Fork, Exit, Seccomp, Plain}
-use Rattle.kernel_model.specs.declared.errnos.TheConstants.{EAGAIN, ENOMEM, EFAULT, EINVAL, ENOSYS}
 use Rattle.kernel_model.specs.declared.process.Process.{Process}
 use Rattle.kernel_model.specs.Table.{NamedCall, numbered}
 use Rattle.kernel_model.specs.World.{World, Call, with_process, ended}
 
--- the calls that the kernel lacks
-abbrev pub absent_calls : List (List ℕ)
-absent_calls = codes "clone3" ∷ codes "execveat" ∷ codes "openat2" ∷ codes "fsopen" ∷ codes "fsconfig" ∷ codes "fsmount" ∷ codes "fspick" ∷ codes "open_tree" ∷ codes "move_mount" ∷ codes "mount_setattr" ∷ codes "sched_setattr" ∷ codes "setreuid" ∷ codes "setregid" ∷ codes "setfsuid" ∷ codes "setfsgid" ∷ codes "pivot_root" ∷ codes "chroot" ∷ codes "fchmodat2" ∷ []
+-- the rule of what is known of a name: the other modelled calls change nothing here, like those of which nothing is known
+abbrev pub rule_by : Option KnownCall → Option Rule
+rule_by (Some Absent) = None
+rule_by (Some (Modelled call.Fork)) = Some Fork
+rule_by (Some (Modelled call.Exit)) = Some Exit
+rule_by (Some (Modelled call.Seccomp)) = Some Seccomp
+rule_by known = Some Plain
 
-abbrev pub is_one_of : List (List ℕ) → List ℕ → Bool
-is_one_of names name = list_any (λ other. bytes_eq other name) names
-
--- the rule of a name, or none of an absent call
+-- the rule of a name, or none of a call that the kernel lacks
 abbrev pub rule_of : List ℕ → Option Rule
-rule_of name =
-    if is_one_of absent_calls name then None else
-    if bytes_eq name (codes "fork") || bytes_eq name (codes "vfork") then Some Fork else
-    if bytes_eq name (codes "exit") || bytes_eq name (codes "exit_group") then Some Exit else
-    if bytes_eq name (codes "seccomp") then Some Seccomp else
-    Some Plain
+rule_of name = rule_by (known_call name)
 
 -- the rule of a number: that of the name which the table gives it, if it gives one
 abbrev pub rule_at : List NamedCall → ℕ → Option Rule
@@ -52,7 +50,7 @@ abbrev pub fork_answer : World → Process → Answer World
 fork_answer world process =
     if nat_lt (length world.processes) 1024
     then Ok (length world.processes + 1, record world { processes = world.processes ++ process ∷ [] })
-    else Err EAGAIN
+    else Err eagain
 
 -- exit(2) and exit_group(2): the process ends
 abbrev pub exit_answer : Process → Answer Process
@@ -61,19 +59,19 @@ exit_answer process = Ok (0, ended process)
 -- a program on top of the stack, where it is one and there is room: the lengths of all programs, with 4 for each
 -- earlier one, are at most 32,768
 abbrev pub installed : Process → Option (List Insn) → Answer Process
-installed process None = Err EINVAL
+installed process None = Err einval
 installed process (Some program) =
     if nat_le (room_of process.stack + length program) 32768
     then Ok (0, record process { stack = process.stack ++ program ∷ [] })
-    else Err ENOMEM
+    else Err enomem
 
 -- seccomp(2): operation SECCOMP_SET_MODE_FILTER, which is 1, without flags
 abbrev pub seccomp_answer : Process → List ℕ → Option (List ℕ) → Answer Process
-seccomp_answer process args None = Err EFAULT
+seccomp_answer process args None = Err efault
 seccomp_answer process args (Some bytes) =
     if low_word args 0 == 1 && low_word args 1 == 0
     then installed process (program_of bytes)
-    else Err EINVAL
+    else Err einval
 
 -- the answer of a rule on the caller, in the world
 abbrev pub on_caller : World → ℕ → Answer Process → Answer World
@@ -89,5 +87,5 @@ rule_answer Plain world process call = Ok (0, world)
 
 -- a number without a rule answers that there is no such call; then the payload is looked at; then the rule answers
 abbrev pub answer_by : Option Rule → World → Process → Call → Answer World
-answer_by None world process call = Err ENOSYS
-answer_by (Some rule) world process call = if has_form rule call.code then rule_answer rule world process call else Err EFAULT
+answer_by None world process call = Err enosys
+answer_by (Some rule) world process call = if has_form rule call.code then rule_answer rule world process call else Err efault

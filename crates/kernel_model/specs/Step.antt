@@ -6,7 +6,7 @@ use Rattle.bpf_code.specs.declared.decision.Decision.TheVariants.{Pass, Errno, K
 use Rattle.bpf_code.specs.Stack.{decision_on}
 use Rattle.kernel_model.specs.declared.call.Reply.{Reply}
 use Rattle.kernel_model.specs.declared.call.Reply.TheVariants.{Done, Refused, Killed}
-use Rattle.kernel_model.specs.declared.errnos.TheConstants.{ESRCH}
+use Rattle.linux_numbers.specs.Errnos.{esrch}
 use Rattle.kernel_model.specs.declared.process.Process.{Process}
 use Rattle.kernel_model.specs.declared.rules.Rule.{Rule}
 use Rattle.kernel_model.specs.declared.rules.Rule.TheVariants.{Fork, Exit, Seccomp, Plain}
@@ -29,7 +29,7 @@ decided world process call (Errno errno) = (Refused errno, world)
 decided world process call Kill = (Killed, with_process world call.pid (ended process))
 
 abbrev pub step_by : World → Call → Option Process → Reply × World
-step_by world call None = (Refused ESRCH, world)
+step_by world call None = (Refused esrch, world)
 step_by world call (Some process) = decided world process call (decision_on process.stack (data_of world call))
 
 -- the reply to a call, and the world after it

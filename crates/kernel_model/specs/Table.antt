@@ -4,7 +4,6 @@ use Rattle.std.specs.List.{list_any}
 use Rattle.std.specs.Option.{option_map_or}
 use Rattle.std.specs.Str.{bytes_eq}
 use Rattle.kernel_model.specs.declared.table.ThinName.{ThinName}
-use Rattle.kernel_model.specs.declared.table.TheConstants.{MAX_CALLS}
 
 -- a call of the table
 pub record NamedCall : Type 0 where
@@ -28,7 +27,7 @@ stand_apart (call ∷ calls) = (not (list_any (named call.name) calls) && not (l
 
 -- at most 512 calls, whose names and numbers are each given once
 pub record IsTable (calls : List NamedCall) : Type 0 where
-  pub few : length calls ≤ MAX_CALLS
+  pub few : length calls ≤ 512
   pub apart : IsTrue (stand_apart calls)
 
 -- the table has a call with this name

@@ -6,9 +6,9 @@ ghost use Rattle.kernel_model.specs.Step.{replied};
 ghost use Rattle.kernel_model.specs.World.{call_view};
 
 use crate::call::{Reply, ThinCall};
-use crate::errnos::{EFAULT, EINVAL, ENOMEM};
 use crate::rules::low_word;
 use bpf_code::{Program, ProgramError, PushError, Stack};
+use linux_numbers::errnos::{EFAULT, EINVAL, ENOMEM};
 use std::alloc::{AllocError, Global};
 
 /// SECCOMP_SET_MODE_FILTER, seccomp(2).

@@ -1,12 +1,13 @@
 // Which rule a call has: by the name that the table gives its number.
-ghost use Rattle.std.specs.Prelude.{◌≡◌, map, length, ◌<◌};
-ghost use Rattle.kernel_model.specs.Rules.{absent_calls, is_one_of, low_word, rule_of, rule_at};
+ghost use Rattle.std.specs.Prelude.{◌≡◌, length, ◌<◌};
+ghost use Rattle.kernel_model.specs.Rules.{low_word, rule_of, rule_at};
 ghost use Rattle.kernel_model.specs.Table.{calls_view};
 
 use crate::table::ThinName;
+use call_names::{CallRule, KnownCall, known_call};
 
 /// What a call does.
-#[derive(Clone, Copy, Debug, PartialEq, Eq)]
+#[derive(Clone, Copy, PartialEq, Eq)]
 pub enum Rule {
     /// It makes a process.
     Fork,
@@ -18,61 +19,16 @@ pub enum Rule {
     Plain,
 }
 
-// The calls that the kernel lacks.
-const ABSENT_CALLS: &[&str] = &[
-    "clone3",
-    "execveat",
-    "openat2",
-    "fsopen",
-    "fsconfig",
-    "fsmount",
-    "fspick",
-    "open_tree",
-    "move_mount",
-    "mount_setattr",
-    "sched_setattr",
-    "setreuid",
-    "setregid",
-    "setfsuid",
-    "setfsgid",
-    "pivot_root",
-    "chroot",
-    "fchmodat2",
-];
-
-/// The calls that the kernel lacks.
-pub fn names_of_absent_calls() -> &'static [&'static str]
-    ensures { map (λ name. name.now) result.now ≡ absent_calls }
-{
-    ABSENT_CALLS
-}
-
-/// Whether a name is one of these.
-pub fn is_one_of(names: &[&str], name: &str) -> bool
-    ensures { result ≡ is_one_of (map (λ name. name.now) names.now) name.now }
-{
-    'names: for other in names {
-        if *other == name {
-            return true;
-        }
-    }
-    false
-}
-
 // The rule of a name, or none where the kernel lacks the call.
 fn rule_named(name: &str) -> Option<Rule>
     ensures { result ≡ rule_of name.now }
 {
-    if is_one_of(names_of_absent_calls(), name) {
-        None
-    } else if name == "fork" || name == "vfork" {
-        Some(Rule::Fork)
-    } else if name == "exit" || name == "exit_group" {
-        Some(Rule::Exit)
-    } else if name == "seccomp" {
-        Some(Rule::Seccomp)
-    } else {
-        Some(Rule::Plain)
+    match known_call(name) {
+        Some(KnownCall::Absent) => None,
+        Some(KnownCall::Modelled(CallRule::Fork)) => Some(Rule::Fork),
+        Some(KnownCall::Modelled(CallRule::Exit)) => Some(Rule::Exit),
+        Some(KnownCall::Modelled(CallRule::Seccomp)) => Some(Rule::Seccomp),
+        _ => Some(Rule::Plain),
     }
 }
 

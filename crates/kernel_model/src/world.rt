@@ -9,11 +9,11 @@ ghost use Rattle.kernel_model.specs.World.{IsMade, World, call_view, ended, livi
 ghost use Rattle.kernel_model.specs.declared.process.Process.{Process};
 
 use crate::call::{Reply, ThinCall};
-use crate::errnos::{EAGAIN, EFAULT, ENOSYS, ESRCH};
 use crate::process::{Process, seccomp};
 use crate::rules::{Rule, rule_for};
 use crate::table::ThinName;
 use bpf_code::{CallData, Decision, Stack};
+use linux_numbers::errnos::{EAGAIN, EFAULT, ENOSYS, ESRCH};
 use std::alloc::{AllocError, Global};
 use std::marker::Model;
 

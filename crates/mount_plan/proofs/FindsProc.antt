@@ -4,14 +4,14 @@ use Rattle.std.specs.Prelude.{not, codes}
 use Rattle.std.specs.List.{AllByRecursion, enumerate_from}
 use Rattle.std.proofs.lemmas.Bool.{false≢true, and_parts}
 use Rattle.abs_path.specs.Paths.{Path, is_normal}
-use Rattle.abs_path.specs.Prefix.{is_prefix, is_same, rest_of}
+use Rattle.abs_path.specs.Prefix.{is_prefix, is_same, rest_of, is_below}
 use Rattle.abs_path.proofs.Prefixes.{same_part, same_itself}
 use Rattle.site_table.specs.Paths.{proc}
 use Rattle.path_settings.specs.declared.mentions.Kind.{Kind}
 use Rattle.path_settings.specs.declared.mentions.Kind.TheVariants.{Hide, Tmp, Bind}
 use Rattle.path_settings.specs.declared.mentions.Mention.{Mention}
 use Rattle.path_settings.specs.Mentions.{is_origin}
-use Rattle.view_map.specs.View.{is_above, above, origin_of}
+use Rattle.view_map.specs.View.{above, origin_of}
 use Rattle.view_map.specs.Object.{Object, object_by, object_from}
 use Rattle.view_map.specs.declared.rules.Beneath.{Beneath}
 use Rattle.view_map.specs.declared.rules.Beneath.TheVariants as beneath
@@ -20,14 +20,14 @@ use Rattle.view_map.specs.Kept.{Host, at_path, unbeaten, beneath_row, beneath_by
 use Rattle.view_map.proofs.Lists.{filter_is, all_weaker, all_enumerated}
 use Rattle.view_map.proofs.Deciding.{origin_is, longest_none}
 use Rattle.view_map.proofs.KeptLaws.{kept_is, keeps_by_rules, each_kept}
+use Rattle.linux_numbers.specs.Errnos.{enoent}
 use Rattle.kern_mounts.specs.declared.step.MountStep.{MountStep}
 use Rattle.kern_mounts.specs.declared.step.What.{What}
 use Rattle.kern_mounts.specs.declared.step.What.TheVariants as what
 use Rattle.kern_mounts.specs.Entry.{entry_of}
 use Rattle.kern_mounts.specs.Finds.{row_or_nothing, empty_directory, nothing, found_by, found_at, finds}
-use Rattle.kern_mounts.specs.declared.numbers.TheConstants.{ENOENT}
+use Rattle.kern_mounts.specs.Launch.{IsDirectory, IsHiddenDirectory, FindsProc}
 use Rattle.mount_plan.specs.Plan.{what_of, hides_dir, hides_dir_at, step_at, table_of}
-use Rattle.mount_plan.specs.Form.{IsDirectory, IsHiddenDirectory, FindsProc}
 use Rattle.mount_plan.proofs.PlanLaws.{AreNormal, LeaveTheRoot, root_on_host, table_entry}
 
 -- the path is found as a directory of the host or an empty one, or is the place of a hidden directory
@@ -57,7 +57,7 @@ above_proc [] h = inl refl
 above_proc (part ∷ []) h = inr (ap (λ x. x ∷ []) (same_part part (codes "proc") (and_parts _ _ h).0))
 above_proc (part ∷ next ∷ path) h = absurd (false≢true (and_parts _ _ h).1)
 
-only_root : (mention : Mention) → (mention.path ≡ [] → is_origin mention.kind ≡ false) → is_above mention.path proc ≡ true → is_origin mention.kind ≡ false
+only_root : (mention : Mention) → (mention.path ≡ [] → is_origin mention.kind ≡ false) → is_below proc mention.path ≡ true → is_origin mention.kind ≡ false
 only_root mention h over = elim (above_proc mention.path (and_parts _ _ over).0) [
   | inl root ↦ h root
   | inr same ↦ absurd (false≢true (sym (ap not (ap (λ (p : Path). is_same p proc) same)) ∙ (and_parts _ _ over).1))
@@ -66,9 +66,9 @@ only_root mention h over = elim (above_proc mention.path (and_parts _ _ over).0)
 -- nothing above /proc says what stands there
 beneath_proc : (row_at : Host) (kept : List Mention) → LeaveTheRoot kept → row_at proc ≡ Some true → beneath_at row_at kept proc ≡ beneath.Row true
 beneath_proc row_at kept free row = ap (λ o. beneath_by row_at (object_from o proc)) (longest_none is_origin (above proc kept)
-    (filter_is (λ one. is_above one.1.path proc) (λ one. is_origin one.1.kind ≡ false) (enumerate_from 0 kept)
-    (all_enumerated (λ mention. is_above mention.path proc ≡ true → is_origin mention.kind ≡ false) 0 kept
-    (all_weaker (λ mention. mention.path ≡ [] → is_origin mention.kind ≡ false) (λ mention. is_above mention.path proc ≡ true → is_origin mention.kind ≡ false) kept only_root free)))) ∙ ap beneath_row row
+    (filter_is (λ one. is_below proc one.1.path) (λ one. is_origin one.1.kind ≡ false) (enumerate_from 0 kept)
+    (all_enumerated (λ mention. is_below proc mention.path ≡ true → is_origin mention.kind ≡ false) 0 kept
+    (all_weaker (λ mention. mention.path ≡ [] → is_origin mention.kind ≡ false) (λ mention. is_below proc mention.path ≡ true → is_origin mention.kind ≡ false) kept only_root free)))) ∙ ap beneath_row row
 
 -- the entry at a place shows a directory at /proc
 abbrev Shows : Host → List Mention → Path → Type 0
@@ -117,7 +117,7 @@ shown_found row_at table path step e shows = by step.what refl shows
     by : (w : What) → step.what ≡ w → ShowsDirectory row_at path w step.place → IsDirectory (finds row_at table path) ⊎ IsHiddenDirectory table path
     by (what.Host source) same shows = inl (subst IsDirectory (sym (found (what.Host source) same ∙ ap row_or_nothing shows)) refl)
     by what.Empty same shows = inl (subst IsDirectory
-        (sym (found what.Empty same ∙ ap (λ b. cond b empty_directory (nothing ENOENT)) (subst (λ (p : Path). is_same step.place p ≡ true) shows (same_itself step.place)))) tt)
+        (sym (found what.Empty same ∙ ap (λ b. cond b empty_directory (nothing enoent)) (subst (λ (p : Path). is_same step.place p ≡ true) shows (same_itself step.place)))) tt)
     by (what.Hidden is_dir) same shows = inr (step, e, shows.0, same ∙ ap what.Hidden shows.1)
 
 pub finds_proc : (row_at : Host) (mentions kept : List Mention) → LeaveTheRoot mentions → AreNormal mentions → row_at proc ≡ Some true → kept_of row_at mentions ≡ Ok kept → FindsProc row_at (table_of row_at kept)

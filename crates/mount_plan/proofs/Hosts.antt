@@ -1,5 +1,5 @@
 -- What holds of the paths at which a site has a row.
-use Rattle.std.proofs.Common.{◌≡◌, ℕ, ◌<◌, ◌≤◌, Bool, true, false, cond, ltb, List, [], ◌∷◌, find, length, Option, Some, None, option_map, refl, sym, ap, ◌∙◌, subst, arith}
+use Rattle.std.proofs.Common.{◌≡◌, ℕ, ◌<◌, ◌≤◌, Bool, true, false, cond, ltb, List, [], ◌∷◌, length, Option, Some, None, option_map, refl, sym, ap, ◌∙◌, subst, arith}
 use Rattle.std.specs.List.{position_or_len, slice_get}
 use Rattle.std.proofs.lemmas.Bool.{ltb-true}
 use Rattle.abs_path.specs.Paths.{Path, tail_of, text_of}
@@ -11,7 +11,7 @@ use Rattle.site_table.specs.Paths.{proc}
 use Rattle.site_table.proofs.Found.{row_of_the_place, no_place_no_row}
 use Rattle.site_table.specs.Table.{Site, IsSite, IsRowOf, row_at, place_of}
 use Rattle.view_map.specs.Kept.{Host}
-use Rattle.view_map.proofs.Lists.{find_is}
+use Rattle.view_map.proofs.Lists.{find_is, find_passes}
 use Rattle.mount_plan.specs.Host.{host_of}
 
 -- the place of a row is in range
@@ -33,14 +33,6 @@ row_there site path at row dir e stands kind =
 -- the empty text is a rest
 pub none_behind : IsRest []
 none_behind = record { parts = refl; whole = refl }
-
-pub find_passes : {X : Type 0} (test : X → Bool) (xs : List X) (one : X) → find test xs ≡ Some one → test one ≡ true
-find_passes test [] one e = cc
-find_passes {X = X} test (x ∷ xs) one e = by (test x) refl e (find_passes test xs one)
-  where
-    by : (b : Bool) → test x ≡ b → cond b (Some x) (find test xs) ≡ Some one → (find test xs ≡ Some one → test one ≡ true) → test one ≡ true
-    by true passes e more = let same : x ≡ one = cc in subst (λ (y : X). test y ≡ true) same passes
-    by false passes e more = more e
 
 -- the paths at which the host has anything are short
 abbrev pub AreShortRows : Host → Type 0

@@ -1,15 +1,15 @@
 -- How the steps of the code add up to what is kept.
-use Rattle.std.proofs.Common.{◌≡◌, ℕ, suc, ◌+◌, ◌<◌, Bool, true, List, [], ◌∷◌, ◌++◌, filter, length, get_or, drop, drop-cons, add-one, Some, None, Result, Ok, Err, refl, sym, ap, ◌∙◌}
-use Rattle.std.specs.Prelude.{not}
+use Rattle.std.proofs.Common.{◌≡◌, ℕ, suc, ◌+◌, ◌<◌, Bool, true, List, [], ◌∷◌, ◌++◌, map, filter, length, get_or, drop, drop-cons, add-one, Some, None, Result, Ok, Err, refl, sym, ap, ◌∙◌, Bor}
+use Rattle.std.specs.Prelude.{◌||◌, not}
 use Rattle.std.specs.List.{list_any, filter_map, enumerate_from}
 use Rattle.std.proofs.lemmas.Bool.{and_parts}
 use Rattle.std.proofs.lemmas.List.Elements.{filter_map-append}
 use Rattle.abs_path.specs.Paths.{Path, parts_of, is_normal}
-use Rattle.abs_path.specs.Prefix.{is_prefix, is_same, rest_of, rest_text}
+use Rattle.abs_path.specs.Prefix.{is_prefix, is_same, rest_of, rest_text, is_below}
 use Rattle.abs_path.proofs.Reading.{rest_then_join}
 use Rattle.path_settings.specs.declared.mentions.Mention.{Mention}
 use Rattle.path_settings.specs.Mentions.{is_origin}
-use Rattle.view_map.specs.View.{is_above, above, longest}
+use Rattle.view_map.specs.View.{above, longest}
 use Rattle.view_map.specs.declared.rules.Beneath.{Beneath}
 use Rattle.view_map.specs.Kept.{Host, Refusal, missing, wrong_kind, is_kept, puts, refusal_of, refusals, unless_refused, kept_among, kept_at, goes_on, kept_from}
 use Rattle.view_map.proofs.Lists.{filter_is, all_weaker, all_trivial}
@@ -20,6 +20,11 @@ use Rattle.mount_plan.specs.declared.here.Part.{Part}
 use Rattle.mount_plan.specs.declared.here.Part.TheVariants.{Origins, Flags}
 use Rattle.mount_plan.specs.Here.{is_asked, fate_beside}
 use Rattle.mount_plan.specs.Answers.{first_of, Refuses, AddsKept, Keeps}
+
+-- a test of what references lend
+pub any_lent : {X : Type 0} (test : X → Bool) (xs : List (Bor X)) → list_any (λ x. test x.now) xs ≡ list_any test (map (λ x. x.now) xs)
+any_lent test [] = refl
+any_lent test (x ∷ xs) = ap (λ b. test x.now || b) (any_lent test xs)
 
 rest_behind : (front rest : Path) → rest_of front (front ++ rest) ≡ rest
 rest_behind [] rest = refl
@@ -32,8 +37,8 @@ parts_behind front path rest normal e = sym (rest_behind front (parts_of rest)) 
 -- the longest mention above a path leads to it
 pub above_leads : (kept : List Mention) (path : Path) (one : ℕ × Mention) → longest is_origin (above path kept) ≡ Some one → is_prefix one.1.path path ≡ true
 above_leads kept path one e = longest_is (λ found. is_prefix found.1.path path ≡ true) is_origin (above path kept) one
-    (filter_is (λ found. is_above found.1.path path) (λ found. is_origin found.1.kind ≡ true → is_prefix found.1.path path ≡ true) (enumerate_from 0 kept)
-    (all_weaker (λ found. Unit {0}) (λ found. is_above found.1.path path ≡ true → is_origin found.1.kind ≡ true → is_prefix found.1.path path ≡ true) (enumerate_from 0 kept)
+    (filter_is (λ found. is_below path found.1.path) (λ found. is_origin found.1.kind ≡ true → is_prefix found.1.path path ≡ true) (enumerate_from 0 kept)
+    (all_weaker (λ found. Unit {0}) (λ found. is_below path found.1.path ≡ true → is_origin found.1.kind ≡ true → is_prefix found.1.path path ≡ true) (enumerate_from 0 kept)
     (λ found _ over says. (and_parts (is_prefix found.1.path path) (not (is_same found.1.path path)) over).0) (all_trivial (enumerate_from 0 kept)))) e
 
 -- the refusals of one part of the mentions at a path

@@ -1,15 +1,15 @@
 -- What is true of the table of the kept mentions.
-use Rattle.std.proofs.Common.{◌≡◌, ◌⊎◌, inl, inr, Bool, true, false, List, [], ◌∷◌, map, Ok, refl, sym, ap, ◌∙◌, subst}
+use Rattle.std.proofs.Common.{◌≡◌, ◌≤◌, ◌⊎◌, inl, inr, Bool, true, false, List, [], ◌∷◌, map, length, Ok, refl, sym, ap, ◌∙◌, subst, arith}
 use Rattle.std.specs.Prelude.{◌&&◌, not}
 use Rattle.std.specs.List.{AllByRecursion, Contains, enumerate_from}
 use Rattle.std.proofs.lemmas.Bool.{false≢true, and_parts}
 use Rattle.std.proofs.lemmas.List.Elements.{recursion_from_All, All-contains_itself}
-use Rattle.abs_path.specs.Paths.{Path, is_normal}
+use Rattle.abs_path.specs.Paths.{is_root, Path, text_of, is_normal}
 use Rattle.abs_path.specs.Prefix.{is_prefix}
 use Rattle.abs_path.specs.ByteOrder.{AreAscending}
 use Rattle.abs_path.proofs.Placed.{in_byte_order_is, in_byte_order_was, in_byte_order_ascending, root_first}
 use Rattle.path_settings.specs.declared.mentions.Mention.{Mention}
-use Rattle.path_settings.specs.Mentions.{is_origin}
+use Rattle.path_settings.specs.Mentions.{leaves_the_root, is_origin}
 use Rattle.view_map.specs.View.{leading_to}
 use Rattle.view_map.specs.Object.{Object, on_host, empty, hidden, object_from, object_at}
 use Rattle.view_map.specs.Kept.{Host, kept_of}
@@ -17,9 +17,10 @@ use Rattle.view_map.proofs.Lists.{filter_is, all_weaker, all_mapped, mapped_all,
 use Rattle.view_map.proofs.Deciding.{longest_none}
 use Rattle.view_map.proofs.KeptLaws.{kept_is}
 use Rattle.kern_mounts.specs.Table.{StartsAtRoot}
+use Rattle.kern_mounts.specs.Launch.{BeginsAtRoot, HasShortPlace, IsNotNoSuid, IsPlainIfHidden}
 use Rattle.mount_plan.specs.Plan.{what_of, flags_of, step_at, hides_dir_at, places_of, table_of}
 use Rattle.mount_plan.specs.AsView.{FindsAsView}
-use Rattle.mount_plan.specs.Form.{is_root, leaves_the_root, BeginsAtRoot, HasPlacesOf, IsPlainIfHidden}
+use Rattle.mount_plan.specs.Form.{HasPlacesOf}
 use Rattle.mount_plan.proofs.FindsAsView.{EntryOf, finds_entry, places_again}
 
 abbrev pub paths_of : List Mention → List Path
@@ -107,3 +108,35 @@ hidden_plain row_at kept = each (places_of kept)
     each : (places : List Path) → AllByRecursion IsPlainIfHidden (map (step_at kept (hides_dir_at row_at kept)) places)
     each [] = tt
     each (place ∷ places) = (by kept place _ _ _ (object_at kept place), each places)
+
+-- no entry takes privileges from programs
+pub keep_user_ids : (row_at : Host) (kept : List Mention) → AllByRecursion IsNotNoSuid (table_of row_at kept)
+keep_user_ids row_at kept = each (places_of kept)
+  where
+    by : (object : Object) (read_only no_exec : Bool) → (flags_of object read_only no_exec).no_suid ≡ false
+    by (on_host path) read_only no_exec = refl
+    by empty read_only no_exec = refl
+    by hidden read_only no_exec = refl
+
+    each : (places : List Path) → AllByRecursion IsNotNoSuid (map (step_at kept (hides_dir_at row_at kept)) places)
+    each [] = tt
+    each (place ∷ places) = (by (object_at kept place) _ _, each places)
+
+-- each place is a normal path, and as short as the mentions' paths
+pub short_places_of : (row_at : Host) (mentions kept : List Mention) → AreNormal mentions → AllByRecursion (λ mention. length (text_of mention.path) ≤ 250) mentions → kept_of row_at mentions ≡ Ok kept →
+    AllByRecursion HasShortPlace (table_of row_at kept)
+short_places_of row_at mentions kept normal short e =
+    let IsPlace : Path → Type 0 = λ place. (is_normal place ≡ true) × (length (text_of place) ≤ 250) in
+    all_mapped (step_at kept (hides_dir_at row_at kept)) HasShortPlace (places_of kept)
+    (all_weaker IsPlace (λ place. HasShortPlace (step_at kept (hides_dir_at row_at kept) place)) (places_of kept) (λ place fits. record { normal = fits.0; short = fits.1 })
+    (in_byte_order_is IsPlace ([] ∷ paths_of kept) (
+      (refl, omega arith),
+      all_mapped (λ mention. mention.path) IsPlace kept
+          (all_both (λ mention. is_normal mention.path ≡ true) (λ mention. length (text_of mention.path) ≤ 250) kept
+          (kept_is (λ mention. is_normal mention.path ≡ true) row_at mentions kept normal e)
+          (kept_is (λ mention. length (text_of mention.path) ≤ 250) row_at mentions kept short e)),
+    )))
+  where
+    all_both : {X : Type 0} (P Q : X → Type 0) (xs : List X) → AllByRecursion P xs → AllByRecursion Q xs → AllByRecursion (λ x. P x × Q x) xs
+    all_both P Q [] h g = tt
+    all_both P Q (x ∷ xs) h g = ((h.0, g.0), all_both P Q xs h.1 g.1)

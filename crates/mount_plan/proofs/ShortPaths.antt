@@ -1,32 +1,32 @@
 -- What a place shows has at most 512 bytes on the host: a place below a bind is a path of the host's rows there, any other
 -- is a mention's path, or the source of a bind.
-use Rattle.std.proofs.Common.{◌≡◌, ◌⊎◌, inl, inr, ℕ, ◌+◌, ◌<◌, ◌≤◌, Bool, true, false, cond, List, [], ◌∷◌, ◌++◌, filter, find, length, Option, Some, None, Ok, refl, sym, ap, ◌∙◌, subst, append-nil, length-append, arith}
+use Rattle.std.proofs.Common.{◌≡◌, ◌⊎◌, inl, inr, ℕ, ◌<◌, ◌≤◌, Bool, true, false, cond, List, [], ◌∷◌, ◌++◌, filter, find, length, Option, Some, None, Ok, refl, sym, ap, ◌∙◌, subst, append-nil, length-append, arith}
 use Rattle.std.specs.Prelude.{◌&&◌, ◌||◌, not, nat_le}
-use Rattle.std.specs.List.{AllByRecursion, Contains, list_any, list_all, enumerate_from}
+use Rattle.std.specs.List.{AllByRecursion, Contains, list_any, enumerate_from}
 use Rattle.std.proofs.lemmas.Bool.{false≢true, false_from_ne_true, and_parts, and_from}
 use Rattle.std.proofs.lemmas.Bool.Decides.{nat_tests}
 use Rattle.std.proofs.lemmas.List.Elements.{recursion_from_All, All-from_recursion, All-contains, All-contains_itself}
 use Rattle.abs_path.specs.Paths.{Path, tail_of, text_of, is_normal}
-use Rattle.abs_path.specs.Prefix.{is_prefix, is_same, rest_of}
+use Rattle.abs_path.specs.Prefix.{is_prefix, is_same, rest_of, is_below}
 use Rattle.abs_path.proofs.Prefixes.{same_path, same_itself, prefix_and_rest, prefix_itself}
 use Rattle.abs_path.proofs.ByteOrder.{text_then_rest}
 use Rattle.abs_path.proofs.Placed.{in_byte_order_is}
 use Rattle.path_settings.specs.declared.mentions.Kind.{Kind}
 use Rattle.path_settings.specs.declared.mentions.Kind.TheVariants.{Hide, Tmp, Bind}
 use Rattle.path_settings.specs.declared.mentions.Mention.{Mention}
-use Rattle.path_settings.specs.Mentions.{is_origin, is_path, has_whole_source, is_whole}
-use Rattle.view_map.specs.View.{Found, leading_to, is_above, above, saying, length_of, is_as_long_as_each, longest, origin_of}
+use Rattle.path_settings.specs.Mentions.{is_tmp, is_bind, is_origin, is_path, has_whole_source, is_whole}
+use Rattle.view_map.specs.View.{leading_to, above, length_of, is_as_long_as_each, longest, origin_of}
 use Rattle.view_map.specs.Object.{object_by, object_from, object_at}
 use Rattle.view_map.specs.declared.rules.Beneath.{Beneath}
 use Rattle.view_map.specs.declared.rules.Beneath.TheVariants as beneath
 use Rattle.view_map.specs.Rules.{fate_of, seen_fate}
-use Rattle.view_map.specs.Kept.{Host, at_path, unbeaten, is_tmp, is_bind, beneath_row, beneath_by, beneath_at, source_row, puts, is_kept, fate_among, kept_among, kept_at, kept_of, KeepsByRules}
-use Rattle.view_map.proofs.Lists.{filter_was, all_weaker, all_mapped}
-use Rattle.view_map.proofs.Deciding.{origin_is}
+use Rattle.view_map.specs.Kept.{Host, at_path, unbeaten, beneath_row, beneath_by, beneath_at, source_row, puts, is_kept, fate_among, kept_among, kept_at, kept_of, KeepsByRules}
+use Rattle.view_map.proofs.Lists.{filter_was, all_weaker, all_mapped, all_enumerated, enumerated_all}
+use Rattle.view_map.proofs.Deciding.{origin_is, longest_covers}
 use Rattle.view_map.proofs.KeptLaws.{kept_among_Ok, kept_is, keeps_by_rules, each_kept}
 use Rattle.mount_plan.specs.Plan.{places_of}
-use Rattle.mount_plan.specs.Short.{IsShort, AreShort}
-use Rattle.mount_plan.proofs.Hosts.{AreShortRows, find_passes}
+use Rattle.mount_plan.specs.Short.{HasShortHost, HaveShortHosts}
+use Rattle.mount_plan.proofs.Hosts.{AreShortRows}
 use Rattle.mount_plan.proofs.PlanLaws.{AreNormal, LeaveTheRoot, paths_of, root_on_host}
 use Rattle.mount_plan.proofs.FindsProc.{IsKeptAtAll}
 
@@ -35,31 +35,13 @@ has_bytes : (rest : Path) → (rest ≡ [] → ⊥) → 0 < length (tail_of rest
 has_bytes [] h = absurd (h refl)
 has_bytes (part ∷ rest) h = omega arith
 
-above_shorter : (one path : Path) → is_above one path ≡ true → length (tail_of one) < length (tail_of path)
+above_shorter : (one path : Path) → is_below path one ≡ true → length (tail_of one) < length (tail_of path)
 above_shorter one path over =
     let both = and_parts (is_prefix one path) (not (is_same one path)) over in
     let more = has_bytes (rest_of one path) (λ none. false≢true (sym (ap not (subst (λ (p : Path). is_same one p ≡ true)
     (sym (append-nil one) ∙ ap (λ rest. one ++ rest) (sym none) ∙ prefix_and_rest one path both.0) (same_itself one))) ∙ both.1)) in
     let text = ap length (text_then_rest one path both.0) ∙ length-append (tail_of one) (tail_of (rest_of one path)) in
     omega arith
-
--- the longest is as long as each
-pub all_of_test : {X : Type 0} (test : X → Bool) (xs : List X) → list_all test xs ≡ true → AllByRecursion (λ x. test x ≡ true) xs
-all_of_test test [] h = tt
-all_of_test test (x ∷ xs) h = let both = and_parts (test x) (list_all test xs) h in (both.0, all_of_test test xs both.1)
-
-longest_covers : (says : Kind → Bool) (found : Found) (one : ℕ × Mention) → longest says found ≡ Some one → AllByRecursion (λ other. says other.1.kind ≡ true → nat_le (length_of other) (length_of one) ≡ true) found
-longest_covers says found one e =
-    filter_was (λ other. says other.1.kind) (λ other. nat_le (length_of other) (length_of one) ≡ true) found
-    (all_of_test (λ other. nat_le (length_of other) (length_of one)) (saying says found) (find_passes (is_as_long_as_each (saying says found)) (saying says found) one e))
-
-unnumbered : {X : Type 0} (P : X → Type 0) (n : ℕ) (xs : List X) → AllByRecursion (λ one. P one.1) (enumerate_from n xs) → AllByRecursion P xs
-unnumbered P n [] h = tt
-unnumbered P n (x ∷ xs) h = (h.0, unnumbered P (n + 1) xs h.1)
-
-numbered : {X : Type 0} (P : X → Type 0) (n : ℕ) (xs : List X) → AllByRecursion P xs → AllByRecursion (λ one. P one.1) (enumerate_from n xs)
-numbered P n [] h = tt
-numbered P n (x ∷ xs) h = (h.0, numbered P (n + 1) xs h.1)
 
 not_longer : (a b : ℕ) → b < a → nat_le a b ≡ true → ⊥
 not_longer a b h g = absurd (false≢true (sym (above_false a b h) ∙ g))
@@ -71,9 +53,9 @@ not_longer a b h g = absurd (false≢true (sym (above_false a b h) ∙ g))
 abbrev IsElsewhere : Path → Mention → Type 0
 IsElsewhere path mention = is_origin mention.kind ≡ true → is_same mention.path path ≡ false
 
-none_at_path : (kept : List Mention) (path : Path) (one : ℕ × Mention) → origin_of kept path ≡ Some one → is_above one.1.path path ≡ true → AllByRecursion (IsElsewhere path) kept
+none_at_path : (kept : List Mention) (path : Path) (one : ℕ × Mention) → origin_of kept path ≡ Some one → is_below path one.1.path ≡ true → AllByRecursion (IsElsewhere path) kept
 none_at_path kept path one e over =
-    unnumbered (IsElsewhere path) 0 kept
+    enumerated_all (IsElsewhere path) 0 kept
     (all_weaker (λ other. is_prefix other.1.path path ≡ true → is_origin other.1.kind ≡ true → nat_le (length_of other) (length_of one) ≡ true) (λ other. IsElsewhere path other.1) (enumerate_from 0 kept) elsewhere
     (filter_was (λ other. is_prefix other.1.path path) (λ other. is_origin other.1.kind ≡ true → nat_le (length_of other) (length_of one) ≡ true) (enumerate_from 0 kept)
     (longest_covers is_origin (leading_to path kept) one e)))
@@ -105,9 +87,9 @@ filters_agree {X = X} p q r (x ∷ xs) h = by (p x) refl (q x) (r x) h.0 (filter
 -- then the longest above the path is the longest that leads to it
 above_is_origin : (kept : List Mention) (path : Path) → AllByRecursion (IsElsewhere path) kept → longest is_origin (above path kept) ≡ origin_of kept path
 above_is_origin kept path none = ap (λ said. find (is_as_long_as_each said) said)
-    (filters_agree (λ one. is_origin one.1.kind) (λ one. is_above one.1.path path) (λ one. is_prefix one.1.path path) (enumerate_from 0 kept)
-    (numbered (λ mention. is_origin mention.kind ≡ true → is_above mention.path path ≡ is_prefix mention.path path) 0 kept
-    (all_weaker (IsElsewhere path) (λ mention. is_origin mention.kind ≡ true → is_above mention.path path ≡ is_prefix mention.path path) kept
+    (filters_agree (λ one. is_origin one.1.kind) (λ one. is_below path one.1.path) (λ one. is_prefix one.1.path path) (enumerate_from 0 kept)
+    (all_enumerated (λ mention. is_origin mention.kind ≡ true → is_below path mention.path ≡ is_prefix mention.path path) 0 kept
+    (all_weaker (IsElsewhere path) (λ mention. is_origin mention.kind ≡ true → is_below path mention.path ≡ is_prefix mention.path path) kept
     (λ mention elsewhere says. ap (λ b. is_prefix mention.path path && not b) (elsewhere says) ∙ and_true (is_prefix mention.path path)) none)))
   where
     and_true : (b : Bool) → (b && true) ≡ b
@@ -186,7 +168,7 @@ row_beneath row_at source is_dir e = by (row_at source) refl e
 
 -- a bind above a kept path has a row there
 bound_row : (row_at : Host) (mentions kept : List Mention) (mention : Mention) (one : ℕ × Mention) (source : Path) (read_only : Bool) → KeepsByRules row_at mentions kept → Contains kept mention →
-    origin_of kept mention.path ≡ Some one → is_above one.1.path mention.path ≡ true → one.1.kind ≡ Bind source read_only → (is_dir : Bool) × (row_at (source ++ rest_of one.1.path mention.path) ≡ Some is_dir)
+    origin_of kept mention.path ≡ Some one → is_below mention.path one.1.path ≡ true → one.1.kind ≡ Bind source read_only → (is_dir : Bool) × (row_at (source ++ rest_of one.1.path mention.path) ≡ Some is_dir)
 bound_row row_at mentions kept mention one source read_only keeps among e over kind =
     let path : Path = mention.path in
     let none = none_at_path kept path one e over in
@@ -221,7 +203,7 @@ abbrev pub AreWhole : List Mention → Type 0
 AreWhole mentions = AllByRecursion (λ mention. is_whole mention ≡ true) mentions
 
 -- what is seen at a kept path is short
-short_at : (row_at : Host) (mentions kept : List Mention) (mention : Mention) → AreShortRows row_at → KeepsByRules row_at mentions kept → AreWhole kept → Contains kept mention → IsShort (object_at kept mention.path)
+short_at : (row_at : Host) (mentions kept : List Mention) (mention : Mention) → AreShortRows row_at → KeepsByRules row_at mentions kept → AreWhole kept → Contains kept mention → HasShortHost (object_at kept mention.path)
 short_at row_at mentions kept mention rows keeps whole among = by (origin_of kept mention.path) refl
   where
     own : is_whole mention ≡ true
@@ -230,7 +212,7 @@ short_at row_at mentions kept mention rows keeps whole among = by (origin_of kep
     own_short : length (tail_of mention.path) ≤ 512
     own_short = short_path mention.path (and_parts (is_path mention.path) (has_whole_source mention.kind) own).0
 
-    from : (one : ℕ × Mention) → origin_of kept mention.path ≡ Some one → is_whole one.1 ≡ true → is_prefix one.1.path mention.path ≡ true → (kind : Kind) → one.1.kind ≡ kind → IsShort (object_by kind one.1.path mention.path)
+    from : (one : ℕ × Mention) → origin_of kept mention.path ≡ Some one → is_whole one.1 ≡ true → is_prefix one.1.path mention.path ≡ true → (kind : Kind) → one.1.kind ≡ kind → HasShortHost (object_by kind one.1.path mention.path)
     from one e all leads Hide k = tt
     from one e all leads (Tmp read_only) k = tt
     from one e all leads (Bind source read_only) k = elim_same (is_same one.1.path mention.path) refl
@@ -241,25 +223,25 @@ short_at row_at mentions kept mention rows keeps whole among = by (origin_of kep
             subst (λ (p : Path). length (tail_of p) ≤ 512) (sym (ap (λ rest. source ++ rest) rest ∙ append-nil source))
             (short_path source (ap has_whole_source (sym k) ∙ (and_parts (is_path one.1.path) (has_whole_source one.1.kind) all).1))
         elim_same false apart =
-            let over : is_above one.1.path mention.path ≡ true = and_from (is_prefix one.1.path mention.path) (not (is_same one.1.path mention.path)) leads (ap not apart) in
+            let over : is_below mention.path one.1.path ≡ true = and_from (is_prefix one.1.path mention.path) (not (is_same one.1.path mention.path)) leads (ap not apart) in
             let row = bound_row row_at mentions kept mention one source read_only keeps among e over k in
             rows (source ++ rest_of one.1.path mention.path) row.0 row.1
     from one e all leads _ k = own_short
 
-    by : (o : Option (ℕ × Mention)) → origin_of kept mention.path ≡ o → IsShort (object_from o mention.path)
+    by : (o : Option (ℕ × Mention)) → origin_of kept mention.path ≡ o → HasShortHost (object_from o mention.path)
     by None e = own_short
     by (Some one) e =
         let decides = origin_is (λ other. is_whole other ≡ true) kept mention.path one whole e in
         from one e decides.0 decides.1 one.1.kind refl
 
 -- what is seen at each place is short
-pub short_places : (row_at : Host) (mentions kept : List Mention) → AreShortRows row_at → AreWhole mentions → AreNormal mentions → LeaveTheRoot mentions → kept_of row_at mentions ≡ Ok kept → AreShort kept (places_of kept)
+pub short_places : (row_at : Host) (mentions kept : List Mention) → AreShortRows row_at → AreWhole mentions → AreNormal mentions → LeaveTheRoot mentions → kept_of row_at mentions ≡ Ok kept → HaveShortHosts kept (places_of kept)
 short_places row_at mentions kept rows whole normal leave e =
-    All-from_recursion (λ place. IsShort (object_at kept place)) (places_of kept)
-    (in_byte_order_is (λ place. IsShort (object_at kept place)) ([] ∷ paths_of kept) (
-      subst IsShort (sym (root_on_host kept (kept_is (λ mention. mention.path ≡ [] → is_origin mention.kind ≡ false) row_at mentions kept leave e))) (omega arith),
-      all_mapped (λ mention. mention.path) (λ place. IsShort (object_at kept place)) kept
-          (all_weaker (Contains kept) (λ mention. IsShort (object_at kept mention.path)) kept
+    All-from_recursion (λ place. HasShortHost (object_at kept place)) (places_of kept)
+    (in_byte_order_is (λ place. HasShortHost (object_at kept place)) ([] ∷ paths_of kept) (
+      subst HasShortHost (sym (root_on_host kept (kept_is (λ mention. mention.path ≡ [] → is_origin mention.kind ≡ false) row_at mentions kept leave e))) (omega arith),
+      all_mapped (λ mention. mention.path) (λ place. HasShortHost (object_at kept place)) kept
+          (all_weaker (Contains kept) (λ mention. HasShortHost (object_at kept mention.path)) kept
           (λ mention among. short_at row_at mentions kept mention rows (keeps_by_rules row_at mentions kept normal e) (kept_is (λ mention. is_whole mention ≡ true) row_at mentions kept whole e) among)
           (recursion_from_All (Contains kept) kept (All-contains_itself kept))),
     ))

@@ -6,16 +6,9 @@ use Rattle.path_settings.specs.Mentions.{is_origin}
 use Rattle.view_map.specs.declared.rules.Beneath.{Beneath}
 use Rattle.view_map.specs.declared.rules.Fate.{Fate}
 use Rattle.view_map.specs.Rules.{fate_of}
-use Rattle.view_map.specs.Kept.{Host, hides, is_tmp, is_bind, source_row}
-use Rattle.mount_plan.specs.declared.here.Origin.{Origin}
-use Rattle.mount_plan.specs.declared.here.Origin.TheVariants.{Hide, Tmp, Bind}
+use Rattle.view_map.specs.Kept.{Host, source_row}
 use Rattle.mount_plan.specs.declared.here.Part.{Part}
 use Rattle.mount_plan.specs.declared.here.Part.TheVariants.{Origins, Flags}
-
-abbrev pub is_of : Origin → Kind → Bool
-is_of Hide kind = hides kind
-is_of Tmp kind = is_tmp kind
-is_of Bind kind = is_bind kind
 
 -- of the part that says what stands at the path, or of that which says how it may be used
 abbrev pub is_asked : Part → Kind → Bool

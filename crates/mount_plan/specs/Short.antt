@@ -6,11 +6,11 @@ use Rattle.path_settings.specs.declared.mentions.Mention.{Mention}
 use Rattle.view_map.specs.Object.{Object, on_host, empty, hidden, object_at}
 
 -- what is seen has at most 512 bytes on the host
-abbrev pub IsShort : Object → Type 0
-IsShort (on_host path) = length (tail_of path) ≤ 512
-IsShort empty = ⊤
-IsShort hidden = ⊤
+abbrev pub HasShortHost : Object → Type 0
+HasShortHost (on_host path) = length (tail_of path) ≤ 512
+HasShortHost empty = ⊤
+HasShortHost hidden = ⊤
 
 -- what is seen at each of the places
-abbrev pub AreShort : List Mention → List Path → Type 0
-AreShort kept places = All (λ place. IsShort (object_at kept place)) places
+abbrev pub HaveShortHosts : List Mention → List Path → Type 0
+HaveShortHosts kept places = All (λ place. HasShortHost (object_at kept place)) places

@@ -6,10 +6,10 @@ ghost use Rattle.abs_path.specs.Prefix.{is_prefix, rest_of};
 ghost use Rattle.view_map.specs.Object.{object_at, object_by};
 ghost use Rattle.mount_plan.specs.Host.{host_of};
 ghost use Rattle.mount_plan.specs.Plan.{what_of, flags_by, hides_dir, hides_dir_at, step_at};
-ghost use Rattle.mount_plan.specs.Short.{IsShort, AreShort};
+ghost use Rattle.mount_plan.specs.Short.{HasShortHost, HaveShortHosts};
 
 use crate::kept::beneath_at;
-use abs_path::{AbsPath, PathError};
+use abs_path::{AbsPath, JoinError};
 use kern_mounts::{Flags, MountStep, What};
 use path_settings::{Kind, Mention};
 use site_table::SiteTable;
@@ -31,11 +31,8 @@ fn source_through(
         None => unreachable!(),
         Some(rest) => match source.join(alloc, rest) {
             Ok(host) => Ok(host),
-            Err(PathError::Memory) => Err(AllocError),
-            Err(PathError::TooLong) => unreachable!(),
-            Err(PathError::HasNul) => unreachable!(),
-            Err(PathError::Relative) => unreachable!(),
-            Err(PathError::DotDot) => unreachable!(),
+            Err(JoinError::Memory) => Err(AllocError),
+            Err(JoinError::TooLong) => unreachable!(),
         },
     }
 }
@@ -57,7 +54,7 @@ fn what_by(
     is_dir: bool,
 ) -> Result<What, AllocError>
     requires leads { is_prefix mention.now.path path.now ≡ true }
-    requires short { IsShort (object_by mention.now.kind mention.now.path path.now) }
+    requires short { HasShortHost (object_by mention.now.kind mention.now.path path.now) }
     ensures { IfOk result (λ what.
         what ≡ what_of (object_by mention.now.kind mention.now.path path.now) is_dir) }
 {
@@ -82,7 +79,7 @@ fn what_at(
     kept: &[Mention],
     place: &AbsPath,
 ) -> Result<What, AllocError>
-    requires { IsShort (object_at kept.now place.now) }
+    requires { HasShortHost (object_at kept.now place.now) }
     ensures { IfOk result (λ what. what
         ≡ what_of (object_at kept.now place.now) (hides_dir_at (host_of site.now) kept.now place.now)) }
 {
@@ -119,7 +116,7 @@ fn step_at(
     kept: &[Mention],
     place: &AbsPath,
 ) -> Result<MountStep, AllocError>
-    requires { IsShort (object_at kept.now place.now) }
+    requires { HasShortHost (object_at kept.now place.now) }
     ensures { IfOk result (λ step.
         step ≡ step_at kept.now (hides_dir_at (host_of site.now) kept.now) place.now) }
 {
@@ -139,12 +136,12 @@ pub fn steps_at(
     kept: &[Mention],
     places: &[AbsPath],
 ) -> Result<Vec<MountStep>, AllocError>
-    requires { AreShort kept.now places.now }
+    requires { HaveShortHosts kept.now places.now }
     ensures { IfOk result (λ steps.
         steps.items ≡ map (step_at kept.now (hides_dir_at (host_of site.now) kept.now)) places.now) }
 {
     let mut steps = Vec::new(alloc);
-    'places: for place in places {
+    for place in places {
         steps.push(step_at(alloc, site, kept, place)?)?;
     }
     Ok(steps)

@@ -2,10 +2,10 @@
 
 ghost use Rattle.std.specs.Prelude.{◌≡◌, map, filter, IfOk};
 ghost use Rattle.std.specs.List.{list_any};
-ghost use Rattle.path_settings.specs.Mentions.{is_origin};
+ghost use Rattle.path_settings.specs.Mentions.{hides, is_tmp, is_bind, is_origin};
 ghost use Rattle.view_map.specs.Kept.{at_path, is_beaten, unbeaten, is_kept, source_row, puts};
 ghost use Rattle.mount_plan.specs.Host.{host_of};
-ghost use Rattle.mount_plan.specs.Here.{is_of, is_asked, fate_beside};
+ghost use Rattle.mount_plan.specs.Here.{is_asked, fate_beside};
 
 use crate::host::row_at;
 use abs_path::AbsPath;
@@ -13,14 +13,6 @@ use path_settings::{Kind, Mention};
 use site_table::SiteTable;
 use std::alloc::{AllocError, Global};
 use view_map::{Beneath, Fate, fate_of};
-
-/// The kinds of mentions that say what stands at their path.
-#[derive(Clone, Copy)]
-pub enum Origin {
-    Hide,
-    Tmp,
-    Bind,
-}
 
 /// The two parts of the mentions at a path, in the order in which the rules ask them.
 #[derive(Clone, Copy)]
@@ -40,34 +32,28 @@ pub fn at_path<'a>(
     ensures { IfOk result (λ found.
         map (λ mention. mention.now) found.items ≡ at_path path.now mentions.now) }
 {
-    let mut found = Vec::new(alloc);
-    'mentions: for mention in mentions {
-        if mention.path == *path {
-            found.push(mention)?;
-        }
-    }
-    Ok(found)
+    mentions
+        .iter()
+        .filter(|mention| mention.path == *path)
+        .collect(alloc)
 }
 
-fn is_of(origin: Origin, kind: &Kind) -> bool
-    ensures { result ≡ is_of origin kind.now }
+fn any_hides(here: &[&Mention]) -> bool
+    ensures { result ≡ list_any (λ mention. hides mention.kind) (map (λ mention. mention.now) here.now) }
 {
-    match origin {
-        Origin::Hide => matches!(kind, Kind::Hide),
-        Origin::Tmp => matches!(kind, Kind::Tmp { .. }),
-        Origin::Bind => matches!(kind, Kind::Bind { .. }),
-    }
+    here.iter().any(|mention| mention.kind.hides())
 }
 
-fn has(here: &[&Mention], origin: Origin) -> bool
-    ensures { result ≡ list_any (λ mention. is_of origin mention.kind) (map (λ mention. mention.now) here.now) }
+fn any_is_tmp(here: &[&Mention]) -> bool
+    ensures { result ≡ list_any (λ mention. is_tmp mention.kind) (map (λ mention. mention.now) here.now) }
 {
-    'mentions: for mention in here {
-        if is_of(origin, &mention.kind) {
-            return true;
-        }
-    }
-    false
+    here.iter().any(|mention| mention.kind.is_tmp())
+}
+
+fn any_is_bind(here: &[&Mention]) -> bool
+    ensures { result ≡ list_any (λ mention. is_bind mention.kind) (map (λ mention. mention.now) here.now) }
+{
+    here.iter().any(|mention| mention.kind.is_bind())
 }
 
 // whether one of the mentions here beats one of this kind; of binds a later one
@@ -75,10 +61,8 @@ fn is_beaten(here: &[&Mention], later: &[&Mention], kind: &Kind) -> bool
     ensures { result ≡ is_beaten
         (map (λ mention. mention.now) here.now) (map (λ mention. mention.now) later.now) kind.now }
 {
-    let bind = is_of(Origin::Bind, kind);
-    let put = is_of(Origin::Tmp, kind) || bind;
-    (put && has(here, Origin::Hide))
-        || (bind && (has(here, Origin::Tmp) || has(later, Origin::Bind)))
+    ((kind.is_tmp() || kind.is_bind()) && any_hides(here))
+        || (kind.is_bind() && (any_is_tmp(here) || any_is_bind(later)))
 }
 
 /// Those of the mentions at one path that no other beats.
@@ -87,7 +71,7 @@ pub fn unbeaten<'a>(alloc: Global, here: &[&'a Mention]) -> Result<Vec<&'a Menti
         ≡ unbeaten (map (λ mention. mention.now) here.now)) }
 {
     let mut found = Vec::new(alloc);
-    'mentions: for (index, mention) in here.iter().enumerate() {
+    for (index, mention) in here.iter().enumerate() {
         let mention: &Mention = mention;
         if !is_beaten(here, &here[index + 1..], &mention.kind) {
             found.push(mention)?;
@@ -110,10 +94,7 @@ pub fn is_asked(part: Part, mention: &Mention) -> bool
 fn source_row(site: &SiteTable, kind: &Kind) -> Option<bool>
     ensures { result ≡ source_row (host_of site.now) kind.now }
 {
-    match kind {
-        Kind::Bind { source, .. } => row_at(site, source),
-        _ => None,
-    }
+    row_at(site, kind.source()?)
 }
 
 /// What becomes of a mention; `is_put` says whether an empty file system or a bind is kept at its path.
@@ -134,18 +115,13 @@ pub fn is_kept(fate: Fate) -> bool
 fn puts(site: &SiteTable, beneath: Beneath, mention: &Mention) -> bool
     ensures { result ≡ puts (host_of site.now) beneath mention.now }
 {
-    let put = is_of(Origin::Tmp, &mention.kind) || is_of(Origin::Bind, &mention.kind);
-    put && is_kept(fate_beside(site, beneath, true, mention))
+    (mention.kind.is_tmp() || mention.kind.is_bind())
+        && is_kept(fate_beside(site, beneath, true, mention))
 }
 
 /// Whether an empty file system or a bind is kept at the path of these mentions.
 pub fn is_put(site: &SiteTable, beneath: Beneath, here: &[&Mention]) -> bool
     ensures { result ≡ list_any (puts (host_of site.now) beneath) (map (λ mention. mention.now) here.now) }
 {
-    'mentions: for mention in here {
-        if puts(site, beneath, mention) {
-            return true;
-        }
-    }
-    false
+    here.iter().any(|mention| puts(site, beneath, mention))
 }

@@ -1,10 +1,10 @@
 //! The mentions that the rules keep, or the first refusal, path by path in byte order.
 
-ghost use Rattle.std.specs.Prelude.{◌≡◌, ◌++◌, [], true, map, filter, IfOk, OnOk};
+ghost use Rattle.std.specs.Prelude.{◌≡◌, ◌++◌, [], true, map, filter, OnOk};
 ghost use Rattle.std.specs.List.{filter_map};
 ghost use Rattle.abs_path.specs.Prefix.{is_prefix, rest_of};
 ghost use Rattle.view_map.specs.Object.{object_by};
-ghost use Rattle.view_map.specs.Kept.{beneath_row, beneath_by, beneath_at, source_of, refusal_of, is_kept, kept_among, kept_at, kept_from};
+ghost use Rattle.view_map.specs.Kept.{beneath_row, beneath_by, beneath_at, refusal_of, is_kept, kept_among, kept_at, kept_from};
 ghost use Rattle.mount_plan.specs.Host.{host_of};
 ghost use Rattle.mount_plan.specs.Here.{is_asked, fate_beside};
 ghost use Rattle.mount_plan.specs.Answers.{first_of, Refuses, AddsKept, Keeps};
@@ -62,16 +62,6 @@ pub fn beneath_at(site: &SiteTable, kept: &[Mention], path: &AbsPath) -> Beneath
     }
 }
 
-// the source of a bind
-fn source_of(alloc: Global, kind: &Kind) -> Result<AbsPath, AllocError>
-    ensures { IfOk result (λ path. path ≡ source_of kind.now) }
-{
-    match kind {
-        Kind::Bind { source, .. } => source.copy(alloc),
-        _ => Ok(AbsPath::root(alloc)),
-    }
-}
-
 // the refusal of a mention, where this becomes of it
 fn refusal(alloc: Global, mention: &Mention, fate: Fate) -> Result<(), PlanError>
     ensures { Refuses (refusal_of mention.now fate) result }
@@ -79,10 +69,13 @@ fn refusal(alloc: Global, mention: &Mention, fate: Fate) -> Result<(), PlanError
     match fate {
         Fate::Kept => Ok(()),
         Fate::Dropped => Ok(()),
-        Fate::NoSource => {
-            let path = source_of(alloc, &mention.kind)?;
-            Err(PlanError::Missing(path))
-        }
+        Fate::NoSource => match mention.kind.source() {
+            Some(source) => {
+                let path = source.copy(alloc)?;
+                Err(PlanError::Missing(path))
+            }
+            None => Ok(()),
+        },
         Fate::NoRow => {
             let path = mention.path.copy(alloc)?;
             Err(PlanError::Missing(path))
@@ -107,7 +100,7 @@ fn ask(
         (λ mention. refusal_of mention (fate_beside (host_of site.now) beneath is_put mention))
         (filter (λ mention. is_asked part mention.kind) (map (λ mention. mention.now) here.now)))) result }
 {
-    'mentions: for mention in here {
+    for mention in here {
         if is_asked(part, mention) {
             refusal(alloc, mention, fate_beside(site, beneath, is_put, mention))?;
         }
@@ -128,7 +121,7 @@ fn add(
         ++ filter (λ mention. is_kept (fate_beside (host_of site.now) beneath is_put mention))
         (map (λ mention. mention.now) here.now)) }
 {
-    'mentions: for mention in here {
+    for mention in here {
         if is_kept(fate_beside(site, beneath, is_put, mention)) {
             kept.push(mention.copy(alloc)?)?;
         }
@@ -148,16 +141,10 @@ fn keep(
         kept.old.items kept.new.items result }
 {
     let is_put = is_put(site, beneath, here);
-    match ask(alloc, site, beneath, is_put, here, Part::Origins) {
-        Err(error) => Err(error),
-        Ok(()) => match ask(alloc, site, beneath, is_put, here, Part::Flags) {
-            Err(error) => Err(error),
-            Ok(()) => {
-                add(alloc, site, beneath, is_put, here, kept)?;
-                Ok(())
-            }
-        },
-    }
+    ask(alloc, site, beneath, is_put, here, Part::Origins)?;
+    ask(alloc, site, beneath, is_put, here, Part::Flags)?;
+    add(alloc, site, beneath, is_put, here, kept)?;
+    Ok(())
 }
 
 // adds the mentions at a path that the rules keep, by those that are kept above it
@@ -187,11 +174,8 @@ pub fn kept_at_all(
     ensures { Keeps (kept_from (host_of site.now) mentions.now paths.now []) result }
 {
     let mut kept = Vec::new(alloc);
-    'paths: for path in paths {
-        match keep_at(alloc, site, mentions, &mut kept, path) {
-            Err(error) => return Err(error),
-            Ok(()) => {}
-        }
+    for path in paths {
+        keep_at(alloc, site, mentions, &mut kept, path)?;
     }
     Ok(kept)
 }

@@ -13,9 +13,7 @@ mod kept;
 mod places;
 mod planning;
 mod steps;
-#[cfg(test)]
-mod tests;
 
 pub use error::PlanError;
-pub use planning::{leaves_the_root, plan};
+pub use planning::plan;
 pub use steps::MountSteps;

@@ -16,7 +16,7 @@ pub fn put_paths(
     ensures { OnOk result
         (paths.new.items ≡ with_placed paths.old.items (map (λ mention. mention.path) mentions.now)) }
 {
-    'mentions: for mention in mentions {
+    for mention in mentions {
         put(alloc, paths, &mention.path)?;
     }
     Ok(())

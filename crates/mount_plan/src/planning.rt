@@ -3,13 +3,15 @@
 ghost use Rattle.std.specs.Prelude.{◌≡◌, ◌≤◌, ◌+◌, true, length, map, IfOk, IsTrue};
 ghost use Rattle.std.specs.List.{list_all, AllByRecursion};
 ghost use Rattle.abs_path.specs.ByteOrder.{AreAscending};
-ghost use Rattle.path_settings.specs.Mentions.{is_whole};
+ghost use Rattle.path_settings.specs.Short.{AreShort};
+ghost use Rattle.path_settings.specs.Mentions.{leaves_the_root, is_whole};
 ghost use Rattle.view_map.specs.Kept.{kept_of, KeepsByRules};
+ghost use Rattle.kern_mounts.specs.Launch.{CanBeMounted, BeginsAtRoot, IsNotNoSuid, IsPlainIfHidden, FindsProc};
 ghost use Rattle.mount_plan.specs.Host.{host_of};
 ghost use Rattle.mount_plan.specs.Plan.{places_of, table_of};
 ghost use Rattle.mount_plan.specs.AsView.{FindsAsView};
-ghost use Rattle.mount_plan.specs.Form.{leaves_the_root, BeginsAtRoot, HasPlacesOf, IsPlainIfHidden, FindsProc};
-ghost use Rattle.mount_plan.specs.Short.{AreShort};
+ghost use Rattle.mount_plan.specs.Form.{HasPlacesOf};
+ghost use Rattle.mount_plan.specs.Short.{HaveShortHosts};
 ghost use Rattle.mount_plan.specs.Answers.{Keeps, Plans};
 
 use crate::entry::steps_at;
@@ -34,7 +36,7 @@ fn kept_of(alloc: Global, site: &SiteTable, mentions: &[Mention]) -> Result<Vec<
 
 // the root and each kept path, each with what the view has there
 fn table_of(alloc: Global, site: &SiteTable, kept: &[Mention]) -> Result<Vec<MountStep>, AllocError>
-    requires { AreShort kept.now (places_of kept.now) }
+    requires { HaveShortHosts kept.now (places_of kept.now) }
     ensures { IfOk result (λ table. table.items ≡ table_of (host_of site.now) kept.now) }
 {
     let mut places = Vec::new(alloc);
@@ -51,32 +53,17 @@ fn plan_of(alloc: Global, site: &SiteTable, mentions: &[Mention]) -> Result<Moun
 {
     // The rows are lent with what holds of each site: their paths are short.
     let _rows = site.rows();
-    match kept_of(alloc, site, mentions) {
-        Err(error) => Err(error),
-        Ok(kept) => {
-            let steps = table_of(alloc, site, &kept)?;
-            Ok(MountSteps::new(steps))
-        }
-    }
-}
-
-/// Whether no mention hides the root or puts anything there, which is the host's: what `plan` asks.
-pub fn leaves_the_root(mentions: &Mentions) -> bool
-    ensures root_is_the_hosts { result ≡ leaves_the_root mentions.now }
-{
-    'mentions: for mention in mentions.list() {
-        if mention.path.tail_len() == 0 && mention.kind.is_origin() {
-            return false;
-        }
-    }
-    true
+    let kept = kept_of(alloc, site, mentions)?;
+    let steps = table_of(alloc, site, &kept)?;
+    Ok(MountSteps::new(steps))
 }
 
 /// The mounts that give a service with these mentions its view of the site.
 ///
 /// The first is `/` on the host with its flags, and one follows for each other path that has a kept mention, in byte
-/// order. Missing and Kind tell the first path in byte order at which the rules refuse a mention, or the source of a bind
-/// there that is no row; Memory may come at any mentions.
+/// order. What stands at the root is the host's: no mention may hide it, empty it or bind over it
+/// (`Mentions::leaves_the_root`). Missing and Kind tell the first path in byte order at which the rules refuse a mention,
+/// or the source of a bind there that is no row; Memory may come at any mentions.
 pub fn plan(alloc: Global, mentions: &Mentions, site: &SiteTable) -> Result<MountSteps, PlanError>
     requires root_is_the_hosts { IsTrue (leaves_the_root mentions.now) }
 
@@ -88,10 +75,12 @@ pub fn plan(alloc: Global, mentions: &Mentions, site: &SiteTable) -> Result<Moun
         IfOk (kept_of (host_of site.now) mentions.now) (λ kept. FindsAsView kept table)) }
 
     // The form of a table that a launch takes.
+    ensures can_be_mounted { AreShort mentions.now → IfOk result (CanBeMounted (host_of site.now)) }
     ensures begins_at_root { IfOk result BeginsAtRoot }
     ensures places_ascend { IfOk result (λ table. AreAscending (map (λ step. step.place) table)) }
     ensures places_are_mentioned { IfOk result (HasPlacesOf mentions.now) }
     ensures one_more_than_mentions { IfOk result (λ table. length table ≤ length mentions.now + 1) }
+    ensures none_is_no_suid { IfOk result (AllByRecursion IsNotNoSuid) }
     ensures hidden_without_flags { IfOk result (AllByRecursion IsPlainIfHidden) }
     ensures finds_proc { IfOk result (FindsProc (host_of site.now)) }
 {

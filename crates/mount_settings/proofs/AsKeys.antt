@@ -1,5 +1,5 @@
 -- Written paths are as their keys say: only four keys say what stands at a path.
-use Rattle.std.proofs.Common.{◌≡◌, ℕ, Bool, true, false, cond, Option, Some, None, List, [], ◌∷◌, refl, ap, ◌∙◌}
+use Rattle.std.proofs.Common.{◌≡◌, ℕ, Bool, true, false, cond, Option, Some, None, List, [], ◌∷◌, refl, sym, ap, ◌∙◌}
 use Rattle.std.specs.Prelude.{◌&&◌, ◌||◌, not, codes, unwrap_or}
 use Rattle.std.specs.List.{cons_option, list_all, list_any}
 use Rattle.std.specs.Option.{option_map}
@@ -16,10 +16,13 @@ use Rattle.path_settings.specs.SettingPaths.{setting_path}
 use Rattle.path_settings.specs.Folders.{is_relative, text_below, folder_mention}
 use Rattle.path_settings.specs.Lists.{path_mention}
 use Rattle.path_settings.specs.Keys.{mention_of}
+use Rattle.path_settings.specs.Short.{is_short}
+use Rattle.path_settings.proofs.ReadMentions.{mention_short}
 use Rattle.mount_settings.specs.declared.written.WrittenPath.{WrittenPath}
 use Rattle.mount_settings.specs.Assigned.{Assigned, is_key}
-use Rattle.mount_settings.specs.Written.{split, paths_in, gives, is_reset_by, written}
-use Rattle.mount_settings.specs.Roots.{is_as_its_key, root_keys}
+use Rattle.unit_values.specs.Words.{split}
+use Rattle.mount_settings.specs.Written.{paths_in, gives, is_reset_by, written}
+use Rattle.mount_settings.specs.Roots.{is_as_its_key, root_keys, AreRead}
 
 -- what a key may say
 abbrev fits : PathKey → Option Mention → Bool
@@ -64,21 +67,29 @@ mention_fits RuntimeDirectory word = folder_fits RuntimeDirectory (codes "/run")
 mention_fits CacheDirectory word = folder_fits CacheDirectory (codes "/var/cache") word
 mention_fits LogsDirectory word = folder_fits LogsDirectory (codes "/var/log") word
 
-one_fits : (key : PathKey) (mention : Option Mention) (rest : List WrittenPath) → fits key mention ≡ true → list_all is_as_its_key rest ≡ true → list_all is_as_its_key (cons_option (option_map (λ m. record { key = key; mention = m }) mention) rest) ≡ true
-one_fits key None rest fit all = all
-one_fits key (Some mention) rest fit all = ap (λ v. v && list_all is_as_its_key rest) fit ∙ all
+-- what holds of each mention that a word of a key is holds of all that is written
+one_holds : (q : PathKey → Mention → Bool) (key : PathKey) (mention : Option Mention) (rest : List WrittenPath) → ((m : Mention) → mention ≡ Some m → q key m ≡ true) → list_all (λ path. q path.key path.mention) rest ≡ true → list_all (λ path. q path.key path.mention) (cons_option (option_map (λ m. record { key = key; mention = m }) mention) rest) ≡ true
+one_holds q key None rest h all = all
+one_holds q key (Some mention) rest h all = ap (λ v. v && list_all (λ path. q path.key path.mention) rest) (h mention refl) ∙ all
 
-words_fit : (key : PathKey) (words : List (List ℕ)) → list_all is_as_its_key (paths_in key words) ≡ true
-words_fit key [] = refl
-words_fit key (word ∷ words) = one_fits key (mention_of key word) (paths_in key words) (mention_fits key word) (words_fit key words)
+words_hold : (q : PathKey → Mention → Bool) → ((key : PathKey) (word : List ℕ) (mention : Mention) → mention_of key word ≡ Some mention → q key mention ≡ true) → (key : PathKey) (words : List (List ℕ)) → list_all (λ path. q path.key path.mention) (paths_in key words) ≡ true
+words_hold q h key [] = refl
+words_hold q h key (word ∷ words) = one_holds q key (mention_of key word) (paths_in key words) (λ mention e. h key word mention e) (words_hold q h key words)
 
-in_force_fit : (reset : Bool) (one : Assigned) → list_all is_as_its_key (cond reset [] (gives one)) ≡ true
-in_force_fit true one = refl
-in_force_fit false one = words_fit one.key (unwrap_or (split one.value.text) [])
+in_force_hold : (q : PathKey → Mention → Bool) → ((key : PathKey) (word : List ℕ) (mention : Mention) → mention_of key word ≡ Some mention → q key mention ≡ true) → (reset : Bool) (one : Assigned) → list_all (λ path. q path.key path.mention) (cond reset [] (gives one)) ≡ true
+in_force_hold q h true one = refl
+in_force_hold q h false one = words_hold q h one.key (unwrap_or (split one.value.text) [])
 
-pub written_fit : (values : List Assigned) → list_all is_as_its_key (written values) ≡ true
-written_fit [] = refl
-written_fit (one ∷ later) =
-    list_all-append is_as_its_key (cond (is_reset_by later one.key) [] (gives one)) (written later)
-    ∙ ap (λ v. v && list_all is_as_its_key (written later)) (in_force_fit (is_reset_by later one.key) one)
-    ∙ written_fit later
+all_hold : (q : PathKey → Mention → Bool) → ((key : PathKey) (word : List ℕ) (mention : Mention) → mention_of key word ≡ Some mention → q key mention ≡ true) → (values : List Assigned) → list_all (λ path. q path.key path.mention) (written values) ≡ true
+all_hold q h [] = refl
+all_hold q h (one ∷ later) =
+    list_all-append (λ path. q path.key path.mention) (cond (is_reset_by later one.key) [] (gives one)) (written later)
+    ∙ ap (λ v. v && list_all (λ path. q path.key path.mention) (written later)) (in_force_hold q h (is_reset_by later one.key) one)
+    ∙ all_hold q h later
+
+-- so written paths are as their keys say, and short
+pub written_are_read : (values : List Assigned) → AreRead (written values)
+written_are_read values = record {
+  as_their_keys = all_hold (λ key mention. is_as_its_key (record { key = key; mention = mention })) (λ key word mention e. ap (fits key) (sym e) ∙ mention_fits key word) values;
+  short = all_hold (λ key mention. is_short mention) (λ key word mention e. mention_short key word mention e) values;
+}

@@ -14,7 +14,8 @@ use Rattle.unit_values.specs.Values.{in_force, values_of}
 use Rattle.unit_values.proofs.OneMore.{after_last-push}
 use Rattle.mount_settings.specs.declared.written.WrittenPath.{WrittenPath}
 use Rattle.mount_settings.specs.Assigned.{Assigned, is_key, assigned_of}
-use Rattle.mount_settings.specs.Written.{split, paths_in, gives, unit_written, of_key}
+use Rattle.unit_values.specs.Words.{split}
+use Rattle.mount_settings.specs.Written.{paths_in, gives, unit_written, of_key}
 use Rattle.mount_settings.specs.OneKey.{values_to, listed_by}
 use Rattle.mount_settings.specs.Steps.{without_key, with_value, after}
 use Rattle.mount_settings.proofs.SameKeys.{same_key, is_itself}

@@ -1,38 +1,28 @@
 -- What the values so far come to, with more values.
-use Rattle.std.proofs.Common.{◌≡◌, ℕ, suc, ◌+◌, ◌<◌, Bool, true, false, cond, Option, Some, None, List, [], ◌∷◌, ◌++◌, length, take, get_or, refl, sym, ap, ◌∙◌, arith, append_assoc, append-nil}
-use Rattle.std.specs.Prelude.{◌==◌, ◌&&◌, ◌||◌, not, filter, flat_map, unwrap_or}
-use Rattle.std.specs.List.{filter_map, cons_option, enumerate_from}
+use Rattle.std.proofs.Common.{◌≡◌, ℕ, suc, Bool, true, false, cond, Option, Some, None, List, [], ◌∷◌, ◌++◌, length, refl, sym, ap, ◌∙◌, arith, append_assoc, append-nil}
+use Rattle.std.specs.Prelude.{◌==◌, ◌&&◌, ◌||◌, not, filter, unwrap_or}
+use Rattle.std.specs.List.{filter_map, cons_option}
 use Rattle.std.specs.Option.{option_map}
 use Rattle.std.proofs.lemmas.Bool.{eqb-true}
-use Rattle.std.proofs.lemmas.List.Sums.{fold-append}
-use Rattle.std.proofs.lemmas.List.Elements.{filter-append, filter_agree, filter_map-append}
-use Rattle.unit_values.proofs.OneMore.{take_item}
-use Rattle.unit_values.proofs.Found.{files_more}
-use Rattle.text_forms.specs.Words.{words_of}
+use Rattle.std.proofs.lemmas.List.Elements.{filter-append, filter_agree}
 use Rattle.path_settings.specs.declared.keys.PathKey.{PathKey}
 use Rattle.path_settings.specs.declared.mentions.Mention.{Mention}
 use Rattle.path_settings.specs.Keys.{mention_of}
-use Rattle.unit_values.specs.Lines.{words_if}
+use Rattle.unit_values.specs.Words.{split}
 use Rattle.mount_settings.specs.declared.written.WrittenPath.{WrittenPath}
 use Rattle.mount_settings.specs.Assigned.{Assigned, is_key}
-use Rattle.mount_settings.specs.Written.{split, path_in, paths_in, gives, is_reset_by, written}
+use Rattle.mount_settings.specs.Written.{path_in, paths_in, gives, is_reset_by, written}
 use Rattle.mount_settings.specs.Steps.{without_key, with_value, after}
 
 -- one more value that may be there
-pub after_some : {X : Type 0} (f : X → Option Assigned) (paths : List WrittenPath) (xs : List X) (i : ℕ) (x : X) (now next : List WrittenPath) → i < length xs → x ≡ get_or xs i x → now ≡ after paths (filter_map f (take i xs)) → next ≡ after now (cons_option (f x) []) → next ≡ after paths (filter_map f (take (i + 1) xs))
-after_some f paths xs i x now next lt is before step =
-    step
-    ∙ ap (λ ps. after ps (cons_option (f x) [])) before
-    ∙ sym (fold-append with_value paths (filter_map f (take i xs)) (cons_option (f x) []))
-    ∙ ap (after paths) (sym (ap (filter_map f) (take_item xs i x lt is) ∙ filter_map-append f (take i xs) (x ∷ [])))
+step_some : (o : Option Assigned) (now next : List WrittenPath) (rest : List Assigned) → next ≡ after now (cons_option o []) → after now (cons_option o rest) ≡ after next rest
+step_some None now next rest step = ap (λ paths. after paths rest) (sym step)
+step_some (Some one) now next rest step = ap (λ paths. after paths rest) (sym step)
 
--- one more file
-pub after_file : {X : Type 0} (g : ℕ × X → List Assigned) (xs : List X) (i : ℕ) (x : X) (now next : List WrittenPath) → i < length xs → x ≡ get_or xs i x → now ≡ after [] (flat_map g (enumerate_from 0 (take i xs))) → next ≡ after now (g (i, x)) → next ≡ after [] (flat_map g (enumerate_from 0 (take (i + 1) xs)))
-after_file g xs i x now next lt is before step =
-    step
-    ∙ ap (λ ps. after ps (g (i, x))) before
-    ∙ sym (fold-append with_value [] (flat_map g (enumerate_from 0 (take i xs))) (g (i, x)))
-    ∙ ap (after []) (files_more g xs i x [] (flat_map g (enumerate_from 0 (take i xs))) (flat_map g (enumerate_from 0 (take i xs)) ++ g (i, x)) lt is refl refl)
+-- what all comes to is what the others make of what there is: so it is behind one more
+pub after_more : {X : Type 0} (f : X → Option Assigned) (left more : List X) (x : X) (all now next : List WrittenPath) → left ≡ x ∷ more → all ≡ after now (filter_map f left) → next ≡ after now (cons_option (f x) []) → all ≡ after next (filter_map f more)
+after_more f left more x all now next first before step =
+    before ∙ ap (λ xs. after now (filter_map f xs)) first ∙ step_some (f x) now next (filter_map f more) step
 
 filter_none : {X : Type 0} (xs : List X) → filter (λ x. not false) xs ≡ xs
 filter_none [] = refl
@@ -90,11 +80,6 @@ step_by false b key paths given kept none =
 
 not_none : (n : ℕ) → (suc n == 0) ≡ true → ⊥
 not_none n e = let same : suc n ≡ 0 = eqb-true (suc n) 0 e in omega arith
-
--- what a value that is not empty is split into
-pub split_is : (text : List ℕ) → (length text == 0) ≡ false → split text ≡ words_if (words_of text)
-split_is [] e = let bad : ⊥ = cc in absurd bad
-split_is (byte ∷ text) e = refl
 
 -- an empty value gives nothing
 none_given : (key : PathKey) (text : List ℕ) → (length text == 0) ≡ true → paths_in key (unwrap_or (split text) []) ≡ []

@@ -12,7 +12,7 @@ use Rattle.mount_settings.specs.declared.home.HomeProtection.TheVariants.{Tmpfs}
 use Rattle.mount_settings.specs.declared.written.WrittenPath.{WrittenPath}
 use Rattle.mount_settings.specs.System.{system_value}
 use Rattle.mount_settings.specs.Home.{home_value}
-use Rattle.mount_settings.specs.Tmp.{tmp_value}
+use Rattle.mount_settings.specs.Tmp.{is_tmp_on}
 use Rattle.mount_settings.specs.Assigned.{Assigned}
 use Rattle.mount_settings.specs.Written.{written}
 
@@ -32,11 +32,11 @@ home_tmpfs : home_value (codes "tmpfs") ≡ Some Tmpfs
 unfolding bool_value is_one_of
 home_tmpfs = refl
 
-tmp_disconnected : tmp_value (codes "disconnected") ≡ Some true
+tmp_disconnected : is_tmp_on (codes "disconnected") ≡ Some true
 tmp_disconnected = refl
 
 at : ℕ → PathKey → List ℕ → Assigned
-at line key text = record { key = key; value = record { file = 0; line = line; text = text } }
+at line key text = record { key = key; value = record { place = record { file = 0; line = line }; text = text } }
 
 abbrev said : List WrittenPath → List (PathKey × Path)
 said paths = map (λ path. (path.key, path.mention.path)) paths

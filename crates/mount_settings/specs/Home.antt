@@ -1,12 +1,10 @@
 -- systemd.exec(5), ProtectHome=: what is seen of the homes of users.
-use Rattle.std.specs.Prelude.{ℕ, Bool, true, false, if◌then◌else◌, codes, List, [], ◌∷◌, ◌++◌, Option, Some, None}
+use Rattle.std.specs.Prelude.{ℕ, Bool, true, false, if◌then◌else◌, codes, List, [], ◌∷◌, Option, Some, None}
 use Rattle.std.specs.Str.{bytes_eq}
 use Rattle.text_forms.specs.Booleans.{bool_value}
 use Rattle.dropin_merge.specs.declared.resolved.Resolved.{Resolved}
 use Rattle.unit_values.specs.declared.value.FileNote.{FileNote}
-use Rattle.unit_values.specs.declared.value.Value.{Value}
-use Rattle.unit_values.specs.Values.{values_of, notes_of}
-use Rattle.unit_values.specs.Lasting.{last_read, unread_notes}
+use Rattle.unit_values.specs.Lasting.{unit_last, unit_last_notes}
 use Rattle.mount_settings.specs.declared.home.HomeProtection.{HomeProtection}
 use Rattle.mount_settings.specs.declared.home.HomeProtection.TheVariants.{No, Yes, ReadOnly, Tmpfs}
 
@@ -21,16 +19,10 @@ abbrev pub home_value : List ℕ → Option HomeProtection
 home_value [] = Some No
 home_value (byte ∷ text) = home_by (bool_value (byte ∷ text)) (byte ∷ text)
 
-abbrev pub home_of : List Value → HomeProtection
-home_of values = last_read home_value No values
-
-abbrev pub home_notes : List Value → List FileNote
-home_notes values = unread_notes home_value values
-
 -- what the files of a unit say: the last value that can be read
-unfoldable pub unit_home : Resolved → HomeProtection
-unit_home unit = home_of (values_of unit (codes "ProtectHome"))
+abbrev pub unit_home : Resolved → HomeProtection
+unit_home unit = unit_last home_value No unit (codes "ProtectHome")
 
--- and what is noted: values that cannot be expanded, then values that cannot be read
-unfoldable pub unit_home_notes : Resolved → List FileNote
-unit_home_notes unit = notes_of unit (codes "ProtectHome") ++ home_notes (values_of unit (codes "ProtectHome"))
+-- and what is noted
+abbrev pub unit_home_notes : Resolved → List FileNote
+unit_home_notes unit = unit_last_notes home_value unit (codes "ProtectHome")

@@ -1,6 +1,6 @@
 -- What is noted of the keys that speak of paths.
 use Rattle.std.specs.Prelude.{ℕ, List, [], ◌∷◌, ◌++◌, Option, Some, None, flat_map}
-use Rattle.std.specs.List.{cons_option, enumerate_from}
+use Rattle.std.specs.List.{cons_option}
 use Rattle.std.specs.Option.{option_map_or}
 use Rattle.path_settings.specs.declared.keys.PathKey.{PathKey}
 use Rattle.path_settings.specs.Keys.{mention_of}
@@ -8,14 +8,15 @@ use Rattle.unit_grammar.specs.declared.unit.Assignment.{Assignment}
 use Rattle.unit_grammar.specs.declared.notes.NoteCause.TheVariants.{Value as ValueCause}
 use Rattle.unit_names.specs.Names.{Name}
 use Rattle.dropin_merge.specs.declared.resolved.Resolved.{Resolved}
-use Rattle.dropin_merge.specs.declared.resolved.UnitFile.{UnitFile}
 use Rattle.unit_values.specs.declared.value.FileNote.{FileNote}
+use Rattle.unit_values.specs.declared.value.Place.{Place}
 use Rattle.unit_values.specs.declared.value.Value.{Value}
-use Rattle.unit_values.specs.Values.{expanded_in, note_in}
+use Rattle.unit_values.specs.Assignments.{service_assignments}
+use Rattle.unit_values.specs.Values.{expanded_at, unexpanded_at}
 use Rattle.unit_values.specs.Notes.{notes_at}
 use Rattle.unit_values.specs.Lasting.{unless_read}
+use Rattle.unit_values.specs.Words.{split}
 use Rattle.mount_settings.specs.Assigned.{key_of}
-use Rattle.mount_settings.specs.Written.{split}
 
 -- a word that cannot be read is noted, at the place of its value
 abbrev pub word_notes : PathKey → Value → List ℕ → List FileNote
@@ -30,16 +31,12 @@ abbrev pub value_notes : PathKey → Value → List FileNote
 value_notes key value = split_notes key value (split value.text)
 
 -- of an assignment to a key: that it cannot be expanded, or what is noted of its value
-abbrev pub given_notes : Name → ℕ → Assignment → PathKey → List FileNote
-given_notes name file assignment key =
-    cons_option (note_in name file assignment) [] ++ option_map_or (value_notes key) (expanded_in name file assignment) []
+abbrev pub given_notes : Name → Place × Assignment → PathKey → List FileNote
+given_notes name one key = cons_option (unexpanded_at name one) [] ++ option_map_or (value_notes key) (expanded_at name one) []
 
-abbrev pub notes_by : Name → ℕ → Assignment → List FileNote
-notes_by name file assignment = option_map_or (given_notes name file assignment) (key_of assignment) []
-
-abbrev pub notes_in : Name → ℕ → UnitFile → List FileNote
-notes_in name file text = flat_map (notes_by name file) text.text.assignments
+abbrev pub notes_by : Name → Place × Assignment → List FileNote
+notes_by name one = option_map_or (given_notes name one) (key_of one.1) []
 
 -- over all files, in the order of their assignments, those that are reset later among them
 unfoldable pub written_notes : Resolved → List FileNote
-written_notes unit = flat_map (λ place. notes_in unit.name place.0 place.1) (enumerate_from 0 unit.files)
+written_notes unit = flat_map (notes_by unit.name) (service_assignments unit)

@@ -6,8 +6,8 @@ use Rattle.path_settings.specs.declared.mentions.Mention.{Mention}
 use Rattle.path_settings.specs.Keys.{mention_of}
 use Rattle.unit_values.specs.declared.value.Value.{Value}
 use Rattle.unit_values.specs.Values.{in_force}
+use Rattle.unit_values.specs.Words.{split}
 use Rattle.mount_settings.specs.Assigned.{Assigned, is_key}
-use Rattle.mount_settings.specs.Written.{split}
 
 -- the values of one key, of all that are assigned
 abbrev pub values_to : PathKey → List Assigned → List Value

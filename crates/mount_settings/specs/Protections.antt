@@ -1,5 +1,5 @@
 -- The keys that protect the file system, read together, and what a dynamic user adds (systemd.exec(5), DynamicUser=).
-use Rattle.std.specs.Prelude.{Bool, true, false, codes, List, [], ◌++◌}
+use Rattle.std.specs.Prelude.{Bool, true, false, codes, List, ◌++◌}
 use Rattle.dropin_merge.specs.declared.resolved.Resolved.{Resolved}
 use Rattle.unit_values.specs.declared.value.FileNote.{FileNote}
 use Rattle.unit_values.specs.Flags.{unit_flag, unit_flag_notes}
@@ -25,10 +25,10 @@ unit_protections unit =
 -- and what is noted, key by key
 unfoldable pub protection_notes : Resolved → List FileNote
 protection_notes unit =
-    unit_system_notes unit
-    ++ (unit_home_notes unit
-    ++ (unit_tmp_notes unit
-    ++ (unit_flag_notes unit (codes "ProtectKernelTunables") ++ (unit_flag_notes unit (codes "ProtectControlGroups") ++ []))))
+    (((unit_system_notes unit ++ unit_home_notes unit)
+    ++ unit_tmp_notes unit)
+    ++ unit_flag_notes unit (codes "ProtectKernelTunables"))
+    ++ unit_flag_notes unit (codes "ProtectControlGroups")
 
 -- the homes are at least read-only
 abbrev pub raised : HomeProtection → HomeProtection

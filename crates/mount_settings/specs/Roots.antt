@@ -1,21 +1,17 @@
 -- Mentions that would put something in the place of the root, which is the host's (systemd.exec(5), BindPaths= and its kin).
-use Rattle.std.specs.Prelude.{◌&&◌, ◌||◌, not, Bool, true, false, List, [], ◌∷◌, Option, find}
+use Rattle.std.specs.Prelude.{◌≡◌, ◌&&◌, ◌||◌, not, Bool, true, List, [], ◌∷◌, Option, find}
 use Rattle.std.specs.List.{list_any, list_all}
-use Rattle.abs_path.specs.Paths.{Path}
+use Rattle.abs_path.specs.Paths.{is_root}
 use Rattle.path_settings.specs.declared.keys.PathKey.{PathKey}
 use Rattle.path_settings.specs.declared.keys.PathKey.TheVariants.{InaccessiblePaths, BindPaths, BindReadOnlyPaths, TemporaryFileSystem}
-use Rattle.path_settings.specs.declared.mentions.Mention.{Mention}
 use Rattle.path_settings.specs.Mentions.{is_origin}
+use Rattle.path_settings.specs.Short.{is_short}
 use Rattle.mount_settings.specs.declared.written.WrittenPath.{WrittenPath}
 use Rattle.mount_settings.specs.Assigned.{is_key}
 
 -- the keys that say what stands at a path, in byte order of their names
 abbrev pub root_keys : List PathKey
 root_keys = BindPaths ∷ BindReadOnlyPaths ∷ InaccessiblePaths ∷ TemporaryFileSystem ∷ []
-
-abbrev pub is_root : Path → Bool
-is_root [] = true
-is_root (part ∷ path) = false
 
 -- the key mentions the root: for a bind, as the place where it stands
 abbrev pub mentions_root : List WrittenPath → PathKey → Bool
@@ -29,6 +25,7 @@ root_key paths = find (mentions_root paths) root_keys
 abbrev pub is_as_its_key : WrittenPath → Bool
 is_as_its_key path = not (is_origin path.mention.kind) || list_any (is_key path.key) root_keys
 
--- no mention says what stands at the root
-abbrev pub leaves_the_root : List Mention → Bool
-leaves_the_root mentions = list_all (λ mention. not (is_root mention.path && is_origin mention.kind)) mentions
+-- what the keys of written paths say: each as its key may, with short paths
+pub record AreRead (paths : List WrittenPath) : Type 0 where
+  pub as_their_keys : list_all is_as_its_key paths ≡ true
+  pub short : list_all (λ path. is_short path.mention) paths ≡ true

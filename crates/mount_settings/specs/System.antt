@@ -1,12 +1,10 @@
 -- systemd.exec(5), ProtectSystem=: how much of the system is read-only.
-use Rattle.std.specs.Prelude.{ℕ, Bool, true, false, if◌then◌else◌, codes, List, [], ◌∷◌, ◌++◌, Option, Some, None}
+use Rattle.std.specs.Prelude.{ℕ, Bool, true, false, if◌then◌else◌, codes, List, [], ◌∷◌, Option, Some, None}
 use Rattle.std.specs.Str.{bytes_eq}
 use Rattle.text_forms.specs.Booleans.{bool_value}
 use Rattle.dropin_merge.specs.declared.resolved.Resolved.{Resolved}
 use Rattle.unit_values.specs.declared.value.FileNote.{FileNote}
-use Rattle.unit_values.specs.declared.value.Value.{Value}
-use Rattle.unit_values.specs.Values.{values_of, notes_of}
-use Rattle.unit_values.specs.Lasting.{last_read, unread_notes}
+use Rattle.unit_values.specs.Lasting.{unit_last, unit_last_notes}
 use Rattle.mount_settings.specs.declared.system.SystemProtection.{SystemProtection}
 use Rattle.mount_settings.specs.declared.system.SystemProtection.TheVariants.{No, Yes, Full, Strict}
 
@@ -21,16 +19,10 @@ abbrev pub system_value : List ℕ → Option SystemProtection
 system_value [] = Some No
 system_value (byte ∷ text) = system_by (bool_value (byte ∷ text)) (byte ∷ text)
 
-abbrev pub system_of : List Value → SystemProtection
-system_of values = last_read system_value No values
-
-abbrev pub system_notes : List Value → List FileNote
-system_notes values = unread_notes system_value values
-
 -- what the files of a unit say: the last value that can be read
-unfoldable pub unit_system : Resolved → SystemProtection
-unit_system unit = system_of (values_of unit (codes "ProtectSystem"))
+abbrev pub unit_system : Resolved → SystemProtection
+unit_system unit = unit_last system_value No unit (codes "ProtectSystem")
 
--- and what is noted: values that cannot be expanded, then values that cannot be read
-unfoldable pub unit_system_notes : Resolved → List FileNote
-unit_system_notes unit = notes_of unit (codes "ProtectSystem") ++ system_notes (values_of unit (codes "ProtectSystem"))
+-- and what is noted
+abbrev pub unit_system_notes : Resolved → List FileNote
+unit_system_notes unit = unit_last_notes system_value unit (codes "ProtectSystem")

@@ -1,20 +1,14 @@
 -- The paths that are written in the files of a unit and are in force (systemd.exec(5), Sandboxing).
-use Rattle.std.specs.Prelude.{ℕ, ◌==◌, ◌&&◌, cond, Bool, List, [], ◌∷◌, ◌++◌, Option, Some, length, map, filter, unwrap_or}
+use Rattle.std.specs.Prelude.{ℕ, ◌==◌, ◌&&◌, cond, Bool, List, [], ◌∷◌, ◌++◌, Option, length, map, filter, unwrap_or}
 use Rattle.std.specs.List.{filter_map, list_any}
 use Rattle.std.specs.Option.{option_map}
-use Rattle.text_forms.specs.Words.{words_of}
 use Rattle.path_settings.specs.declared.keys.PathKey.{PathKey}
 use Rattle.path_settings.specs.declared.mentions.Mention.{Mention}
 use Rattle.path_settings.specs.Keys.{mention_of}
 use Rattle.dropin_merge.specs.declared.resolved.Resolved.{Resolved}
-use Rattle.unit_values.specs.Lines.{words_if}
+use Rattle.unit_values.specs.Words.{split}
 use Rattle.mount_settings.specs.declared.written.WrittenPath.{WrittenPath}
 use Rattle.mount_settings.specs.Assigned.{Assigned, is_key, assigned_of}
-
--- the words of a value, where it can be split; an empty one has none
-abbrev pub split : List ℕ → Option (List (List ℕ))
-split [] = Some []
-split (byte ∷ text) = words_if (words_of (byte ∷ text))
 
 -- the path that a word of a key is, where it can be read
 abbrev pub path_in : PathKey → List ℕ → Option WrittenPath

@@ -1,91 +1,83 @@
-//! What one assignment of a unit says of paths.
+//! The written paths, assignment by assignment.
 ghost use Rattle.std.specs.Prelude.{◌≡◌, ◌++◌, [], IfOk, OnOk};
 ghost use Rattle.std.specs.List.{cons_option};
-ghost use Rattle.unit_values.specs.Values.{expanded_in, note_in};
 ghost use Rattle.mount_settings.specs.Assigned.{key_of, given_to, assigned_by};
-ghost use Rattle.mount_settings.specs.Notes.{given_notes, notes_by};
+ghost use Rattle.mount_settings.specs.Written.{unit_written};
+ghost use Rattle.mount_settings.specs.Notes.{given_notes, notes_by, written_notes};
 ghost use Rattle.mount_settings.specs.Steps.{after};
 
-use crate::written::{WrittenPath, add_value};
+use crate::written::{WrittenPath, WrittenPaths, add_value};
+use dropin_merge::Resolved;
 use path_settings::PathKey;
 use std::alloc::{AllocError, Global};
-use unit_grammar::{Assignment, NoteCause, Text};
-use unit_names::{ExpandError, UnitName, expand};
-use unit_values::{FileNote, Value};
+use unit_grammar::Assignment;
+use unit_names::UnitName;
+use unit_values::{FileNote, Place, Said, service_assignments, value_at};
 
-// The key of an assignment of the service, where it speaks of paths.
+// The key of an assignment, where it speaks of paths.
 fn key_of(assignment: &Assignment) -> Option<PathKey>
     ensures { result ≡ key_of assignment.now }
 {
-    if assignment.section.as_str() == "Service" {
-        PathKey::named(assignment.key.as_str())
-    } else {
-        None
-    }
-}
-
-// The value of an assignment, or a note that it cannot be expanded.
-fn value_of(
-    alloc: Global,
-    name: &UnitName,
-    file: usize,
-    assignment: &Assignment,
-    notes: &mut Vec<FileNote>,
-) -> Result<Option<Value>, AllocError>
-    ensures expanded { IfOk result (λ value. value ≡ expanded_in name.now file assignment.now) }
-    ensures noted { OnOk result (notes.new.items ≡ notes.old.items ++ cons_option (note_in name.now file assignment.now) []) }
-{
-    match expand(alloc, name, assignment.value.as_str()) {
-        Ok(text) => Ok(Some(Value {
-            file,
-            line: assignment.line,
-            text: Text::from(text),
-        })),
-        Err(ExpandError::Specifier) => {
-            notes.push(FileNote {
-                file,
-                line: assignment.line,
-                cause: NoteCause::Specifier,
-            })?;
-            Ok(None)
-        }
-        Err(ExpandError::Memory) => Err(AllocError),
-    }
+    PathKey::named(assignment.key.as_str())
 }
 
 // What an assignment to a key that speaks of paths does to the paths so far.
 fn add_given(
     alloc: Global,
     name: &UnitName,
-    file: usize,
+    place: Place,
     assignment: &Assignment,
     key: PathKey,
     paths: &mut Vec<WrittenPath>,
     notes: &mut Vec<FileNote>,
 ) -> Result<(), AllocError>
-    ensures means { OnOk result (paths.new.items ≡ after paths.old.items (cons_option (given_to name.now file assignment.now key) [])) }
-    ensures noted { OnOk result (notes.new.items ≡ notes.old.items ++ given_notes name.now file assignment.now key) }
+    ensures means { OnOk result (paths.new.items ≡ after paths.old.items (cons_option (given_to name.now (place, assignment.now) key) [])) }
+    ensures noted { OnOk result (notes.new.items ≡ notes.old.items ++ given_notes name.now (place, assignment.now) key) }
 {
-    match value_of(alloc, name, file, assignment, notes)? {
+    let value = value_at(alloc, name, place, assignment)?;
+    match value.noted_in(notes)? {
         Some(value) => add_value(alloc, key, &value, paths, notes),
         None => Ok(()),
     }
 }
 
-/// What an assignment in the file of this number does to the paths so far.
-pub(crate) fn add_assigned(
+// What an assignment does to the paths so far.
+fn add_assigned(
     alloc: Global,
     name: &UnitName,
-    file: usize,
+    place: Place,
     assignment: &Assignment,
     paths: &mut Vec<WrittenPath>,
     notes: &mut Vec<FileNote>,
 ) -> Result<(), AllocError>
-    ensures means { OnOk result (paths.new.items ≡ after paths.old.items (cons_option (assigned_by name.now file assignment.now) [])) }
-    ensures noted { OnOk result (notes.new.items ≡ notes.old.items ++ notes_by name.now file assignment.now) }
+    ensures means { OnOk result (paths.new.items ≡ after paths.old.items (cons_option (assigned_by name.now (place, assignment.now)) [])) }
+    ensures noted { OnOk result (notes.new.items ≡ notes.old.items ++ notes_by name.now (place, assignment.now)) }
 {
     match key_of(assignment) {
-        Some(key) => add_given(alloc, name, file, assignment, key, paths, notes),
+        Some(key) => add_given(alloc, name, place, assignment, key, paths, notes),
         None => Ok(()),
     }
+}
+
+/// The paths that the files of a unit write and that are in force: the words of ReadWritePaths=, ReadOnlyPaths=,
+/// InaccessiblePaths=, ExecPaths=, NoExecPaths=, BindPaths=, BindReadOnlyPaths=, TemporaryFileSystem=,
+/// StateDirectory=, RuntimeDirectory=, CacheDirectory= and LogsDirectory= (systemd.exec(5)), in the order of their
+/// assignments, whatever the key. An empty value resets its key alone.
+///
+/// Values that cannot be expanded or split and words that cannot be read are noted in this order, and stay noted where
+/// their key is reset later.
+#[tactic(auto, unfolding(crate::specs::Written::unit_written, crate::specs::Notes::written_notes))]
+pub fn written_paths(alloc: Global, unit: &Resolved) -> Result<Said<WrittenPaths>, AllocError>
+    ensures in_order_of_assignments { IfOk result (λ said. said.what ≡ unit_written unit.now) }
+    ensures notes_the_unread { IfOk result (λ said. said.notes.items ≡ written_notes unit.now) }
+{
+    let mut paths = Vec::new(alloc);
+    let mut notes = Vec::new(alloc);
+    'assignments: for (place, assignment) in service_assignments(unit) {
+        add_assigned(alloc, &unit.name, place, assignment, &mut paths, &mut notes)?;
+    }
+    Ok(Said {
+        what: WrittenPaths::new(paths),
+        notes,
+    })
 }

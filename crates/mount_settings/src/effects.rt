@@ -9,7 +9,7 @@ use site_table::SiteTable;
 use std::alloc::{AllocError, Global};
 
 /// What a protection does at a path.
-#[derive(Clone, Copy, Debug, PartialEq, Eq)]
+#[derive(Clone, Copy)]
 pub(crate) enum Effect {
     ReadOnly,
     Writable,

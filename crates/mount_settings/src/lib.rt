@@ -4,13 +4,12 @@
 //! protections of the file system and the folder keys imply (systemd.exec(5), Sandboxing). It stands on `unit_values`
 //! for values, on `path_settings` for words, and on `site_table` for the rows that implied paths need.
 //!
-//! `written_paths(alloc, &unit, &mut notes)?` has the written ones; `mentions_root` and `mount_settings` go on from them.
+//! `written_paths(alloc, &unit)?.what` has the written ones; `mentions_root` and `mount_settings` go on from them.
 #![tactic(auto)]
 
 mod assigned;
 mod effects;
 mod error;
-mod files;
 mod home;
 mod implied;
 pub mod laws;
@@ -22,14 +21,11 @@ mod table;
 mod tmp;
 mod written;
 
+pub use assigned::written_paths;
 pub use error::MountSettingsError;
-pub use files::written_paths;
 pub use home::HomeProtection;
 pub use protections::{Protections, Switches};
 pub use roots::mentions_root;
 pub use settings::{MountSettings, mount_settings};
 pub use system::SystemProtection;
 pub use written::{WrittenPath, WrittenPaths};
-
-#[cfg(test)]
-mod tests;

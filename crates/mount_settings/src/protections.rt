@@ -1,16 +1,16 @@
 //! The keys that protect the file system, read together.
-ghost use Rattle.std.specs.Prelude.{◌≡◌, ◌++◌, IfOk, OnOk};
+ghost use Rattle.std.specs.Prelude.{◌≡◌, IfOk};
 ghost use Rattle.mount_settings.specs.Protections.{unit_protections, protection_notes, raised, in_effect};
 
-use crate::home::{HomeProtection, home_of_unit};
-use crate::system::{SystemProtection, system_of_unit};
-use crate::tmp::tmp_of_unit;
+use crate::home::HomeProtection;
+use crate::system::SystemProtection;
+use crate::tmp::PrivateTmp;
 use dropin_merge::Resolved;
 use std::alloc::{AllocError, Global};
-use unit_values::{FileNote, flag_of_key};
+use unit_values::{Said, flag_of_key, last_of_key};
 
 /// What the keys come to that protect the file system and nothing else.
-#[derive(Clone, Copy, Debug, PartialEq, Eq)]
+#[derive(Clone, Copy)]
 pub struct Protections {
     /// ProtectSystem=
     pub protect_system: SystemProtection,
@@ -25,7 +25,7 @@ pub struct Protections {
 }
 
 /// What those boolean keys come to that protect the file system and decide other things too.
-#[derive(Clone, Copy, Debug, PartialEq, Eq)]
+#[derive(Clone, Copy)]
 pub struct Switches {
     /// PrivateDevices=
     pub private_devices: bool,
@@ -42,18 +42,30 @@ pub struct Switches {
 pub(crate) fn read_protections(
     alloc: Global,
     unit: &Resolved,
-    notes: &mut Vec<FileNote>,
-) -> Result<Protections, AllocError>
-    ensures means { IfOk result (λ protections. protections ≡ unit_protections unit.now) }
-    ensures noted { OnOk result (notes.new.items ≡ notes.old.items ++ protection_notes unit.now) }
+) -> Result<Said<Protections>, AllocError>
+    ensures means { IfOk result (λ said. said.what ≡ unit_protections unit.now) }
+    ensures noted { IfOk result (λ said. said.notes.items ≡ protection_notes unit.now) }
 {
-    Ok(Protections {
-        protect_system: system_of_unit(alloc, unit, notes)?,
-        protect_home: home_of_unit(alloc, unit, notes)?,
-        private_tmp: tmp_of_unit(alloc, unit, notes)?,
-        protect_kernel_tunables: flag_of_key(alloc, unit, "ProtectKernelTunables", notes)?,
-        protect_control_groups: flag_of_key(alloc, unit, "ProtectControlGroups", notes)?,
-    })
+    let Said {
+        what: protect_system,
+        mut notes,
+    } = last_of_key(alloc, unit, "ProtectSystem", SystemProtection::No)?;
+    let home = last_of_key(alloc, unit, "ProtectHome", HomeProtection::No)?;
+    let protect_home = home.noted_in(&mut notes)?;
+    let tmp = last_of_key(alloc, unit, "PrivateTmp", PrivateTmp { on: false })?;
+    let private_tmp = tmp.noted_in(&mut notes)?.on;
+    let tunables = flag_of_key(alloc, unit, "ProtectKernelTunables")?;
+    let protect_kernel_tunables = tunables.noted_in(&mut notes)?;
+    let groups = flag_of_key(alloc, unit, "ProtectControlGroups")?;
+    let protect_control_groups = groups.noted_in(&mut notes)?;
+    let what = Protections {
+        protect_system,
+        protect_home,
+        private_tmp,
+        protect_kernel_tunables,
+        protect_control_groups,
+    };
+    Ok(Said { what, notes })
 }
 
 fn raised(home: HomeProtection) -> HomeProtection

@@ -1,23 +1,17 @@
 //! Keys that would put something in the place of the root.
 ghost use Rattle.std.specs.Prelude.{◌≡◌, ◌&&◌};
 ghost use Rattle.std.specs.List.{list_any};
+ghost use Rattle.abs_path.specs.Paths.{is_root};
 ghost use Rattle.mount_settings.specs.Assigned.{is_key};
-ghost use Rattle.mount_settings.specs.Roots.{is_root, mentions_root};
+ghost use Rattle.mount_settings.specs.Roots.{mentions_root};
 
 use crate::written::{WrittenPaths, is_key};
-use abs_path::AbsPath;
 use path_settings::PathKey;
-
-fn is_root(path: &AbsPath) -> bool
-    ensures { result ≡ is_root path.now }
-{
-    path.tail_len() == 0
-}
 
 /// Whether a path that the key writes is `/`: for BindPaths= and BindReadOnlyPaths= the place where something is to
 /// stand. A unit that mentions the root with one of these, InaccessiblePaths= or TemporaryFileSystem= is not judged.
 pub fn mentions_root(paths: &WrittenPaths, key: PathKey) -> bool
     ensures is_written_there { result ≡ mentions_root paths.now key }
 {
-    paths.list().iter().any(|path| is_key(path.key, key) && is_root(&path.mention.path))
+    paths.list().iter().any(|path| is_key(path.key, key) && path.mention.path.is_root())
 }

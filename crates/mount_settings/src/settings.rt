@@ -3,7 +3,9 @@ ghost use Rattle.std.specs.Prelude.{◌≡◌, ◌≢◌, ◌↔◌, ◌<◌, �
 ghost use Rattle.path_settings.specs.Keys.{is_implied};
 ghost use Rattle.mount_settings.specs.Protections.{protection_notes};
 ghost use Rattle.mount_settings.specs.Settings.{as_written, mentions_of, protections_of};
-ghost use Rattle.mount_settings.specs.Roots.{leaves_the_root, root_key as first_root_key};
+ghost use Rattle.path_settings.specs.Mentions.{leaves_the_root};
+ghost use Rattle.path_settings.specs.Short.{AreShort};
+ghost use Rattle.mount_settings.specs.Roots.{root_key as first_root_key};
 
 use crate::error::MountSettingsError;
 use crate::implied::bring_implied;
@@ -13,7 +15,7 @@ use dropin_merge::Resolved;
 use path_settings::{Mention, MentionError, Mentions};
 use site_table::SiteTable;
 use std::alloc::{AllocError, Global};
-use unit_values::FileNote;
+use unit_values::Said;
 
 /// How many written paths there are at most.
 const MOST_WRITTEN: usize = 128;
@@ -89,31 +91,32 @@ fn listed(alloc: Global, mentions: Vec<Mention>) -> Result<Mentions, AllocError>
 ///
 /// An implied path is passed over where the site has no row for it, and is optional otherwise. TooManyPaths where
 /// more than 128 paths are written, those of folders that the site does not have among them. What cannot be read of
-/// ProtectSystem=, ProtectHome=, PrivateTmp=, ProtectKernelTunables= and ProtectControlGroups= is noted behind the
-/// notes that are there. Whether a key mentions `/` is told by `mentions_root`.
+/// ProtectSystem=, ProtectHome=, PrivateTmp=, ProtectKernelTunables= and ProtectControlGroups= is noted. Each path,
+/// and each source of a bind, has at most 250 bytes. Whether a key mentions `/` is told by `mentions_root`.
 pub fn mount_settings(
     alloc: Global,
     unit: &Resolved,
     paths: &WrittenPaths,
     site: &SiteTable,
     switches: Switches,
-    notes: &mut Vec<FileNote>,
-) -> Result<MountSettings, MountSettingsError>
-    ensures written_then_implied { IfOk result (λ made. made.mentions ≡ mentions_of site.now switches (protections_of unit.now switches) paths.now) }
-    ensures protections_in_effect { IfOk result (λ made. made.protections ≡ protections_of unit.now switches) }
-    ensures notes_the_unread { OnOk result (notes.new.items ≡ notes.old.items ++ protection_notes unit.now) }
-    ensures leaves_the_root { IfOk result (λ made. first_root_key paths.now ≡ None → IsTrue (leaves_the_root made.mentions)) }
+) -> Result<Said<MountSettings>, MountSettingsError>
+    ensures written_then_implied { IfOk result (λ said. said.what.mentions ≡ mentions_of site.now switches (protections_of unit.now switches) paths.now) }
+    ensures protections_in_effect { IfOk result (λ said. said.what.protections ≡ protections_of unit.now switches) }
+    ensures notes_the_unread { IfOk result (λ said. said.notes.items ≡ protection_notes unit.now) }
+    ensures leaves_the_root { IfOk result (λ said. first_root_key paths.now ≡ None → IsTrue (leaves_the_root said.what.mentions)) }
+    ensures short_paths { IfOk result (λ said. AreShort said.what.mentions) }
     ensures too_many_exactly_above_128 { IsErrOf result MountSettingsError.TooManyPaths ↔ (128 < length paths.now) }
 {
     let paths = paths.list();
     if paths.len() > MOST_WRITTEN {
         return Err(MountSettingsError::TooManyPaths);
     }
-    let said = read_protections(alloc, unit, notes)?;
+    let Said { what: said, notes } = read_protections(alloc, unit)?;
     let protections = in_effect(switches.dynamic_user, said);
     let mentions = all_mentions(alloc, site, switches, protections, paths)?;
-    Ok(MountSettings {
+    let what = MountSettings {
         protections,
         mentions: listed(alloc, mentions)?,
-    })
+    };
+    Ok(Said { what, notes })
 }

@@ -1,11 +1,10 @@
 //! Paths that are written in the files of a unit, each with its key.
-ghost use Rattle.std.specs.Prelude.{◌≡◌, ◌++◌, ◌==◌, [], not, filter, flat_map, IfOk, OnOk, IsTrue};
-ghost use Rattle.std.specs.List.{cons_option, filter_map, list_all};
-ghost use Rattle.path_settings.specs.Keys.{mention_of};
+ghost use Rattle.std.specs.Prelude.{◌≡◌, ◌++◌, [], flat_map, OnOk};
+ghost use Rattle.std.specs.List.{cons_option};
 ghost use Rattle.mount_settings.specs.Assigned.{is_key};
 ghost use Rattle.mount_settings.specs.Written.{path_in, paths_in};
 ghost use Rattle.mount_settings.specs.Notes.{word_notes, value_notes};
-ghost use Rattle.mount_settings.specs.Roots.{is_as_its_key};
+ghost use Rattle.mount_settings.specs.Roots.{AreRead};
 ghost use Rattle.mount_settings.specs.Steps.{without_key, with_value};
 
 use path_settings::{Mention, PathKey, read_mention};
@@ -30,31 +29,31 @@ pub struct WrittenPaths {
 }
 
 impl Model for WrittenPaths {
-    ghost use Rattle.std.specs.Prelude.{◌≡◌, true, List};
-    ghost use Rattle.std.specs.List.{list_all};
+    ghost use Rattle.std.specs.Prelude.{List};
     ghost use Rattle.mount_settings.specs.declared.written.WrittenPath.{WrittenPath};
-    ghost use Rattle.mount_settings.specs.Roots.{is_as_its_key};
+    ghost use Rattle.mount_settings.specs.Roots.{AreRead};
 
     ghost Value = { List WrittenPath };
 
     ghost view = { λ paths. paths.items.items };
 
-    ghost invariant = { λ paths. list_all is_as_its_key paths.items.items ≡ true };
+    ghost invariant = { λ paths. AreRead paths.items.items };
 }
 
 impl WrittenPaths {
     // The paths of a list.
     pub(crate) fn new(items: Vec<WrittenPath>) -> WrittenPaths
-        requires { IsTrue (list_all is_as_its_key items.items) }
+        requires { AreRead items.items }
         ensures { result ≡ items.items }
     {
         WrittenPaths { items }
     }
 
-    /// The paths in their order. Only the keys that say what stands at a path hide it, empty it or put another there.
+    /// The paths in their order. Only the keys that say what stands at a path hide it, empty it or put another there,
+    /// and each path, and each source of a bind, has at most 250 bytes.
     pub fn list(&self) -> &[WrittenPath]
         ensures all_in_order { result.now ≡ self.now }
-        ensures each_is_as_its_key { IsTrue (list_all is_as_its_key self.now) }
+        ensures as_they_are_read { AreRead self.now }
     {
         &self.items
     }

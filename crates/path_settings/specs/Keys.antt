@@ -1,5 +1,5 @@
 -- The keys that speak of paths (systemd.exec(5), Sandboxing), and the mention that a word of each is.
-use Rattle.std.specs.Prelude.{ℕ, Bool, true, false, codes, List, Option}
+use Rattle.std.specs.Prelude.{ℕ, Bool, true, false, codes, List, [], ◌∷◌, Option}
 use Rattle.path_settings.specs.declared.keys.PathKey.{PathKey}
 use Rattle.path_settings.specs.declared.keys.PathKey.TheVariants.{ReadWritePaths, ReadOnlyPaths, InaccessiblePaths, ExecPaths, NoExecPaths, BindPaths, BindReadOnlyPaths, TemporaryFileSystem, StateDirectory, RuntimeDirectory, CacheDirectory, LogsDirectory}
 use Rattle.path_settings.specs.declared.mentions.Kind.TheVariants.{Ro, Rw, Exec, NoExec, Hide}
@@ -8,6 +8,10 @@ use Rattle.path_settings.specs.Lists.{path_mention}
 use Rattle.path_settings.specs.Binds.{bind_mention}
 use Rattle.path_settings.specs.Temporary.{temporary_mention}
 use Rattle.path_settings.specs.Folders.{folder_mention}
+
+-- the keys whose values speak of paths, each once
+abbrev pub path_keys : List PathKey
+path_keys = ReadWritePaths ∷ ReadOnlyPaths ∷ InaccessiblePaths ∷ ExecPaths ∷ NoExecPaths ∷ BindPaths ∷ BindReadOnlyPaths ∷ TemporaryFileSystem ∷ StateDirectory ∷ RuntimeDirectory ∷ CacheDirectory ∷ LogsDirectory ∷ []
 
 abbrev pub name_of : PathKey → List ℕ
 name_of ReadWritePaths = codes "ReadWritePaths"

@@ -1,10 +1,27 @@
 -- What a mention says (systemd.exec(5), Sandboxing), and lists of mentions in written order.
-use Rattle.std.specs.Prelude.{◌≡◌, ◌≤◌, ◌&&◌, Bool, true, false, nat_le, List, length}
+use Rattle.std.specs.Prelude.{◌≡◌, ◌≤◌, ◌&&◌, Bool, true, false, not, nat_le, List, length, Option, Some, None}
 use Rattle.std.specs.List.{list_all}
-use Rattle.abs_path.specs.Paths.{Path, text_of, is_normal}
+use Rattle.abs_path.specs.Paths.{Path, text_of, is_root, is_normal}
 use Rattle.path_settings.specs.declared.mentions.Kind.{Kind}
 use Rattle.path_settings.specs.declared.mentions.Kind.TheVariants.{Hide, Tmp, Bind}
 use Rattle.path_settings.specs.declared.mentions.Mention.{Mention}
+
+abbrev pub hides : Kind → Bool
+hides Hide = true
+hides _ = false
+
+abbrev pub is_tmp : Kind → Bool
+is_tmp (Tmp read_only) = true
+is_tmp _ = false
+
+abbrev pub is_bind : Kind → Bool
+is_bind (Bind source read_only) = true
+is_bind _ = false
+
+-- the path of which a bind shows what stands there
+abbrev pub source_of : Kind → Option Path
+source_of (Bind source read_only) = Some source
+source_of _ = None
 
 -- these say which object stands at the path: none to be seen, an empty file system, or that of another path
 abbrev pub is_origin : Kind → Bool
@@ -12,6 +29,10 @@ is_origin Hide = true
 is_origin (Tmp read_only) = true
 is_origin (Bind source read_only) = true
 is_origin _ = false
+
+-- no mention says which object stands at the root
+abbrev pub leaves_the_root : List Mention → Bool
+leaves_the_root mentions = list_all (λ mention. not (is_root mention.path && is_origin mention.kind)) mentions
 
 -- a path as it is kept: normal, with a text of at most 512 bytes
 abbrev pub is_path : Path → Bool

@@ -1,5 +1,6 @@
 -- Mentions whose paths are as short as settings have them.
-use Rattle.std.specs.Prelude.{◌&&◌, Bool, true, nat_le, length}
+use Rattle.std.specs.Prelude.{◌≡◌, ◌&&◌, Bool, true, nat_le, List, length}
+use Rattle.std.specs.List.{list_all}
 use Rattle.abs_path.specs.Paths.{Path, text_of}
 use Rattle.path_settings.specs.declared.mentions.Kind.{Kind}
 use Rattle.path_settings.specs.declared.mentions.Kind.TheVariants.{Bind}
@@ -15,3 +16,6 @@ has_short_source _ = true
 -- the path and the source of a bind have at most 250 bytes
 abbrev pub is_short : Mention → Bool
 is_short mention = is_short_path mention.path && has_short_source mention.kind
+
+abbrev pub AreShort : List Mention → Type 0
+AreShort mentions = list_all is_short mentions ≡ true

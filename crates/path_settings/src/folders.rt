@@ -35,12 +35,10 @@ pub fn read_folder(alloc: Global, folder: &str, name: &str) -> Result<Option<Men
         return Ok(None);
     }
     let text = text_below(alloc, folder, name)?;
-    Ok(match read_setting_path(alloc, &text)? {
-        Some(path) => Some(Mention {
-            path,
-            kind: Kind::Rw,
-            optional: true,
-        }),
-        None => None,
-    })
+    let path = read_setting_path(alloc, &text)?;
+    Ok(path.map(|path| Mention {
+        path,
+        kind: Kind::Rw,
+        optional: true,
+    }))
 }

@@ -2,7 +2,7 @@
 
 ghost use Rattle.std.specs.Prelude.{◌≡◌, IfOk, find};
 ghost use Rattle.std.specs.Str.{bytes_eq};
-ghost use Rattle.path_settings.specs.Keys.{name_of, is_implied, mention_of};
+ghost use Rattle.path_settings.specs.Keys.{path_keys, name_of, is_implied, mention_of};
 
 use crate::binds::read_bind;
 use crate::folders::read_folder;
@@ -32,7 +32,7 @@ pub enum PathKey {
     LogsDirectory,
 }
 
-/// All keys, in the order of the manual's table.
+/// All keys.
 pub const ALL_PATH_KEYS: [PathKey; 12] = [
     PathKey::ReadWritePaths,
     PathKey::ReadOnlyPaths,
@@ -51,7 +51,7 @@ pub const ALL_PATH_KEYS: [PathKey; 12] = [
 impl PathKey {
     /// The key that is written so, if it speaks of paths.
     pub fn named(text: &str) -> Option<PathKey>
-        ensures first_of_this_name { result ≡ find (λ key. bytes_eq (name_of key) text.now) ALL_PATH_KEYS }
+        ensures first_of_this_name { result ≡ find (λ key. bytes_eq (name_of key) text.now) path_keys }
     {
         ALL_PATH_KEYS.iter().copied().find(|key| key.name() == text)
     }
@@ -80,13 +80,13 @@ impl PathKey {
     pub fn is_implied(self) -> bool
         ensures { result ≡ is_implied self }
     {
-        match self {
-            PathKey::StateDirectory => true,
-            PathKey::RuntimeDirectory => true,
-            PathKey::CacheDirectory => true,
-            PathKey::LogsDirectory => true,
-            _ => false,
-        }
+        matches!(
+            self,
+            PathKey::StateDirectory
+                | PathKey::RuntimeDirectory
+                | PathKey::CacheDirectory
+                | PathKey::LogsDirectory
+        )
     }
 }
 

@@ -6,11 +6,12 @@ ghost use Rattle.path_settings.specs.declared.keys.TheConstants.{ALL_PATH_KEYS};
 ghost use Rattle.path_settings.specs.declared.keys.PathKey.{PathKey};
 ghost use Rattle.path_settings.specs.declared.mentions.Mention.{Mention};
 ghost use Rattle.path_settings.specs.Short.{is_short};
-ghost use Rattle.path_settings.specs.Keys.{name_of, is_implied, mention_of};
+ghost use Rattle.path_settings.specs.Keys.{path_keys, name_of, is_implied, mention_of};
 
-/// Each key is found by its name.
+/// The keys are all of them, and each is found by its name.
 pub fn keys_and_names()
-    ensures found_by_its_name { (key : PathKey) → find (λ other. bytes_eq (name_of other) (name_of key)) ALL_PATH_KEYS ≡ Some key }
+    ensures all_keys { ALL_PATH_KEYS ≡ path_keys }
+    ensures found_by_its_name { (key : PathKey) → find (λ other. bytes_eq (name_of other) (name_of key)) path_keys ≡ Some key }
 {}
 
 /// The paths of a mention that is read have at most 250 bytes, and a folder's mention is optional.

@@ -16,8 +16,6 @@ mod marks;
 mod mentions;
 mod paths;
 mod temporary;
-#[cfg(test)]
-mod tests;
 
 pub use binds::read_bind;
 pub use error::MentionError;

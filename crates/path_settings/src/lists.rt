@@ -14,12 +14,11 @@ pub fn read_path(alloc: Global, kind: Kind, word: &str) -> Result<Option<Mention
     ensures mention_or_none { IfOk result (λ mention. mention ≡ path_mention kind word.now) }
 {
     let text = without("+", without("-", word));
-    Ok(match read_setting_path(alloc, text)? {
-        Some(path) => Some(Mention {
-            path,
-            kind,
-            optional: is_marked(word),
-        }),
-        None => None,
-    })
+    let path = read_setting_path(alloc, text)?;
+    let optional = is_marked(word);
+    Ok(path.map(|path| Mention {
+        path,
+        kind,
+        optional,
+    }))
 }

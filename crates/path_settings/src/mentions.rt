@@ -1,8 +1,9 @@
 //! Mentions of paths, in the order in which they were written.
 
 ghost use Rattle.std.specs.Prelude.{◌≡◌, ◌↔◌, ◌≤◌, ◌++◌, ◌∷◌, [], length, IsTrue, IfOk, OnOk, OnErr, IsErrOf};
+ghost use Rattle.std.specs.Option.{option_map};
 ghost use Rattle.std.specs.List.{list_all};
-ghost use Rattle.path_settings.specs.Mentions.{is_path, is_whole, is_origin, has_whole_source};
+ghost use Rattle.path_settings.specs.Mentions.{hides, is_tmp, is_bind, source_of, is_origin, leaves_the_root, is_path, is_whole, has_whole_source};
 
 use crate::error::MentionError;
 use abs_path::AbsPath;
@@ -45,11 +46,37 @@ impl Kind {
     pub fn is_origin(&self) -> bool
         ensures hides_or_puts { result ≡ is_origin self.now }
     {
+        matches!(self, Kind::Hide | Kind::Tmp { .. } | Kind::Bind { .. })
+    }
+
+    /// Whether nothing is to be seen at the path.
+    pub fn hides(&self) -> bool
+        ensures hides { result ≡ hides self.now }
+    {
+        matches!(self, Kind::Hide)
+    }
+
+    /// Whether an empty file system stands at the path.
+    pub fn is_tmp(&self) -> bool
+        ensures empties { result ≡ is_tmp self.now }
+    {
+        matches!(self, Kind::Tmp { .. })
+    }
+
+    /// Whether what stands at another path stands there.
+    pub fn is_bind(&self) -> bool
+        ensures binds { result ≡ is_bind self.now }
+    {
+        matches!(self, Kind::Bind { .. })
+    }
+
+    /// The other path, of a bind.
+    pub fn source(&self) -> Option<&AbsPath>
+        ensures of_a_bind { option_map (λ source. source.now) result ≡ source_of self.now }
+    {
         match self {
-            Kind::Hide => true,
-            Kind::Tmp { .. } => true,
-            Kind::Bind { .. } => true,
-            _ => false,
+            Kind::Bind { source, .. } => Some(source),
+            _ => None,
         }
     }
 
@@ -140,6 +167,13 @@ impl Mentions {
         ensures whole { IsTrue (list_all is_whole self.now) }
     {
         &self.items
+    }
+
+    /// Whether no mention hides the root, empties it or puts another object there.
+    pub fn leaves_the_root(&self) -> bool
+        ensures root_is_the_hosts { result ≡ leaves_the_root self.now }
+    {
+        self.items.iter().all(|mention| !(mention.path.is_root() && mention.kind.is_origin()))
     }
 
     /// Puts a mention behind the others. Full where there are 160 of them; on an error they stay as they were.

@@ -27,9 +27,6 @@ pub fn read_setting_path(alloc: Global, text: &str) -> Result<Option<AbsPath>, A
     match AbsPath::read(alloc, text) {
         Ok(path) => Ok(if_short(path)),
         Err(PathError::Memory) => Err(AllocError),
-        Err(PathError::TooLong) => Ok(None),
-        Err(PathError::HasNul) => Ok(None),
-        Err(PathError::Relative) => Ok(None),
-        Err(PathError::DotDot) => Ok(None),
+        Err(_) => Ok(None),
     }
 }

@@ -18,16 +18,13 @@ fn asks_read_only(options: &str) -> bool
 fn temporary_at(alloc: Global, path: &str, options: &str) -> Result<Option<Mention>, AllocError>
     ensures { IfOk result (λ mention. mention ≡ temporary_at path.now options.now) }
 {
-    Ok(match read_setting_path(alloc, path)? {
-        Some(path) => Some(Mention {
-            path,
-            kind: Kind::Tmp {
-                read_only: asks_read_only(options),
-            },
-            optional: false,
-        }),
-        None => None,
-    })
+    let path = read_setting_path(alloc, path)?;
+    let read_only = asks_read_only(options);
+    Ok(path.map(|path| Mention {
+        path,
+        kind: Kind::Tmp { read_only },
+        optional: false,
+    }))
 }
 
 /// The mention that a word `PATH[:OPTIONS]` is: an empty file system at the path, read-only where one of the options is

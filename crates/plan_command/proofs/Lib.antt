@@ -1,5 +1,2 @@
-pub mod Endings
-pub mod Mounting
-pub mod Plain
-pub mod Printing
-pub mod Settled
+pub mod Plans
+pub mod Prepared

@@ -1,7 +1,7 @@
 -- The lines of a table of mounts, each ended by a line feed.
-use Rattle.std.specs.Prelude.{ℕ, Bool, true, false, List, [], ◌∷◌, ◌++◌, length, codes, map}
+use Rattle.std.specs.Prelude.{ℕ, Bool, true, false, List, [], ◌∷◌, ◌++◌, length, codes, flat_map}
 use Rattle.std.specs.Fmt.{decimal}
-use Rattle.abs_path.specs.Paths.{text_of}
+use Rattle.abs_path.specs.Paths.{text_of as path_text}
 use Rattle.text_forms.specs.Escaped.{escaped_word}
 use Rattle.kern_mounts.specs.declared.step.Flags.{Flags}
 use Rattle.kern_mounts.specs.declared.step.MountStep.{MountStep}
@@ -24,18 +24,18 @@ flags_words flags = codes " " ++ (writing flags.read_only ++ (codes " " ++ execu
 
 -- what a mount shows, and how that may be used; what is hidden nobody may use
 abbrev pub shown_words : What → Flags → List ℕ
-shown_words (Host source) flags = codes " host " ++ (escaped_word (text_of source) ++ flags_words flags)
+shown_words (Host source) flags = codes " host " ++ (escaped_word (path_text source) ++ flags_words flags)
 shown_words Empty flags = codes " empty" ++ flags_words flags
 shown_words (Hidden is_dir) flags = codes " hidden"
 
 -- a mount: its place, and what it shows there
 abbrev pub mount_line : MountStep → List ℕ
-mount_line step = codes "mount " ++ (escaped_word (text_of step.place) ++ (shown_words step.what step.flags ++ 10 ∷ []))
+mount_line step = codes "mount " ++ (escaped_word (path_text step.place) ++ (shown_words step.what step.flags ++ 10 ∷ []))
 
 -- how many mounts there are
 abbrev pub count_line : ℕ → List ℕ
 count_line count = codes "mounts " ++ (decimal count ++ 10 ∷ [])
 
 -- all mounts, in order, and how many there are
-abbrev pub lines_of : List MountStep → List (List ℕ)
-lines_of table = map mount_line table ++ count_line (length table) ∷ []
+abbrev pub text_of : List MountStep → List ℕ
+text_of table = flat_map mount_line table ++ count_line (length table)

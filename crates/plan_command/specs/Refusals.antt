@@ -1,5 +1,5 @@
 -- The lines of units whose mounts have no plan.
-use Rattle.std.specs.Prelude.{◌≡◌, ℕ, List, ◌++◌, codes}
+use Rattle.std.specs.Prelude.{ℕ, List, [], ◌++◌, codes}
 use Rattle.abs_path.specs.Paths.{Path, text_of}
 use Rattle.text_forms.specs.Escaped.{escaped_word}
 use Rattle.command_answers.specs.Refusals.{refused_line}
@@ -19,8 +19,11 @@ plan_cause (wrong_kind path) = cause_at (codes "kind") path
 abbrev pub plan_line : List ℕ → Refusal → List ℕ
 plan_line unit refusal = refused_line unit (plan_cause refusal)
 
--- the line of an error is that of the refusal which it stands for; want of memory has none
-abbrev pub TellsPlan : List ℕ → PlanError → List ℕ → Type 0
-TellsPlan unit (Missing path) line = line ≡ plan_line unit (missing path)
-TellsPlan unit (Kind path) line = line ≡ plan_line unit (wrong_kind path)
-TellsPlan unit Memory line = ⊥
+-- the cause of an error is that of the refusal which it stands for; want of memory has none
+abbrev pub error_cause : PlanError → List ℕ
+error_cause (Missing path) = plan_cause (missing path)
+error_cause (Kind path) = plan_cause (wrong_kind path)
+error_cause Memory = []
+
+abbrev pub error_line : List ℕ → PlanError → List ℕ
+error_line unit error = refused_line unit (error_cause error)

@@ -1,20 +1,16 @@
 //! The command `plan`: the mounts of a unit, as text.
 //!
-//! The settings of the unit are taken from its inputs, the mounts that give the service its view are planned, and the plan
-//! is printed; or the first refusal is told. It stands on `unit_settings` and `mount_plan`.
+//! The settings of the unit are taken from its inputs, and the mounts that give the service its view are planned; then the
+//! plan is printed, or the line of the first refusal. It stands on `unit_settings` and `mount_plan`.
 //!
-//! `answer(alloc, &mut shelf, "web.service")?` has the lines, and how a run ends behind them.
+//! `prepare(alloc, &mut shelf, "web.service")?` has the mounts, and `print` puts their lines.
 #![tactic(auto)]
 
 mod command;
-pub mod laws;
 mod lines;
 mod planning;
+mod printing;
 mod refusals;
 
-pub use command::answer;
-pub use planning::{Planned, plan_mounts};
-pub use refusals::plan_line;
-
-#[cfg(test)]
-mod tests;
+pub use command::{Mounts, prepare};
+pub use planning::plan_mounts;

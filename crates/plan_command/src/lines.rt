@@ -1,6 +1,6 @@
 //! The lines of a table of mounts.
-ghost use Rattle.std.specs.Prelude.{◌≡◌, ◌++◌, map, IfOk, OnOk};
-ghost use Rattle.plan_command.specs.Lines.{count_line, executing, flags_words, lines_of, mount_line, shown_words, writing};
+ghost use Rattle.std.specs.Prelude.{◌≡◌, ◌++◌, IfOk, OnOk};
+ghost use Rattle.plan_command.specs.Lines.{count_line, executing, flags_words, mount_line, shown_words, writing};
 
 use kern_mounts::{Flags, MountStep, What};
 use std::alloc::{AllocError, Global};
@@ -46,7 +46,8 @@ fn push_shown(line: &mut Vec<u8>, step: &MountStep) -> Result<(), AllocError>
     }
 }
 
-fn mount_line(alloc: Global, step: &MountStep) -> Result<Vec<u8>, AllocError>
+/// The line of a mount.
+pub fn mount_line(alloc: Global, step: &MountStep) -> Result<Vec<u8>, AllocError>
     ensures { IfOk result (λ line. line.items ≡ mount_line step.now) }
 {
     let mut line = b"mount ".to_vec(alloc)?;
@@ -56,20 +57,9 @@ fn mount_line(alloc: Global, step: &MountStep) -> Result<Vec<u8>, AllocError>
     Ok(line)
 }
 
-fn count_line(alloc: Global, count: usize) -> Result<Vec<u8>, AllocError>
+/// The last line of all.
+pub fn count_line(alloc: Global, count: usize) -> Result<Vec<u8>, AllocError>
     ensures { IfOk result (λ line. line.items ≡ count_line count) }
 {
     Ok(format!(in alloc; "mounts {count}\n")?.into_bytes())
-}
-
-/// The lines of all mounts: of each its place, what it shows there and how that may be used; last how many there are.
-pub fn mounts_text(alloc: Global, steps: &[MountStep]) -> Result<Vec<Vec<u8>>, AllocError>
-    ensures in_their_order { IfOk result (λ lines. map (λ line. line.items) lines.items ≡ lines_of steps.now) }
-{
-    let mut lines = Vec::new(alloc);
-    'steps: for step in steps {
-        lines.push(mount_line(alloc, step)?)?;
-    }
-    lines.push(count_line(alloc, steps.len())?)?;
-    Ok(lines)
 }

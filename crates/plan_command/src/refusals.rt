@@ -1,9 +1,9 @@
 //! The lines of units whose mounts have no plan.
-ghost use Rattle.std.specs.Prelude.{◌≡◌, IfOk, IsErrOf};
-ghost use Rattle.plan_command.specs.Refusals.{TellsPlan, cause_at};
+ghost use Rattle.std.specs.Prelude.{◌≡◌, IfOk};
+ghost use Rattle.plan_command.specs.Refusals.{cause_at, error_line};
 
 use abs_path::AbsPath;
-use command_answers::{Failure, refused_line};
+use command_answers::refused_line;
 use mount_plan::PlanError;
 use std::alloc::{AllocError, Global};
 use text_forms::push_word;
@@ -19,15 +19,14 @@ fn cause_at(alloc: Global, cause: &[u8], path: &AbsPath) -> Result<Vec<u8>, Allo
 }
 
 /// The line of a unit whose mounts have no plan: `no-path` where the site has no row at a path, `kind` where a directory
-/// and a file would cover one another. Want of memory has no line, and is passed on.
-pub fn plan_line(alloc: Global, unit: &str, error: &PlanError) -> Result<Vec<u8>, Failure>
-    ensures tells_the_refusal { IfOk result (λ line. TellsPlan unit.now error.now line.items) }
-    ensures reads_nothing { IsErrOf result Failure.ReadFault → ⊥ }
+/// and a file would cover one another. Want of memory has no line.
+pub fn plan_line(alloc: Global, unit: &str, error: &PlanError) -> Result<Vec<u8>, AllocError>
+    ensures tells_the_refusal { IfOk result (λ line. line.items ≡ error_line unit.now error.now) }
 {
     let why = match error {
         PlanError::Missing(path) => cause_at(alloc, b"no-path", path)?,
         PlanError::Kind(path) => cause_at(alloc, b"kind", path)?,
-        PlanError::Memory => return Err(Failure::Memory),
+        PlanError::Memory => Vec::new(alloc),
     };
-    Ok(refused_line(alloc, unit, why.as_slice())?)
+    refused_line(alloc, unit, why.as_slice())
 }

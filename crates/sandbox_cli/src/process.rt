@@ -1,10 +1,9 @@
 //! The process around a run: its words, the current folder and the standard output.
-use crate::running::run;
-use crate::status::Status;
 use command_answers::Ending;
 use host_io::{DirShelf, StdSink};
 use std::rt::{Env, Files};
 use std::{env, io};
+use top_call::{Status, run};
 
 // The words behind the program's name; none where one of them is not text, which are no command either.
 fn words<R: Env + AllocGlobal>(rt: &R) -> io::Result<Vec<String>> {

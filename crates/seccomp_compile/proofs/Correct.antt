@@ -11,13 +11,13 @@ use Rattle.bpf_code.specs.Effects.{halves, words_of}
 use Rattle.bpf_code.specs.Meaning.{counted, run_from, start_regs}
 use Rattle.bpf_code.proofs.Endings.{answers_by_run}
 use Rattle.call_rules.specs.Tested.{Tested}
-use Rattle.call_rules.specs.declared.actions.TheConstants.{KILL_PROCESS}
+use Rattle.call_rules.specs.declared.actions.Action.{Action}
+use Rattle.call_rules.specs.declared.actions.Action.TheVariants.{KillProcess}
 use Rattle.call_rules.specs.declared.rules.Case.{Case}
 use Rattle.call_rules.specs.declared.rules.CallRule.{CallRule}
 use Rattle.call_rules.specs.declared.rules.RuleSet.{RuleSet}
-use Rattle.call_rules.specs.Action.{call_action, test_holds, case_holds, case_action}
-use Rattle.seccomp_compile.specs.Code.{load, skip, skip_unless_equal, skip_if_equal, end, test_code, tests_code, case_code, cases_code, body_code, number_code, call_code, calls_code, rules_code}
-use Rattle.seccomp_compile.specs.declared.offsets.TheConstants.{NUMBER_OFFSET}
+use Rattle.call_rules.specs.Action.{word_of, call_action, test_holds, case_holds, case_action}
+use Rattle.seccomp_compile.specs.Code.{number_offset, load, skip, skip_unless_equal, skip_if_equal, end, test_code, tests_code, case_code, cases_code, body_code, number_code, call_code, calls_code, rules_code}
 use Rattle.seccomp_compile.specs.Compiled.{Decides}
 
 -- The words that tests look at.
@@ -47,12 +47,12 @@ past_one (first ∷ front) rest insn input regs =
     rw next (past_one front rest insn input regs)
 
 module _ (input : CallData) where
-  -- the program answers this, started with these registers
-  abbrev Gives : List Insn → ℕ → Regs → ℕ → Type 0
-  Gives code count regs answer = (steps : ℕ) × (run_from code input count regs ≡ Some (answer, steps))
+  -- the program answers the word of this action, started with these registers
+  abbrev Gives : List Insn → ℕ → Regs → Action → Type 0
+  Gives code count regs answer = (steps : ℕ) × (run_from code input count regs ≡ Some (word_of answer, steps))
 
   -- it does so with all registers
-  abbrev GivesAlways : List Insn → ℕ → ℕ → Type 0
+  abbrev GivesAlways : List Insn → ℕ → Action → Type 0
   GivesAlways code count answer = (regs : Regs) → Gives code count regs answer
 
 one_more : (o : Option (ℕ × ℕ)) (answer : ℕ) → (steps : ℕ) × (o ≡ Some (answer, steps)) → (steps : ℕ) × (counted o ≡ Some (answer, steps))
@@ -63,46 +63,46 @@ eqb_comm a b = grind (arith, nat_tests)
 
 module _ (input : CallData) where
   -- a test goes on with the next instruction where it holds, and skips so many where it fails
-  test_runs : (test : Tested) (count : ℕ) (rest : List Insn) (answer : ℕ) → GivesAlways input rest (cond (test_holds input test) 0 count) answer → GivesAlways input (test_code test count ++ rest) 0 answer
+  test_runs : (test : Tested) (count : ℕ) (rest : List Insn) (answer : Action) → GivesAlways input rest (cond (test_holds input test) 0 count) answer → GivesAlways input (test_code test count ++ rest) 0 answer
   test_runs test count rest answer h regs =
       let low = slice_index input.args test.arg % 2 ^ 32 in
       let compared = subst (λ word. Gives input rest (cond (eqb (bit_and word test.mask) test.value) 0 count) (record regs { a = bit_and word test.mask }) answer) (sym (low_word input test.arg)) (h (record regs { a = bit_and low test.mask })) in
       one_more _ _ (one_more _ _ (one_more _ _ compared))
 
-  by_test : (b : Bool) (tests : List Tested) (action : ℕ) (more : List Insn) (answer : ℕ) →
+  by_test : (b : Bool) (tests : List Tested) (action : Action) (more : List Insn) (answer : Action) →
       (GivesAlways input (end action ∷ more) (cond (list_all (test_holds input) tests) 0 1) answer → GivesAlways input (tests_code tests ++ (end action ∷ more)) 0 answer) →
       GivesAlways input (end action ∷ more) (cond (b && list_all (test_holds input) tests) 0 1) answer → GivesAlways input (tests_code tests ++ (end action ∷ more)) (cond b 0 (length (tests_code tests) + 1)) answer
   by_test true tests action more answer others h regs = others h regs
   by_test false tests action more answer others h regs =
-      subst (λ o. (steps : ℕ) × (o ≡ Some (answer, steps))) (sym (past_one (tests_code tests) more (end action) input regs)) (h regs)
+      subst (λ o. (steps : ℕ) × (o ≡ Some (word_of answer, steps))) (sym (past_one (tests_code tests) more (end action) input regs)) (h regs)
 
   -- tests go on with the next instruction where all hold, and skip it where one fails
-  tests_run : (tests : List Tested) (action : ℕ) (more : List Insn) (answer : ℕ) →
+  tests_run : (tests : List Tested) (action : Action) (more : List Insn) (answer : Action) →
       GivesAlways input (end action ∷ more) (cond (list_all (test_holds input) tests) 0 1) answer → GivesAlways input (tests_code tests ++ (end action ∷ more)) 0 answer
   tests_run [] action more answer h = h
   tests_run (test ∷ tests) action more answer h =
       test_runs test (length (tests_code tests) + 1) (tests_code tests ++ (end action ∷ more)) answer
       (by_test (test_holds input test) tests action more answer (tests_run tests action more answer) h)
 
-  by_case : (b : Bool) (action : ℕ) (more : List Insn) (answer : ℕ) → GivesAlways input more 0 answer → GivesAlways input (end action ∷ more) (cond b 0 1) (cond b action answer)
+  by_case : (b : Bool) (action : Action) (more : List Insn) (answer : Action) → GivesAlways input more 0 answer → GivesAlways input (end action ∷ more) (cond b 0 1) (cond b action answer)
   by_case true action more answer h regs = (1, refl)
   by_case false action more answer h regs = h regs
 
   -- a case ends with its action where its tests all hold, and goes on behind it where one fails
-  case_runs : (case : Case) (more : List Insn) (answer : ℕ) → GivesAlways input more 0 answer → GivesAlways input (case_code case ++ more) 0 (cond (case_holds input case) case.action answer)
+  case_runs : (case : Case) (more : List Insn) (answer : Action) → GivesAlways input more 0 answer → GivesAlways input (case_code case ++ more) 0 (cond (case_holds input case) case.action answer)
   case_runs case more answer h =
       subst (λ code. GivesAlways input code 0 (cond (case_holds input case) case.action answer)) (sym (append_assoc (tests_code case.tests) (end case.action ∷ []) more))
       (tests_run case.tests case.action more (cond (case_holds input case) case.action answer) (by_case (case_holds input case) case.action more answer h))
 
-  abbrev wanted_of_cases : List Case → ℕ → ℕ
+  abbrev wanted_of_cases : List Case → Action → Action
   wanted_of_cases cases rest = option_map_or (λ case. case.action) (find (case_holds input) cases) rest
 
-  first_case : (b : Bool) (case : Case) (found : Option Case) (rest : ℕ) → cond b case.action (option_map_or (λ case. case.action) found rest) ≡ option_map_or (λ case. case.action) (cond b (Some case) found) rest
+  first_case : (b : Bool) (case : Case) (found : Option Case) (rest : Action) → cond b case.action (option_map_or (λ case. case.action) found rest) ≡ option_map_or (λ case. case.action) (cond b (Some case) found) rest
   first_case true case found rest = refl
   first_case false case found rest = refl
 
   -- cases end with the action of the first one whose tests all hold, and go on behind them where none has such tests
-  cases_run : (cases : List Case) (more : List Insn) (rest : ℕ) → GivesAlways input more 0 rest → GivesAlways input (cases_code cases ++ more) 0 (wanted_of_cases cases rest)
+  cases_run : (cases : List Case) (more : List Insn) (rest : Action) → GivesAlways input more 0 rest → GivesAlways input (cases_code cases ++ more) 0 (wanted_of_cases cases rest)
   cases_run [] more rest h = h
   cases_run (case ∷ cases) more rest h =
       let here = case_runs case (cases_code cases ++ more) (wanted_of_cases cases rest) (cases_run cases more rest h) in
@@ -115,9 +115,9 @@ module _ (input : CallData) where
       subst (λ code. GivesAlways input code 0 (call_action input call)) (sym (append_assoc (cases_code call.cases) (end call.rest ∷ []) more))
       (cases_run call.cases (end call.rest ∷ more) call.rest (λ regs. (1, refl)))
 
-  module _ (body more : List Insn) (regs : Regs) (here other : ℕ) (h : Gives input (body ++ more) 0 regs here) (o : Gives input more 0 regs other) where
+  module _ (body more : List Insn) (regs : Regs) (here other : Action) (h : Gives input (body ++ more) 0 regs here) (o : Gives input more 0 regs other) where
     skipped : Gives input (body ++ more) (length body) regs other
-    skipped = subst (λ r. (steps : ℕ) × (r ≡ Some (other, steps))) (sym (past body more input regs)) o
+    skipped = subst (λ r. (steps : ℕ) × (r ≡ Some (word_of other, steps))) (sym (past body more input regs)) o
 
     near : (same : Bool) → Gives input (body ++ more) (cond same 0 (length body)) regs (cond same here other)
     near true = h
@@ -135,11 +135,11 @@ module _ (input : CallData) where
     number_runs : (number : ℕ) → Gives input (number_code number (length body) ++ (body ++ more)) 0 regs (cond (eqb regs.a number) here other)
     number_runs number = by_distance number (nat_le (length body) 255)
 
-module _ (input : CallData) (rest : ℕ) where
+module _ (input : CallData) (rest : Action) where
   abbrev tail_code : List CallRule → List Insn
   tail_code calls = calls_code calls ++ (end rest ∷ [])
 
-  abbrev wanted : List CallRule → ℕ
+  abbrev wanted : List CallRule → Action
   wanted calls = option_map_or (call_action input) (find (λ call. call.number == input.nr) calls) rest
 
   first_call : (b : Bool) (call : CallRule) (found : Option CallRule) → cond b (call_action input call) (option_map_or (call_action input) found rest) ≡ option_map_or (call_action input) (cond b (Some call) found) rest
@@ -158,7 +158,7 @@ module _ (input : CallData) (rest : ℕ) where
       (subst (λ answer. Gives input (number_code call.number (length (body_code call)) ++ (body_code call ++ tail_code calls)) 0 regs answer) chosen run)
 
 by_arch : (rules : RuleSet) (input : CallData) (regs : Regs) (b : Bool) →
-    Gives input (end KILL_PROCESS ∷ load NUMBER_OFFSET ∷ tail_code input rules.rest rules.calls) (cond b 1 0) regs (cond b (wanted input rules.rest rules.calls) KILL_PROCESS)
+    Gives input (end KillProcess ∷ load number_offset ∷ tail_code input rules.rest rules.calls) (cond b 1 0) regs (cond b (wanted input rules.rest rules.calls) KillProcess)
 by_arch rules input regs false = (1, refl)
 by_arch rules input regs true = one_more _ _ (calls_run input rules.rest rules.calls (record regs { a = input.nr }) refl)
 
@@ -166,4 +166,4 @@ rules_run : (rules : RuleSet) (input : CallData) → Gives input (rules_code rul
 rules_run rules input = one_more _ _ (one_more _ _ (by_arch rules input (record start_regs { a = input.arch }) (eqb input.arch rules.arch)))
 
 pub decides : (rules : RuleSet) → Decides (rules_code rules) rules
-decides rules input fits = let run = rules_run rules input in answers_by_run (rules_code rules) input (case_action rules input) run.0 run.1
+decides rules input fits = let run = rules_run rules input in answers_by_run (rules_code rules) input (word_of (case_action rules input)) run.0 run.1

@@ -5,12 +5,12 @@ use Rattle.bpf_code.specs.declared.machine.CallData.{CallData}
 use Rattle.bpf_code.specs.Meaning.{Answers, IsCallData}
 use Rattle.call_rules.specs.declared.rules.CallRule.{CallRule}
 use Rattle.call_rules.specs.declared.rules.RuleSet.{RuleSet}
-use Rattle.call_rules.specs.Action.{case_action}
+use Rattle.call_rules.specs.Action.{case_action, word_of}
 use Rattle.call_rules.specs.Sizes.{HaveFewTests}
 
--- the program's answer is the action of the rules, whatever the data of the call
+-- the program's answer is the word of the rules' action, whatever the data of the call
 abbrev pub Decides : List Insn → RuleSet → Type 0
-Decides code rules = (input : CallData) → IsCallData input → Answers code input (case_action rules input)
+Decides code rules = (input : CallData) → IsCallData input → Answers code input (word_of (case_action rules input))
 
 -- what each call of a rule set that is compiled is
 pub record CanCompileCall (call : CallRule) : Type 0 where

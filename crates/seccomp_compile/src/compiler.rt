@@ -1,6 +1,7 @@
 //! The compiler's call.
 ghost use Rattle.std.specs.Prelude.{◌≤◌, length, IfOk};
-ghost use Rattle.bpf_code.specs.declared.program.TheConstants.{MAX_INSNS};
+ghost use Rattle.linux_numbers.specs.Limits.{bpf_maxinsns};
+ghost use Rattle.bpf_code.specs.Reading.{IsProgram};
 ghost use Rattle.call_rules.specs.Sizes.{CanCompile, most_insns};
 ghost use Rattle.seccomp_compile.specs.Compiled.{Decides};
 
@@ -18,8 +19,9 @@ use std::alloc::{AllocError, Global};
 pub fn compile(alloc: Global, rules: &RuleSet) -> Result<Program, AllocError>
     requires { CanCompile rules.now }
     ensures decides_every_call { IfOk result (λ program. Decides program rules.now) }
+    ensures is_taken_by_seccomp { IfOk result IsProgram }
     ensures keeps_within_the_length { IfOk result (λ program. length program ≤ most_insns rules.now) }
-    ensures is_never_too_long { most_insns rules.now ≤ MAX_INSNS }
+    ensures is_never_too_long { most_insns rules.now ≤ bpf_maxinsns }
 {
     let mut code = Vec::new(alloc);
     emit_rules(&mut code, rules)?;

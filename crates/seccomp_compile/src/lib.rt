@@ -11,13 +11,11 @@
 //! Where no call has the number, the rest of the rules ends the program.
 #![tactic(auto)]
 
-pub mod compiler;
-pub mod condition;
+mod compiler;
+mod condition;
 mod instructions;
 mod linear;
 mod offsets;
-#[cfg(test)]
-mod tests;
 
 pub use compiler::compile;
 pub use condition::can_compile;

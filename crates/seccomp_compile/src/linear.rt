@@ -3,10 +3,9 @@
 //! rest.
 ghost use Rattle.std.specs.Prelude.{◌≡◌, ◌++◌, ◌≤◌, length, OnOk};
 ghost use Rattle.std.specs.List.{All};
-ghost use Rattle.seccomp_compile.specs.Code.{test_code, tests_code, case_code, cases_code, body_code, number_code, call_code, calls_code, rules_code};
+ghost use Rattle.seccomp_compile.specs.Code.{IsSound, test_code, tests_code, case_code, cases_code, body_code, number_code, call_code, calls_code, rules_code};
 ghost use Rattle.call_rules.specs.Sizes.{CanCompile, HaveFewTests};
 ghost use Rattle.seccomp_compile.specs.Compiled.{CanCompileCall};
-ghost use Rattle.seccomp_compile.specs.Arguments.{TestsLookAtArguments, CasesLookAtArguments, CallsLookAtArguments};
 
 use crate::condition::MOST_TESTS;
 use crate::instructions::{
@@ -14,8 +13,7 @@ use crate::instructions::{
 };
 use crate::offsets::{ARCH_OFFSET, ARG_SIZE, ARGS_OFFSET, NUMBER_OFFSET};
 use bpf_code::Insn;
-use call_rules::actions::KILL_PROCESS;
-use call_rules::{CallRule, Case, RuleSet, Test};
+use call_rules::{Action, CallRule, Case, RuleSet, Test};
 use std::alloc::AllocError;
 
 /// How many instructions the code of a test has.
@@ -23,8 +21,9 @@ const TEST_LEN: usize = 3;
 
 // Adds the code of a test, which skips so many instructions where the test fails.
 fn emit_test(code: &mut Vec<Insn>, test: Test, count: u8) -> Result<(), AllocError>
+    requires { All IsSound code.old.items }
     ensures adds_the_code { OnOk result (code.new.items ≡ code.old.items ++ test_code test count) }
-    ensures looks_at_arguments { OnOk result (test.arg ≤ 5) }
+    ensures sound { OnOk result (All IsSound code.new.items) }
 {
     code.push(load_word(ARGS_OFFSET + ARG_SIZE * u32::from(test.arg)))?;
     code.push(and_mask(test.mask))?;
@@ -34,9 +33,10 @@ fn emit_test(code: &mut Vec<Insn>, test: Test, count: u8) -> Result<(), AllocErr
 
 // Adds the code of the tests of a case, which lead behind the next instruction where one fails.
 fn emit_tests(code: &mut Vec<Insn>, tests: &[Test]) -> Result<(), AllocError>
-    requires { length tests.now ≤ MOST_TESTS }
+    requires few { length tests.now ≤ MOST_TESTS }
+    requires sound { All IsSound code.old.items }
     ensures adds_the_code { OnOk result (code.new.items ≡ code.old.items ++ tests_code tests.now) }
-    ensures looks_at_arguments { OnOk result (TestsLookAtArguments tests.now) }
+    ensures sound { OnOk result (All IsSound code.new.items) }
 {
     let mut left = tests;
     'tests: while let Some((test, others)) = left.split_first() {
@@ -48,9 +48,10 @@ fn emit_tests(code: &mut Vec<Insn>, tests: &[Test]) -> Result<(), AllocError>
 
 // Adds the code of a case.
 fn emit_case(code: &mut Vec<Insn>, case: &Case) -> Result<(), AllocError>
-    requires { length case.now.tests ≤ MOST_TESTS }
+    requires few { length case.now.tests ≤ MOST_TESTS }
+    requires sound { All IsSound code.old.items }
     ensures adds_the_code { OnOk result (code.new.items ≡ code.old.items ++ case_code case.now) }
-    ensures looks_at_arguments { OnOk result (TestsLookAtArguments case.now.tests) }
+    ensures sound { OnOk result (All IsSound code.new.items) }
 {
     emit_tests(code, case.tests.list())?;
     code.push(answer(case.action))?;
@@ -59,9 +60,10 @@ fn emit_case(code: &mut Vec<Insn>, case: &Case) -> Result<(), AllocError>
 
 // Adds the code of the cases of a call.
 fn emit_cases(code: &mut Vec<Insn>, cases: &[Case]) -> Result<(), AllocError>
-    requires { HaveFewTests cases.now }
+    requires few { HaveFewTests cases.now }
+    requires sound { All IsSound code.old.items }
     ensures adds_the_code { OnOk result (code.new.items ≡ code.old.items ++ cases_code cases.now) }
-    ensures looks_at_arguments { OnOk result (CasesLookAtArguments cases.now) }
+    ensures sound { OnOk result (All IsSound code.new.items) }
 {
     for case in cases {
         emit_case(code, case)?;
@@ -83,7 +85,9 @@ fn body_len(call: &CallRule) -> u32
 
 // Adds a comparison that skips so many instructions for another number.
 fn emit_number(code: &mut Vec<Insn>, number: u32, count: u32) -> Result<(), AllocError>
-    ensures { OnOk result (code.new.items ≡ code.old.items ++ number_code number count) }
+    requires { All IsSound code.old.items }
+    ensures adds_the_code { OnOk result (code.new.items ≡ code.old.items ++ number_code number count) }
+    ensures sound { OnOk result (All IsSound code.new.items) }
 {
     if count <= FARTHEST_SKIP {
         code.push(next_if_equal(number, count as u8))?;
@@ -96,9 +100,10 @@ fn emit_number(code: &mut Vec<Insn>, number: u32, count: u32) -> Result<(), Allo
 
 // Adds the code of a call.
 fn emit_call(code: &mut Vec<Insn>, call: &CallRule) -> Result<(), AllocError>
-    requires { CanCompileCall call.now }
+    requires small { CanCompileCall call.now }
+    requires sound { All IsSound code.old.items }
     ensures adds_the_code { OnOk result (code.new.items ≡ code.old.items ++ call_code call.now) }
-    ensures looks_at_arguments { OnOk result (CasesLookAtArguments call.now.cases) }
+    ensures sound { OnOk result (All IsSound code.new.items) }
 {
     emit_number(code, call.number, body_len(call))?;
     emit_cases(code, call.cases.list())?;
@@ -108,9 +113,10 @@ fn emit_call(code: &mut Vec<Insn>, call: &CallRule) -> Result<(), AllocError>
 
 // Adds the code of some calls.
 fn emit_calls(code: &mut Vec<Insn>, calls: &[CallRule]) -> Result<(), AllocError>
-    requires { All CanCompileCall calls.now }
+    requires small { All CanCompileCall calls.now }
+    requires sound { All IsSound code.old.items }
     ensures adds_the_code { OnOk result (code.new.items ≡ code.old.items ++ calls_code calls.now) }
-    ensures looks_at_arguments { OnOk result (CallsLookAtArguments calls.now) }
+    ensures sound { OnOk result (All IsSound code.new.items) }
 {
     for call in calls {
         emit_call(code, call)?;
@@ -120,13 +126,14 @@ fn emit_calls(code: &mut Vec<Insn>, calls: &[CallRule]) -> Result<(), AllocError
 
 /// Adds the code of the rules.
 pub fn emit_rules(code: &mut Vec<Insn>, rules: &RuleSet) -> Result<(), AllocError>
-    requires { CanCompile rules.now }
+    requires small { CanCompile rules.now }
+    requires sound { All IsSound code.old.items }
     ensures adds_the_code { OnOk result (code.new.items ≡ code.old.items ++ rules_code rules.now) }
-    ensures looks_at_arguments { OnOk result (CallsLookAtArguments rules.now.calls) }
+    ensures sound { OnOk result (All IsSound code.new.items) }
 {
     code.push(load_word(ARCH_OFFSET))?;
     code.push(next_unless_equal(rules.arch))?;
-    code.push(answer(KILL_PROCESS))?;
+    code.push(answer(Action::KillProcess))?;
     code.push(load_word(NUMBER_OFFSET))?;
     emit_calls(code, rules.calls.list())?;
     code.push(answer(rules.rest))?;

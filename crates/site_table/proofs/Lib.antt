@@ -1,4 +1,3 @@
-pub mod Elements
 pub mod CapNames
 pub mod Folders
 pub mod SeenTexts
@@ -18,3 +17,5 @@ pub mod SiteHolds
 pub mod SiteRead
 pub mod Found
 pub mod Worked
+pub mod CapSets
+pub mod Exact

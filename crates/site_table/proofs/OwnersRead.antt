@@ -1,5 +1,5 @@
 -- Users or groups that have been read.
-use Rattle.std.proofs.Common.{◌≡◌, ℕ, ◌+◌, ◌≤◌, Bool, true, false, cond, List, [], ◌∷◌, ◌++◌, length, take, map, Some, None, Result, Ok, Err, refl, sym, ap, ◌∙◌}
+use Rattle.std.proofs.Common.{◌≡◌, ℕ, ◌+◌, ◌≤◌, Bool, true, false, cond, List, [], ◌∷◌, ◌++◌, length, take, map, Some, None, Result, Ok, Err, refl, sym, ap, ◌∙◌, subst}
 use Rattle.std.specs.Prelude.{◌||◌}
 use Rattle.std.specs.List.{list_any}
 use Rattle.std.specs.Str.{bytes_eq}
@@ -7,9 +7,11 @@ use Rattle.std.proofs.lemmas.List.Folds.{list_any-append}
 use Rattle.std.proofs.lemmas.List.{take_all}
 use Rattle.toml.specs.Data.{Data}
 use Rattle.site_table.specs.declared.error.SiteError.{SiteError}
-use Rattle.site_table.specs.Owners.{name_of, has_doubled_name}
+use Rattle.site_table.specs.Owners.{name_of, has_doubled_name, refusal_of, user_of, group_of, as_group}
+use Rattle.site_table.specs.declared.owners.OwnerKind.{OwnerKind}
+use Rattle.site_table.specs.declared.owners.OwnerKind.TheVariants.{User, Group}
 use Rattle.site_table.specs.declared.error.SiteError.TheVariants.{NotToml, Top, TooMany, Row as BadRow, User as BadUser, Group as BadGroup, Memory}
-use Rattle.site_table.specs.OwnerSteps.{AddsName, SaysUser, SaysGroup, is_refused_user, is_refused_group}
+use Rattle.site_table.specs.OwnerSteps.{AddsName, SaysOwner, is_refused}
 use Rattle.site_table.specs.Reading.{owner_faults, unless_fault, IsUnlessMemory}
 use Rattle.site_table.specs.Texts.{has_text}
 use Rattle.site_table.proofs.Faults.{Fault, faults_from, StandsAt, faultless_more, fault_found, faultless}
@@ -62,22 +64,21 @@ pub owners_none : {T : Type 0} (is_wrong : Data → Bool) (refusal : ℕ → Sit
 owners_none is_wrong refusal said_of owners names read no_name nothing = record { faultless = refl; said = nothing; seen = λ text. ap (λ texts. has_text texts text) no_name }
 
 -- what an error in between answers
-pub user_stops : {T V : Type 0} (see : T → V) (number : ℕ) (old : List (List ℕ)) (user : Data) (new : List (List ℕ)) (error : SiteError) (wanted : Result V SiteError)
-    → SaysUser number old user new (Err error) → (is_refused_user old user ≡ true → wanted ≡ Err (BadUser number)) → IsUnlessMemory see (Err error) wanted
-user_stops see number old user new Memory wanted h g = tt
-user_stops see number old user new NotToml wanted h g = absurd h
-user_stops see number old user new Top wanted h g = absurd h
-user_stops see number old user new TooMany wanted h g = absurd h
-user_stops see number old user new (BadRow told cause) wanted h g = absurd h
-user_stops see number old user new (BadUser told) wanted h g = g h.1 ∙ ap (λ n. Err (BadUser n)) (sym h.0)
-user_stops see number old user new (BadGroup told) wanted h g = absurd h
+pub owner_stops : {T V : Type 0} (see : T → V) (kind : OwnerKind) (number : ℕ) (old : List (List ℕ)) (owner : Data) (new : List (List ℕ)) (error : SiteError) (wanted : Result V SiteError)
+    → SaysOwner kind number old owner new (Err error) → (is_refused kind old owner ≡ true → wanted ≡ Err (refusal_of kind number)) → IsUnlessMemory see (Err error) wanted
+owner_stops see kind number old owner new Memory wanted h g = tt
+owner_stops see kind number old owner new NotToml wanted h g = absurd h
+owner_stops see kind number old owner new Top wanted h g = absurd h
+owner_stops see kind number old owner new TooMany wanted h g = absurd h
+owner_stops see kind number old owner new (BadRow told cause) wanted h g = absurd h
+owner_stops see kind number old owner new (BadUser told) wanted h g = g h.1 ∙ ap Err (sym h.0)
+owner_stops see kind number old owner new (BadGroup told) wanted h g = g h.1 ∙ ap Err (sym h.0)
 
-pub group_stops : {T V : Type 0} (see : T → V) (number : ℕ) (old : List (List ℕ)) (group : Data) (new : List (List ℕ)) (error : SiteError) (wanted : Result V SiteError)
-    → SaysGroup number old group new (Err error) → (is_refused_group old group ≡ true → wanted ≡ Err (BadGroup number)) → IsUnlessMemory see (Err error) wanted
-group_stops see number old group new Memory wanted h g = tt
-group_stops see number old group new NotToml wanted h g = absurd h
-group_stops see number old group new Top wanted h g = absurd h
-group_stops see number old group new TooMany wanted h g = absurd h
-group_stops see number old group new (BadRow told cause) wanted h g = absurd h
-group_stops see number old group new (BadUser told) wanted h g = absurd h
-group_stops see number old group new (BadGroup told) wanted h g = g h.1 ∙ ap (λ n. Err (BadGroup n)) (sym h.0)
+pub refused : (kind : OwnerKind) (number : ℕ) (old : List (List ℕ)) (owner : Data) (new : List (List ℕ)) (error : SiteError) → error ≡ refusal_of kind number → is_refused kind old owner ≡ true → SaysOwner kind number old owner new (Err error)
+refused User number old owner new error e h = subst (λ (told : SiteError). SaysOwner User number old owner new (Err told)) (sym e) (refl, h)
+refused Group number old owner new error e h = subst (λ (told : SiteError). SaysOwner Group number old owner new (Err told)) (sym e) (refl, h)
+
+-- groups that are read as users
+pub groups_are : (owners : List Data) → map as_group (map user_of owners) ≡ map group_of owners
+groups_are [] = refl
+groups_are (owner ∷ owners) = ap (λ groups. group_of owner ∷ groups) (groups_are owners)

@@ -11,7 +11,7 @@ use Rattle.abs_path.proofs.Reading.{reads_normal}
 use Rattle.abs_path.specs.declared.error.PathError.TheVariants.{TooLong, HasNul, Relative, DotDot}
 use Rattle.site_table.specs.Paths.{short_path, parent_of}
 use Rattle.site_table.specs.Rows.{path_of}
-use Rattle.site_table.specs.Tree.{text_at}
+use Rattle.toml_shapes.specs.Tree.{text_at}
 
 -- a text without fault is a normal path
 faultless_normal : (text : List ℕ) → is_none (fault_of text) ≡ true → is_normal (parts_of text) ≡ true

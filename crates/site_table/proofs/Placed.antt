@@ -28,7 +28,7 @@ is_same-swap one other = same_test (is_same one other) (is_same other one)
 
 -- ---- byte order
 
-paths-placed : (row : Row) (rows : List Row) → paths_of (row_placed row rows) ≡ placed row.path (paths_of rows)
+pub paths-placed : (row : Row) (rows : List Row) → paths_of (row_placed row rows) ≡ placed row.path (paths_of rows)
 paths-placed row [] = refl
 paths-placed row (first ∷ rows) = by (is_before row.path first.path) (is_before first.path row.path) (paths-placed row rows)
   where
@@ -134,7 +134,7 @@ abbrev orelse : Option Row → Option Row → Option Row
 orelse (Some row) other = Some row
 orelse None other = other
 
-none_at : (rows : List Row) (path : Path) → has_row rows path ≡ false → row_at rows path ≡ None
+pub none_at : (rows : List Row) (path : Path) → has_row rows path ≡ false → row_at rows path ≡ None
 none_at [] path h = refl
 none_at (row ∷ rows) path h =
     let both = or_parts (is_same row.path path) (has_row rows path) h in

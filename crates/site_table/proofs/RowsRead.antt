@@ -17,7 +17,8 @@ use Rattle.site_table.specs.declared.error.RowCause.TheVariants.{Key, Path as Ba
 use Rattle.site_table.specs.declared.error.SiteError.{SiteError}
 use Rattle.site_table.specs.declared.error.SiteError.TheVariants.{NotToml, Top, TooMany, Row as BadRow, User as BadUser, Group as BadGroup, Memory}
 use Rattle.site_table.specs.Kinds.{is_dir}
-use Rattle.site_table.specs.Keys.{has_keys, row_keys}
+use Rattle.toml_shapes.specs.Keys.{has_keys}
+use Rattle.site_table.specs.Keys.{row_keys}
 use Rattle.site_table.specs.Paths.{parent_of, root}
 use Rattle.site_table.specs.Rows.{path_of, kind_of, is_row_at, is_duplicate, is_dir_at, is_folder, is_always_dir, has_parent, own_causes, place_causes, first_of, cause_of, row_of}
 use Rattle.site_table.specs.RowSteps.{IsRefused, SaysRow, Places, stands_in, causes_among, is_always_dir_text, is_folder_at, has_folder, TakesFolder}

@@ -13,11 +13,12 @@ use Rattle.site_table.specs.declared.kinds.RowKind.TheVariants.{Dir, File, Exe}
 use Rattle.site_table.specs.declared.error.RowCause.TheVariants.{Key, Path as BadPath, Kind, Number, Caps, Both}
 use Rattle.site_table.specs.Caps.{as_cap, are_caps, caps_of}
 use Rattle.site_table.specs.Ids.{id_of, id_at, greatest_id}
-use Rattle.site_table.specs.Keys.{has_keys, row_keys}
+use Rattle.toml_shapes.specs.Keys.{has_keys}
+use Rattle.site_table.specs.Keys.{row_keys}
 use Rattle.site_table.specs.Kinds.{is_dir, is_exe}
 use Rattle.site_table.specs.Rows.{path_of, kind_of, cap_names, has, is_empty, has_exe_key, is_always_dir, may_be, has_wrong_kind, has_wrong_number, has_wrong_caps, has_both, own_causes, first_of, row_of}
 use Rattle.site_table.specs.Table.{IsIdIfSome}
-use Rattle.site_table.specs.Tree.{number_at, flag_at, elements_at, elements_of}
+use Rattle.toml_shapes.specs.Tree.{number_at, flag_at, elements_at, elements_of}
 use Rattle.site_table.proofs.Causes.{first_of-none}
 
 -- none of the own causes applies

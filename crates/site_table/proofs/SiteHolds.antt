@@ -19,16 +19,17 @@ use Rattle.site_table.specs.declared.accounts.Group.{Group}
 use Rattle.site_table.specs.declared.error.SiteError.{SiteError}
 use Rattle.site_table.specs.declared.error.SiteError.TheVariants.{TooMany, User as BadUser, Group as BadGroup}
 use Rattle.site_table.specs.declared.error.RowCause.TheVariants.{Duplicate, NoParent}
+use Rattle.site_table.specs.declared.owners.OwnerKind.TheVariants.{User as UserKind, Group as GroupKind}
 use Rattle.site_table.specs.Ids.{id_at, as_id, greatest_id}
 use Rattle.site_table.specs.Kinds.{is_dir}
 use Rattle.site_table.specs.Order.{has_row, plain_dir, rows_in_order, with_fixed}
-use Rattle.site_table.specs.Owners.{name_of, has_doubled_name, is_wrong_user, is_wrong_group, user_of, group_of}
+use Rattle.site_table.specs.Owners.{name_of, has_doubled_name, is_wrong, user_of, group_of}
 use Rattle.site_table.specs.Paths.{parent_of, root, proc}
 use Rattle.site_table.specs.Reading.{rows_in, users_in, groups_in, row_faults, user_faults, group_faults, owner_faults, is_too_large, size_faults, top_faults, faults_of, site_in}
 use Rattle.site_table.specs.RowSteps.{fixed_placed}
 use Rattle.site_table.specs.Rows.{path_of, kind_of, is_row_at, is_duplicate, is_dir_at, is_folder, is_always_dir, has_parent, own_causes, place_causes, first_of, cause_of, row_of}
 use Rattle.site_table.specs.Table.{row_at, kind_at, IsIdIfSome, IsRowOf, AreNormal, IsUser, IsGroup, AreDistinct, IsSite}
-use Rattle.site_table.specs.Tree.{elements_at}
+use Rattle.toml_shapes.specs.Tree.{elements_at}
 use Rattle.site_table.proofs.Answering.{NoFaults, no_faults, all_faultless}
 use Rattle.site_table.proofs.Causes.{first_of-append, first_of-none}
 use Rattle.site_table.proofs.OwnersRead.{owner_fault}
@@ -77,7 +78,7 @@ new_path rows before (other ∷ later) row here among h =
     ap (λ b. b || has_row (map row_of later) (row_of row).path) (is_same-swap (row_of other).path (row_of row).path ∙ differ)
     ∙ new_path rows (before ++ other ∷ []) later row here (among_more before row other among) h.1
 
-apart_from : (rows before rest : List Data) → NoFaults (row_fault rows) before rest → AreApart (map row_of rest)
+pub apart_from : (rows before rest : List Data) → NoFaults (row_fault rows) before rest → AreApart (map row_of rest)
 apart_from rows before [] h = tt
 apart_from rows before (row ∷ rest) h = (
   new_path rows (before ++ row ∷ []) rest row (has_path row (own_faultless rows before row (cause_from_fault rows before (length before + 1) row h.0))) (among_last before row) h.1,
@@ -261,7 +262,7 @@ small_ids (value ∷ values) = by (as_id value) (small_if_some (as_integer value
     by None h more = more
     by (Some id) h more = (h, more)
 
-is_user : (user : Data) → is_wrong_user user ≡ false → IsUser (user_of user)
+is_user : (user : Data) → (is_wrong UserKind) user ≡ false → IsUser (user_of user)
 is_user user h = record {
   name = named (name_of user) (or_parts _ (bytes_eq (name_of user) []) h).1;
   uid = unwrapped_small (id_at (codes "uid") user) (id_small (codes "uid") user);
@@ -269,7 +270,7 @@ is_user user h = record {
   groups = small_ids (elements_at (codes "groups") user);
 }
 
-is_group : (group : Data) → is_wrong_group group ≡ false → IsGroup (group_of group)
+is_group : (group : Data) → (is_wrong GroupKind) group ≡ false → IsGroup (group_of group)
 is_group group h = record {
   name = named (name_of group) (or_parts _ (bytes_eq (name_of group) []) h).1;
   gid = unwrapped_small (id_at (codes "gid") group) (id_small (codes "gid") group);
@@ -292,6 +293,13 @@ not_too_large site h = by (is_too_large site) h
     by true h = absurd (cc)
     by false h = refl
 
+-- a site without fault has no row with one
+pub rows_faultless : (site : Data) → faults_of site ≡ [] → row_faults (rows_in site) ≡ []
+rows_faultless site h =
+    let groups = none_of_both (((top_faults site ++ size_faults site) ++ row_faults (rows_in site)) ++ user_faults (users_in site)) (group_faults (groups_in site)) h in
+    let users = none_of_both ((top_faults site ++ size_faults site) ++ row_faults (rows_in site)) (user_faults (users_in site)) groups.0 in
+    (none_of_both (top_faults site ++ size_faults site) (row_faults (rows_in site)) users.0).1
+
 pub site_holds : (site : Data) → faults_of site ≡ [] → IsSite (site_in site)
 site_holds site h =
     let groups = none_of_both (((top_faults site ++ size_faults site) ++ row_faults (rows_in site)) ++ user_faults (users_in site)) (group_faults (groups_in site)) h in
@@ -307,10 +315,10 @@ site_holds site h =
       root = root_is_dir (rows_in site) rows.1;
       proc = proc_is_dir (rows_in site) rows.1;
       each_row = each_row (rows_in site) rows.1;
-      each_user = all_owners is_wrong_user BadUser user_of IsUser (users_in site) is_user users.1;
-      each_group = all_owners is_wrong_group BadGroup group_of IsGroup (groups_in site) is_group groups.1;
-      user_names = subst AreDistinct (sym (map-map user_of (λ (user : User). user.name) (users_in site) (λ user. refl))) (distinct_names is_wrong_user BadUser (users_in site) users.1);
-      group_names = subst AreDistinct (sym (map-map group_of (λ (group : Group). group.name) (groups_in site) (λ group. refl))) (distinct_names is_wrong_group BadGroup (groups_in site) groups.1);
+      each_user = all_owners (is_wrong UserKind) BadUser user_of IsUser (users_in site) is_user users.1;
+      each_group = all_owners (is_wrong GroupKind) BadGroup group_of IsGroup (groups_in site) is_group groups.1;
+      user_names = subst AreDistinct (sym (map-map user_of (λ (user : User). user.name) (users_in site) (λ user. refl))) (distinct_names (is_wrong UserKind) BadUser (users_in site) users.1);
+      group_names = subst AreDistinct (sym (map-map group_of (λ (group : Group). group.name) (groups_in site) (λ group. refl))) (distinct_names (is_wrong GroupKind) BadGroup (groups_in site) groups.1);
       few_rows = omega (arith, length_in_order (map row_of (rows_in site)), length-map (rows_in site) row_of);
       few_users = omega (arith, ltb-false 512 (length (users_in site)) most_users.1, length-map (users_in site) user_of);
       few_groups = omega (arith, ltb-false 512 (length (groups_in site)) most_groups.1, length-map (groups_in site) group_of);

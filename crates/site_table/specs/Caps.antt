@@ -1,9 +1,9 @@
 -- The capabilities that a list of names gives (capabilities(7)). The names are exact.
-use Rattle.std.specs.Prelude.{ℕ, Bool, is_some, List, Option, option_and_then, position, fold}
-use Rattle.std.specs.List.{list_all, filter_map}
+use Rattle.std.specs.Prelude.{◌≡◌, ℕ, Bool, is_some, List, Option, Some, option_and_then, position, fold}
+use Rattle.std.specs.List.{list_all, filter_map, Contains}
 use Rattle.std.specs.Str.{bytes_eq}
 use Rattle.toml.specs.Data.{Data, as_str}
-use Rattle.cap_sets.specs.Names.{names}
+use Rattle.cap_sets.specs.Names.{names, name_of}
 use Rattle.cap_sets.specs.Sets.{none, union, single}
 
 -- the number of the capability of this name
@@ -21,3 +21,9 @@ are_caps values = list_all (λ value. is_some (as_cap value)) values
 -- the set of the capabilities that are named
 abbrev pub caps_of : List Data → ℕ
 caps_of values = fold (λ set number. union set (single number)) none (filter_map as_cap values)
+
+-- a value of the list is the name of the capability of this number
+pub record IsNamed (values : List Data) (number : ℕ) : Type 0 where
+  pub value : Data
+  pub listed : Contains values value
+  pub name : as_str value ≡ Some (name_of number)

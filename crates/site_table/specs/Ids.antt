@@ -3,7 +3,7 @@ use Rattle.std.specs.Prelude.{ℕ, ℤ, pos, negsuc, nat_le, Bool, false, cond, 
 use Rattle.std.specs.List.{list_all, filter_map}
 use Rattle.std.specs.Option.{option_map_or}
 use Rattle.toml.specs.Data.{Data, as_integer}
-use Rattle.site_table.specs.Tree.{number_at, elements_at}
+use Rattle.toml_shapes.specs.Tree.{number_at, elements_at}
 
 -- the greatest id
 abbrev pub greatest_id : ℕ

@@ -1,4 +1,3 @@
-pub mod Tree
 pub mod Keys
 pub mod Kinds
 pub mod Ids
@@ -10,6 +9,6 @@ pub mod Order
 pub mod Table
 pub mod Reading
 pub mod Texts
-pub mod ByText
 pub mod RowSteps
 pub mod OwnerSteps
+pub mod Exact

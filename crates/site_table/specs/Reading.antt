@@ -6,11 +6,13 @@ use Rattle.toml.specs.Data.{Data, Members, table}
 use Rattle.toml.specs.Parse.{parse_document}
 use Rattle.site_table.specs.declared.error.SiteError.{SiteError}
 use Rattle.site_table.specs.declared.error.SiteError.TheVariants.{NotToml, Top, TooMany, Row as BadRow, User as BadUser, Group as BadGroup, Memory}
-use Rattle.site_table.specs.Tree.{elements_at}
-use Rattle.site_table.specs.Keys.{has_keys, top_keys}
+use Rattle.site_table.specs.declared.owners.OwnerKind.TheVariants.{User as UserKind, Group as GroupKind}
+use Rattle.toml_shapes.specs.Tree.{elements_at}
+use Rattle.toml_shapes.specs.Keys.{has_keys}
+use Rattle.site_table.specs.Keys.{top_keys}
 use Rattle.site_table.specs.Ids.{id_at}
 use Rattle.site_table.specs.Rows.{cause_of, row_of}
-use Rattle.site_table.specs.Owners.{has_doubled_name, is_wrong_user, is_wrong_group, user_of, group_of}
+use Rattle.site_table.specs.Owners.{has_doubled_name, is_wrong, user_of, group_of}
 use Rattle.site_table.specs.Order.{with_fixed, rows_in_order}
 use Rattle.site_table.specs.Table.{Site}
 
@@ -36,10 +38,10 @@ abbrev pub owner_faults : (Data → Bool) → (ℕ → SiteError) → List Data 
 owner_faults is_wrong refusal owners = faults_among (λ number before owner. cond (is_wrong owner || has_doubled_name before owner) (Some (refusal number)) None) owners
 
 abbrev pub user_faults : List Data → List SiteError
-user_faults users = owner_faults is_wrong_user BadUser users
+user_faults users = owner_faults (is_wrong UserKind) BadUser users
 
 abbrev pub group_faults : List Data → List SiteError
-group_faults groups = owner_faults is_wrong_group BadGroup groups
+group_faults groups = owner_faults (is_wrong GroupKind) BadGroup groups
 
 -- what is wrong at the top: the keys, or the dynamic uid
 abbrev pub top_faults : Data → List SiteError

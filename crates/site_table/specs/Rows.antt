@@ -10,8 +10,9 @@ use Rattle.site_table.specs.declared.kinds.RowKind.TheVariants.{Dir}
 use Rattle.site_table.specs.declared.row.Row.{Row}
 use Rattle.site_table.specs.declared.error.RowCause.{RowCause}
 use Rattle.site_table.specs.declared.error.RowCause.TheVariants.{Key, Path as BadPath, Kind, Number, Caps, Both, Duplicate, NoParent}
-use Rattle.site_table.specs.Tree.{text_at, flag_at, elements_at}
-use Rattle.site_table.specs.Keys.{has_keys, row_keys}
+use Rattle.toml_shapes.specs.Tree.{text_at, flag_at, elements_at}
+use Rattle.toml_shapes.specs.Keys.{has_keys}
+use Rattle.site_table.specs.Keys.{row_keys}
 use Rattle.site_table.specs.Kinds.{kind_named, is_dir, is_exe}
 use Rattle.site_table.specs.Ids.{id_at, is_out_of_range}
 use Rattle.site_table.specs.Caps.{are_caps, caps_of}

@@ -2,7 +2,7 @@
 use Rattle.std.specs.Prelude.{◌≡◌, ◌≢◌, ◌≤◌, ℕ, true, false, List, [], ◌∷◌, map, length, find, position, Option, Some, None, option_map, IfSome, IsSome, ◌==◌}
 use Rattle.std.specs.List.{AllByRecursion}
 use Rattle.std.specs.Str.{bytes_eq}
-use Rattle.abs_path.specs.Paths.{Path, text_of, is_normal}
+use Rattle.abs_path.specs.Paths.{Path, tail_of, text_of, is_normal}
 use Rattle.abs_path.specs.Prefix.{is_same}
 use Rattle.abs_path.specs.ByteOrder.{AreAscending}
 use Rattle.cap_sets.specs.Sets.{none}
@@ -30,6 +30,10 @@ row_at rows path = find (λ row. is_same row.path path) rows
 -- the place of the row of a path
 abbrev pub place_of : List Row → Path → Option ℕ
 place_of rows path = position (λ row. is_same row.path path) rows
+
+-- the place of the row whose path has this text; nothing is the text of the root
+abbrev pub place_of_text : List Row → List ℕ → Option ℕ
+place_of_text rows text = position (λ row. bytes_eq (tail_of row.path) text) rows
 
 -- the kind of the row of a path
 abbrev pub kind_at : List Row → Path → Option RowKind

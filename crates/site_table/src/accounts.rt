@@ -3,7 +3,7 @@
 use crate::texts::{Ids, Name};
 
 /// A user (passwd(5)).
-#[derive(Debug, Drop)]
+#[derive(Drop)]
 pub struct User {
     pub name: Name,
     pub uid: u32,
@@ -13,7 +13,7 @@ pub struct User {
 }
 
 /// A group (group(5)).
-#[derive(Debug, Drop)]
+#[derive(Drop)]
 pub struct Group {
     pub name: Name,
     pub gid: u32,

@@ -25,10 +25,7 @@ fn as_cap(value: &Value) -> Option<u8>
     ensures number { result ≡ as_cap (view value.now) }
     ensures in_range { IfSome result (λ number. number ≤ 40) }
 {
-    match value.as_str() {
-        Some(name) => cap_of(name),
-        None => None,
-    }
+    cap_of(value.as_str()?)
 }
 
 fn all_caps(values: &[Value]) -> bool

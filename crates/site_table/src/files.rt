@@ -11,14 +11,14 @@ ghost use Rattle.std.specs.Option.{option_map_or};
 use crate::caps::{are_caps, caps_of};
 use crate::error::{RowCause, SiteError};
 use crate::ids::{id_at, is_out_of_range};
-use crate::keys::{ROW_KEYS, has_keys};
+use crate::keys::ROW_KEYS;
 use crate::kinds::RowKind;
 use crate::paths::{path_of, tail};
 use crate::row::Row;
-use crate::tree::{elements_at, flag_at, text_at};
 use abs_path::AbsPath;
 use std::alloc::Global;
 use toml::Value;
+use toml_shapes::{elements_at, flag_at, has_keys, text_at};
 
 fn has(row: &Value, key: &str) -> bool
     ensures { result ≡ has key.now (view row.now) }
@@ -29,10 +29,7 @@ fn has(row: &Value, key: &str) -> bool
 fn kind_of(row: &Value) -> Option<RowKind>
     ensures { result ≡ kind_of (view row.now) }
 {
-    match text_at(row, "kind") {
-        Some(name) => RowKind::named(name),
-        None => None,
-    }
+    RowKind::named(text_at(row, "kind")?)
 }
 
 // a key that only an executable may have
@@ -46,12 +43,7 @@ fn has_exe_key(row: &Value) -> bool
 pub fn is_dir(row: &Value) -> bool
     ensures { result ≡ option_map_or is_dir (kind_of (view row.now)) false }
 {
-    match kind_of(row) {
-        Some(RowKind::Dir) => true,
-        Some(RowKind::File) => false,
-        Some(RowKind::Exe) => false,
-        None => false,
-    }
+    matches!(kind_of(row), Some(RowKind::Dir))
 }
 
 /// Whether the text is that of `/` or `/proc`, which are directories whether or not they are listed.

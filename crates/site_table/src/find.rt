@@ -1,12 +1,10 @@
-//! The row of a path that is never built: a front and what lies behind it.
+//! The search of a row by the text of a path that is never built: a front and what lies behind it.
 
-ghost use Rattle.std.specs.Prelude.{◌≡◌, ◌++◌, map};
+ghost use Rattle.std.specs.Prelude.{◌≡◌, ◌++◌, IsTrue, length};
 ghost use Rattle.std.specs.Ordering.{nat_cmp};
 ghost use Rattle.std.specs.Cmp.Lexicographic.{slice_cmp};
-ghost use Rattle.abs_path.specs.Paths.{tail_of, parts_of};
-ghost use Rattle.abs_path.specs.Prefix.{IsRest};
-ghost use Rattle.abs_path.specs.ByteOrder.{AreAscending};
-ghost use Rattle.site_table.specs.Table.{place_of, AreNormal};
+ghost use Rattle.abs_path.specs.Paths.{tail_of, is_normal};
+ghost use Rattle.site_table.specs.Order.{AreOrdered, Searches, IsGap};
 
 use crate::paths::tail;
 use crate::row::Row;
@@ -36,14 +34,27 @@ fn row_order(row: &Row, front: &str, rest: &str) -> Ordering
     )
 }
 
-/// The place of the row whose path is the front with the rest behind it.
-pub fn find_row(rows: &[Row], front: &AbsPath, rest: &str) -> Option<usize>
-    requires rest { IsRest rest.now }
-    requires ascending { AreAscending (map (λ row. row.path) rows.now) }
-    requires normal { AreNormal rows.now }
-    ensures { result ≡ place_of rows.now (front.now ++ parts_of rest.now) }
+// whether all rows come before the two texts, which is seen at the last
+fn ends_before(rows: &[Row], front: &str, rest: &str) -> bool
+    requires { AreOrdered rows.now }
+    ensures { IsTrue result → IsGap rows.now (front.now ++ rest.now) (length rows.now) }
+{
+    match rows.last() {
+        Some(last) => row_order(last, front, rest).is_lt(),
+        None => true,
+    }
+}
+
+/// The place of the row whose path has the text of the front with the rest behind it, or the place
+/// where such a row would go. Rows that come in their order are placed at once.
+pub fn search(rows: &[Row], front: &AbsPath, rest: &str) -> Result<usize, usize>
+    requires { AreOrdered rows.now }
+    ensures searches { Searches rows.now (tail_of front.now ++ rest.now) result }
+    ensures normal { IsTrue (is_normal front.now) }
 {
     let front = tail(front);
+    if ends_before(rows, front, rest) {
+        return Err(rows.len());
+    }
     rows.binary_search_by(|row| row_order(row, front, rest))
-        .ok()
 }

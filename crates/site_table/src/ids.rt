@@ -6,9 +6,9 @@ ghost use Rattle.toml.specs.View.{view};
 ghost use Rattle.site_table.specs.Ids.{id_of, id_at, is_out_of_range, as_id, ids_at, are_ids};
 
 use crate::texts::Ids;
-use crate::tree::{elements_at, number_at};
 use std::alloc::{AllocError, Global};
 use toml::Value;
+use toml_shapes::{elements_at, number_at};
 
 /// The greatest id. The number above stands for none in setresuid(2) and the like.
 const GREATEST_ID: i64 = 4_294_967_294;
@@ -27,10 +27,7 @@ fn id_of(number: i64) -> Option<u32>
 pub fn id_at(value: &Value, key: &str) -> Option<u32>
     ensures { result ≡ id_at key.now (view value.now) }
 {
-    match number_at(value, key) {
-        Some(number) => id_of(number),
-        None => None,
-    }
+    id_of(number_at(value, key)?)
 }
 
 /// Whether a number out of range stands at a key.
@@ -46,10 +43,7 @@ pub fn is_out_of_range(value: &Value, key: &str) -> bool
 fn as_id(value: &Value) -> Option<u32>
     ensures { result ≡ as_id (view value.now) }
 {
-    match value.as_integer() {
-        Some(number) => id_of(number),
-        None => None,
-    }
+    id_of(value.as_integer()?)
 }
 
 fn ids(alloc: Global, values: &[Value]) -> Result<Vec<u32>, AllocError>

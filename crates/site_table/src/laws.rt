@@ -1,9 +1,14 @@
 //! Laws of sites, each the contract of a function that does nothing.
 
-ghost use Rattle.std.specs.Prelude.{◌≡◌, ℕ, List, Some, None, Ok, slice_get};
+ghost use Rattle.std.specs.Prelude.{◌≡◌, ◌≤◌, ◌↔◌, ℕ, true, List, Some, None, Ok, slice_get};
+ghost use Rattle.toml.specs.Data.{Data, Members, table};
 ghost use Rattle.abs_path.specs.Paths.{Path};
+ghost use Rattle.cap_sets.specs.Sets.{has};
 ghost use Rattle.site_table.specs.declared.row.Row.{Row};
-ghost use Rattle.site_table.specs.Reading.{site_of};
+ghost use Rattle.site_table.specs.Caps.{IsNamed};
+ghost use Rattle.site_table.specs.Exact.{AreExactly};
+ghost use Rattle.site_table.specs.Reading.{rows_in, tree_of, site_of};
+ghost use Rattle.site_table.specs.Rows.{cap_names, row_of};
 ghost use Rattle.site_table.specs.Table.{Site, IsSite, row_at, place_of};
 
 /// The place of a path is that of its row.
@@ -15,7 +20,16 @@ pub fn place_and_row()
 {}
 
 /// A site that is read has its rows in byte order, each with its folder, and whatever else holds of
-/// each table.
+/// each table. Its rows are exactly those of the list, and `/` and `/proc`.
 pub fn accepted_sites()
     ensures holds { (bytes : List ℕ) (site : Site) → site_of bytes ≡ Ok site → IsSite site }
+    ensures exact_rows { (bytes : List ℕ) (members : Members) (site : Site) → tree_of bytes ≡ Some members
+        → site_of bytes ≡ Ok site → AreExactly (rows_in (table members)) site.rows }
+{}
+
+/// A capability is in the set of a row exactly where the row's list names it.
+pub fn caps_of_rows()
+    ensures named { (row : Data) (number : ℕ) → number ≤ 40
+        → (has (row_of row).caps number ≡ true) ↔ IsNamed (cap_names row) number }
+    ensures no_other { (row : Data) (number : ℕ) → has (row_of row).caps number ≡ true → number ≤ 40 }
 {}

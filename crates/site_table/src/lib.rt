@@ -1,7 +1,8 @@
 //! The description of a site: its files, users and groups, read from `site.toml`.
 //!
 //! A site is read exactly or refused with the first refusal. It stands on `abs_path` for paths, on
-//! `cap_sets` for the capabilities of files, and on `toml` for the tree of the text.
+//! `cap_sets` for the capabilities of files, and on `toml` and `toml_shapes` for the tree of the text and its
+//! keys.
 //! `read_site(alloc, b"dynamic_uid = 61184\n")?` has the two rows `/` and `/proc`.
 //!
 //! What is TOML is the promise of `toml`: TOML 1.1 in UTF-8, with integers of 64 bits, and with arrays,
@@ -27,7 +28,6 @@ mod rows;
 mod seen;
 mod table;
 mod texts;
-mod tree;
 
 pub use accounts::{Group, User};
 pub use error::{RowCause, SiteError};
@@ -36,6 +36,3 @@ pub use reader::read_site;
 pub use row::Row;
 pub use table::SiteTable;
 pub use texts::{Ids, Name};
-
-#[cfg(test)]
-mod tests;

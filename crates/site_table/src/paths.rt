@@ -6,10 +6,10 @@ ghost use Rattle.abs_path.specs.Paths.{tail_of, is_normal};
 ghost use Rattle.site_table.specs.Paths.{short_path, parent_of};
 ghost use Rattle.site_table.specs.Rows.{path_of};
 
-use crate::tree::text_at;
 use abs_path::{AbsPath, PathError};
 use std::alloc::{AllocError, Global};
 use toml::Value;
+use toml_shapes::text_at;
 
 /// How many bytes the path of a row has at most.
 const LONGEST: usize = 250;

@@ -7,13 +7,13 @@ ghost use Rattle.site_table.specs.Reading.{IsUnlessMemory, unless_fault, faults_
 
 use crate::error::SiteError;
 use crate::ids::id_at;
-use crate::keys::{TOP_KEYS, has_keys};
+use crate::keys::TOP_KEYS;
 use crate::owners::{read_groups, read_users};
 use crate::rows::read_rows;
 use crate::table::SiteTable;
-use crate::tree::elements_at;
 use std::alloc::Global;
 use toml::Value;
+use toml_shapes::{elements_at, has_keys};
 
 /// The most rows that a site may list.
 const MOST_ROWS: usize = 2048;

@@ -57,22 +57,16 @@ fn stands_in(folders: &Seen, path: &AbsPath) -> bool
 }
 
 // puts the row of this number in its place
-fn place(
-    alloc: Global,
-    number: u64,
-    folders: &Seen,
-    ordered: &mut OrderedRows,
-    row: Row,
-) -> Result<(), SiteError>
+fn place(number: u64, folders: &Seen, ordered: &mut OrderedRows, row: Row) -> Result<(), SiteError>
     ensures { Places number folders.now ordered.old row ordered.new result }
 {
-    if ordered.has(&row.path) {
+    let Some(at) = ordered.place_for(&row.path) else {
         return Err(SiteError::Row(number, RowCause::Duplicate));
-    }
+    };
     if !stands_in(folders, &row.path) {
         return Err(SiteError::Row(number, RowCause::NoParent));
     }
-    ordered.put(alloc, row)?;
+    ordered.put(at, row)?;
     Ok(())
 }
 
@@ -86,7 +80,7 @@ fn listed_rows(alloc: Global, rows: &[Value]) -> Result<OrderedRows, SiteError>
     'rows: for (at, value) in rows.iter().enumerate() {
         let number = at as u64 + 1;
         let row = read_row(alloc, number, value)?;
-        place(alloc, number, &folders, &mut ordered, row)?;
+        place(number, &folders, &mut ordered, row)?;
     }
     Ok(ordered)
 }
@@ -109,10 +103,9 @@ fn proc_path(alloc: Global) -> Result<AbsPath, AllocError>
 fn complete(alloc: Global, mut ordered: OrderedRows) -> Result<Vec<Row>, AllocError>
     ensures { IfOk result (λ rows. rows.items ≡ fixed_placed ordered) }
 {
-    ordered.put_dir(alloc, AbsPath::root(alloc))?;
-    let proc = proc_path(alloc)?;
-    ordered.put_dir(alloc, proc)?;
-    ordered.list(alloc)
+    ordered.put_dir(AbsPath::root(alloc))?;
+    ordered.put_dir(proc_path(alloc)?)?;
+    Ok(ordered.into_rows())
 }
 
 /// The rows that the elements of the tree describe, in byte order of their paths, with `/` and `/proc`

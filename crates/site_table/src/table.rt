@@ -3,12 +3,12 @@
 //! A contract sees a site as its dynamic uid and the lists of its rows, users and groups.
 
 ghost use Rattle.std.specs.Prelude.{◌≡◌, ◌++◌, ◌<◌, ◌≤◌, length, slice_get, Some, option_copied};
-ghost use Rattle.abs_path.specs.Paths.{parts_of};
+ghost use Rattle.abs_path.specs.Paths.{tail_of, parts_of};
 ghost use Rattle.abs_path.specs.Prefix.{IsRest};
-ghost use Rattle.site_table.specs.Table.{IsSite, site_with, place_of, user_named, user_with, group_named};
+ghost use Rattle.site_table.specs.Table.{IsSite, site_with, place_of, place_of_text, user_named, user_with, group_named};
 
 use crate::accounts::{Group, User};
-use crate::find::find_row;
+use crate::find::search;
 use crate::row::Row;
 use abs_path::AbsPath;
 use std::marker::Model;
@@ -88,13 +88,14 @@ impl SiteTable {
         &self.rows[at]
     }
 
-    /// The number of the row whose path is `front` with `rest` behind it, in the form that
-    /// `AbsPath::rest` answers; None where there is no such row. No path is built.
+    /// The number of the row whose text is that of `front` with `rest` behind it, where the root has no
+    /// text; None where there is no such row. With a rest in the form that `AbsPath::rest` answers it is
+    /// the row of the joined path. No path is built.
     pub fn find(&self, front: &AbsPath, rest: &str) -> Option<usize>
-        requires { IsRest rest.now }
-        ensures place_of_the_path { result ≡ place_of self.now.rows (front.now ++ parts_of rest.now) }
+        ensures place_of_the_text { result ≡ place_of_text self.now.rows (tail_of front.now ++ rest.now) }
+        ensures place_of_the_path { IsRest rest.now → result ≡ place_of self.now.rows (front.now ++ parts_of rest.now) }
     {
-        find_row(&self.rows, front, rest)
+        search(&self.rows, front, rest).ok()
     }
 
     /// The user of this name.

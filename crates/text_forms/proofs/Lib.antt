@@ -1,4 +1,5 @@
 pub mod Symbols
+pub mod Bounded
 pub mod Numerals
 pub mod Pieces
 pub mod Escapes

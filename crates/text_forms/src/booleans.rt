@@ -1,8 +1,8 @@
 //! Booleans of settings (systemd.syntax(7)).
 
 ghost use Rattle.std.specs.Prelude.{◌≡◌, map};
-ghost use Rattle.std.specs.Str.{bytes_eq};
-ghost use Rattle.text_forms.specs.Booleans.{in_lower_case, true_words, false_words, is_one_of, bool_value};
+ghost use Rattle.std.specs.Str.{str_eq_ignore_ascii_case};
+ghost use Rattle.text_forms.specs.Booleans.{true_words, false_words, is_one_of, bool_value};
 
 const TRUE_WORDS: &[&str] = &["1", "yes", "true", "on", "y", "t"];
 
@@ -22,7 +22,7 @@ fn words_of_false() -> &'static [&'static str]
 
 // the same word but for the case of ASCII letters
 fn is_same_word(word: &str, text: &str) -> bool
-    ensures { result ≡ bytes_eq (in_lower_case word.now) (in_lower_case text.now) }
+    ensures { result ≡ str_eq_ignore_ascii_case word.now text.now }
 {
     word.eq_ignore_ascii_case(text)
 }

@@ -1,6 +1,7 @@
 -- What is answered to `judge` is what the definitions admit.
-use Rattle.std.proofs.Common.{◌≡◌, ℕ, List, [], ◌∷◌, Option, None, Some, Result, Ok, Err, Vec, Global, refl, sym, ap, ◌∙◌, subst, inl, inr}
-use Rattle.std.specs.Prelude.{option_and_then, IfOk}
+use Rattle.std.proofs.Common.{◌≡◌, ℕ, List, [], ◌∷◌, Option, None, Some, Result, Ok, Err, Vec, Global, refl, sym, ap, ◌∙◌, ◌++◌, map, append-nil, subst, inl, inr}
+use Rattle.std.specs.Prelude.{flat_map, option_and_then, IfOk}
+use Rattle.std.specs.declared.alloc.AllocError.{AllocError}
 use Rattle.std.specs.Option.{option_map}
 use Rattle.std.specs.List.{concat}
 use Rattle.host_io.specs.Files.{Files}
@@ -8,20 +9,23 @@ use Rattle.host_io.proofs.FolderNames.{and_then_some}
 use Rattle.kernel_model.specs.declared.outcome.Launch.{Launch}
 use Rattle.kernel_model.specs.declared.outcome.Launch.TheVariants as launch
 use Rattle.kernel_model.specs.Table.{NamedCall}
-use Rattle.command_answers.specs.declared.answer.Answer.{Answer}
-use Rattle.command_answers.specs.declared.answer.Failure.{Failure}
+use Rattle.command_answers.specs.declared.stop.Stop.{Stop}
+use Rattle.command_answers.specs.declared.stop.Stop.TheVariants as stop
 use Rattle.command_answers.specs.declared.ending.Ending.{Ending}
 use Rattle.command_answers.specs.declared.ending.Ending.TheVariants.{Refused}
 use Rattle.thin_judge.specs.Report.{Reports}
+use Rattle.command_answers.specs.Laws.{IsAdmitted}
 use Rattle.command_answers.specs.Refusals.{unbuilt_line}
+use Rattle.command_answers.specs.Stops.{stop_of}
 use Rattle.thin_judge.specs.ThinUnit.{IsThinName}
 use Rattle.thin_judge.specs.ThinTable.{Table}
 use Rattle.thin_judge.specs.ThinUnitReading.{unit_of}
 use Rattle.thin_judge.specs.ThinTableReading.{table_of}
 use Rattle.command_answers.specs.ReadFiles.{file_of, table_path, ReadsIfTold}
-use Rattle.thin_judge.specs.JudgePrints.{EndsUntold, PrintsTold, unit_path, SaysUnit, AnswersJudge, PrintsJudge, refuses_the_unit, refuses_the_table, answers}
-use Rattle.command_answers.specs.Answers.{lines_of_answer, text_of_answer}
-use Rattle.thin_judge.specs.JudgeSteps.{Inputs, RefusesFile, with_table, with_unit, inputs_of, AnswersInputs, AnswersUnit}
+use Rattle.thin_judge.specs.JudgePrints.{EndsUntold, judge_laws, unit_path, SaysUnit, AnswersJudge, PrintsJudge, refuses_the_unit, refuses_the_table, answers}
+use Rattle.thin_judge.specs.Answers.{ending_of, lines_of_answer, text_of_answer}
+use Rattle.thin_judge.specs.declared.answer.Answer.{Answer}
+use Rattle.thin_judge.specs.JudgeSteps.{Inputs, RefusesFile, with_table, with_unit, inputs_of, AnswersInputs, AnswersThin, AnswersUnit}
 use Rattle.thin_judge.proofs.ThinUnits.{unit_reads, unit_is_read}
 use Rattle.thin_judge.proofs.AnswerLines.{one_line, says_no_table, says_table}
 
@@ -38,16 +42,25 @@ reports_end unit calls (launch.Killed step) ending lines reports = inr (inr repo
 pub answers_end : (unit : List ℕ) (names : List (List ℕ)) (table : Table) (ending : Ending) (lines : List (List ℕ)) → AnswersJudge unit names table ending lines → EndsUntold ending
 answers_end unit names table ending lines (launched, is_launch, reports) = reports_end unit table.calls launched ending lines reports
 
-module _ (unit : List ℕ) where
-  answers_refused : (inputs : Inputs) (file : List ℕ) (answer : Answer) → inputs ≡ RefusesFile file → answer.ending ≡ Refused → lines_of_answer answer ≡ unbuilt_line file ∷ [] → AnswersInputs unit inputs answer.ending (lines_of_answer answer)
-  answers_refused inputs file answer e ending lines = subst (λ i. AnswersInputs unit i answer.ending (lines_of_answer answer)) (sym e) (ending, lines)
+-- the line of a refused file, where memory was found for it
+refused_line_of : (unit : List ℕ) (told : Option Files) (file : List ℕ) (line : Result (Vec ℕ Global) AllocError) → AnswersUnit unit told Refused (unbuilt_line file ∷ []) → IfOk line (λ l. l.items ≡ unbuilt_line file) → AnswersThin unit told (Err (stop_of line))
+refused_line_of unit told file (Ok line) admitted is = subst (λ l. AnswersUnit unit told Refused (l ∷ [])) (sym is) admitted
+refused_line_of unit told file (Err error) admitted is = tt
 
-  pub unit_refused : (told : Option Files) (path : List ℕ) (found : Option (Vec ℕ Global)) (answer : Answer) → path ≡ unit_path unit → ReadsIfTold path told found → option_and_then unit_of (option_map (λ v. v.items) found) ≡ None → answer.ending ≡ Refused → lines_of_answer answer ≡ unbuilt_line path ∷ [] → AnswersUnit unit told answer
-  unit_refused None path found answer p reads none ending lines = inr (inl ending)
-  unit_refused (Some files) path found answer p reads none ending lines =
-      answers_refused (inputs_of files unit) (unit_path unit) answer
-      (with_read files unit (option_map (λ v. v.items) found) (reads ∙ ap (file_of files) p) ∙ ap (with_unit files unit) none)
-      ending (lines ∙ ap (λ q. unbuilt_line q ∷ []) p)
+module _ (unit : List ℕ) where
+  answers_refused : (inputs : Inputs) (file : List ℕ) → inputs ≡ RefusesFile file → AnswersInputs unit inputs Refused (unbuilt_line file ∷ [])
+  answers_refused inputs file e = subst (λ i. AnswersInputs unit i Refused (unbuilt_line file ∷ [])) (sym e) (refl, refl)
+
+  unit_is_refused : (told : Option Files) (found : Option (Vec ℕ Global)) → ReadsIfTold (unit_path unit) told found → option_and_then unit_of (option_map (λ v. v.items) found) ≡ None → AnswersUnit unit told Refused (unbuilt_line (unit_path unit) ∷ [])
+  unit_is_refused None found reads none = inr (inl refl)
+  unit_is_refused (Some files) found reads none =
+      answers_refused (inputs_of files unit) (unit_path unit)
+      (with_read files unit (option_map (λ v. v.items) found) reads ∙ ap (with_unit files unit) none)
+
+  pub unit_refused : (told : Option Files) (path : List ℕ) (found : Option (Vec ℕ Global)) (line : Result (Vec ℕ Global) AllocError) → path ≡ unit_path unit → ReadsIfTold path told found → option_and_then unit_of (option_map (λ v. v.items) found) ≡ None → IfOk line (λ l. l.items ≡ unbuilt_line path) → AnswersThin unit told (Err (stop_of line))
+  unit_refused told path found line p reads none is =
+      refused_line_of unit told path line
+      (subst (λ q. AnswersUnit unit told Refused (unbuilt_line q ∷ [])) (sym p) (unit_is_refused told found (subst (λ q. ReadsIfTold q told found) p reads) none)) is
 
 module _ (unit : List ℕ) (path table : List ℕ) (found more : Option (Vec ℕ Global)) (names : List (List ℕ)) where
   inputs_with : (files : Files) (tables : Option Table) → path ≡ unit_path unit → table ≡ table_path → ReadsIfTold path (Some files) found → option_and_then unit_of (option_map (λ v. v.items) found) ≡ Some names → ReadsIfTold table (Some files) more → option_and_then table_of (option_map (λ v. v.items) more) ≡ tables → inputs_of files unit ≡ with_table names tables
@@ -57,12 +70,17 @@ module _ (unit : List ℕ) (path table : List ℕ) (found more : Option (Vec ℕ
       ∙ ap (λ o. with_table names (option_and_then table_of o)) (sym (reads_more ∙ ap (file_of files) t))
       ∙ ap (with_table names) table_is
 
-  pub table_refused : (told : Option Files) (answer : Answer) → path ≡ unit_path unit → table ≡ table_path → ReadsIfTold path told found → option_and_then unit_of (option_map (λ v. v.items) found) ≡ Some names → ReadsIfTold table told more → option_and_then table_of (option_map (λ v. v.items) more) ≡ None → answer.ending ≡ Refused → lines_of_answer answer ≡ unbuilt_line table ∷ [] → AnswersUnit unit told answer
-  table_refused None answer p t reads unit_is reads_more none ending lines = inr (inl ending)
-  table_refused (Some files) answer p t reads unit_is reads_more none ending lines =
-      answers_refused unit (inputs_of files unit) table_path answer (inputs_with files None p t reads unit_is reads_more none) ending (lines ∙ ap (λ q. unbuilt_line q ∷ []) t)
+  table_is_refused : (told : Option Files) → path ≡ unit_path unit → table ≡ table_path → ReadsIfTold path told found → option_and_then unit_of (option_map (λ v. v.items) found) ≡ Some names → ReadsIfTold table told more → option_and_then table_of (option_map (λ v. v.items) more) ≡ None → AnswersUnit unit told Refused (unbuilt_line table_path ∷ [])
+  table_is_refused None p t reads unit_is reads_more none = inr (inl refl)
+  table_is_refused (Some files) p t reads unit_is reads_more none =
+      answers_refused unit (inputs_of files unit) table_path (inputs_with files None p t reads unit_is reads_more none)
 
-  pub accepted : (told : Option Files) (is : Table) (answer : Answer) → path ≡ unit_path unit → table ≡ table_path → ReadsIfTold path told found → option_and_then unit_of (option_map (λ v. v.items) found) ≡ Some names → ReadsIfTold table told more → option_and_then table_of (option_map (λ v. v.items) more) ≡ Some is → AnswersJudge unit names is answer.ending (lines_of_answer answer) → AnswersUnit unit told answer
+  pub table_refused : (told : Option Files) (line : Result (Vec ℕ Global) AllocError) → path ≡ unit_path unit → table ≡ table_path → ReadsIfTold path told found → option_and_then unit_of (option_map (λ v. v.items) found) ≡ Some names → ReadsIfTold table told more → option_and_then table_of (option_map (λ v. v.items) more) ≡ None → IfOk line (λ l. l.items ≡ unbuilt_line table) → AnswersThin unit told (Err (stop_of line))
+  table_refused told line p t reads unit_is reads_more none is =
+      refused_line_of unit told table line
+      (subst (λ q. AnswersUnit unit told Refused (unbuilt_line q ∷ [])) (sym t) (table_is_refused told p t reads unit_is reads_more none)) is
+
+  pub accepted : (told : Option Files) (is : Table) (answer : Answer) → path ≡ unit_path unit → table ≡ table_path → ReadsIfTold path told found → option_and_then unit_of (option_map (λ v. v.items) found) ≡ Some names → ReadsIfTold table told more → option_and_then table_of (option_map (λ v. v.items) more) ≡ Some is → AnswersJudge unit names is answer.ending (lines_of_answer answer) → AnswersThin unit told (Ok answer)
   accepted None is answer p t reads unit_is reads_more table_is said = answers_end unit names is answer.ending (lines_of_answer answer) said
   accepted (Some files) is answer p t reads unit_is reads_more table_is said =
       subst (λ i. AnswersInputs unit i answer.ending (lines_of_answer answer)) (sym (inputs_with files (Some is) p t reads unit_is reads_more table_is)) said
@@ -92,18 +110,27 @@ module _ (files : Files) (unit : List ℕ) (ending : Ending) (lines : List (List
       let read = and_then_some (file_of files (unit_path unit)) unit_of names e in
       by_table names (option_and_then table_of (file_of files table_path)) (record { name = name; bytes = read.0; file = read.1; is = unit_reads read.0 names read.2 }) refl said
 
-prints_unit : (told : Option Files) (unit : List ℕ) (answer : Answer) → IsThinName unit → AnswersUnit unit told answer → PrintsTold told unit answer.ending (text_of_answer answer)
-prints_unit None unit answer name said = said
-prints_unit (Some files) unit answer name said =
-    by_unit files unit answer.ending (lines_of_answer answer) (option_and_then unit_of (file_of files (unit_path unit))) name refl said
+admits_unit : (told : Option Files) (unit : List ℕ) (ending : Ending) (lines : List (List ℕ)) → IsThinName unit → AnswersUnit unit told ending lines → (judge_laws told unit).admits ending (concat lines)
+admits_unit None unit ending lines name said = said
+admits_unit (Some files) unit ending lines name said =
+    by_unit files unit ending lines (option_and_then unit_of (file_of files (unit_path unit))) name refl said
 
-pub prints_judge : (told : Option Files) (unit : List ℕ) (result : Result Answer Failure) → IsThinName unit → IfOk result (AnswersUnit unit told) → IfOk result (λ answer. PrintsTold told unit answer.ending (text_of_answer answer))
-prints_judge told unit (Ok answer) name said = prints_unit told unit answer name said
-prints_judge told unit (Err error) name said = tt
+-- the lines of an answer make its text
+text_is : (lines : List (Vec ℕ Global)) → concat (map (λ line. line.items) lines) ≡ flat_map (λ line. line.items) lines
+text_is [] = refl
+text_is (line ∷ lines) = ap (λ rest. line.items ++ rest) (text_is lines)
+
+pub prepared_thin : (told : Option Files) (unit : List ℕ) (result : Result Answer Stop) → IsThinName unit → AnswersThin unit told result → IsAdmitted (judge_laws told unit) ending_of text_of_answer result
+prepared_thin told unit (Ok answer) name said = subst ((judge_laws told unit).admits answer.ending) (text_is answer.lines.items) (admits_unit told unit answer.ending (lines_of_answer answer) name said)
+prepared_thin told unit (Err (stop.Refused line)) name said = subst ((judge_laws told unit).admits Refused) (append-nil line.items) (admits_unit told unit Refused (line.items ∷ []) name said)
+prepared_thin told unit (Err stop.ReadFault) name said = tt
+prepared_thin told unit (Err stop.Memory) name said = tt
+
+no_name_admitted : (told : Option Files) (unit : List ℕ) → (IsThinName unit → ⊥) → (judge_laws told unit).admits Refused (unbuilt_line (unit_path unit))
+no_name_admitted None unit none = inr (inl refl)
+no_name_admitted (Some files) unit none = refuses_the_unit (λ names says. none says.name)
 
 -- a unit whose name is not thin is refused without a read
-pub prints_no_name : (told : Option Files) (unit : List ℕ) (path : List ℕ) (answer : Answer) → (IsThinName unit → ⊥) → path ≡ unit_path unit → answer.ending ≡ Refused → lines_of_answer answer ≡ unbuilt_line path ∷ [] → PrintsTold told unit answer.ending (text_of_answer answer)
-prints_no_name None unit path answer none p ending lines = inr (inl ending)
-prints_no_name (Some files) unit path answer none p ending lines =
-    prints_as files unit answer.ending Refused (lines_of_answer answer) (unbuilt_line (unit_path unit)) ending (one_line (lines_of_answer answer) (unbuilt_line (unit_path unit)) (lines ∙ ap (λ q. unbuilt_line q ∷ []) p))
-    (refuses_the_unit (λ names says. none says.name))
+pub prepared_no_name : (told : Option Files) (unit : List ℕ) (path : List ℕ) (line : Result (Vec ℕ Global) AllocError) → (IsThinName unit → ⊥) → path ≡ unit_path unit → IfOk line (λ l. l.items ≡ unbuilt_line path) → IsAdmitted (judge_laws told unit) ending_of text_of_answer (Err (stop_of line))
+prepared_no_name told unit path (Ok line) none p is = subst ((judge_laws told unit).admits Refused) (sym (is ∙ ap unbuilt_line p)) (no_name_admitted told unit none)
+prepared_no_name told unit path (Err error) none p is = tt

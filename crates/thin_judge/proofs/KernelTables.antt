@@ -14,7 +14,9 @@ use Rattle.std.proofs.lemmas.Str.{IsUtf8-from_ascii}
 use Rattle.std.proofs.lemmas.Str.Ascii.{IsAscii-from_all}
 use Rattle.bpf_code.specs.declared.machine.Insn.{Insn}
 use Rattle.bpf_code.specs.Refusing.{IsPlain}
-use Rattle.call_rules.specs.declared.actions.TheConstants.{ALLOW, KILL_PROCESS}
+use Rattle.call_rules.specs.Action.{word_of}
+use Rattle.call_rules.specs.declared.actions.Action.{Action}
+use Rattle.call_rules.specs.declared.actions.Action.TheVariants.{KillProcess, Allow}
 use Rattle.kernel_model.specs.declared.outcome.Launch.{Launch}
 use Rattle.kernel_model.specs.Judged.{AnswersByNumber}
 use Rattle.kernel_model.specs.Launch.{LaunchesTo, can_launch, execve_data, outcome_of}
@@ -112,17 +114,17 @@ has_launch bytes table thin =
     rw (setgroups.0, setresgid.0, capset.0, seccomp.0, execve.0) refl
 
 -- what the unit says goes by the number, and is plain
-abbrev answer_to : Bool → Bool → ℕ
-answer_to here listed = cond here (cond listed ALLOW KILL_PROCESS) KILL_PROCESS
+abbrev answer_to : Bool → Bool → Action
+answer_to here listed = cond here (cond listed Allow KillProcess) KillProcess
 
-is_plain : (here listed : Bool) → IsPlain (answer_to here listed)
+is_plain : (here listed : Bool) → IsPlain (word_of (answer_to here listed))
 is_plain true true = inl refl
 is_plain true false = inr (omega (arith, ints))
 is_plain false listed = inr (omega (arith, ints))
 
 pub by_number : (table : Table) (names : List (List ℕ)) (program : List Insn) → MeetsWanted table names program → AnswersByNumber program
 by_number table names program meets = record {
-  answer = λ arch nr. answer_to (arch == table.arch) (list_any (is_listed (names ++ table.default_group) nr) table.calls);
+  answer = λ arch nr. word_of (answer_to (arch == table.arch) (list_any (is_listed (names ++ table.default_group) nr) table.calls));
   gives = λ input fit. meets input fit;
   plain = λ input fit. is_plain (input.arch == table.arch) (list_any (is_listed (names ++ table.default_group) input.nr) table.calls);
 }
@@ -154,4 +156,4 @@ pub all_launch : (bytes : List ℕ) (table : Table) (names : List (List ℕ)) (p
 all_launch bytes table names program launched thin meets launches = λ other other_meets second seconds.
     let input = execve_data table.arch table.calls in
     let fits = bare_data_fits (start_world table.arch table.calls) (number_of table.calls (codes "execve")) (arch_fits thin.abi.digits table.arch thin.abi.reads) (named_fits thin.call_lines table.calls (codes "execve") thin.calls) in
-    launches_end_alike table.arch table.calls program other (wanted_action table names input) launched second (is_kernel_table bytes table thin) (has_launch bytes table thin) (meets input fits) (other_meets input fits) launches seconds
+    launches_end_alike table.arch table.calls program other (word_of (wanted_action table names input)) launched second (is_kernel_table bytes table thin) (has_launch bytes table thin) (meets input fits) (other_meets input fits) launches seconds

@@ -14,10 +14,10 @@ use Rattle.kernel_model.specs.Table.{IsTable, NamedCall}
 use Rattle.kernel_model.specs.World.{World}
 use Rattle.kernel_model.proofs.Tables.{plain_names_are_plain_calls}
 use Rattle.bpf_code.specs.declared.machine.Insn.{Insn}
-use Rattle.command_answers.specs.declared.answer.Answer.{Answer}
+use Rattle.thin_judge.specs.declared.answer.Answer.{Answer}
 use Rattle.thin_judge.specs.declared.judge.Report.{Report}
 use Rattle.thin_judge.specs.JudgePrints.{AnswersJudge}
-use Rattle.command_answers.specs.Answers.{lines_of_answer}
+use Rattle.thin_judge.specs.Answers.{lines_of_answer}
 use Rattle.thin_judge.specs.ThinFilter.{MeetsWanted}
 use Rattle.thin_judge.specs.ThinTable.{Table, IsThinTable}
 use Rattle.thin_judge.specs.Report.{nothing, is_denied, is_open, Reports}

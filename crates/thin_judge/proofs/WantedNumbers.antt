@@ -13,8 +13,8 @@ use Rattle.std.proofs.lemmas.Map.Views.{Contains-from_any, list_any-from_Contain
 use Rattle.bpf_code.specs.declared.machine.CallData.{CallData}
 use Rattle.bpf_code.specs.declared.machine.Insn.{Insn}
 use Rattle.bpf_code.specs.Meaning.{Answers}
-use Rattle.call_rules.specs.declared.actions.TheConstants.{ALLOW, KILL_PROCESS}
-use Rattle.call_rules.specs.Action.{call_action}
+use Rattle.call_rules.specs.declared.actions.Action.TheVariants.{KillProcess, Allow}
+use Rattle.call_rules.specs.Action.{call_action, word_of}
 use Rattle.call_rules.specs.Sizes.{CanCompile, HaveFewTests}
 use Rattle.seccomp_compile.specs.Compiled.{Decides}
 use Rattle.thin_judge.specs.declared.thin_lines.ThinCall.{ThinCall}
@@ -66,11 +66,11 @@ nothing_tested k case below = absurd (omega arith)
 no_tests : (numbers : List ℕ) → All (λ call. HaveFewTests call.cases) (map allow numbers)
 no_tests numbers = All-map (λ call. HaveFewTests call.cases) allow numbers (λ k number below. nothing_tested)
 
-pub found : (numbers : List ℕ) (input : CallData) → option_map_or (call_action input) (find (λ call. eqb call.number input.nr) (map allow numbers)) KILL_PROCESS ≡ cond (list_any (λ m. eqb input.nr m) numbers) ALLOW KILL_PROCESS
+pub found : (numbers : List ℕ) (input : CallData) → option_map_or (call_action input) (find (λ call. eqb call.number input.nr) (map allow numbers)) KillProcess ≡ cond (list_any (λ m. eqb input.nr m) numbers) Allow KillProcess
 found [] input = refl
 found (n ∷ numbers) input =
     rw (eqb_comm n input.nr)
-    (elim (eqb input.nr n) as (λ b. option_map_or (call_action input) (cond b (Some (allow n)) (find (λ call. eqb call.number input.nr) (map allow numbers))) KILL_PROCESS ≡ cond (b || list_any (λ m. eqb input.nr m) numbers) ALLOW KILL_PROCESS)
+    (elim (eqb input.nr n) as (λ b. option_map_or (call_action input) (cond b (Some (allow n)) (find (λ call. eqb call.number input.nr) (map allow numbers))) KillProcess ≡ cond (b || list_any (λ m. eqb input.nr m) numbers) Allow KillProcess)
     [ true ↦ refl | false ↦ found numbers input ])
 
 by_tests : (w e : Bool) (number n : ℕ) (rest : List ℕ) (more : Bool) → eqb n number ≡ e → list_any (λ m. eqb n m) rest ≡ more → list_any (λ m. eqb n m) (cond w (number ∷ rest) rest) ≡ ((e && w) || more)
@@ -86,17 +86,17 @@ wanted_any names (call ∷ calls) n =
     ∙ ap (λ b. (eqb call.number n && b) || list_any (is_listed (map (λ name. name.now) names) n) (map call_view calls)) (sym (any-map (λ name. bytes_eq name call.name.now) (λ name. name.now) names))
 
 -- a program that decides by the rules does what is wanted
-pub meets : (arch : ℕ) (names group listed : List (Bor (List ℕ))) (calls : List ThinCall) (numbers : List ℕ) (program : List Insn) → listed ≡ names ++ group → ((n : ℕ) → list_any (λ m. eqb n m) numbers ≡ list_any (λ m. eqb n m) (wanted_numbers listed calls)) → Decides program (record { arch = arch; calls = map allow numbers; rest = KILL_PROCESS }) → MeetsWanted (record { arch = arch; calls = map call_view calls; default_group = map (λ name. name.now) group }) (map (λ name. name.now) names) program
+pub meets : (arch : ℕ) (names group listed : List (Bor (List ℕ))) (calls : List ThinCall) (numbers : List ℕ) (program : List Insn) → listed ≡ names ++ group → ((n : ℕ) → list_any (λ m. eqb n m) numbers ≡ list_any (λ m. eqb n m) (wanted_numbers listed calls)) → Decides program (record { arch = arch; calls = map allow numbers; rest = KillProcess }) → MeetsWanted (record { arch = arch; calls = map call_view calls; default_group = map (λ name. name.now) group }) (map (λ name. name.now) names) program
 meets arch names group listed calls numbers program is members decides input fits =
     let views : map (λ name. name.now) listed ≡ map (λ name. name.now) names ++ map (λ name. name.now) group =
     ap (map (λ name. name.now)) is ∙ map-append (λ name. name.now) names group in
-    subst (Answers program input)
-    (ap (λ a. cond (eqb input.arch arch) a KILL_PROCESS)
-    (found numbers input ∙ ap (λ b. cond b ALLOW KILL_PROCESS) (members input.nr ∙ wanted_any listed calls input.nr ∙ ap (λ all. list_any (is_listed all input.nr) (map call_view calls)) views)))
+    subst (λ action. Answers program input (word_of action))
+    (ap (λ a. cond (eqb input.arch arch) a KillProcess)
+    (found numbers input ∙ ap (λ b. cond b Allow KillProcess) (members input.nr ∙ wanted_any listed calls input.nr ∙ ap (λ all. list_any (is_listed all input.nr) (map call_view calls)) views)))
     (decides input fits)
 
-pub can_compile : (arch : ℕ) (numbers : List ℕ) → length numbers ≤ 512 → CanCompile (record { arch = arch; calls = map allow numbers; rest = KILL_PROCESS })
+pub can_compile : (arch : ℕ) (numbers : List ℕ) → length numbers ≤ 512 → CanCompile (record { arch = arch; calls = map allow numbers; rest = KillProcess })
 can_compile arch numbers few = record { calls = omega (arith, length-allow numbers); cases = omega (arith, no_cases numbers); tests = no_tests numbers }
 
 pub meets_same : (table : Table) (names names' : List (List ℕ)) (program : List Insn) → names ≡ names' → MeetsWanted table names program → MeetsWanted table names' program
-meets_same table names names' program e meets input fits = subst (Answers program input) (ap (λ n. wanted_action table n input) e) (meets input fits)
+meets_same table names names' program e meets input fits = subst (λ action. Answers program input (word_of action)) (ap (λ n. wanted_action table n input) e) (meets input fits)

@@ -8,9 +8,10 @@ use Rattle.kernel_model.specs.declared.outcome.Launch.TheVariants as launch
 use Rattle.kernel_model.specs.declared.outcome.Ending.{Ending as Outcome}
 use Rattle.kernel_model.specs.Launch.{LaunchesTo, outcome_of}
 use Rattle.command_answers.specs.declared.ending.Ending.{Ending}
-use Rattle.command_answers.specs.declared.ending.Ending.TheVariants.{Done, NoCommand, Refused, ReadFault, WriteFault, OutOfMemory, LaunchRefused}
+use Rattle.command_answers.specs.declared.ending.Ending.TheVariants.{Done, Refused, LaunchRefused}
 use Rattle.thin_judge.specs.TableSaid.{SaysTable}
 use Rattle.command_answers.specs.ReadFiles.{file_of, table_path}
+use Rattle.command_answers.specs.Laws.{Laws}
 use Rattle.command_answers.specs.Refusals.{unbuilt_line}
 use Rattle.thin_judge.specs.Report.{Reports}
 use Rattle.thin_judge.specs.ThinFilter.{MeetsWanted}
@@ -52,11 +53,6 @@ pub data PrintsJudge (files : Files) (unit : List ℕ) : Ending → List ℕ →
 abbrev pub EndsUntold : Ending → Type 0
 EndsUntold ending = (ending ≡ Done) ⊎ ((ending ≡ Refused) ⊎ (ending ≡ LaunchRefused))
 
--- as the files say where they are told
-abbrev pub PrintsTold : Option Files → List ℕ → Ending → List ℕ → Type 0
-PrintsTold None unit ending text = EndsUntold ending
-PrintsTold (Some files) unit ending text = PrintsJudge files unit ending text
-
 -- both inputs are thin
 abbrev pub AcceptsJudge : Files → List ℕ → Type 0
 AcceptsJudge files unit = (names : List (List ℕ)) × (table : Table) × SaysUnit files unit names × SaysTable files table
@@ -77,12 +73,23 @@ pub record Launches (files : Files) (unit : List ℕ) (through : Bool) : Type 0 
   pub is_launch : IsLaunchOf table names launched
   pub ends : is_through launched ≡ through
 
--- 0 comes only where the launch is done, 7 only where it is not, 3 only where an input is refused, and 4 only for a thin name
+-- done where the launch is done, refused as a launch where it is not, and refused where an input is
 abbrev pub EndsJudge : Files → List ℕ → Ending → Type 0
-EndsJudge files unit Done = Launches files unit true
-EndsJudge files unit LaunchRefused = Launches files unit false
-EndsJudge files unit Refused = AcceptsJudge files unit → ⊥
-EndsJudge files unit NoCommand = ⊥
-EndsJudge files unit ReadFault = IsThinName unit
-EndsJudge files unit WriteFault = Unit {0}
-EndsJudge files unit OutOfMemory = Unit {0}
+EndsJudge files unit ending =
+    ((ending ≡ Done) × Launches files unit true) ⊎ (((ending ≡ Refused) × (AcceptsJudge files unit → ⊥)) ⊎ ((ending ≡ LaunchRefused) × Launches files unit false))
+
+-- as the files say where they are told; files are read only for a thin name
+abbrev pub admits_over : List ℕ → Option Files → Ending → List ℕ → Type 0
+admits_over unit None ending text = EndsUntold ending
+admits_over unit (Some files) ending text = PrintsJudge files unit ending text
+
+abbrev pub may_end_over : List ℕ → Option Files → Ending → Type 0
+may_end_over unit None ending = EndsUntold ending
+may_end_over unit (Some files) ending = EndsJudge files unit ending
+
+abbrev pub accepts_over : List ℕ → Option Files → Type 0
+accepts_over unit None = ⊥
+accepts_over unit (Some files) = AcceptsJudge files unit
+
+abbrev pub judge_laws : Option Files → List ℕ → Laws
+judge_laws told unit = record { admits = admits_over unit told; may_end = may_end_over unit told; accepts = accepts_over unit told; reads = IsThinName unit }

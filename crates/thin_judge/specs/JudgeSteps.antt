@@ -1,10 +1,12 @@
 -- What the parts of `judge` answer each other.
-use Rattle.std.specs.Prelude.{◌≡◌, ℕ, List, ◌∷◌, [], Option, Some, None, option_and_then}
+use Rattle.std.specs.Prelude.{◌≡◌, ℕ, List, ◌∷◌, [], Option, Some, None, Result, Ok, Err, option_and_then}
 use Rattle.host_io.specs.Files.{Files}
-use Rattle.command_answers.specs.declared.answer.Answer.{Answer}
+use Rattle.command_answers.specs.declared.stop.Stop.{Stop}
+use Rattle.command_answers.specs.declared.stop.Stop.TheVariants as stop
 use Rattle.command_answers.specs.declared.ending.Ending.{Ending}
 use Rattle.command_answers.specs.declared.ending.Ending.TheVariants.{Refused}
-use Rattle.command_answers.specs.Answers.{lines_of_answer}
+use Rattle.thin_judge.specs.Answers.{lines_of_answer}
+use Rattle.thin_judge.specs.declared.answer.Answer.{Answer}
 use Rattle.command_answers.specs.ReadFiles.{file_of, table_path}
 use Rattle.command_answers.specs.Refusals.{unbuilt_line}
 use Rattle.thin_judge.specs.JudgePrints.{AnswersJudge, EndsUntold, unit_path}
@@ -33,6 +35,13 @@ abbrev pub AnswersInputs : List ℕ → Inputs → Ending → List (List ℕ) �
 AnswersInputs unit (RefusesFile file) ending lines = (ending ≡ Refused) × (lines ≡ unbuilt_line file ∷ [])
 AnswersInputs unit (Accepted names table) ending lines = AnswersJudge unit names table ending lines
 
-abbrev pub AnswersUnit : List ℕ → Option Files → Answer → Type 0
-AnswersUnit unit None answer = EndsUntold answer.ending
-AnswersUnit unit (Some files) answer = AnswersInputs unit (inputs_of files unit) answer.ending (lines_of_answer answer)
+abbrev pub AnswersUnit : List ℕ → Option Files → Ending → List (List ℕ) → Type 0
+AnswersUnit unit None ending lines = EndsUntold ending
+AnswersUnit unit (Some files) ending lines = AnswersInputs unit (inputs_of files unit) ending lines
+
+-- the report, or the line of a refusal
+abbrev pub AnswersThin : List ℕ → Option Files → Result Answer Stop → Type 0
+AnswersThin unit told (Ok answer) = AnswersUnit unit told answer.ending (lines_of_answer answer)
+AnswersThin unit told (Err (stop.Refused line)) = AnswersUnit unit told Refused (line.items ∷ [])
+AnswersThin unit told (Err stop.ReadFault) = Unit {0}
+AnswersThin unit told (Err stop.Memory) = Unit {0}

@@ -2,14 +2,14 @@
 use Rattle.std.specs.Prelude.{ℕ, Bool, cond, List, [], ◌∷◌}
 use Rattle.std.specs.List.{list_any}
 use Rattle.std.specs.Str.{bytes_eq}
-use Rattle.call_rules.specs.declared.actions.TheConstants.{ALLOW}
+use Rattle.call_rules.specs.declared.actions.Action.TheVariants.{Allow}
 use Rattle.call_rules.specs.declared.rules.CallRule.{CallRule}
 use Rattle.thin_judge.specs.declared.thin_lines.ThinCall.{ThinCall}
 use denote.Ref.{Bor}
 
 -- the rule that allows a call
 abbrev pub allow : ℕ → CallRule
-allow number = record { number = number; cases = []; rest = ALLOW }
+allow number = record { number = number; cases = []; rest = Allow }
 
 abbrev pub is_wanted : List (Bor (List ℕ)) → ThinCall → Bool
 is_wanted names call = list_any (λ name. bytes_eq name.now call.name.now) names

@@ -6,12 +6,13 @@ ghost use Rattle.kernel_model.specs.Table.{IsTable, NamedCall, calls_view};
 ghost use Rattle.kernel_model.specs.declared.outcome.Launch.{Launch};
 ghost use Rattle.thin_judge.specs.Report.{Answered, Questions, Reports};
 ghost use Rattle.thin_judge.specs.ReportSteps.{CanBeAsked, named_view, so_far};
-ghost use Rattle.command_answers.specs.Answers.{lines_of_answer};
+ghost use Rattle.thin_judge.specs.Answers.{lines_of_answer};
 ghost use Rattle.thin_judge.specs.Texts.{unit_line};
 
+use crate::answer::Answer;
 use crate::lines;
 use bpf_code::Program;
-use command_answers::{Answer, Ending};
+use command_answers::Ending;
 use kernel_model::{Launch, ThinName, ThinWorld, Verdict, is_plain_name, launch, verdict};
 use std::alloc::{AllocError, Global};
 

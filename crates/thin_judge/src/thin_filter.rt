@@ -9,8 +9,7 @@ ghost use Rattle.thin_judge.specs.ThinViews.{table_view};
 use crate::thin_lines::ThinCall;
 use crate::thin_table::ThinTable;
 use bpf_code::Program;
-use call_rules::actions::{ALLOW, KILL_PROCESS};
-use call_rules::{CallRule, CallRules, Cases, RuleSet};
+use call_rules::{Action, CallRule, CallRules, Cases, RuleSet};
 use seccomp_compile::compile;
 use std::alloc::{AllocError, Global};
 
@@ -69,7 +68,7 @@ fn allowed(alloc: Global, numbers: &[u32]) -> Result<Vec<CallRule>, AllocError>
         rules.push(CallRule {
             number: *number,
             cases: Cases::new(Vec::new(alloc)),
-            rest: ALLOW,
+            rest: Action::Allow,
         })?;
     }
     Ok(rules)
@@ -86,7 +85,7 @@ pub fn program(alloc: Global, table: &ThinTable, names: &[&[u8]]) -> Result<Prog
     let rules = RuleSet {
         arch: table.arch,
         calls: CallRules::new(allowed(alloc, numbers.as_slice())?),
-        rest: KILL_PROCESS,
+        rest: Action::KillProcess,
     };
     let program = compile(alloc, &rules)?;
     Ok(program)

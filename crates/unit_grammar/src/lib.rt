@@ -18,6 +18,3 @@ pub use notes::{Note, NoteCause, Notes};
 pub use reader::read_unit;
 pub use texts::Text;
 pub use unit::{Assignment, Assignments, UnitError, UnitText};
-
-#[cfg(test)]
-mod tests;

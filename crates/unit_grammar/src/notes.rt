@@ -1,9 +1,10 @@
 // What is remarked on a line that is passed over.
 //
 // The grammar makes two of the causes; the others are for the readers of the values.
-ghost use Rattle.std.specs.Prelude.{◌≡◌};
+ghost use Rattle.std.specs.Prelude.{◌≡◌, IfOk};
 ghost use Rattle.unit_grammar.specs.Causes.{cause_text};
 
+use std::alloc::{AllocError, Global};
 use std::marker::Model;
 
 /// Why a line, or a part of it, has no effect.
@@ -40,7 +41,7 @@ impl NoteCause {
 }
 
 /// A note on a line of a file.
-#[derive(Clone, Copy, Debug, PartialEq, Eq)]
+#[derive(Clone, Copy)]
 pub struct Note {
     /// The number of the line, from 1; of a joined line, that of its first.
     pub line: u64,
@@ -48,7 +49,7 @@ pub struct Note {
 }
 
 /// Notes, which contracts see as a list.
-#[derive(Debug, Drop)]
+#[derive(Drop)]
 pub struct Notes {
     items: Vec<Note>,
 }
@@ -75,5 +76,14 @@ impl Notes {
         ensures { result.now ≡ self.now }
     {
         &self.items
+    }
+
+    // The same notes once more.
+    pub(crate) fn copy(&self, alloc: Global) -> Result<Notes, AllocError>
+        ensures { IfOk result (λ copy. copy ≡ self.now) }
+    {
+        Ok(Notes {
+            items: self.items.to_vec(alloc)?,
+        })
     }
 }

@@ -72,8 +72,5 @@ pub fn without_backslash(line: &str) -> &str
 pub fn is_comment_line(line: &str) -> bool
     ensures { result ≡ is_comment line.now }
 {
-    match line.as_bytes().first() {
-        Some(first) => *first == b'#' || *first == b';',
-        None => false,
-    }
+    matches!(line.as_bytes(), [b'#' | b';', ..])
 }

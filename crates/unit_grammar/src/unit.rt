@@ -1,17 +1,17 @@
 // What a unit file says, and why it says nothing.
 //
 // Contracts see the texts as bytes and the lists as lists; the notes come from `notes`.
-ghost use Rattle.std.specs.Prelude.{◌≡◌};
+ghost use Rattle.std.specs.Prelude.{◌≡◌, IfOk};
 ghost use Rattle.unit_grammar.specs.declared.unit.UnitError.TheVariants.{Memory};
 
 use crate::notes::Notes;
 use crate::texts::Text;
-use std::alloc::{AllocError, AllocFailed};
+use std::alloc::{AllocError, AllocFailed, Global};
 use std::marker::Model;
 use thiserror::Error;
 
 /// A key of a section, and the value that it is given.
-#[derive(Debug, Drop)]
+#[derive(Drop)]
 pub struct Assignment {
     /// The text between the brackets of the last header before it.
     pub section: Text,
@@ -21,8 +21,22 @@ pub struct Assignment {
     pub line: u64,
 }
 
+impl Assignment {
+    // The same assignment once more.
+    fn copy(&self, alloc: Global) -> Result<Assignment, AllocError>
+        ensures { IfOk result (λ copy. copy ≡ self.now) }
+    {
+        Ok(Assignment {
+            section: Text::new(alloc, self.section.as_str())?,
+            key: Text::new(alloc, self.key.as_str())?,
+            value: Text::new(alloc, self.value.as_str())?,
+            line: self.line,
+        })
+    }
+}
+
 /// Assignments, which contracts see as a list.
-#[derive(Debug, Drop)]
+#[derive(Drop)]
 pub struct Assignments {
     items: Vec<Assignment>,
 }
@@ -50,13 +64,36 @@ impl Assignments {
     {
         &self.items
     }
+
+    // The same assignments once more.
+    fn copy(&self, alloc: Global) -> Result<Assignments, AllocError>
+        ensures { IfOk result (λ copy. copy ≡ self.now) }
+    {
+        let mut copies = Vec::new(alloc);
+        for assignment in &self.items {
+            copies.push(assignment.copy(alloc)?)?;
+        }
+        Ok(Assignments { items: copies })
+    }
 }
 
 /// What a unit file says: its assignments, of all sections, and its notes, in the order of lines.
-#[derive(Debug, Drop)]
+#[derive(Drop)]
 pub struct UnitText {
     pub assignments: Assignments,
     pub notes: Notes,
+}
+
+impl UnitText {
+    /// The same text once more.
+    pub fn copy(&self, alloc: Global) -> Result<UnitText, AllocError>
+        ensures same_text { IfOk result (λ copy. copy ≡ self.now) }
+    {
+        Ok(UnitText {
+            assignments: self.assignments.copy(alloc)?,
+            notes: self.notes.copy(alloc)?,
+        })
+    }
 }
 
 /// Why a unit file is refused.

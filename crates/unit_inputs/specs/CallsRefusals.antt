@@ -1,5 +1,5 @@
 -- The table of calls.txt, or the line of its refusal.
-use Rattle.std.specs.Prelude.{◌≡◌, ◌≢◌, ℕ, List, [], ◌++◌, codes, Result}
+use Rattle.std.specs.Prelude.{ℕ, List, [], ◌++◌, codes, Result}
 use Rattle.std.specs.Fmt.{decimal}
 use Rattle.host_io.specs.Files.{Files}
 use Rattle.text_forms.specs.Escaped.{escaped_word}
@@ -12,7 +12,7 @@ use Rattle.call_table.specs.declared.causes.CallsError.TheVariants.{NotText, Lin
 use Rattle.command_answers.specs.ReadFiles.{table_path}
 use Rattle.command_answers.specs.Refusals.{refused_line}
 use Rattle.unit_inputs.specs.FileRefusals.{bytes_in}
-use Rattle.unit_inputs.specs.Stops.{and_then, or_line}
+use Rattle.command_answers.specs.Stops.{and_then, or_line}
 
 -- the first faulty line, from 1, and why
 abbrev pub line_cause : ℕ → CallsCause → List ℕ
@@ -40,8 +40,3 @@ calls_said bytes = or_line calls_line (table_of bytes)
 -- the table of calls.txt over some files, or the line
 abbrev pub calls_in : Files → Result Table (List ℕ)
 calls_in files = and_then (bytes_in files table_path) calls_said
-
--- the line of a refusal
-pub record TellsCalls (error : CallsError) (line : List ℕ) : Type 0 where
-  pub is : line ≡ calls_line error
-  pub refuses : error ≢ Memory

@@ -1,27 +1,35 @@
--- The inputs of a command on a unit, or the line of the first refusal.
-use Rattle.std.specs.Prelude.{ℕ, List, Result, Ok, Err}
+-- The inputs of a command on a unit, and the lines of their refusals.
+use Rattle.std.specs.Prelude.{ℕ, List, [], ◌∷◌, Option, Some, None, Result, Ok, Err}
 use Rattle.host_io.specs.Files.{Files}
+use Rattle.call_table.specs.Table.{Table}
+use Rattle.dropin_merge.specs.declared.resolved.Resolved.{Resolved}
+use Rattle.site_table.specs.Table.{Site}
+use Rattle.command_answers.specs.Stops.{refusal_in}
 use Rattle.unit_inputs.specs.declared.inputs.UnitInputs.{UnitInputs}
-use Rattle.unit_inputs.specs.declared.inputs.Read.{Read}
-use Rattle.unit_inputs.specs.declared.inputs.Read.TheVariants.{Inputs, Refused}
 use Rattle.unit_inputs.specs.CallsRefusals.{calls_in}
 use Rattle.unit_inputs.specs.SiteRefusals.{site_in}
-use Rattle.unit_inputs.specs.Stops.{and_then}
 use Rattle.unit_inputs.specs.UnitRefusals.{unit_in}
 
--- the unit, then calls.txt, then site.toml: the first that is refused decides
-abbrev pub inputs_of : Files → List ℕ → Result UnitInputs (List ℕ)
-inputs_of files name =
-    and_then (unit_in files name) (λ unit.
-    and_then (calls_in files) (λ calls.
-    and_then (site_in files) (λ site. Ok (record { unit = unit; calls = calls; site = site }))))
+-- the order of refusals: the unit, then calls.txt, then site.toml
+abbrev pub input_refusals : Files → List ℕ → List (Option (List ℕ))
+input_refusals files unit = refusal_in (unit_in files unit) ∷ refusal_in (calls_in files) ∷ refusal_in (site_in files) ∷ []
 
--- what was read, as contracts see it
-abbrev pub read_view : Read → Result UnitInputs (List ℕ)
-read_view (Inputs inputs) = Ok inputs
-read_view (Refused line) = Err line.items
+-- what a command on a unit reads
+pub record Inputs : Type 0 where
+  pub unit : Resolved
+  pub calls : Table
+  pub site : Site
 
--- this holds of the inputs, where they are accepted
-abbrev pub IfInputs : (UnitInputs → Type 0) → Read → Type 0
-IfInputs P (Inputs inputs) = P inputs
-IfInputs P (Refused line) = Unit {0}
+abbrev pub inputs_view : UnitInputs → Inputs
+inputs_view inputs = record { unit = inputs.unit.value; calls = inputs.calls.value; site = inputs.site.value }
+
+-- all three, where none is refused
+abbrev pub all_three : Result Resolved (List ℕ) → Result Table (List ℕ) → Result Site (List ℕ) → Option Inputs
+all_three (Ok unit) (Ok calls) (Ok site) = Some (record { unit = unit; calls = calls; site = site })
+all_three (Err line) calls site = None
+all_three (Ok unit) (Err line) site = None
+all_three (Ok unit) (Ok calls) (Err line) = None
+
+-- what the files give of a unit
+abbrev pub inputs_of : Files → List ℕ → Option Inputs
+inputs_of files unit = all_three (unit_in files unit) (calls_in files) (site_in files)

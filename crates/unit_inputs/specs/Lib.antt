@@ -1,4 +1,3 @@
-pub mod Stops
 pub mod FileRefusals
 pub mod UnitRefusals
 pub mod CallsRefusals

@@ -1,5 +1,5 @@
 -- The site of site.toml, or the line of its refusal.
-use Rattle.std.specs.Prelude.{◌≡◌, ◌≢◌, ℕ, List, [], ◌++◌, codes, Result}
+use Rattle.std.specs.Prelude.{ℕ, List, [], ◌++◌, codes, Result}
 use Rattle.std.specs.Fmt.{decimal}
 use Rattle.host_io.specs.Files.{Files}
 use Rattle.site_table.specs.Reading.{site_of}
@@ -10,7 +10,7 @@ use Rattle.site_table.specs.declared.error.SiteError.{SiteError}
 use Rattle.site_table.specs.declared.error.SiteError.TheVariants.{NotToml, Top, TooMany, Row, User, Group, Memory}
 use Rattle.command_answers.specs.Refusals.{refused_line}
 use Rattle.unit_inputs.specs.FileRefusals.{bytes_in}
-use Rattle.unit_inputs.specs.Stops.{and_then, or_line}
+use Rattle.command_answers.specs.Stops.{and_then, or_line}
 
 abbrev pub site_path : List ℕ
 site_path = codes "site.toml"
@@ -50,8 +50,3 @@ site_said bytes = or_line site_line (site_of bytes)
 -- the site of site.toml over some files, or the line
 abbrev pub site_in : Files → Result Site (List ℕ)
 site_in files = and_then (bytes_in files site_path) site_said
-
--- the line of a refusal
-pub record TellsSite (error : SiteError) (line : List ℕ) : Type 0 where
-  pub is : line ≡ site_line error
-  pub refuses : error ≢ Memory

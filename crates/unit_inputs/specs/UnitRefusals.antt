@@ -1,5 +1,5 @@
 -- The unit of a name, or the line of its refusal (systemd.unit(5)).
-use Rattle.std.specs.Prelude.{◌≡◌, ℕ, List, [], ◌++◌, codes, Result}
+use Rattle.std.specs.Prelude.{◌≡◌, ℕ, List, [], ◌++◌, codes, IsSome, None, Result, Ok, Err}
 use Rattle.std.specs.Fmt.{decimal}
 use Rattle.host_io.specs.Files.{Files}
 use Rattle.unit_grammar.specs.declared.unit.UnitError.{UnitError}
@@ -9,7 +9,10 @@ use Rattle.dropin_merge.specs.declared.errors.ResolveError.{ResolveError}
 use Rattle.dropin_merge.specs.declared.errors.ResolveError.TheVariants.{BadName, NotFound, Masked, DropIns, TooLarge, Text, ReadFault, Memory}
 use Rattle.dropin_merge.specs.declared.resolved.Resolved.{Resolved}
 use Rattle.command_answers.specs.Refusals.{refused_line}
-use Rattle.unit_inputs.specs.Stops.{or_line}
+use Rattle.command_answers.specs.Stops.{or_line}
+use Rattle.command_answers.specs.declared.stop.Stop.{Stop}
+use Rattle.command_answers.specs.declared.stop.Stop.TheVariants as stop
+use Rattle.unit_names.specs.Cutting.{name_of}
 
 -- why the text of a file is refused
 abbrev pub text_cause : UnitError → List ℕ
@@ -33,18 +36,9 @@ unit_line unit Memory = []
 abbrev pub unit_in : Files → List ℕ → Result Resolved (List ℕ)
 unit_in files unit = or_line (unit_line unit) (resolved_of files unit)
 
--- a refusal that has a line
-abbrev pub HasLine : ResolveError → Type 0
-HasLine BadName = Unit {0}
-HasLine NotFound = Unit {0}
-HasLine Masked = Unit {0}
-HasLine DropIns = Unit {0}
-HasLine (TooLarge path) = Unit {0}
-HasLine (Text path fault) = Unit {0}
-HasLine ReadFault = ⊥
-HasLine Memory = ⊥
-
--- the line of a refusal
-pub record TellsUnit (unit : List ℕ) (refusal : ResolveError) (line : List ℕ) : Type 0 where
-  pub is : line ≡ unit_line unit refusal
-  pub has_line : HasLine refusal
+-- a text is a name, or it is told to be none
+abbrev pub HasNameOrTells : List ℕ → Result (Unit {0}) Stop → Type 0
+HasNameOrTells unit (Ok u) = IsSome (name_of unit)
+HasNameOrTells unit (Err (stop.Refused line)) = (name_of unit ≡ None) × (line.items ≡ refused_line unit (codes "bad-name"))
+HasNameOrTells unit (Err stop.ReadFault) = ⊥
+HasNameOrTells unit (Err stop.Memory) = Unit {0}

@@ -1,12 +1,11 @@
 // The table of system calls, with the lines of its refusals.
 ghost use Rattle.std.specs.Prelude.{◌≡◌, IfOk, IfSome, IsErrOf};
-ghost use Rattle.unit_inputs.specs.CallsRefusals.{TellsCalls, calls_in, calls_said, line_cause, no_call};
-ghost use Rattle.unit_inputs.specs.Stops.{HasStopCause, IsAnswer};
+ghost use Rattle.command_answers.specs.Stops.{HasReadCause, IsAnswer};
+ghost use Rattle.unit_inputs.specs.CallsRefusals.{calls_cause, calls_in, calls_line, calls_said, line_cause, no_call};
 
 use crate::files::read_input;
-use crate::stop::{Stop, stop_by};
 use call_table::{CallTable, CallsCause, CallsError, read_calls};
-use command_answers::{Failure, TABLE_PATH, refused_line};
+use command_answers::{Stop, TABLE_PATH, boxed, refuse, refused_line};
 use host_io::Shelf;
 use std::alloc::{AllocError, Global};
 use text_forms::push_word;
@@ -28,37 +27,44 @@ fn no_call(alloc: Global, name: &str) -> Result<Vec<u8>, AllocError>
     Ok(why)
 }
 
-// The line of a table that is refused.
-fn calls_refused(alloc: Global, error: &CallsError) -> Result<Vec<u8>, Failure>
-    ensures tells_the_refusal { IfOk result (λ line. TellsCalls error.now line.items) }
-    ensures reads_nothing { IsErrOf result Failure.ReadFault → ⊥ }
+// Why a table is refused.
+fn calls_cause(alloc: Global, error: &CallsError) -> Result<Vec<u8>, AllocError>
+    ensures { IfOk result (λ why. why.items ≡ calls_cause error.now) }
 {
-    let why = match error {
-        CallsError::NotText => b"not-text".to_vec(alloc)?,
-        CallsError::Line(line, cause) => line_cause(alloc, *line, *cause)?,
-        CallsError::NoAbi => b"no-abi".to_vec(alloc)?,
-        CallsError::NoCall(name) => no_call(alloc, name.as_str())?,
-        CallsError::Memory => return Err(Failure::Memory),
-    };
-    Ok(refused_line(alloc, TABLE_PATH, why.as_slice())?)
+    match error {
+        CallsError::NotText => b"not-text".to_vec(alloc),
+        CallsError::Line(line, cause) => line_cause(alloc, *line, *cause),
+        CallsError::NoAbi => b"no-abi".to_vec(alloc),
+        CallsError::NoCall(name) => no_call(alloc, name.as_str()),
+        CallsError::Memory => Ok(Vec::new(alloc)),
+    }
+}
+
+// The line of a table that is refused.
+fn calls_line(alloc: Global, error: &CallsError) -> Result<Vec<u8>, AllocError>
+    ensures { IfOk result (λ line. line.items ≡ calls_line error.now) }
+{
+    let why = calls_cause(alloc, error)?;
+    refused_line(alloc, TABLE_PATH, why.as_slice())
 }
 
 // The table that the bytes of calls.txt give.
-fn table_of_bytes(alloc: Global, bytes: &[u8]) -> Result<CallTable, Stop>
-    ensures says { IsAnswer (λ table. table) result (calls_said bytes.now) }
-    ensures reads_nothing { IsErrOf result (Stop.Failed Failure.ReadFault) → ⊥ }
+fn table_of_bytes(alloc: Global, bytes: &[u8]) -> Result<Box<CallTable>, Stop>
+    ensures says { IsAnswer (λ table. table.value) result (calls_said bytes.now) }
+    ensures reads_nothing { IsErrOf result Stop.ReadFault → ⊥ }
 {
     match read_calls(alloc, bytes) {
-        Ok(table) => Ok(table),
-        Err(error) => Err(stop_by(calls_refused(alloc, &error))),
+        Ok(table) => boxed(alloc, table),
+        Err(CallsError::Memory) => Err(Stop::Memory),
+        Err(error) => Err(refuse(calls_line(alloc, &error))),
     }
 }
 
 /// The table of calls.txt.
-pub fn read_table<S: Shelf>(alloc: Global, shelf: &mut S) -> Result<CallTable, Stop>
-    ensures reads_the_table { IfSome (S.told shelf.old) (λ files. IsAnswer (λ table. table) result (calls_in files)) }
+pub fn read_table<S: Shelf>(alloc: Global, shelf: &mut S) -> Result<Box<CallTable>, Stop>
+    ensures reads_the_table { IfSome (S.told shelf.old) (λ files. IsAnswer (λ table. table.value) result (calls_in files)) }
     ensures map_stays { S.told shelf.new ≡ S.told shelf.old }
-    ensures fault_rose { HasStopCause (S.faults shelf.old) (S.faults shelf.new) result }
+    ensures fault_rose { HasReadCause (S.faults shelf.old) (S.faults shelf.new) result }
 {
     let bytes = read_input(alloc, shelf, TABLE_PATH)?;
     table_of_bytes(alloc, bytes.as_slice())

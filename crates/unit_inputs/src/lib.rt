@@ -3,17 +3,13 @@
 //! They are read in this order, and the first that is refused gives the line that is printed. It stands on
 //! `dropin_merge`, `call_table` and `site_table` for what each of them says, and on `command_answers`.
 //!
-//! `read_inputs(alloc, &mut shelf, "web.service")?` has the three, or the line of the first refusal.
+//! `read_inputs(alloc, &mut shelf, "web.service")?` has the three, or stops with the line of the first refusal.
 #![tactic(auto)]
 
 mod calls;
 mod files;
 mod inputs;
 mod site;
-mod stop;
 mod units;
 
-pub use inputs::{Read, UnitInputs, read_inputs};
-
-#[cfg(test)]
-mod tests;
+pub use inputs::{UnitInputs, read_inputs};

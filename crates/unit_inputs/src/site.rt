@@ -1,11 +1,10 @@
 // The site, with the lines of its refusals.
 ghost use Rattle.std.specs.Prelude.{◌≡◌, IfOk, IfSome, IsErrOf};
-ghost use Rattle.unit_inputs.specs.SiteRefusals.{TellsSite, cause_word, row_cause, site_in, site_said};
-ghost use Rattle.unit_inputs.specs.Stops.{HasStopCause, IsAnswer};
+ghost use Rattle.command_answers.specs.Stops.{HasReadCause, IsAnswer};
+ghost use Rattle.unit_inputs.specs.SiteRefusals.{cause_word, row_cause, site_cause, site_in, site_line, site_said};
 
 use crate::files::read_input;
-use crate::stop::{Stop, stop_by};
-use command_answers::{Failure, refused_line};
+use command_answers::{Stop, boxed, refuse, refused_line};
 use host_io::Shelf;
 use site_table::{RowCause, SiteError, SiteTable, read_site as read_bytes};
 use std::alloc::{AllocError, Global};
@@ -37,39 +36,47 @@ fn row_cause(alloc: Global, row: u64, cause: RowCause) -> Result<Vec<u8>, AllocE
     Ok(format!(in alloc; "row {row} {cause}")?.into_bytes())
 }
 
-// The line of a site that is refused.
-fn site_refused(alloc: Global, error: SiteError) -> Result<Vec<u8>, Failure>
-    ensures tells_the_refusal { IfOk result (λ line. TellsSite error line.items) }
-    ensures reads_nothing { IsErrOf result Failure.ReadFault → ⊥ }
+// Why a site is refused.
+fn site_cause(alloc: Global, error: SiteError) -> Result<Vec<u8>, AllocError>
+    ensures { IfOk result (λ why. why.items ≡ site_cause error) }
 {
-    let why = match error {
-        SiteError::NotToml => b"toml".to_vec(alloc)?,
-        SiteError::Top => b"top".to_vec(alloc)?,
-        SiteError::TooMany => b"too-many".to_vec(alloc)?,
-        SiteError::Row(row, cause) => row_cause(alloc, row, cause)?,
-        SiteError::User(user) => format!(in alloc; "user {user}")?.into_bytes(),
-        SiteError::Group(group) => format!(in alloc; "group {group}")?.into_bytes(),
-        SiteError::Memory => return Err(Failure::Memory),
-    };
-    Ok(refused_line(alloc, SITE_PATH, why.as_slice())?)
+    match error {
+        SiteError::NotToml => b"toml".to_vec(alloc),
+        SiteError::Top => b"top".to_vec(alloc),
+        SiteError::TooMany => b"too-many".to_vec(alloc),
+        SiteError::Row(row, cause) => row_cause(alloc, row, cause),
+        SiteError::User(user) => Ok(format!(in alloc; "user {user}")?.into_bytes()),
+        SiteError::Group(group) => Ok(format!(in alloc; "group {group}")?.into_bytes()),
+        SiteError::Memory => Ok(Vec::new(alloc)),
+    }
+}
+
+// The line of a site that is refused.
+fn site_line(alloc: Global, error: SiteError) -> Result<Vec<u8>, AllocError>
+    ensures { IfOk result (λ line. line.items ≡ site_line error) }
+{
+    let why = site_cause(alloc, error)?;
+    refused_line(alloc, SITE_PATH, why.as_slice())
 }
 
 // The site that the bytes of site.toml describe.
-fn site_of_bytes(alloc: Global, bytes: &[u8]) -> Result<SiteTable, Stop>
-    ensures says { IsAnswer (λ site. site) result (site_said bytes.now) }
-    ensures reads_nothing { IsErrOf result (Stop.Failed Failure.ReadFault) → ⊥ }
+#[tactic(auto, unfolding(crate::specs::SiteRefusals::site_said))]
+fn site_of_bytes(alloc: Global, bytes: &[u8]) -> Result<Box<SiteTable>, Stop>
+    ensures says { IsAnswer (λ site. site.value) result (site_said bytes.now) }
+    ensures reads_nothing { IsErrOf result Stop.ReadFault → ⊥ }
 {
     match read_bytes(alloc, bytes) {
-        Ok(site) => Ok(site),
-        Err(error) => Err(stop_by(site_refused(alloc, error))),
+        Ok(site) => boxed(alloc, site),
+        Err(SiteError::Memory) => Err(Stop::Memory),
+        Err(error) => Err(refuse(site_line(alloc, error))),
     }
 }
 
 /// The site of site.toml.
-pub fn read_site<S: Shelf>(alloc: Global, shelf: &mut S) -> Result<SiteTable, Stop>
-    ensures reads_the_site { IfSome (S.told shelf.old) (λ files. IsAnswer (λ site. site) result (site_in files)) }
+pub fn read_site<S: Shelf>(alloc: Global, shelf: &mut S) -> Result<Box<SiteTable>, Stop>
+    ensures reads_the_site { IfSome (S.told shelf.old) (λ files. IsAnswer (λ site. site.value) result (site_in files)) }
     ensures map_stays { S.told shelf.new ≡ S.told shelf.old }
-    ensures fault_rose { HasStopCause (S.faults shelf.old) (S.faults shelf.new) result }
+    ensures fault_rose { HasReadCause (S.faults shelf.old) (S.faults shelf.new) result }
 {
     let bytes = read_input(alloc, shelf, SITE_PATH)?;
     site_of_bytes(alloc, bytes.as_slice())

@@ -1,16 +1,16 @@
 // The unit, with the lines of its refusals.
 ghost use Rattle.std.specs.Prelude.{◌≡◌, IfOk, IfSome, IsErrOf, IsSome, Some};
 ghost use Rattle.command_answers.specs.Refusals.{refused_line};
+ghost use Rattle.command_answers.specs.Stops.{HasReadCause, IsAnswer};
 ghost use Rattle.unit_names.specs.Cutting.{name_of};
-ghost use Rattle.unit_inputs.specs.Stops.{HasStopCause, IsAnswer};
-ghost use Rattle.unit_inputs.specs.UnitRefusals.{TellsUnit, text_cause, unit_in};
+ghost use Rattle.unit_inputs.specs.UnitRefusals.{HasNameOrTells, text_cause, unit_in, unit_line};
 
-use crate::stop::{Stop, stop_by};
-use command_answers::{Failure, refused_line};
+use command_answers::{Stop, boxed, refuse, refused_line};
 use dropin_merge::{ResolveError, Resolved, resolve};
 use host_io::Shelf;
 use std::alloc::{AllocError, Global};
 use unit_grammar::UnitError;
+use unit_names::{NameError, UnitName};
 
 // Why the text of a file is refused.
 fn text_cause(alloc: Global, fault: UnitError) -> Result<Vec<u8>, AllocError>
@@ -33,33 +33,55 @@ fn text_refused(alloc: Global, path: &str, fault: UnitError) -> Result<Vec<u8>, 
 }
 
 // The line of a unit that is not resolved. A failed read and want of memory have none.
-fn unit_refused(alloc: Global, unit: &str, refusal: &ResolveError) -> Result<Vec<u8>, Failure>
-    ensures tells_the_refusal { IfOk result (λ line. TellsUnit unit.now refusal.now line.items) }
-    ensures passes_a_fault_on { IsErrOf result Failure.ReadFault → refusal.now ≡ ResolveError.ReadFault }
+fn unit_line(alloc: Global, unit: &str, refusal: &ResolveError) -> Result<Vec<u8>, AllocError>
+    ensures { IfOk result (λ line. line.items ≡ unit_line unit.now refusal.now) }
 {
-    let line = match refusal {
-        ResolveError::BadName => refused_line(alloc, unit, b"bad-name")?,
-        ResolveError::NotFound => refused_line(alloc, unit, b"not-found")?,
-        ResolveError::Masked => refused_line(alloc, unit, b"masked")?,
-        ResolveError::DropIns => refused_line(alloc, unit, b"drop-ins")?,
-        ResolveError::TooLarge(path) => refused_line(alloc, path.as_str(), b"too-large")?,
-        ResolveError::Text(path, fault) => text_refused(alloc, path.as_str(), *fault)?,
-        ResolveError::ReadFault => return Err(Failure::ReadFault),
-        ResolveError::Memory => return Err(Failure::Memory),
-    };
-    Ok(line)
+    match refusal {
+        ResolveError::BadName => refused_line(alloc, unit, b"bad-name"),
+        ResolveError::NotFound => refused_line(alloc, unit, b"not-found"),
+        ResolveError::Masked => refused_line(alloc, unit, b"masked"),
+        ResolveError::DropIns => refused_line(alloc, unit, b"drop-ins"),
+        ResolveError::TooLarge(path) => refused_line(alloc, path.as_str(), b"too-large"),
+        ResolveError::Text(path, fault) => text_refused(alloc, path.as_str(), *fault),
+        ResolveError::ReadFault | ResolveError::Memory => Ok(Vec::new(alloc)),
+    }
 }
 
-/// The unit of a name, with its files in force.
-pub fn read_unit<S: Shelf>(alloc: Global, shelf: &mut S, unit: &str) -> Result<Resolved, Stop>
-    ensures resolves_by_the_files { IfSome (S.told shelf.old) (λ files. IsAnswer (λ resolved. resolved) result (unit_in files unit.now)) }
-    ensures names_the_unit { IfOk result (λ resolved. name_of unit.now ≡ Some resolved.name) }
-    ensures reads_for_a_name { IsErrOf result (Stop.Failed Failure.ReadFault) → IsSome (name_of unit.now) }
+// Whether the text is the name of a service, which no file has to be read for.
+fn check_name(alloc: Global, unit: &str) -> Result<(), Stop>
+    ensures has_a_name_or_tells { HasNameOrTells unit.now result }
+{
+    match UnitName::read(alloc, unit) {
+        Ok(_) => Ok(()),
+        Err(NameError::BadName) => Err(refuse(refused_line(alloc, unit, b"bad-name"))),
+        Err(NameError::Memory) => Err(Stop::Memory),
+    }
+}
+
+// The unit of a name, with its files in force.
+fn read_files<S: Shelf>(alloc: Global, shelf: &mut S, unit: &str) -> Result<Box<Resolved>, Stop>
+    ensures resolves_by_the_files { IfSome (S.told shelf.old) (λ files. IsAnswer (λ resolved. resolved.value) result (unit_in files unit.now)) }
+    ensures names_the_unit { IfOk result (λ resolved. name_of unit.now ≡ Some resolved.value.name) }
     ensures map_stays { S.told shelf.new ≡ S.told shelf.old }
-    ensures fault_rose { HasStopCause (S.faults shelf.old) (S.faults shelf.new) result }
+    ensures fault_rose { HasReadCause (S.faults shelf.old) (S.faults shelf.new) result }
 {
     match resolve(alloc, shelf, unit) {
-        Ok(resolved) => Ok(resolved),
-        Err(refusal) => Err(stop_by(unit_refused(alloc, unit, &refusal))),
+        Ok(resolved) => boxed(alloc, resolved),
+        Err(ResolveError::ReadFault) => Err(Stop::ReadFault),
+        Err(ResolveError::Memory) => Err(Stop::Memory),
+        Err(refusal) => Err(refuse(unit_line(alloc, unit, &refusal))),
     }
+}
+
+/// The unit of a name, with its files in force. A text that is no name is refused without a read.
+pub fn read_unit<S: Shelf>(alloc: Global, shelf: &mut S, unit: &str) -> Result<Box<Resolved>, Stop>
+    ensures resolves_by_the_files { IfSome (S.told shelf.old) (λ files. IsAnswer (λ resolved. resolved.value) result (unit_in files unit.now)) }
+    ensures names_the_unit { IfOk result (λ resolved. name_of unit.now ≡ Some resolved.value.name) }
+    ensures reads_for_a_name { IsErrOf result Stop.ReadFault → IsSome (name_of unit.now) }
+    ensures unread_without_a_name { (IsSome (name_of unit.now) → ⊥) → shelf.new ≡ shelf.old }
+    ensures map_stays { S.told shelf.new ≡ S.told shelf.old }
+    ensures fault_rose { HasReadCause (S.faults shelf.old) (S.faults shelf.new) result }
+{
+    check_name(alloc, unit)?;
+    read_files(alloc, shelf, unit)
 }

@@ -16,6 +16,3 @@ mod unescape;
 pub use expansion::{ExpandError, expand};
 pub use folders::dropin_folders;
 pub use name::{NameError, UnitName};
-
-#[cfg(test)]
-mod tests;

@@ -1,7 +1,7 @@
 // A unit name that has been read.
 //
 // Contracts see it as its prefix and its instance; the parts come from `cutting`.
-ghost use Rattle.std.specs.Prelude.{◌≡◌, ◌↔◌, IfOk, IsOkUnless, Some, None, true};
+ghost use Rattle.std.specs.Prelude.{◌≡◌, ◌↔◌, IfOk, Some, None, true};
 ghost use Rattle.std.specs.Option.{option_copied, option_map};
 ghost use Rattle.std.specs.String.{string_bytes};
 ghost use Rattle.unit_names.specs.Names.{Name, Names, text_of, stem_of, template_of, is_unit_name};
@@ -14,7 +14,7 @@ use std::marker::Model;
 use thiserror::Error;
 
 /// The name of a service: `PREFIX.service`, or `PREFIX@INSTANCE.service`.
-#[derive(Debug, Drop)]
+#[derive(Drop)]
 pub struct UnitName {
     text: String,
     prefix: String,
@@ -65,16 +65,15 @@ impl UnitName {
         ensures reading_is_spelling { (name : Name) → (name_of text.now ≡ Some name) ↔ Names text.now name }
     {
         match name_parts(text) {
-            Some(parts) => UnitName::with_parts(alloc, text, parts),
+            Some(parts) => Ok(UnitName::with_parts(alloc, text, parts)?),
             None => Err(NameError::BadName),
         }
     }
 
     // Keeps a text and the parts that it has.
-    fn with_parts(alloc: Global, text: &str, parts: Parts<'_>) -> Result<UnitName, NameError>
+    fn with_parts(alloc: Global, text: &str, parts: Parts<'_>) -> Result<UnitName, AllocError>
         requires { Names text.now (borrowed_name parts) }
-        ensures keeps { IfOk result (λ name. name ≡ borrowed_name parts.entry) }
-        ensures memory_alone { IsOkUnless result Memory }
+        ensures { IfOk result (λ name. name ≡ borrowed_name parts.entry) }
     {
         let instance = match parts.instance {
             Some(instance) => Some(String::from_str(alloc, instance)?),
@@ -91,15 +90,11 @@ impl UnitName {
     pub fn copy(&self, alloc: Global) -> Result<UnitName, AllocError>
         ensures same_name { IfOk result (λ copy. copy ≡ self.now) }
     {
-        let instance = match &self.instance {
-            Some(instance) => Some(String::from_str(alloc, instance.as_str())?),
-            None => None,
+        let parts = Parts {
+            prefix: self.prefix(),
+            instance: self.instance(),
         };
-        Ok(UnitName {
-            text: String::from_str(alloc, self.text.as_str())?,
-            prefix: String::from_str(alloc, self.prefix.as_str())?,
-            instance,
-        })
+        UnitName::with_parts(alloc, self.text(), parts)
     }
 
     /// The whole name.

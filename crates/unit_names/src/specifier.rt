@@ -7,7 +7,7 @@ ghost use Rattle.unit_names.specs.Specifiers.{letter_of, specifier_at, specified
 use crate::name::UnitName;
 
 /// A specifier: `%` and a letter. The values are those of the system's manager, which runs as root.
-#[derive(Clone, Copy, Debug, PartialEq, Eq)]
+#[derive(Clone, Copy)]
 pub enum Specifier {
     /// `%%`: one percent sign.
     Percent,

@@ -1,9 +1,8 @@
 //! The lines of units whose settings are refused.
-ghost use Rattle.std.specs.Prelude.{◌≡◌, ◌≢◌, IfOk, IsErrOf};
-ghost use Rattle.exec_settings.specs.declared.errors.SettingsError.TheVariants.{Memory};
+ghost use Rattle.std.specs.Prelude.{◌≡◌, IfOk};
 ghost use Rattle.unit_settings.specs.Refusals.{cause_with, settings_cause, settings_line};
 
-use command_answers::{Failure, refused_line};
+use command_answers::refused_line;
 use exec_settings::SettingsError;
 use std::alloc::{AllocError, Global};
 use text_forms::push_word;
@@ -34,15 +33,14 @@ fn settings_cause(alloc: Global, error: &SettingsError) -> Result<Vec<u8>, Alloc
     }
 }
 
-/// The line of a unit whose settings are refused. Want of memory has none, and is passed on.
-pub fn settings_line(alloc: Global, unit: &str, error: &SettingsError) -> Result<Vec<u8>, Failure>
+/// The line of a unit whose settings are refused. Want of memory has none.
+pub fn settings_line(
+    alloc: Global,
+    unit: &str,
+    error: &SettingsError,
+) -> Result<Vec<u8>, AllocError>
     ensures tells_the_refusal { IfOk result (λ line. line.items ≡ settings_line unit.now error.now) }
-    ensures passes_want_of_memory_on { IfOk result (λ line. error.now ≢ Memory) }
-    ensures reads_nothing { IsErrOf result Failure.ReadFault → ⊥ }
 {
-    if let SettingsError::Memory = error {
-        return Err(Failure::Memory);
-    }
     let cause = settings_cause(alloc, error)?;
-    Ok(refused_line(alloc, unit, cause.as_slice())?)
+    refused_line(alloc, unit, cause.as_slice())
 }

@@ -1,15 +1,16 @@
 //! The inputs of a unit with its settings.
-ghost use Rattle.std.specs.Prelude.{◌≡◌, IfOk, IfSome, IsErrOf, IsSome};
-ghost use Rattle.command_answers.specs.Causes.{HasReadCause};
+ghost use Rattle.std.specs.Prelude.{◌≡◌, IfOk, IfSome, IsErrOf, IsSome, Some};
+ghost use Rattle.command_answers.specs.Stops.{HasReadCause, Prepares};
+ghost use Rattle.unit_inputs.specs.Inputs.{inputs_of, inputs_view};
 ghost use Rattle.unit_names.specs.Cutting.{name_of};
-ghost use Rattle.unit_settings.specs.Settled.{AreSettled, IfAccepted, settled_of, settled_view, unless_refused};
+ghost use Rattle.unit_settings.specs.Settled.{AreSettled, refusals_of, unit_refusals};
 
 use crate::refusals::settings_line;
-use command_answers::Failure;
-use exec_settings::{Settings, settings_of_unit};
+use command_answers::{Stop, boxed, refuse};
+use exec_settings::{Settings, SettingsError, settings};
 use host_io::Shelf;
 use std::alloc::Global;
-use unit_inputs::{Read, UnitInputs, read_inputs};
+use unit_inputs::{UnitInputs, read_inputs};
 
 /// A unit with its settings.
 #[derive(Drop)]
@@ -17,44 +18,43 @@ pub struct SettledUnit {
     /// The unit, the table of calls and the site.
     pub inputs: UnitInputs,
     /// The settings of the unit by that table and that site.
-    pub settings: Settings,
+    pub settings: Box<Settings>,
 }
 
-/// What the files give.
-#[derive(Drop)]
-pub enum Settled {
-    /// A unit whose inputs are accepted, and which has settings.
-    Accepted(SettledUnit),
-    /// The line of the first refusal, of an input or of a setting.
-    Refused(Vec<u8>),
-}
-
-// The settings of accepted inputs, or the line of the first that is refused.
-fn settle_inputs(alloc: Global, unit: &str, inputs: UnitInputs) -> Result<Settled, Failure>
-    ensures settles { IfOk result (λ settled. settled_view settled ≡ unless_refused unit.now inputs) }
-    ensures has_settings { IfOk result (IfAccepted AreSettled) }
-    ensures reads_nothing { IsErrOf result Failure.ReadFault → ⊥ }
+// The settings of a unit, or the first that is refused.
+fn settings_in(alloc: Global, unit: &str, inputs: &UnitInputs) -> Result<Box<Settings>, Stop>
+    ensures settles { Prepares (λ settings. AreSettled (inputs_view inputs.now) settings.value) (refusals_of unit.now (inputs_view inputs.now)) result }
+    ensures reads_nothing { IsErrOf result Stop.ReadFault → ⊥ }
 {
-    match settings_of_unit(alloc, &inputs.unit, &inputs.calls, &inputs.site) {
-        Ok(settings) => Ok(Settled::Accepted(SettledUnit { inputs, settings })),
-        Err(error) => Ok(Settled::Refused(settings_line(alloc, unit, &error)?)),
+    match settings(alloc, &inputs.unit, &inputs.calls, &inputs.site) {
+        Ok(settings) => boxed(alloc, settings),
+        Err(SettingsError::Memory) => Err(Stop::Memory),
+        Err(error) => Err(refuse(settings_line(alloc, unit, &error))),
     }
 }
 
-/// The settings of the unit of this name, by the files of the shelf: the unit is read, then calls.txt and site.toml, and
-/// the settings are taken from them.
+/// The settings of the unit of this name, whose inputs are read already, or the line of the first setting that is refused
+/// (`exec_settings`). Nothing is read for them.
+pub fn settle(alloc: Global, unit: &str, inputs: UnitInputs) -> Result<SettledUnit, Stop>
+    ensures settles { Prepares (λ one. (one.inputs ≡ inputs) × AreSettled (inputs_view inputs) one.settings.value) (refusals_of unit.now (inputs_view inputs)) result }
+    ensures reads_nothing { IsErrOf result Stop.ReadFault → ⊥ }
+{
+    let settings = settings_in(alloc, unit, &inputs)?;
+    Ok(SettledUnit { inputs, settings })
+}
+
+/// Reads the inputs of a unit and takes its settings from them, for a command that reads nothing between the two.
 ///
-/// The first that is refused decides: an input by `unit_inputs`, a setting by `exec_settings`. A fault comes only where
-/// the shelf's count of faults rose, and only for the name of a service.
-pub fn settle<S: Shelf>(alloc: Global, shelf: &mut S, unit: &str) -> Result<Settled, Failure>
-    ensures settles_by_the_files { IfSome (S.told shelf.old) (λ files. IfOk result (λ settled. settled_of files unit.now ≡ settled_view settled)) }
-    ensures has_settings { IfOk result (IfAccepted AreSettled) }
-    ensures reads_for_a_name { IsErrOf result Failure.ReadFault → IsSome (name_of unit.now) }
+/// The first that is refused decides: an input (`unit_inputs`), then a setting. A fault comes only where the shelf's count
+/// of faults rose, and only for the name of a service; without one nothing is read.
+pub fn settle_unit<S: Shelf>(alloc: Global, shelf: &mut S, unit: &str) -> Result<SettledUnit, Stop>
+    ensures settles_by_the_files { IfSome (S.told shelf.old) (λ files. Prepares (λ one. inputs_of files unit.now ≡ Some (inputs_view one.inputs)) (unit_refusals files unit.now) result) }
+    ensures has_settings { IfOk result (λ one. AreSettled (inputs_view one.inputs) one.settings.value) }
+    ensures reads_for_a_name { IsErrOf result Stop.ReadFault → IsSome (name_of unit.now) }
+    ensures unread_without_a_name { (IsSome (name_of unit.now) → ⊥) → shelf.new ≡ shelf.old }
     ensures map_stays { S.told shelf.new ≡ S.told shelf.old }
     ensures fault_rose { HasReadCause (S.faults shelf.old) (S.faults shelf.new) result }
 {
-    match read_inputs(alloc, shelf, unit)? {
-        Read::Inputs(inputs) => settle_inputs(alloc, unit, inputs),
-        Read::Refused(line) => Ok(Settled::Refused(line)),
-    }
+    let inputs = read_inputs(alloc, shelf, unit)?;
+    settle(alloc, unit, inputs)
 }

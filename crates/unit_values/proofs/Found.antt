@@ -1,38 +1,24 @@
--- What one more assignment and one more file give.
-use Rattle.std.proofs.Common.{◌≡◌, ℕ, ◌+◌, ◌<◌, List, [], ◌∷◌, ◌++◌, length, get_or, take, Option, sym, ap, ◌∙◌, arith, append_assoc, append-nil}
+-- What one more assignment of a walk gives.
+use Rattle.std.proofs.Common.{◌≡◌, List, [], ◌∷◌, ◌++◌, Option, Some, None, sym, ap, ◌∙◌, append_assoc, append-nil}
 use Rattle.std.specs.Prelude.{flat_map}
-use Rattle.std.specs.List.{cons_option, enumerate_from, filter_map}
-use Rattle.std.proofs.lemmas.List.{length-take, take_more}
-use Rattle.std.proofs.lemmas.List.Concat.{flat_map-append}
-use Rattle.std.proofs.lemmas.List.Elements.{filter_map-append}
+use Rattle.std.specs.List.{cons_option, filter_map}
 
-pub given_more : {X Y : Type 0} (f : X → Option Y) (xs : List X) (i : ℕ) (x : X) (old now new : List Y) → i < length xs → x ≡ get_or xs i x → now ≡ old ++ filter_map f (take i xs) → new ≡ now ++ cons_option (f x) [] → new ≡ old ++ filter_map f (take (i + 1) xs)
-given_more f xs i x old now new lt is before after =
-    after
-    ∙ ap (λ ys. ys ++ cons_option (f x) []) before
-    ∙ append_assoc old (filter_map f (take i xs)) (cons_option (f x) [])
-    ∙ ap (λ ys. old ++ ys) (sym (filter_map-append f (take i xs) (x ∷ [])))
-    ∙ ap (λ y. old ++ filter_map f (take i xs ++ y ∷ [])) is
-    ∙ ap (λ ys. old ++ filter_map f ys) (sym (take_more xs i x lt))
+moved : {Y : Type 0} (o : Option Y) (now rest : List Y) → now ++ cons_option o rest ≡ (now ++ cons_option o []) ++ rest
+moved None now rest = ap (λ ys. ys ++ rest) (sym (append-nil now))
+moved (Some y) now rest = sym (append_assoc now (y ∷ []) rest)
 
--- the last of some numbered elements
-enumerate_push : {X : Type 0} (n : ℕ) (xs : List X) (x : X) → enumerate_from n (xs ++ x ∷ []) ≡ enumerate_from n xs ++ (n + length xs, x) ∷ []
-enumerate_push n [] x = ap (λ m. (m, x) ∷ []) (omega arith)
-enumerate_push n (y ∷ xs) x =
-    ap (λ ps. (n, y) ∷ ps) (enumerate_push (n + 1) xs x)
-    ∙ ap (λ m. (n, y) ∷ enumerate_from (n + 1) xs ++ (m, x) ∷ []) (omega arith)
+-- all is what was found and what the others give: so it is behind one more
+pub found_more : {X Y : Type 0} (f : X → Option Y) (left more : List X) (x : X) (all now new : List Y) → left ≡ x ∷ more → all ≡ now ++ filter_map f left → new ≡ now ++ cons_option (f x) [] → all ≡ new ++ filter_map f more
+found_more f left more x all now new first before after =
+    before
+    ∙ ap (λ xs. now ++ filter_map f xs) first
+    ∙ moved (f x) now (filter_map f more)
+    ∙ ap (λ ys. ys ++ filter_map f more) (sym after)
 
-numbered_more : {X : Type 0} (xs : List X) (i : ℕ) (x : X) → i < length xs → x ≡ get_or xs i x → enumerate_from 0 (take (i + 1) xs) ≡ enumerate_from 0 (take i xs) ++ (i, x) ∷ []
-numbered_more xs i x lt is =
-    ap (enumerate_from 0) (take_more xs i x lt ∙ ap (λ y. take i xs ++ y ∷ []) (sym is))
-    ∙ enumerate_push 0 (take i xs) x
-    ∙ ap (λ m. enumerate_from 0 (take i xs) ++ (m, x) ∷ []) (omega (arith, length-take i xs))
-
-pub files_more : {X Y : Type 0} (g : ℕ × X → List Y) (xs : List X) (i : ℕ) (x : X) (old now new : List Y) → i < length xs → x ≡ get_or xs i x → now ≡ old ++ flat_map g (enumerate_from 0 (take i xs)) → new ≡ now ++ g (i, x) → new ≡ old ++ flat_map g (enumerate_from 0 (take (i + 1) xs))
-files_more g xs i x old now new lt is before after =
-    after
-    ∙ ap (λ ys. ys ++ g (i, x)) before
-    ∙ append_assoc old (flat_map g (enumerate_from 0 (take i xs))) (g (i, x))
-    ∙ ap (λ ys. old ++ (flat_map g (enumerate_from 0 (take i xs)) ++ ys)) (sym (append-nil (g (i, x))))
-    ∙ ap (λ ys. old ++ ys) (sym (flat_map-append g (enumerate_from 0 (take i xs)) ((i, x) ∷ [])))
-    ∙ ap (λ ps. old ++ flat_map g ps) (sym (numbered_more xs i x lt is))
+-- the same where each gives a list
+pub added_more : {X Y : Type 0} (g : X → List Y) (left more : List X) (x : X) (all now new : List Y) → left ≡ x ∷ more → all ≡ now ++ flat_map g left → new ≡ now ++ g x → all ≡ new ++ flat_map g more
+added_more g left more x all now new first before after =
+    before
+    ∙ ap (λ xs. now ++ flat_map g xs) first
+    ∙ sym (append_assoc now (g x) (flat_map g more))
+    ∙ ap (λ ys. ys ++ flat_map g more) (sym after)

@@ -1,3 +1,4 @@
 pub mod Found
 pub mod OneMore
 pub mod Looping
+pub mod Sections

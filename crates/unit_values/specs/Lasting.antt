@@ -1,12 +1,14 @@
 -- A key of which the last value that can be read decides (systemd.syntax(7)).
-use Rattle.std.specs.Prelude.{ℕ, Option, Some, None, List, [], ◌∷◌, unwrap_or}
+use Rattle.std.specs.Prelude.{ℕ, Option, Some, None, List, [], ◌∷◌, ◌++◌, flat_map, unwrap_or}
 use Rattle.std.specs.List.{filter_map}
 use Rattle.unit_grammar.specs.Before.{last_of}
 use Rattle.unit_grammar.specs.declared.notes.NoteCause.{NoteCause}
 use Rattle.unit_grammar.specs.declared.notes.NoteCause.TheVariants.{Value as ValueCause}
+use Rattle.dropin_merge.specs.declared.resolved.Resolved.{Resolved}
 use Rattle.unit_values.specs.declared.value.FileNote.{FileNote}
 use Rattle.unit_values.specs.declared.value.Value.{Value}
-use Rattle.unit_values.specs.Notes.{noted}
+use Rattle.unit_values.specs.Values.{values_of, notes_of}
+use Rattle.unit_values.specs.Notes.{notes_at}
 
 -- the last value that can be read, and without one the default
 abbrev pub last_read : {X : Type 0} → (List ℕ → Option X) → X → List Value → X
@@ -18,4 +20,19 @@ unless_read None = ValueCause ∷ []
 unless_read (Some x) = []
 
 abbrev pub unread_notes : {X : Type 0} → (List ℕ → Option X) → List Value → List FileNote
-unread_notes read values = noted (λ place. unless_read (read place.1.text)) values
+unread_notes read values = flat_map (λ value. notes_at value (unless_read (read value.text))) values
+
+-- what the files of a unit say of such a key
+unfoldable pub unit_last : {X : Type 0} → (List ℕ → Option X) → X → Resolved → List ℕ → X
+unit_last read default unit key = last_read read default (values_of unit key)
+
+-- and what is noted: values that cannot be expanded, then values that cannot be read
+unfoldable pub unit_last_notes : {X : Type 0} → (List ℕ → Option X) → Resolved → List ℕ → List FileNote
+unit_last_notes read unit key = notes_of unit key ++ unread_notes read (values_of unit key)
+
+-- where each text is a value, the last one is it, and without any an empty one
+abbrev pub last_text : List Value → List ℕ
+last_text values = last_read Some [] values
+
+unfoldable pub unit_last_text : Resolved → List ℕ → List ℕ
+unit_last_text unit key = last_text (values_of unit key)

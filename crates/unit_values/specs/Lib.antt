@@ -1,6 +1,10 @@
+pub mod Assignments
+pub mod Walk
 pub mod Values
 pub mod Steps
 pub mod Notes
 pub mod Lasting
 pub mod Flags
 pub mod Lines
+pub mod Listed
+pub mod Words

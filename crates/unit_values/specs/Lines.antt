@@ -1,5 +1,5 @@
 -- Lines of words, of which one that begins with `~` is inverted (systemd.exec(5), SystemCallFilter=).
-use Rattle.std.specs.Prelude.{ℕ, is_some, Option, Some, None, Result, Ok, Err, List, unwrap_or}
+use Rattle.std.specs.Prelude.{ℕ, false, is_some, Option, Some, None, Result, Ok, Err, List, [], ◌∷◌, unwrap_or}
 use Rattle.std.specs.Option.{option_map}
 use Rattle.std.specs.List.{filter_map}
 use Rattle.text_forms.specs.Words.{words_of}
@@ -21,6 +21,11 @@ unfoldable pub line_of : List ℕ → Option Line
 line_of text =
     option_map (λ words. record { is_inverted = is_some (behind tilde text); words = words })
     (words_if (words_of (unwrap_or (behind tilde text) text)))
+
+-- an empty value is a line without words
+abbrev pub listed_line : List ℕ → Option Line
+listed_line [] = Some (record { is_inverted = false; words = [] })
+listed_line (byte ∷ text) = line_of (byte ∷ text)
 
 -- the lines that count: those of the values in force, but for those that cannot be split
 abbrev pub lines_of : List Value → List Line

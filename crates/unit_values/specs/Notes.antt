@@ -7,7 +7,7 @@ use Rattle.unit_values.specs.declared.value.Value.{Value}
 
 -- a note stands at the place of its value
 abbrev pub note_at : Value → NoteCause → FileNote
-note_at value cause = record { file = value.file; line = value.line; cause = cause }
+note_at value cause = record { place = value.place; cause = cause }
 
 abbrev pub notes_at : Value → List NoteCause → List FileNote
 notes_at value causes = map (note_at value) causes

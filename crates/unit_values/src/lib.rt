@@ -3,23 +3,31 @@
 //! Files are gone through in their order, each value is expanded, and one that cannot be expanded is noted and
 //! passed over; systemd.unit(5) and systemd.syntax(7) have the rules. It stands on `dropin_merge` for the files and
 //! on `unit_names` for the specifiers; settings are read from these values, by what booleans, words and lines of
-//! words mean.
+//! words mean. What is said comes with its notes.
 //!
-//! `in_force(values_of_key(alloc, &unit, "ExecStart", &mut notes)?.as_slice())` has the commands of a service.
+//! `flag_of_key(alloc, &unit, "NoNewPrivileges")?.what` is what a boolean key says.
 #![tactic(auto)]
 
+mod assignments;
 mod flags;
 mod force;
+mod lasting;
+mod laws;
 mod lines;
+mod listed;
 mod noting;
 mod reading;
-#[cfg(test)]
-mod tests;
 mod value;
+mod words;
 
+pub use assignments::{ServiceAssignments, service_assignments};
 pub use flags::flag_of_key;
 pub use force::in_force;
+pub use lasting::{KeyValue, last_of_key, last_text_of_key};
+pub use laws::other_sections;
 pub use lines::{Line, Words, read_line, read_words};
+pub use listed::{Listed, lines_of_key};
 pub use noting::{note_causes, note_value};
-pub use reading::{assigns_to, values_of_key};
-pub use value::{FileNote, Value};
+pub use reading::{value_at, values_of_key};
+pub use value::{FileNote, Place, Said, Value};
+pub use words::words_of_key;

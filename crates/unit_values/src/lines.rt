@@ -1,5 +1,5 @@
 //! Lines of words, of which one that begins with `~` is inverted (systemd.exec(5), SystemCallFilter=).
-ghost use Rattle.std.specs.Prelude.{◌≡◌, IfOk, map, unwrap_or};
+ghost use Rattle.std.specs.Prelude.{◌≡◌, ◌++◌, [], false, IfOk, OnOk, map, unwrap_or};
 ghost use Rattle.std.specs.String.{string_bytes};
 ghost use Rattle.std.specs.Option.{option_map};
 ghost use Rattle.text_forms.specs.Words.{words_of};
@@ -12,7 +12,7 @@ use text_forms::{WordsError, words};
 use unit_grammar::Text;
 
 /// Words, which contracts see as a list of texts.
-#[derive(Debug, Drop)]
+#[derive(Drop)]
 pub struct Words {
     items: Vec<Text>,
 }
@@ -32,15 +32,48 @@ impl Words {
     {
         &self.items
     }
+
+    // No words.
+    pub(crate) fn none(alloc: Global) -> Words
+        ensures { result ≡ [] }
+    {
+        Words {
+            items: Vec::new(alloc),
+        }
+    }
+
+    // These words, and behind them these.
+    pub(crate) fn and(self, more: Words) -> Result<Words, AllocError>
+        ensures { IfOk result (λ all. all ≡ self ++ more) }
+    {
+        let Words { mut items } = self;
+        let Words { items: others } = more;
+        'others: for word in others {
+            items.push(word)?;
+        }
+        Ok(Words { items })
+    }
 }
 
 /// A line of a list.
-#[derive(Debug, Drop)]
+#[derive(Drop)]
 pub struct Line {
     /// Whether it begins with `~`.
     pub is_inverted: bool,
     /// Its words, without the `~`.
     pub words: Words,
+}
+
+impl Line {
+    // The line without words.
+    pub(crate) fn empty(alloc: Global) -> Line
+        ensures { result ≡ record { is_inverted = false; words = [] } }
+    {
+        Line {
+            is_inverted: false,
+            words: Words::none(alloc),
+        }
+    }
 }
 
 fn behind_tilde(text: &str) -> Option<&str>

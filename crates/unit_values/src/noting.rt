@@ -15,8 +15,7 @@ pub fn note_value(
     ensures { OnOk result (notes.new.items ≡ notes.old.items ++ note_at value.now cause ∷ []) }
 {
     notes.push(FileNote {
-        file: value.file,
-        line: value.line,
+        place: value.place,
         cause,
     })?;
     Ok(())

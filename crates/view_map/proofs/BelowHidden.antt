@@ -6,20 +6,20 @@ use Rattle.std.proofs.lemmas.Bool.{false≢true, and_parts, and_from}
 use Rattle.std.proofs.lemmas.Bool.Decides.{nat_tests}
 use Rattle.std.proofs.lemmas.List.Elements.{recursion_from_All, All-from_recursion, All-contains, All-contains_itself}
 use Rattle.abs_path.specs.Paths.{Path, tail_of}
-use Rattle.abs_path.specs.Prefix.{is_prefix, is_same, rest_of}
+use Rattle.abs_path.specs.Prefix.{is_prefix, is_same, rest_of, is_below}
 use Rattle.abs_path.proofs.Prefixes.{prefix_chain, prefix_and_rest, same_path, same_itself}
 use Rattle.abs_path.proofs.ByteOrder.{text_then_rest}
 use Rattle.path_settings.specs.declared.mentions.Kind.{Kind}
 use Rattle.path_settings.specs.declared.mentions.Kind.TheVariants.{Hide, Tmp, Bind}
 use Rattle.path_settings.specs.declared.mentions.Mention.{Mention}
-use Rattle.path_settings.specs.Mentions.{is_origin}
-use Rattle.view_map.specs.View.{Found, is_above, above, saying, length_of, is_as_long_as_each, longest}
+use Rattle.path_settings.specs.Mentions.{hides, is_tmp, is_bind, is_origin}
+use Rattle.view_map.specs.View.{Found, above, saying, length_of, longest}
 use Rattle.view_map.specs.Object.{object_by, object_from}
 use Rattle.view_map.specs.declared.rules.Beneath.{Beneath}
-use Rattle.view_map.specs.Kept.{Host, hides, is_tmp, is_bind, at_path, is_beaten, unbeaten_of, unbeaten, beneath_by, beneath_at, is_kept, fate_among, kept_among, kept_at, KeepsByRules}
-use Rattle.view_map.proofs.Lists.{all_filtered, all_weaker, all_enumerated, enumerated_all, all_from_test, none_from_test, filter_is, filter_was, find_passes}
+use Rattle.view_map.specs.Kept.{Host, at_path, is_beaten, unbeaten_of, unbeaten, beneath_by, beneath_at, is_kept, fate_among, kept_among, kept_at, KeepsByRules}
+use Rattle.view_map.proofs.Lists.{all_filtered, all_weaker, all_enumerated, enumerated_all, none_from_test, filter_is, filter_was}
 use Rattle.view_map.proofs.Largest.{none_largest}
-use Rattle.view_map.proofs.Deciding.{longest_is}
+use Rattle.view_map.proofs.Deciding.{longest_is, longest_covers}
 use Rattle.view_map.proofs.KeptLaws.{kept_among_Ok, each_kept}
 
 -- a prefix that is as long is the path itself
@@ -34,7 +34,7 @@ prefix_as_long front path leads long = by (rest_of front path) (prefix_and_rest 
         not_longer whole front more e h = grind (arith, nat_tests)
 
 -- a path above another has fewer parts
-above_is_shorter : (one path : Path) → is_above one path ≡ true → length one < length path
+above_is_shorter : (one path : Path) → is_below path one ≡ true → length one < length path
 above_is_shorter one path over =
     let both = and_parts (is_prefix one path) (not (is_same one path)) over in
     by (rest_of one path) (prefix_and_rest one path both.0) both.1
@@ -49,14 +49,9 @@ none_says : (says : Kind → Bool) (found : Found) → longest says found ≡ No
 none_says says found e =
     filter_was (λ one. says one.1.kind) (λ _. ⊥) found (subst (AllByRecursion (λ (_ : ℕ × Mention). ⊥)) (sym (none_largest length_of (saying says found) e)) tt)
 
-longest_covers : (says : Kind → Bool) (found : Found) (best : ℕ × Mention) → longest says found ≡ Some best → AllByRecursion (λ one. says one.1.kind ≡ true → nat_le (length_of one) (length_of best) ≡ true) found
-longest_covers says found best e =
-    filter_was (λ one. says one.1.kind) (λ one. nat_le (length_of one) (length_of best) ≡ true) found
-    (all_from_test (λ one. nat_le (length_of one) (length_of best)) (saying says found) (find_passes (is_as_long_as_each (saying says found)) (saying says found) best e))
-
 -- what holds of all found above a path holds of each mention above it
-found_above : (P : Mention → Type 0) (path : Path) (kept : List Mention) → AllByRecursion (λ one. P one.1) (above path kept) → AllByRecursion (λ mention. is_above mention.path path ≡ true → P mention) kept
-found_above P path kept h = enumerated_all (λ mention. is_above mention.path path ≡ true → P mention) 0 kept (filter_was (λ one. is_above one.1.path path) (λ one. P one.1) (enumerate_from 0 kept) h)
+found_above : (P : Mention → Type 0) (path : Path) (kept : List Mention) → AllByRecursion (λ one. P one.1) (above path kept) → AllByRecursion (λ mention. is_below path mention.path ≡ true → P mention) kept
+found_above P path kept h = enumerated_all (λ mention. is_below path mention.path ≡ true → P mention) 0 kept (filter_was (λ one. is_below path one.1.path) (λ one. P one.1) (enumerate_from 0 kept) h)
 
 -- of what is not beaten beside a hidden mention nothing is put there
 unbeaten_puts_nothing : (here later : List Mention) → list_any (λ other. hides other.kind) here ≡ true → AllByRecursion (λ mention. (is_tmp mention.kind || is_bind mention.kind) ≡ false) (unbeaten_of here later)
@@ -114,13 +109,13 @@ hides_too row_at mentions kept one other keeps has hidden among same says =
 -- what the longest kept mention above a path is
 record Above (kept : List Mention) (path : Path) (mention : Mention) : Type 0 where
   among : Contains kept mention
-  leads : is_above mention.path path ≡ true
+  leads : is_below path mention.path ≡ true
   says : is_origin mention.kind ≡ true
 
 longest_above : (kept : List Mention) (path : Path) (best : ℕ × Mention) → longest is_origin (above path kept) ≡ Some best → Above kept path best.1
 longest_above kept path best e =
     longest_is (λ found. Above kept path found.1) is_origin (above path kept) best
-    (filter_is (λ found. is_above found.1.path path) (λ found. is_origin found.1.kind ≡ true → Above kept path found.1) (enumerate_from 0 kept)
+    (filter_is (λ found. is_below path found.1.path) (λ found. is_origin found.1.kind ≡ true → Above kept path found.1) (enumerate_from 0 kept)
     (all_weaker (λ found. Contains kept found.1) _ (enumerate_from 0 kept) (λ found among leads says. record { among = among; leads = leads; says = says })
     (all_enumerated (Contains kept) 0 kept (recursion_from_All (Contains kept) kept (All-contains_itself kept))))) e
 
@@ -134,10 +129,10 @@ hides_says : (kind : Kind) → hides kind ≡ true → is_origin kind ≡ true
 hides_says Hide hidden = refl
 hides_says _ hidden = absurd (false≢true hidden)
 
-same_or_above : (one path : Path) → is_prefix one path ≡ true → (one ≡ path) ⊎ (is_above one path ≡ true)
+same_or_above : (one path : Path) → is_prefix one path ≡ true → (one ≡ path) ⊎ (is_below path one ≡ true)
 same_or_above one path leads = by (is_same one path) refl
   where
-    by : (b : Bool) → is_same one path ≡ b → (one ≡ path) ⊎ (is_above one path ≡ true)
+    by : (b : Bool) → is_same one path ≡ b → (one ≡ path) ⊎ (is_below path one ≡ true)
     by true e = inl (same_path one path e)
     by false e = inr (and_from _ _ leads (ap not e))
 
@@ -153,13 +148,13 @@ at_hidden row_at mentions kept one other best keeps has hidden among e facts sam
 
 -- the longest above a mention below the hidden path is the hidden one, or lies below it too
 nearest : (row_at : Host) (mentions kept : List Mention) (one other : Mention) (best : ℕ × Mention) → KeepsByRules row_at mentions kept → Contains kept one → hides one.kind ≡ true → Contains kept other →
-    is_above one.path other.path ≡ true → ((nearer : Mention) → length nearer.path < length other.path → Contains kept nearer → is_above one.path nearer.path ≡ true → ⊥) →
+    is_below other.path one.path ≡ true → ((nearer : Mention) → length nearer.path < length other.path → Contains kept nearer → is_below nearer.path one.path ≡ true → ⊥) →
     longest is_origin (above other.path kept) ≡ Some best → ⊥
 nearest row_at mentions kept one other best keeps has hidden among over more e =
     let facts = longest_above kept other.path best e in
     let covered = found_above (λ mention. is_origin mention.kind ≡ true → nat_le (length (tail_of mention.path)) (length_of best) ≡ true) other.path kept (longest_covers is_origin (above other.path kept) best e) in
-    let long = All-contains (λ mention. is_above mention.path other.path ≡ true → is_origin mention.kind ≡ true → nat_le (length (tail_of mention.path)) (length_of best) ≡ true) kept one
-    (All-from_recursion (λ mention. is_above mention.path other.path ≡ true → is_origin mention.kind ≡ true → nat_le (length (tail_of mention.path)) (length_of best) ≡ true) kept covered) has over (hides_says one.kind hidden) in
+    let long = All-contains (λ mention. is_below other.path mention.path ≡ true → is_origin mention.kind ≡ true → nat_le (length (tail_of mention.path)) (length_of best) ≡ true) kept one
+    (All-from_recursion (λ mention. is_below other.path mention.path ≡ true → is_origin mention.kind ≡ true → nat_le (length (tail_of mention.path)) (length_of best) ≡ true) kept covered) has over (hides_says one.kind hidden) in
     let at_it = at_hidden row_at mentions kept one other best keeps has hidden among e facts in
     elim (prefix_chain best.1.path one.path other.path (and_parts (is_prefix best.1.path other.path) _ facts.leads).0 (and_parts (is_prefix one.path other.path) _ over).0) [
       | inl back ↦ at_it (prefix_as_long best.1.path one.path back long)
@@ -170,22 +165,22 @@ nearest row_at mentions kept one other best keeps has hidden among over more e =
     ]
 
 none_nearer : (row_at : Host) (mentions kept : List Mention) (one other : Mention) → KeepsByRules row_at mentions kept → Contains kept one → hides one.kind ≡ true → Contains kept other →
-    is_above one.path other.path ≡ true → ((nearer : Mention) → length nearer.path < length other.path → Contains kept nearer → is_above one.path nearer.path ≡ true → ⊥) → ⊥
+    is_below other.path one.path ≡ true → ((nearer : Mention) → length nearer.path < length other.path → Contains kept nearer → is_below nearer.path one.path ≡ true → ⊥) → ⊥
 none_nearer row_at mentions kept one other keeps has hidden among over more = by (longest is_origin (above other.path kept)) refl
   where
     by : (o : Option (ℕ × Mention)) → longest is_origin (above other.path kept) ≡ o → ⊥
     by None e =
         let none = found_above (λ mention. is_origin mention.kind ≡ true → ⊥) other.path kept (none_says is_origin (above other.path kept) e) in
-        All-contains (λ mention. is_above mention.path other.path ≡ true → is_origin mention.kind ≡ true → ⊥) kept one
-        (All-from_recursion (λ mention. is_above mention.path other.path ≡ true → is_origin mention.kind ≡ true → ⊥) kept none) has over (hides_says one.kind hidden)
+        All-contains (λ mention. is_below other.path mention.path ≡ true → is_origin mention.kind ≡ true → ⊥) kept one
+        (All-from_recursion (λ mention. is_below other.path mention.path ≡ true → is_origin mention.kind ≡ true → ⊥) kept none) has over (hides_says one.kind hidden)
     by (Some best) e = nearest row_at mentions kept one other best keeps has hidden among over more e
 
 none_within : (row_at : Host) (mentions kept : List Mention) (one : Mention) → KeepsByRules row_at mentions kept → Contains kept one → hides one.kind ≡ true →
-    (bound : ℕ) (other : Mention) → length other.path < bound → Contains kept other → is_above one.path other.path ≡ true → ⊥
+    (bound : ℕ) (other : Mention) → length other.path < bound → Contains kept other → is_below other.path one.path ≡ true → ⊥
 none_within row_at mentions kept one keeps has hidden zero other short among over = absurd (omega arith)
 none_within row_at mentions kept one keeps has hidden (suc bound) other short among over =
     none_nearer row_at mentions kept one other keeps has hidden among over (λ nearer closer. none_within row_at mentions kept one keeps has hidden bound nearer (omega arith))
 
 -- nothing is kept below what is hidden
-pub none_below_hidden : (row_at : Host) (mentions kept : List Mention) (one other : Mention) → KeepsByRules row_at mentions kept → Contains kept one → hides one.kind ≡ true → Contains kept other → is_above one.path other.path ≡ true → ⊥
+pub none_below_hidden : (row_at : Host) (mentions kept : List Mention) (one other : Mention) → KeepsByRules row_at mentions kept → Contains kept one → hides one.kind ≡ true → Contains kept other → is_below other.path one.path ≡ true → ⊥
 none_below_hidden row_at mentions kept one other keeps has hidden among over = none_within row_at mentions kept one keeps has hidden (length other.path + 1) other (omega arith) among over

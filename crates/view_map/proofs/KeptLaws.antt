@@ -5,17 +5,18 @@ use Rattle.std.specs.List.{AllByRecursion, Contains}
 use Rattle.std.proofs.lemmas.Bool.{false≢true, false_from_ne_true, and_left, and_right}
 use Rattle.std.proofs.lemmas.List.Elements.{filter_passes, recursion_from_All, All-from_recursion, All-contains, All-contains_itself, Contains-append_right}
 use Rattle.abs_path.specs.Paths.{Path, is_normal}
-use Rattle.abs_path.specs.Prefix.{is_prefix, is_same}
+use Rattle.abs_path.specs.Prefix.{is_prefix, is_same, is_below}
 use Rattle.abs_path.specs.ByteOrder.{is_before, in_byte_order, AreAscending}
 use Rattle.abs_path.proofs.Prefixes.{same_path, same_itself}
 use Rattle.abs_path.proofs.Placed.{in_byte_order_was, in_byte_order_ascending}
 use Rattle.abs_path.proofs.ByteOrder.{prefix_before, not_before_itself, before_trans}
 use Rattle.path_settings.specs.declared.mentions.Mention.{Mention}
 use Rattle.path_settings.specs.Mentions.{is_origin}
-use Rattle.view_map.specs.View.{is_above, above, longest}
+use Rattle.view_map.specs.View.{above, longest}
 use Rattle.view_map.specs.Object.{object_from}
 use Rattle.view_map.specs.declared.rules.Beneath.{Beneath}
 use Rattle.view_map.specs.Kept.{Host, Refusal, at_path, is_beaten, unbeaten_of, unbeaten, beneath_by, beneath_at, is_kept, fate_among, refusals, unless_refused, kept_among, kept_at, goes_on, kept_from, kept_of, KeepsByRules}
+use Rattle.view_map.specs.Asked.{place_of, beneath_place, beneath_places, asked_on, asked_from, asked_of}
 use Rattle.view_map.proofs.Lists.{all_weaker, all_mapped, mapped_all, all_filtered, all_appended, filter_was, filter_middle, found_front}
 
 unbeaten_of_is : (P : Mention → Type 0) (here later : List Mention) → AllByRecursion P later → AllByRecursion P (unbeaten_of here later)
@@ -90,15 +91,16 @@ passes_at : (path : Path) (mentions : List Mention) → AllByRecursion (λ menti
 passes_at path mentions = recursion_from_All (λ mention. is_same mention.path path ≡ true) _ (filter_passes (λ mention. is_same mention.path path) mentions)
 
 -- the kept mentions of these paths, by the whole of what is kept
-record Settles (row_at : Host) (mentions : List Mention) (paths : List Path) (before kept : List Mention) : Type 0 where
-  later : List Mention
-  whole : kept ≡ before ++ later
-  inside : AllByRecursion (λ mention. Contains paths mention.path) later
-  rules : AllByRecursion (λ path. kept_at row_at mentions kept path ≡ Ok (at_path path kept)) paths
+pub record Settles (row_at : Host) (mentions : List Mention) (paths : List Path) (before kept : List Mention) : Type 0 where
+  pub later : List Mention
+  pub whole : kept ≡ before ++ later
+  pub inside : AllByRecursion (λ mention. Contains paths mention.path) later
+  pub asked : asked_from row_at mentions paths before ≡ beneath_places kept paths
+  pub rules : AllByRecursion (λ path. kept_at row_at mentions kept path ≡ Ok (at_path path kept)) paths
 
-settles : (row_at : Host) (mentions : List Mention) (paths : List Path) (before kept : List Mention) → AreAscending paths → AllByRecursion (λ mention. AllByRecursion (λ path. is_before mention.path path ≡ true) paths) before →
+pub settles : (row_at : Host) (mentions : List Mention) (paths : List Path) (before kept : List Mention) → AreAscending paths → AllByRecursion (λ mention. AllByRecursion (λ path. is_before mention.path path ≡ true) paths) before →
     kept_from row_at mentions paths before ≡ Ok kept → Settles row_at mentions paths before kept
-settles row_at mentions [] before kept up early e = record { later = []; whole = (let same : before ≡ kept = cc in sym same) ∙ sym (append-nil before); inside = tt; rules = tt }
+settles row_at mentions [] before kept up early e = record { later = []; whole = (let same : before ≡ kept = cc in sym same) ∙ sym (append-nil before); inside = tt; asked = refl; rules = tt }
 settles row_at mentions (path ∷ paths) before kept up early e =
     let step = goes_on_Ok (kept_at row_at mentions before path) (λ more. kept_from row_at mentions paths (before ++ more)) kept e in
     let more : List Mention = step.0 in
@@ -106,7 +108,7 @@ settles row_at mentions (path ∷ paths) before kept up early e =
     let rest = settles row_at mentions paths (before ++ more) kept up.1 (earlier path paths before more up.0 early here) step.2 in
     let after = all_weaker (λ mention. Contains paths mention.path) (λ mention. is_before path mention.path ≡ true) rest.later
     (λ mention among. All-contains (λ other. is_before path other ≡ true) paths mention.path (All-from_recursion (λ other. is_before path other ≡ true) paths up.0) among) rest.inside in
-    let above_same = ap (above path) rest.whole ∙ found_front (λ mention. is_above mention.path path) before more rest.later
+    let above_same = ap (above path) rest.whole ∙ found_front (λ mention. is_below path mention.path) before more rest.later
     (all_weaker (λ mention. is_same mention.path path ≡ true) _ more (λ mention same. and_right (is_prefix mention.path path) _ (ap not same)) here)
     (all_weaker (λ mention. is_before path mention.path ≡ true) _ rest.later (λ mention late. and_left _ _ (later_leads_not path mention.path late)) after) in
     let at_same = ap (at_path path) rest.whole ∙ filter_middle (λ mention. is_same mention.path path) before more rest.later
@@ -119,6 +121,9 @@ settles row_at mentions (path ∷ paths) before kept up early e =
       inside = all_appended (λ mention. Contains (path ∷ paths) mention.path) more rest.later
           (all_weaker (λ mention. is_same mention.path path ≡ true) _ more (λ mention same. (0, omega arith, sym (same_path mention.path path same))) here)
           (all_weaker (λ mention. Contains paths mention.path) _ rest.later (λ mention among. Contains-append_right (path ∷ []) paths mention.path among) rest.inside);
+      asked = ap (λ (r : Result (List Mention) Refusal). beneath_place before path ++ asked_on r (λ more. asked_from row_at mentions paths (before ++ more))) step.1
+          ∙ ap (λ (ps : List Path). beneath_place before path ++ ps) rest.asked
+          ∙ ap (λ found. place_of (object_from (longest is_origin found) path) ++ beneath_places kept paths) (sym above_same);
       rules = (ap (λ found. kept_among row_at (beneath_by row_at (object_from (longest is_origin found) path)) (unbeaten (at_path path mentions))) above_same ∙ step.1 ∙ ap Ok (sym at_same), rest.rules);
     }
   where
@@ -137,6 +142,11 @@ keeps_by_rules row_at mentions kept normal e = record {
       (settles row_at mentions (in_byte_order (map (λ mention. mention.path) mentions)) [] kept (in_byte_order_ascending (map (λ mention. mention.path) mentions)) tt e).rules);
   among = kept_among_mentions row_at mentions kept e;
 }
+
+-- where the rules refuse nothing, they asked what stands beneath by the kept mentions themselves
+pub asks_beneath : (row_at : Host) (mentions kept : List Mention) → kept_of row_at mentions ≡ Ok kept → asked_of row_at mentions ≡ beneath_places kept (in_byte_order (map (λ mention. mention.path) mentions))
+asks_beneath row_at mentions kept e =
+    (settles row_at mentions (in_byte_order (map (λ mention. mention.path) mentions)) [] kept (in_byte_order_ascending (map (λ mention. mention.path) mentions)) tt e).asked
 
 -- each kept mention is one that the rules keep, by the kept mentions above it
 pub each_kept : (row_at : Host) (mentions kept : List Mention) → KeepsByRules row_at mentions kept →

@@ -1,15 +1,14 @@
 -- Which mentions are kept, path by path in byte order, so that each path comes after those above it.
 -- The rules are this project's profile of systemd.exec(5), Sandboxing. The host enters as a function `row_at` from a path
 -- to whether there is an object at it, and then whether it is a directory.
-use Rattle.std.specs.Prelude.{◌≡◌, ◌||◌, ◌&&◌, Bool, true, false, not, List, [], ◌∷◌, ◌++◌, map, filter, Option, Some, None, Result, Ok, Err, if◌then◌else◌}
+use Rattle.std.specs.Prelude.{◌≡◌, ◌||◌, ◌&&◌, Bool, true, false, not, List, [], ◌∷◌, ◌++◌, map, filter, Option, Some, None, option_map, option_and_then, Result, Ok, Err, if◌then◌else◌}
 use Rattle.std.specs.List.{list_any, filter_map, AllByRecursion, Contains}
 use Rattle.abs_path.specs.Paths.{Path}
 use Rattle.abs_path.specs.Prefix.{is_same}
 use Rattle.abs_path.specs.ByteOrder.{in_byte_order}
 use Rattle.path_settings.specs.declared.mentions.Kind.{Kind}
-use Rattle.path_settings.specs.declared.mentions.Kind.TheVariants.{Hide, Tmp, Bind}
 use Rattle.path_settings.specs.declared.mentions.Mention.{Mention}
-use Rattle.path_settings.specs.Mentions.{is_origin}
+use Rattle.path_settings.specs.Mentions.{hides, is_tmp, is_bind, source_of, is_origin}
 use Rattle.view_map.specs.View.{above, longest}
 use Rattle.view_map.specs.Object.{Object, on_host, empty, hidden, object_from}
 use Rattle.view_map.specs.declared.rules.Beneath.{Beneath}
@@ -26,18 +25,6 @@ Host = Path → Option Bool
 pub data Refusal : Type 0 where
   missing : Path → Refusal
   wrong_kind : Path → Refusal
-
-abbrev pub hides : Kind → Bool
-hides Hide = true
-hides _ = false
-
-abbrev pub is_tmp : Kind → Bool
-is_tmp (Tmp read_only) = true
-is_tmp _ = false
-
-abbrev pub is_bind : Kind → Bool
-is_bind (Bind source read_only) = true
-is_bind _ = false
 
 -- the mentions at a path, in written order
 abbrev pub at_path : Path → List Mention → List Mention
@@ -72,8 +59,7 @@ beneath_at row_at kept path = beneath_by row_at (object_from (longest is_origin 
 
 -- whether there is an object at the source of a bind, and then whether it is a directory
 abbrev pub source_row : Host → Kind → Option Bool
-source_row row_at (Bind source read_only) = row_at source
-source_row row_at _ = None
+source_row row_at kind = option_and_then row_at (source_of kind)
 
 abbrev pub is_kept : Fate → Bool
 is_kept fate.Kept = true
@@ -87,15 +73,10 @@ puts row_at here mention = (is_tmp mention.kind || is_bind mention.kind) && is_k
 abbrev pub fate_among : Host → Beneath → List Mention → Mention → Fate
 fate_among row_at here mentions mention = fate_of (source_row row_at mention.kind) here (list_any (puts row_at here) mentions) mention
 
--- the source of a bind
-abbrev pub source_of : Kind → Path
-source_of (Bind source read_only) = source
-source_of _ = []
-
 abbrev pub refusal_of : Mention → Fate → Option Refusal
 refusal_of mention fate.Kept = None
 refusal_of mention fate.Dropped = None
-refusal_of mention fate.NoSource = Some (missing (source_of mention.kind))
+refusal_of mention fate.NoSource = option_map missing (source_of mention.kind)
 refusal_of mention fate.NoRow = Some (missing mention.path)
 refusal_of mention fate.WrongKind = Some (wrong_kind mention.path)
 

@@ -4,3 +4,4 @@ pub mod Scan
 pub mod OnTheWay
 pub mod Rules
 pub mod Kept
+pub mod Asked

@@ -1,9 +1,9 @@
 -- What a service finds at a path by the kept mentions (systemd.exec(5), Sandboxing): three choices, each by the longest
 -- mention that leads to the path.
-use Rattle.std.specs.Prelude.{◌&&◌, ℕ, Bool, true, false, not, nat_le, List, length, filter, find, Option, option_map}
+use Rattle.std.specs.Prelude.{ℕ, Bool, true, false, not, nat_le, List, length, filter, find, Option, option_map}
 use Rattle.std.specs.List.{list_any, list_all, enumerate_from}
 use Rattle.abs_path.specs.Paths.{Path, tail_of}
-use Rattle.abs_path.specs.Prefix.{is_prefix, is_same}
+use Rattle.abs_path.specs.Prefix.{is_prefix, is_below}
 use Rattle.path_settings.specs.declared.mentions.Kind.{Kind}
 use Rattle.path_settings.specs.declared.mentions.Kind.TheVariants.{Ro, Rw, Exec, NoExec, Tmp, Bind}
 use Rattle.path_settings.specs.declared.mentions.Mention.{Mention}
@@ -39,12 +39,9 @@ Found = List (ℕ × Mention)
 abbrev pub leading_to : Path → List Mention → Found
 leading_to path kept = filter (λ one. is_prefix one.1.path path) (enumerate_from 0 kept)
 
-abbrev pub is_above : Path → Path → Bool
-is_above one path = is_prefix one path && not (is_same one path)
-
 -- those at the paths that lead to it, without those at the path
 abbrev pub above : Path → List Mention → Found
-above path kept = filter (λ one. is_above one.1.path path) (enumerate_from 0 kept)
+above path kept = filter (λ one. is_below path one.1.path) (enumerate_from 0 kept)
 
 -- those that say this
 abbrev pub saying : (Kind → Bool) → Found → Found

@@ -1,14 +1,17 @@
 //! Laws of views and of kept mentions, each the contract of a function that does nothing.
 
-ghost use Rattle.std.specs.Prelude.{◌≡◌, List, Ok, IsTrue};
+ghost use Rattle.std.specs.Prelude.{◌≡◌, List, map, Ok, IsTrue};
 ghost use Rattle.std.specs.List.{AllByRecursion, Contains};
 ghost use Rattle.abs_path.specs.Paths.{Path, is_normal};
-ghost use Rattle.abs_path.specs.Prefix.{rest_of};
+ghost use Rattle.abs_path.specs.Prefix.{rest_of, is_below};
 ghost use Rattle.path_settings.specs.declared.mentions.Mention.{Mention};
-ghost use Rattle.view_map.specs.View.{leading_to, is_read_only, is_no_exec, is_above};
+ghost use Rattle.path_settings.specs.Mentions.{hides};
+ghost use Rattle.abs_path.specs.ByteOrder.{in_byte_order};
+ghost use Rattle.view_map.specs.Asked.{asked_of, beneath_places};
+ghost use Rattle.view_map.specs.View.{leading_to, is_read_only, is_no_exec};
 ghost use Rattle.view_map.specs.Object.{object_at, object_behind};
 ghost use Rattle.view_map.specs.OnTheWay.{HasNoneBetween};
-ghost use Rattle.view_map.specs.Kept.{Host, hides, kept_of, KeepsByRules};
+ghost use Rattle.view_map.specs.Kept.{Host, kept_of, KeepsByRules};
 
 /// Where no kept mention stands between a place and a path below it, what the service finds at the path is what it finds
 /// at the place, carried on.
@@ -24,14 +27,17 @@ pub fn view_on_the_way()
 {}
 
 /// What is kept is some of what was mentioned, and what the rules keep by the kept mentions themselves: no order of paths
-/// is in it. Nothing is kept below what is hidden.
+/// is in it. The host is asked what stands beneath by the kept mentions. Nothing is kept below what is hidden.
 pub fn kept_by_the_rules()
     ensures none_is_made_up { (row_at : Host) (mentions kept : List Mention)
         → kept_of row_at mentions ≡ Ok kept → AllByRecursion (Contains mentions) kept }
     ensures by_the_kept_ones { (row_at : Host) (mentions kept : List Mention)
         → AllByRecursion (λ mention. IsTrue (is_normal mention.path)) mentions
         → kept_of row_at mentions ≡ Ok kept → KeepsByRules row_at mentions kept }
+    ensures asks_beneath_the_kept { (row_at : Host) (mentions kept : List Mention)
+        → kept_of row_at mentions ≡ Ok kept
+        → asked_of row_at mentions ≡ beneath_places kept (in_byte_order (map (λ mention. mention.path) mentions)) }
     ensures none_below_what_is_hidden { (row_at : Host) (mentions kept : List Mention) (one other : Mention)
         → KeepsByRules row_at mentions kept → Contains kept one → IsTrue (hides one.kind)
-        → Contains kept other → IsTrue (is_above one.path other.path) → ⊥ }
+        → Contains kept other → IsTrue (is_below other.path one.path) → ⊥ }
 {}

@@ -11,8 +11,6 @@ mod longest;
 mod rules;
 mod says;
 mod seen;
-#[cfg(test)]
-mod tests;
 
 pub use longest::{origin_above, origin_at};
 pub use rules::{Beneath, Fate, fate_of};

@@ -1,7 +1,7 @@
 //! The longest of the mentions that lead to a path and say one thing.
 
 ghost use Rattle.std.specs.Prelude.{◌≡◌, option_map};
-ghost use Rattle.view_map.specs.View.{leading_to, above, is_above, longest};
+ghost use Rattle.view_map.specs.View.{leading_to, above, longest};
 ghost use Rattle.view_map.specs.Scan.{is_said, longer, shown};
 ghost use Rattle.path_settings.specs.Mentions.{is_origin};
 
@@ -38,7 +38,7 @@ pub(crate) fn longest<'a>(
     ensures { option_map shown result ≡ longest (is_said says) (leading_to path.now kept.now) }
 {
     let mut best: Option<(usize, &Mention)> = None;
-    'mentions: for (index, mention) in kept.iter().enumerate() {
+    for (index, mention) in kept.iter().enumerate() {
         if mention.path.is_prefix(path) && is_said(says, &mention.kind) {
             best = longer(best, index, mention);
         }
@@ -53,20 +53,14 @@ pub fn origin_at<'a>(kept: &'a [Mention], path: &AbsPath) -> Option<(usize, &'a 
     longest(kept, path, Says::Origin)
 }
 
-fn is_above(one: &AbsPath, path: &AbsPath) -> bool
-    ensures { result ≡ is_above one.now path.now }
-{
-    one.is_prefix(path) && one != path
-}
-
 /// The kept mention that says what would stand at the path without those at it, with its position: the longest one
 /// above the path.
 pub fn origin_above<'a>(kept: &'a [Mention], path: &AbsPath) -> Option<(usize, &'a Mention)>
     ensures longest_above { option_map shown result ≡ longest is_origin (above path.now kept.now) }
 {
     let mut best: Option<(usize, &Mention)> = None;
-    'mentions: for (index, mention) in kept.iter().enumerate() {
-        if is_above(&mention.path, path) && mention.kind.is_origin() {
+    for (index, mention) in kept.iter().enumerate() {
+        if path.is_below(&mention.path) && mention.kind.is_origin() {
             best = longer(best, index, mention);
         }
     }

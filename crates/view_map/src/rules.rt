@@ -55,7 +55,7 @@ fn tmp_fate(beneath: Beneath) -> Fate
     ensures { result ≡ tmp_fate beneath }
 {
     match beneath {
-        Beneath::Row { is_dir } if !is_dir => Fate::WrongKind,
+        Beneath::Row { is_dir: false } => Fate::WrongKind,
         _ => Fate::Kept,
     }
 }

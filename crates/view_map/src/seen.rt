@@ -21,21 +21,16 @@ pub struct Seen {
 fn origin(kept: &[Mention], path: &AbsPath) -> Option<usize>
     ensures { result ≡ option_map (λ one. one.0) (origin_of kept.now path.now) }
 {
-    match origin_at(kept, path) {
-        None => None,
-        Some((index, _)) => Some(index),
-    }
+    origin_at(kept, path).map(|(index, _)| index)
 }
 
 fn reaches_as_far(one: Option<(usize, &Mention)>, other: Option<(usize, &Mention)>) -> bool
     ensures { result ≡ reaches_as_far (option_map shown one.entry) (option_map shown other.entry) }
 {
-    match one {
-        None => false,
-        Some((_, one)) => match other {
-            None => true,
-            Some((_, other)) => other.path.tail_len() <= one.path.tail_len(),
-        },
+    match (one, other) {
+        (None, _) => false,
+        (Some(_), None) => true,
+        (Some((_, one)), Some((_, other))) => other.path.tail_len() <= one.path.tail_len(),
     }
 }
 

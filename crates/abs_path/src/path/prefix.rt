@@ -2,10 +2,10 @@
 
 ghost use Rattle.std.specs.Prelude.{◌≡◌, ◌++◌, IfOk, IfSome, IsTrue, string_bytes, option_map};
 ghost use Rattle.abs_path.specs.Paths.{is_normal};
-ghost use Rattle.abs_path.specs.Prefix.{is_prefix, rest_text, IsRest, Joins, is_behind, after, behind_text};
+ghost use Rattle.abs_path.specs.Prefix.{is_prefix, is_below, rest_text, IsRest, Joins, is_behind, after, behind_text};
 
 use super::{AbsPath, LONGEST};
-use crate::error::PathError;
+use crate::error::JoinError;
 use std::alloc::{AllocError, Global};
 
 fn is_behind(rest: &str) -> bool
@@ -48,6 +48,13 @@ impl AbsPath {
         self.rest(of).is_some()
     }
 
+    /// Whether the other path leads to this one, and is not this one.
+    pub fn is_below(&self, other: &AbsPath) -> bool
+        ensures by_whole_parts { result ≡ is_below self.now other.now }
+    {
+        other.is_prefix(self) && other != self
+    }
+
     /// What the other path has behind this one: nothing, or further parts, each after a slash.
     /// None where this one does not lead there.
     pub fn rest<'a>(&self, of: &'a AbsPath) -> Option<&'a str>
@@ -58,15 +65,15 @@ impl AbsPath {
         behind(self.tail.as_str(), of.tail.as_str())
     }
 
-    /// The path with a rest behind it, in the form that `rest` answers.
+    /// The path with a rest behind it. What `rest` answers is one: nothing, or normal parts, each after a slash.
     ///
     /// TooLong where the two have more than 512 bytes; Memory may come at any rest.
-    pub fn join(&self, alloc: Global, rest: &str) -> Result<AbsPath, PathError>
+    pub fn join(&self, alloc: Global, rest: &str) -> Result<AbsPath, JoinError>
         requires { IsRest rest.now }
         ensures joins_or_too_long { Joins self.now rest.now result }
     {
         if self.tail.len() + rest.len() > LONGEST {
-            return Err(PathError::TooLong);
+            return Err(JoinError::TooLong);
         }
         let tail = joined(alloc, self.tail.as_str(), rest)?;
         Ok(AbsPath { tail })

@@ -30,7 +30,7 @@ fn folded(alloc: Global, pieces: &[&str]) -> Result<String, AllocError>
         ≡ tail_of (filter (λ piece. not (is_idle piece)) (map (λ piece. piece.now) pieces.now))) }
 {
     let mut tail = String::new(alloc);
-    'pieces: for piece in pieces {
+    for piece in pieces {
         if !is_idle(piece) {
             tail.push('/')?;
             tail.push_str(piece)?;
@@ -58,6 +58,17 @@ fn climbs(pieces: &[&str]) -> bool
 }
 
 impl AbsPath {
+    /// The parts, from the root on.
+    pub fn parts(&self, alloc: Global) -> Result<Vec<&str>, AllocError>
+        ensures lends_each { IfOk result (λ parts. map (λ part. part.now) parts.items ≡ self.now) }
+    {
+        self.tail
+            .as_str()
+            .split('/')
+            .filter(|piece| !is_idle(piece))
+            .collect(alloc)
+    }
+
     /// Reads a text: repeated slashes, `.` parts and a final slash fold away (path_resolution(7)).
     ///
     /// The first fault in this order is told: TooLong above 512 bytes, HasNul, Relative without a

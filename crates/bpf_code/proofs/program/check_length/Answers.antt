@@ -9,5 +9,5 @@ returns-then-bytes-ne0 c = not_whole c.if-bytes-ne0.true
 pub returns-then-is_empty : goal.returns-then-is_empty
 returns-then-is_empty c = empty (eqb-true _ _ (sym c.if-is_empty.ensures))
 
-pub returns-then-bytes-gt-MAX_INSNS : goal.returns-then-bytes-gt-MAX_INSNS
-returns-then-bytes-gt-MAX_INSNS c = too_long c.if-bytes-ne0.false (omega arith)
+pub returns-then-bytes-gt-BPF_MAXINSNS : goal.returns-then-bytes-gt-BPF_MAXINSNS
+returns-then-bytes-gt-BPF_MAXINSNS c = too_long c.if-bytes-ne0.false (omega arith)

@@ -9,29 +9,29 @@ use Rattle.call_table.proofs.members.mark_word.Goals as goal
 
 pub mark_all-requires : goal.mark_all-requires
 mark_all-requires c = λ k d lt.
-    let group : GroupLine = c.in-Some-find.group.now in
-    let members : HasMembers (length c.args.calls.now) group = found_holds (HasMembers (length c.args.calls.now)) (has_group c.in-Some.name.now) c.args.groups.now group c.requires.groups.members (sym c.in-Some-find.ensures) in
+    let group : GroupLine = c.in-Some-group_named.group.now in
+    let members : HasMembers (length c.args.calls.now) group = found_holds (HasMembers (length c.args.calls.now)) (has_group c.in-Some.name.now) c.args.groups.now group c.requires.groups.members (sym c.in-Some-group_named.ensures) in
     let shown = c.list.ensures in
     let low : k < length group.members = omega (arith, ap length shown, lt) in
     omega (arith, members.below k d low, ap (λ ps. get_or ps k d) shown, c.requires.as_many)
 
-pub returns-in-Some-find-clause-known : goal.returns-in-Some-find-clause-known
-returns-in-Some-find-clause-known c =
-    sym (ap (is_known_by c.args.calls.now c.args.groups.now c.args.word.now) (sym c.in-Some.ensures) ∙ found_any (has_group c.in-Some.name.now) c.args.groups.now c.in-Some-find.group.now (sym c.in-Some-find.ensures))
+pub returns-in-Some-group_named-clause-known : goal.returns-in-Some-group_named-clause-known
+returns-in-Some-group_named-clause-known c =
+    sym (ap (is_known_by c.args.calls.now c.args.groups.now c.args.word.now) (sym c.in-Some.ensures) ∙ found_any (has_group c.in-Some.name.now) c.args.groups.now c.in-Some-group_named.group.now (sym c.in-Some-group_named.ensures))
 
-pub returns-in-None-find-clause-known : goal.returns-in-None-find-clause-known
-returns-in-None-find-clause-known c =
-    sym (ap (is_known_by c.args.calls.now c.args.groups.now c.args.word.now) (sym c.in-Some.ensures) ∙ missing_any (has_group c.in-Some.name.now) c.args.groups.now (sym c.in-None-find.ensures))
+pub returns-in-None-group_named-clause-known : goal.returns-in-None-group_named-clause-known
+returns-in-None-group_named-clause-known c =
+    sym (ap (is_known_by c.args.calls.now c.args.groups.now c.args.word.now) (sym c.in-Some.ensures) ∙ missing_any (has_group c.in-Some.name.now) c.args.groups.now (sym c.in-None-group_named.ensures))
 
 pub returns-in-Some-place_named-clause-known : goal.returns-in-Some-place_named-clause-known
 returns-in-Some-place_named-clause-known c =
-    sym (ap (is_known_by c.args.calls.now c.args.groups.now c.args.word.now) (sym c.in-None.ensures) ∙ some_place (has_name c.args.word.now) c.args.calls.now c.in-Some-place_named.position (sym c.in-Some-place_named.ensures.place))
+    sym (ap (is_known_by c.args.calls.now c.args.groups.now c.args.word.now) (sym c.in-None.ensures) ∙ some_place (has_name c.args.word.now) c.args.calls.now c.in-Some-place_named.position (sym c.in-Some-place_named.ensures))
 
 pub returns-in-Some-place_named-clause-marks : goal.returns-in-Some-place_named-clause-marks
 returns-in-Some-place_named-clause-marks c = λ yes.
-    marks_call c.args.calls.now c.args.groups.now c.args.word.now c.in-Some-place_named.position c.args.marks.now c.place_named.ensures.once c.requires.as_many (sym c.in-Some-place_named.ensures.place)
+    marks_call c.args.calls.now c.args.groups.now c.args.word.now c.in-Some-place_named.position c.args.marks.now c.requires.once c.requires.as_many (sym c.in-Some-place_named.ensures)
     (stands_for c.args.groups.now c.args.word.now) (λ call. ap (stands_for_by c.args.groups.now c.args.word.now call) (sym c.in-None.ensures))
 
 pub returns-in-None-place_named-clause-known : goal.returns-in-None-place_named-clause-known
 returns-in-None-place_named-clause-known c =
-    sym (ap (is_known_by c.args.calls.now c.args.groups.now c.args.word.now) (sym c.in-None.ensures) ∙ any_nowhere (has_name c.args.word.now) c.args.calls.now (sym c.in-None-place_named.ensures.place))
+    sym (ap (is_known_by c.args.calls.now c.args.groups.now c.args.word.now) (sym c.in-None.ensures) ∙ any_nowhere (has_name c.args.word.now) c.args.calls.now (sym c.in-None-place_named.ensures))

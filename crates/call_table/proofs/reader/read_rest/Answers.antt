@@ -2,27 +2,34 @@ use Rattle.std.proofs.Common.{[], take, drop, suc, map, sym, subst, get_or, List
 use Rattle.std.proofs.lemmas.Result.{err_from_is_err_and}
 use Rattle.call_table.specs.declared.words.Line.{Line as ReadLine}
 use Rattle.call_table.specs.Lines.{Line}
-use Rattle.call_table.specs.Views.{line_view}
+use Rattle.call_table.specs.Views.{line_view, made}
 use Rattle.call_table.specs.Progress.{HasRead, with_kind}
 use Rattle.call_table.specs.Reading.{line_kind}
+use Rattle.call_table.proofs.Adding.{begins}
 use Rattle.call_table.proofs.Steps.{stops, reads_more, split_made, take_made}
 use Rattle.call_table.proofs.reader.read_rest.Goals as goal
 
 abbrev no_line : ReadLine
 no_line = record { number = 0; text = record { ref_ptr = (0, 0); now = [] } }
 
-pub returns-in_err-draft : goal.returns-in_err-draft
-returns-in_err-draft c =
+pub returns-in_err-take : goal.returns-in_err-take
+returns-in_err-take c =
     let p = err_from_is_err_and c.from_residual.result c.from_residual.ensures.1 in
     let i = c.loop-line.line-index in
     let lines = c.args.lines.now in
+    let line = line_view (get_or lines i no_line) in
+    let table = made c.loop-line.lists in
     rw (p.1, p.2)
-    (stops c.args.arch (map line_view lines) (map line_view (take i lines)) (line_view (get_or lines i no_line)) (map line_view (drop (suc i) lines)) c.loop-line.draft (with_kind c.loop-line.draft (line_kind (line_view (get_or lines i no_line)))) c.in_err-draft.field-0.0
-    (split_made line_view lines i no_line c.loop-line-test.true) c.loop-line.invariant c.in_err-draft.ensures)
+    (stops c.args.arch (map line_view lines) (map line_view (take i lines)) line (map line_view (drop (suc i) lines)) table (with_kind table (line_kind line)) (made c.take.new.self) c.in_err-take.field-0.0
+    (split_made line_view lines i no_line c.loop-line-test.true) c.loop-line.invariant c.in_err-take.ensures.steps)
 
 pub loop-line-preserved : goal.loop-line-preserved
 loop-line-preserved c =
     let i = c.loop-line.line-index in
     let lines = c.args.lines.now in
-    subst (λ (ls : List Line). HasRead c.args.arch ls c.in_ok-draft.draft) (sym (take_made line_view lines i no_line c.loop-line-test.true))
-    (reads_more c.args.arch (map line_view (take i lines)) (line_view (get_or lines i no_line)) c.loop-line.draft c.in_ok-draft.draft c.loop-line.invariant c.in_ok-draft.ensures.0 c.in_ok-draft.ensures.1)
+    subst (λ (ls : List Line). HasRead c.args.arch ls (made c.take.new.self)) (sym (take_made line_view lines i no_line c.loop-line-test.true))
+    (reads_more c.args.arch (map line_view (take i lines)) (line_view (get_or lines i no_line)) (made c.loop-line.lists) (made c.take.new.self) c.loop-line.invariant
+    c.in_ok-take.ensures.steps.0 c.in_ok-take.ensures.steps.1 c.in_ok-take.ensures.sound)
+
+pub loop-line-init : goal.loop-line-init
+loop-line-init c = begins c.args.arch (made c.new-lists.result) c.new-lists.ensures

@@ -1,7 +1,7 @@
 use Rattle.std.proofs.Common.{take, map}
-use Rattle.call_table.specs.Views.{line_view}
+use Rattle.call_table.specs.Views.{line_view, made}
 use Rattle.call_table.specs.Progress.{HasRead}
 use Rattle.call_table.proofs.reader.read_rest.Given as goal
 
 abbrev pub invariant-loop-line : goal.invariant-loop-line
-invariant-loop-line l = HasRead l.fn.arch (map line_view (take l.line-index l.lines)) l.draft
+invariant-loop-line l = HasRead l.fn.arch (map line_view (take l.line-index l.lines)) (made l.lists)

@@ -1,6 +1,6 @@
 use Rattle.std.proofs.Common.{Some, ap, sym, ◌∙◌, ◌++◌, [], subst}
 use Rattle.std.specs.List.{cons_option}
-use Rattle.unit_values.proofs.Found.{given_more}
+use Rattle.unit_values.proofs.OneMore.{added_by_some}
 use Rattle.cred_settings.specs.Groups.{gid_meant}
 use Rattle.cred_settings.specs.Identities.{names_no_group}
 use Rattle.cred_settings.specs.Answers.{IsOfGroup}
@@ -25,7 +25,7 @@ words-preserved c =
     let named = c.in-Some.ensures ∙ ap (gid_meant site) c.as_str.ensures in
     record {
       added =
-          given_more (gid_meant site) words c.words.word-index word c.args.groups.now _ _ c.words-test.true c.word-item.is c.words.invariant.added
+          added_by_some (gid_meant site) words c.words.word-index word c.args.groups.now _ _ c.words-test.true c.word-item.is c.words.invariant.added
           (c.in_ok-push-in-Some.ensures.longer ∙ ap (λ o. c.words.groups ++ cons_option o []) named);
       none_is_bad =
           none_more (names_no_group site) words c.words.word-index word c.words-test.true c.word-item.is c.words.invariant.none_is_bad

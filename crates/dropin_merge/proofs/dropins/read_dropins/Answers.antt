@@ -1,4 +1,4 @@
-use Rattle.std.proofs.Common.{◌≡◌, ◌++◌, ◌∷◌, [], map, sym, ◌∙◌, subst, append-nil, arith, rules, List, Option}
+use Rattle.std.proofs.Common.{◌≡◌, ◌++◌, ◌∷◌, [], map, sym, ◌∙◌, subst, append-nil, rules, List, Option}
 use Rattle.std.specs.Prelude.{option_to_list}
 use Rattle.std.specs.List.{Contains}
 use Rattle.std.specs.String.{string_bytes}
@@ -34,7 +34,7 @@ loop-path-preserved g c =
     elim c.match-branch-3.branch [ in-Some+in_ok-push-2 w ↦ search rules | in_default w ↦ search (rules, append-nil) ] in
     record {
       told = c.in_ok-dropin.ensures.map_stays ∙ c.loop-path.invariant.told;
-      later = omega (arith, c.in_ok-dropin.ensures.fault_rose.later);
+      stays = c.in_ok-dropin.ensures.no_other_fault ∙ c.loop-path.invariant.stays;
       left = λ files e.
           dropin_more files (g.S.Shelf.told c.loop-path.shelf) c.loop-path.files.items c.match-branch-3.files.items c.args.paths.now c.loop-path.path-index c.path-item.result c.as_str.result.now c.in_ok-dropin.field-0 _
           (c.loop-path.invariant.told ∙ e) c.loop-path-test.true c.path-item.is c.as_str.ensures.value c.in_ok-dropin.ensures.reads_the_dropin made (c.loop-path.invariant.left files e);

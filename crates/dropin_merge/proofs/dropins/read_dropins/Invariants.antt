@@ -1,4 +1,4 @@
-use Rattle.std.proofs.Common.{◌≡◌, ◌≤◌, ◌∷◌, [], drop, map, Some}
+use Rattle.std.proofs.Common.{◌≡◌, ◌∷◌, [], drop, map, Some}
 use Rattle.std.specs.List.{Contains}
 use Rattle.std.specs.String.{string_bytes}
 use Rattle.dropin_merge.specs.Steps.{IsLedBy}
@@ -9,7 +9,7 @@ use Rattle.dropin_merge.proofs.dropins.read_dropins.Given as goal
 abbrev pub invariant-loop-path : goal.invariant-loop-path
 invariant-loop-path g l = record {
   told : g.S.Shelf.told l.shelf ≡ g.S.Shelf.told l.fn.shelf;
-  later : g.S.Shelf.faults l.fn.shelf ≤ g.S.Shelf.faults l.shelf;
+  stays : g.S.Shelf.faults l.shelf ≡ g.S.Shelf.faults l.fn.shelf;
   left : (files : Files) → g.S.Shelf.told l.fn.shelf ≡ Some files → joined_by l.files.items (dropins_read files (map string_bytes (drop l.path-index l.paths))) ≡ joined_by (l.fn.fragment ∷ []) (dropins_read files (map string_bytes l.paths));
   led : IsLedBy (λ file. Contains (map string_bytes l.paths) file.path) l.fn.fragment l.path-index l.files.items;
 }

@@ -1,4 +1,4 @@
-use Rattle.std.proofs.Common.{◌≡◌, ◌≤◌, drop, map, Some}
+use Rattle.std.proofs.Common.{◌≡◌, drop, map, Some}
 use Rattle.std.specs.String.{string_bytes}
 use Rattle.host_io.specs.Files.{Files}
 use Rattle.dropin_merge.specs.Resolving.{fragment_of, fragment_read}
@@ -7,6 +7,6 @@ use Rattle.dropin_merge.proofs.fragment.read_fragment.Given as goal
 abbrev pub invariant-loop-path : goal.invariant-loop-path
 invariant-loop-path g l = record {
   told : g.S.Shelf.told l.shelf ≡ g.S.Shelf.told l.fn.shelf;
-  later : g.S.Shelf.faults l.fn.shelf ≤ g.S.Shelf.faults l.shelf;
+  stays : g.S.Shelf.faults l.shelf ≡ g.S.Shelf.faults l.fn.shelf;
   left : (files : Files) → g.S.Shelf.told l.fn.shelf ≡ Some files → fragment_read files (fragment_of files (map string_bytes (drop l.path-index l.paths))) ≡ fragment_read files (fragment_of files (map string_bytes l.paths));
 }

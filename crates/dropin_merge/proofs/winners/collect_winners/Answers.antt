@@ -1,4 +1,4 @@
-use Rattle.std.proofs.Common.{map, arith, ◌∙◌}
+use Rattle.std.proofs.Common.{map, ◌∙◌}
 use Rattle.std.specs.String.{string_bytes}
 use Rattle.dropin_merge.proofs.Collected.{collected_turn}
 use Rattle.dropin_merge.proofs.Pathed.{contains_read}
@@ -7,7 +7,7 @@ use Rattle.dropin_merge.proofs.winners.collect_winners.Goals as goal
 pub loop-place-preserved : goal.loop-place-preserved
 loop-place-preserved g c = record {
   told = c.list_place.ensures.map_stays ∙ c.loop-place.invariant.told;
-  later = omega (arith, c.list_place.ensures.fault_rose.later);
+  stays = c.in_ok-names.ensures.no_other_fault ∙ c.loop-place.invariant.stays;
   collected = λ files e.
       collected_turn files (g.S.Shelf.told c.loop-place.shelf) c.loop-place.winners c.take_names.new.winners c.args.places.now c.loop-place.place-index c.place-item.result
       c.as_str.result.now c.as_str-in-loop-place.result.now c.in_ok-names.names c.as_slice.result.now (map string_bytes c.args.places.now)

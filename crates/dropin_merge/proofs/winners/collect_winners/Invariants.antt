@@ -1,4 +1,4 @@
-use Rattle.std.proofs.Common.{◌≡◌, ◌≤◌, drop, map, Some}
+use Rattle.std.proofs.Common.{◌≡◌, drop, map, Some}
 use Rattle.std.specs.String.{string_bytes}
 use Rattle.host_io.specs.Files.{Files}
 use Rattle.dropin_merge.specs.Steps.{KeepsTo}
@@ -8,7 +8,7 @@ use Rattle.dropin_merge.proofs.winners.collect_winners.Given as goal
 abbrev pub invariant-loop-place : goal.invariant-loop-place
 invariant-loop-place g l = record {
   told : g.S.Shelf.told l.shelf ≡ g.S.Shelf.told l.fn.shelf;
-  later : g.S.Shelf.faults l.fn.shelf ≤ g.S.Shelf.faults l.shelf;
+  stays : g.S.Shelf.faults l.shelf ≡ g.S.Shelf.faults l.fn.shelf;
   collected : (files : Files) → g.S.Shelf.told l.fn.shelf ≡ Some files → Collected files l.winners (map string_bytes (drop l.place-index l.places)) (map string_bytes l.places);
   kept : KeepsTo (map string_bytes l.places) l.winners;
 }

@@ -1,8 +1,9 @@
-use Rattle.std.proofs.Common.{◌≡◌, ◌++◌, take}
-use Rattle.std.specs.Prelude.{flat_map}
-use Rattle.std.specs.List.{enumerate_from}
-use Rattle.exec_settings.specs.Judged.{unjudged_in}
+use Rattle.std.proofs.Common.{◌≡◌, ◌++◌}
+use Rattle.std.specs.List.{filter_map}
+use Rattle.unit_values.specs.Assignments.{service_assignments}
+use Rattle.unit_values.specs.Walk.{assignments_left}
+use Rattle.exec_settings.specs.Judged.{unjudged_at}
 use Rattle.exec_settings.proofs.judged.note_unjudged.Given as goal
 
-abbrev pub invariant-loop-number : goal.invariant-loop-number
-invariant-loop-number l = l.notes.items ≡ l.fn.notes.items ++ flat_map (λ place. unjudged_in place.0 place.1) (enumerate_from 0 (take l.number l.files))
+abbrev pub invariant-assignments : goal.invariant-assignments
+invariant-assignments l = l.notes.items ++ filter_map unjudged_at (assignments_left l.place-iterator) ≡ l.fn.notes.items ++ filter_map unjudged_at (service_assignments l.unit)

@@ -1,8 +1,13 @@
-use Rattle.std.proofs.Common.{◌≡◌, false, take}
-use Rattle.std.specs.Prelude.{flat_map, unwrap_or}
+use Rattle.std.proofs.Common.{◌≡◌, false}
+use Rattle.std.specs.Prelude.{unwrap_or}
+use Rattle.std.specs.List.{filter_map}
 use Rattle.unit_grammar.specs.Before.{last_of}
-use Rattle.exec_settings.specs.Profile.{asked_in}
+use Rattle.unit_values.specs.Assignments.{service_assignments}
+use Rattle.unit_values.specs.Walk.{assignments_left}
+use Rattle.exec_settings.specs.Profile.{asked_by}
 use Rattle.exec_settings.proofs.profile.is_asked.Given as goal
 
-abbrev pub invariant-loop-file : goal.invariant-loop-file
-invariant-loop-file l = l.asked ≡ unwrap_or (last_of (flat_map (asked_in l.key) (take l.file-index l.files))) false
+abbrev pub invariant-assignments : goal.invariant-assignments
+invariant-assignments l =
+    unwrap_or (last_of (filter_map (λ one. asked_by l.key one.1) (assignments_left l._place-iterator))) l.asked
+    ≡ unwrap_or (last_of (filter_map (λ one. asked_by l.key one.1) (service_assignments l.unit))) false

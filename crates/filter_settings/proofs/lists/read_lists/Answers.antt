@@ -1,19 +1,18 @@
-use Rattle.std.proofs.Common.{codes}
-use Rattle.filter_settings.specs.ErrorActions.{unit_error_action_notes}
-use Rattle.filter_settings.specs.CallLists.{unit_call_list_notes}
-use Rattle.filter_settings.specs.FamilyLists.{unit_family_list_notes}
-use Rattle.filter_settings.specs.Namespaces.{unit_namespaces_notes}
-use Rattle.unit_values.proofs.OneMore.{four_parts}
+use Rattle.std.proofs.Common.{◌∙◌}
+use Rattle.filter_settings.specs.Settings.{list_notes}
+use Rattle.filter_settings.proofs.Chained.{three_said}
 use Rattle.filter_settings.proofs.lists.read_lists.Goals as goal
 
+pub returns-clause-means : goal.returns-clause-means
+returns-clause-means c = record {
+  calls = c.in_ok-calls.ensures.as_said ∙ c.in_ok-call_list_of_key.ensures.means;
+  default_action = c.in_ok-default_action.ensures.means;
+  families = c.in_ok-families.ensures.as_said ∙ c.in_ok-family_list_of_key.ensures.means;
+  namespaces = c.in_ok-namespaces.ensures.as_said ∙ c.in_ok-namespaces_of_key.ensures.means;
+}
+
 pub returns-clause-noted : goal.returns-clause-noted
+unfolding list_notes
 returns-clause-noted c =
-    let unit = c.args.unit.now in
-    let table = c.args.table.now in
-    four_parts c.args.notes.now.items
-    (unit_call_list_notes unit table (codes "SystemCallFilter"))
-    (unit_error_action_notes unit (codes "SystemCallErrorNumber"))
-    (unit_family_list_notes unit table (codes "RestrictAddressFamilies"))
-    (unit_namespaces_notes unit (codes "RestrictNamespaces"))
-    c.call_list_of_key.new.notes.items c.error_action_of_key.new.notes.items c.family_list_of_key.new.notes.items c.namespaces_of_key.new.notes.items
-    c.in_ok-call_list_of_key.ensures.noted c.in_ok-error_action_of_key.ensures.notes_the_unread c.in_ok-family_list_of_key.ensures.noted c.in_ok-namespaces_of_key.ensures.noted
+    three_said _ _ _ _ c.in_ok-default_action.ensures.noted c.in_ok-namespaces_of_key.ensures.noted c.in_ok-namespaces.ensures.notes_behind
+    c.in_ok-family_list_of_key.ensures.noted c.in_ok-families.ensures.notes_behind c.in_ok-call_list_of_key.ensures.noted c.in_ok-calls.ensures.notes_behind

@@ -2,5 +2,5 @@ use Rattle.std.proofs.Common.{◌≡◌, ◌++◌, map, drop}
 use Rattle.view_map.specs.Kept.{unbeaten_of}
 use Rattle.mount_plan.proofs.here.unbeaten.Given as goal
 
-abbrev pub invariant-mentions : goal.invariant-mentions
-invariant-mentions l = map (λ mention. mention.now) l.found.items ++ unbeaten_of (map (λ mention. mention.now) l.here) (map (λ mention. mention.now) (drop l.index l.here)) ≡ unbeaten_of (map (λ mention. mention.now) l.here) (map (λ mention. mention.now) l.here)
+abbrev pub invariant-loop-index : goal.invariant-loop-index
+invariant-loop-index l = map (λ mention. mention.now) l.found.items ++ unbeaten_of (map (λ mention. mention.now) l.here) (map (λ mention. mention.now) (drop l.index l.here)) ≡ unbeaten_of (map (λ mention. mention.now) l.here) (map (λ mention. mention.now) l.here)

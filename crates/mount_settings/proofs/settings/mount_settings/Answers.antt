@@ -1,9 +1,11 @@
 use Rattle.std.proofs.Common.{◌≤◌, List, length, ap, sym, ◌∙◌, subst}
+use Rattle.std.specs.List.{list_all}
 use Rattle.path_settings.specs.declared.mentions.Mention.{Mention}
+use Rattle.path_settings.specs.Mentions.{leaves_the_root}
+use Rattle.path_settings.specs.Short.{is_short}
 use Rattle.mount_settings.specs.Settings.{mentions_of}
-use Rattle.mount_settings.specs.Roots.{leaves_the_root}
 use Rattle.mount_settings.proofs.Counting.{few_mentions}
-use Rattle.mount_settings.proofs.Placing.{mentions_leave}
+use Rattle.mount_settings.proofs.Placing.{mentions_leave, mentions_are_short}
 use Rattle.mount_settings.proofs.settings.mount_settings.Goals as goal
 
 pub listed-requires : goal.listed-requires
@@ -15,4 +17,10 @@ pub returns-clause-leaves_the_root : goal.returns-clause-leaves_the_root
 returns-clause-leaves_the_root c = λ none.
     ap leaves_the_root
     (c.in_ok-listed.ensures ∙ c.in_ok-mentions.ensures ∙ ap (mentions_of c.args.site.now c.args.switches c.in_effect-protections.result) c.list-paths.ensures.all_in_order)
-    ∙ mentions_leave c.args.site.now c.args.switches c.in_effect-protections.result c.args.paths.now c.list-paths.ensures.each_is_as_its_key none
+    ∙ mentions_leave c.args.site.now c.args.switches c.in_effect-protections.result c.args.paths.now c.list-paths.ensures.as_they_are_read none
+
+pub returns-clause-short_paths : goal.returns-clause-short_paths
+returns-clause-short_paths c =
+    ap (list_all is_short)
+    (c.in_ok-listed.ensures ∙ c.in_ok-mentions.ensures ∙ ap (mentions_of c.args.site.now c.args.switches c.in_effect-protections.result) c.list-paths.ensures.all_in_order)
+    ∙ mentions_are_short c.args.site.now c.args.switches c.in_effect-protections.result c.args.paths.now c.list-paths.ensures.as_they_are_read

@@ -1,12 +1,11 @@
 use Rattle.std.proofs.Common.{◌≡◌, Some, find, refl}
 use Rattle.std.specs.Str.{bytes_eq}
-use Rattle.path_settings.specs.declared.keys.TheConstants.{ALL_PATH_KEYS}
 use Rattle.path_settings.specs.declared.keys.PathKey.{PathKey}
 use Rattle.path_settings.specs.declared.keys.PathKey.TheVariants.{ReadWritePaths, ReadOnlyPaths, InaccessiblePaths, ExecPaths, NoExecPaths, BindPaths, BindReadOnlyPaths, TemporaryFileSystem, StateDirectory, RuntimeDirectory, CacheDirectory, LogsDirectory}
-use Rattle.path_settings.specs.Keys.{name_of}
+use Rattle.path_settings.specs.Keys.{path_keys, name_of}
 use Rattle.path_settings.proofs.laws.keys_and_names.Goals as goal
 
-found : (key : PathKey) → find (λ other. bytes_eq (name_of other) (name_of key)) ALL_PATH_KEYS ≡ Some key
+found : (key : PathKey) → find (λ other. bytes_eq (name_of other) (name_of key)) path_keys ≡ Some key
 found ReadWritePaths = refl
 found ReadOnlyPaths = refl
 found InaccessiblePaths = refl
@@ -21,4 +20,4 @@ found CacheDirectory = refl
 found LogsDirectory = refl
 
 pub returns : goal.returns
-returns c = record { found_by_its_name = found }
+returns c = record { all_keys = refl; found_by_its_name = found }

@@ -1,10 +1,12 @@
 use Rattle.seccomp_compile.proofs.Correct.{decides}
-use Rattle.seccomp_compile.proofs.Accepted.{accepted}
+use Rattle.seccomp_compile.proofs.Accepted.{is_program}
 use Rattle.seccomp_compile.proofs.Lengths.{rules_code-le, most_insns-le}
 use Rattle.seccomp_compile.proofs.compiler.compile.Goals as goal
 
 pub made-requires : goal.made-requires
-made-requires c = rw (c.in_ok-emit_rules.ensures.adds_the_code, c.new-code.ensures.items) (accepted c.args.rules.now c.requires c.in_ok-emit_rules.ensures.looks_at_arguments)
+made-requires c =
+    let sound = rw (c.in_ok-emit_rules.ensures.adds_the_code, c.new-code.ensures.items) at c.in_ok-emit_rules.ensures.sound in
+    rw (c.in_ok-emit_rules.ensures.adds_the_code, c.new-code.ensures.items) (is_program c.args.rules.now c.requires sound)
 
 pub returns-clause-decides_every_call : goal.returns-clause-decides_every_call
 returns-clause-decides_every_call c = rw (c.made.ensures, c.in_ok-emit_rules.ensures.adds_the_code, c.new-code.ensures.items) (decides c.args.rules.now)

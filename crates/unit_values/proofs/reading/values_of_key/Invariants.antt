@@ -1,10 +1,12 @@
-use Rattle.std.proofs.Common.{◌≡◌, ◌++◌, take}
-use Rattle.std.specs.Prelude.{flat_map}
-use Rattle.std.specs.List.{enumerate_from}
-use Rattle.unit_values.specs.Values.{found_in, notes_in}
+use Rattle.std.proofs.Common.{◌≡◌, ◌++◌}
+use Rattle.std.specs.List.{filter_map}
+use Rattle.unit_values.specs.Assignments.{service_assignments}
+use Rattle.unit_values.specs.Walk.{assignments_left}
+use Rattle.unit_values.specs.Values.{given_by, note_of}
 use Rattle.unit_values.proofs.reading.values_of_key.Given as goal
 
-abbrev pub invariant-loop-number : goal.invariant-loop-number
-invariant-loop-number l =
-    (l.values.items ≡ flat_map (λ place. found_in l.unit.name l.key place.0 place.1) (enumerate_from 0 (take l.number l.files)))
-    × (l.notes.items ≡ l.fn.notes.items ++ flat_map (λ place. notes_in l.unit.name l.key place.0 place.1) (enumerate_from 0 (take l.number l.files)))
+abbrev pub invariant-assignments : goal.invariant-assignments
+invariant-assignments l = record {
+  values : filter_map (given_by l.unit.name l.key) (service_assignments l.unit) ≡ l.values.items ++ filter_map (given_by l.unit.name l.key) (assignments_left l.place-iterator);
+  notes : filter_map (note_of l.unit.name l.key) (service_assignments l.unit) ≡ l.notes.items ++ filter_map (note_of l.unit.name l.key) (assignments_left l.place-iterator);
+}

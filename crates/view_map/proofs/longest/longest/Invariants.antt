@@ -5,7 +5,7 @@ use Rattle.view_map.specs.View.{saying, leading_to, longest}
 use Rattle.view_map.specs.Scan.{is_said, longer, shown}
 use Rattle.view_map.proofs.longest.longest.Given as goal
 
-abbrev pub invariant-mentions : goal.invariant-mentions
-invariant-mentions l =
+abbrev pub invariant-loop-index : goal.invariant-loop-index
+invariant-loop-index l =
     fold longer (option_map shown l.best) (saying (is_said l.says) (filter (λ one. is_prefix one.1.path l.path) (enumerate_from l.index (drop l.index l.kept))))
     ≡ longest (is_said l.says) (leading_to l.path l.kept)

@@ -1,5 +1,0 @@
-use Rattle.bpf_code.proofs.Stacks.{refusals_stand}
-use Rattle.bpf_code.proofs.stack.refusals_stand.Goals as goal
-
-pub returns : goal.returns
-returns c = refusals_stand

@@ -1,0 +1,23 @@
+// Laws of programs and stacks: each function does nothing, and its contract is the law.
+ghost use Rattle.bpf_code.specs.Refusing.{RefusalsStand};
+ghost use Rattle.bpf_code.specs.Tied.{AcceptsByFunction, DecidesByFunction, FittingPrograms};
+
+/// Newer programs do not let through what older ones refuse.
+pub fn refusals_stand()
+    ensures { RefusalsStand }
+{}
+
+/// Instructions are a program exactly where their numbers fit and they are accepted.
+pub fn programs_fit()
+    ensures { FittingPrograms }
+{}
+
+/// The function that gives the program of bytes gives what is accepted.
+pub fn accepted_by_function()
+    ensures { AcceptsByFunction }
+{}
+
+/// The function that gives the decision of programs gives what is decided.
+pub fn decided_by_function()
+    ensures { DecidesByFunction }
+{}

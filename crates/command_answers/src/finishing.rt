@@ -1,0 +1,39 @@
+// How a run goes on behind what a command prepared.
+ghost use Rattle.std.specs.Prelude.{◌≡◌};
+ghost use Rattle.command_answers.specs.Printing.{Finishes, ending_of_put};
+
+use crate::ending::Ending;
+use crate::printing::put_line;
+use crate::ready::Ready;
+use crate::stop::Stop;
+use host_io::{Sink, SinkError};
+use std::alloc::Global;
+
+// How a run ends whose text was printed so.
+fn ending_after(put: Result<(), SinkError>, ending: Ending) -> Ending
+    ensures { result ≡ ending_of_put put ending }
+{
+    match put {
+        Ok(()) => ending,
+        Err(SinkError::Failed) => Ending::WriteFault,
+        Err(SinkError::Memory) => Ending::OutOfMemory,
+    }
+}
+
+/// Prints what a command has ready, or the line of its refusal, and says how the run ends.
+pub fn finish<R: Ready, K: Sink>(alloc: Global, prepared: Result<R, Stop>, out: &mut K) -> Ending
+    ensures finishes { Finishes R.ending R.text prepared result (record { faults_before = K.faults out.old; faults_after = K.faults out.new; taken_before = K.taken out.old; taken_after = K.taken out.new }) }
+{
+    match prepared {
+        Ok(ready) => {
+            let put = ready.print(alloc, out);
+            ending_after(put, ready.ending())
+        }
+        Err(Stop::Refused(line)) => {
+            let put = put_line(out, Ok(line));
+            ending_after(put, Ending::Refused)
+        }
+        Err(Stop::ReadFault) => Ending::ReadFault,
+        Err(Stop::Memory) => Ending::OutOfMemory,
+    }
+}

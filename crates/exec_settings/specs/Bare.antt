@@ -1,0 +1,42 @@
+-- A unit whose service has a command alone.
+use Rattle.std.specs.Prelude.{◌≡◌, false, [], ◌∷◌, codes}
+use Rattle.unit_grammar.specs.declared.unit.Assignment.{Assignment}
+use Rattle.dropin_merge.specs.declared.resolved.Resolved.{Resolved}
+use Rattle.unit_values.specs.declared.value.Place.{Place}
+use Rattle.unit_values.specs.Assignments.{service_assignments}
+use Rattle.cap_sets.specs.Sets.{all, none}
+use Rattle.call_table.specs.Table.{Table}
+use Rattle.site_table.specs.Table.{Site}
+use Rattle.exec_settings.specs.declared.service.Settings.{Settings}
+use Rattle.exec_settings.specs.AreSettings.{AreSettings}
+use Rattle.exec_settings.specs.Notes.{grammar_notes}
+use Rattle.exec_settings.specs.Order.{AreInOrder}
+use Rattle.exec_settings.specs.Refusals.{command_refusal, refusal_of}
+
+-- the section of the service has one assignment, to ExecStart=
+pub record HasCommandAlone (unit : Resolved) : Type 0 where
+  pub place : Place
+  pub assignment : Assignment
+  pub alone : service_assignments unit ≡ (place, assignment) ∷ []
+  pub command : assignment.key ≡ codes "ExecStart"
+
+-- the superuser without further groups, whose bounding set has all capabilities; none is ambient, no filter is on, and
+-- nothing is said of paths; what is noted is what the grammar of unit files notes
+pub record AreBare (unit : Resolved) (made : Settings) : Type 0 where
+  pub uid : made.uid ≡ 0
+  pub gid : made.gid ≡ 0
+  pub groups : made.groups ≡ []
+  pub bounding : made.bounding ≡ all
+  pub ambient : made.ambient ≡ none
+  pub new_privileges : made.no_new_privs ≡ false
+  pub filters : made.filters.items ≡ []
+  pub mentions : made.mentions ≡ []
+  pub notes : AreInOrder (grammar_notes unit) made.notes.items
+
+-- it is refused by its command alone, and has these settings where it is not
+pub record MeansItsCommand (unit : Resolved) (table : Table) (site : Site) : Type 0 where
+  pub refused_by_the_command : refusal_of unit table site ≡ command_refusal unit
+  pub bare : (made : Settings) → AreSettings unit table site made → AreBare unit made
+
+abbrev pub CommandAloneIsBare : Type 0
+CommandAloneIsBare = (unit : Resolved) (table : Table) (site : Site) → HasCommandAlone unit → MeansItsCommand unit table site

@@ -1,0 +1,17 @@
+-- What stands in other sections than that of the service.
+use Rattle.std.specs.Prelude.{◌≡◌, ◌↔◌}
+use Rattle.dropin_merge.specs.declared.resolved.Resolved.{Resolved}
+use Rattle.unit_values.specs.Assignments.{service_alone}
+use Rattle.call_table.specs.Table.{Table}
+use Rattle.site_table.specs.Table.{Site}
+use Rattle.exec_settings.specs.declared.service.Settings.{Settings}
+use Rattle.exec_settings.specs.AreSettings.{AreSettings}
+use Rattle.exec_settings.specs.Refusals.{refusal_of}
+
+-- a unit without it is refused for the same reason, and has the same settings
+pub record SameWithoutOthers (unit : Resolved) (table : Table) (site : Site) : Type 0 where
+  pub refused : refusal_of (service_alone unit) table site ≡ refusal_of unit table site
+  pub settles : (made : Settings) → AreSettings (service_alone unit) table site made ↔ AreSettings unit table site made
+
+abbrev pub OtherSectionsChangeNothing : Type 0
+OtherSectionsChangeNothing = (unit : Resolved) (table : Table) (site : Site) → SameWithoutOthers unit table site

@@ -1,0 +1,95 @@
+//! What the keys of the filters of system calls bring, or the group of calls that they lack.
+ghost use Rattle.std.specs.Prelude.{◌≡◌, ◌++◌, IfOk, OnOk};
+ghost use Rattle.filter_rules.specs.Known.{HasKnownFamilies};
+ghost use Rattle.filter_rules.specs.Refusing.{AreRefusing};
+ghost use Rattle.filter_settings.specs.Settings.{filter_notes};
+ghost use Rattle.exec_settings.specs.AreSettings.{AreFilters};
+ghost use Rattle.exec_settings.specs.Bounding.{taken_caps};
+ghost use Rattle.exec_settings.specs.Dynamic.{is_dynamic as is_dynamic_of, unit_filters};
+ghost use Rattle.exec_settings.specs.Mounts.{switches_of, unit_switches};
+ghost use Rattle.exec_settings.specs.Refusals.{RefusesFirst, group_refusal};
+
+use crate::bounding::taken_caps;
+use crate::dynamic::with_dynamic_user;
+use crate::errors::SettingsError;
+use crate::groups::missing_group;
+use call_table::CallTable;
+use cap_sets::CapSet;
+use dropin_merge::Resolved;
+use filter_rules::{Filter, FilterSettings, filters};
+use filter_settings::filter_settings;
+use mount_settings::Switches;
+use std::alloc::Global;
+use unit_grammar::Text;
+use unit_values::FileNote;
+
+/// What the keys of the filters bring.
+#[derive(Drop)]
+pub struct Restrictions {
+    /// The filters that are on, in the order in which they are installed.
+    pub filters: Vec<Filter>,
+    /// The capabilities that these keys take from the bounding set.
+    pub taken: CapSet,
+    /// Those of these keys that imply paths.
+    pub switches: Switches,
+}
+
+// The keys that imply paths and do other things too.
+fn switches_of(is_dynamic: bool, filters: &FilterSettings) -> Switches
+    ensures { result ≡ switches_of is_dynamic filters.now }
+{
+    Switches {
+        private_devices: filters.private_devices,
+        protect_kernel_modules: filters.protect_kernel_modules,
+        protect_kernel_logs: filters.protect_kernel_logs,
+        dynamic_user: is_dynamic,
+    }
+}
+
+// What the keys of the filters come to.
+#[tactic(auto, unfolding(crate::specs::Dynamic::unit_filters, crate::specs::Refusals::group_refusal))]
+fn found_filters(
+    alloc: Global,
+    unit: &Resolved,
+    calls: &CallTable,
+    is_dynamic: bool,
+    notes: &mut Vec<FileNote>,
+) -> Result<FilterSettings, SettingsError>
+    requires { is_dynamic ≡ is_dynamic_of unit.now }
+    ensures refuses_first { RefusesFirst (group_refusal unit.now calls.now) result }
+    ensures come_to { IfOk result (λ found. found ≡ unit_filters unit.now calls.now) }
+    ensures known { IfOk result (HasKnownFamilies calls.now) }
+    ensures refusing { IfOk result AreRefusing }
+    ensures noted { OnOk result (notes.new.items ≡ notes.old.items ++ filter_notes unit.now calls.now) }
+{
+    let said = filter_settings(alloc, unit, calls)?.noted_in(notes)?;
+    let found = with_dynamic_user(is_dynamic, said);
+    match missing_group(calls, &found) {
+        None => Ok(found),
+        Some(name) => Err(SettingsError::MissingGroup(Text::new(alloc, name)?)),
+    }
+}
+
+/// What the keys of the filters bring, with their notes behind those that are there; `is_dynamic` is whether
+/// DynamicUser= is on.
+pub fn read_filters(
+    alloc: Global,
+    unit: &Resolved,
+    calls: &CallTable,
+    is_dynamic: bool,
+    notes: &mut Vec<FileNote>,
+) -> Result<Restrictions, SettingsError>
+    requires { is_dynamic ≡ is_dynamic_of unit.now }
+    ensures refuses_first { RefusesFirst (group_refusal unit.now calls.now) result }
+    ensures as_wanted { IfOk result (λ made. AreFilters (unit_filters unit.now calls.now) calls.now made.filters.items) }
+    ensures taken { IfOk result (λ made. made.taken ≡ taken_caps (unit_filters unit.now calls.now)) }
+    ensures switches { IfOk result (λ made. made.switches ≡ unit_switches unit.now) }
+    ensures noted { OnOk result (notes.new.items ≡ notes.old.items ++ filter_notes unit.now calls.now) }
+{
+    let found = found_filters(alloc, unit, calls, is_dynamic, notes)?;
+    Ok(Restrictions {
+        filters: filters(alloc, calls, &found)?,
+        taken: taken_caps(&found),
+        switches: switches_of(is_dynamic, &found),
+    })
+}

@@ -1,0 +1,55 @@
+//! The settings of a unit, read whole.
+ghost use Rattle.std.specs.Prelude.{IfOk};
+ghost use Rattle.exec_settings.specs.AreSettings.{AreSettings};
+ghost use Rattle.exec_settings.specs.Refusals.{RefusesFirst, refusal_of};
+
+use crate::credentials::read_credentials;
+use crate::errors::SettingsError;
+use crate::filters::read_filters;
+use crate::mounts::read_mentions;
+use crate::notes::{put_in_order, text_notes};
+use crate::program::launched_program;
+use crate::service::Settings;
+use call_table::CallTable;
+use cred_settings::{Identity, no_new_privs};
+use dropin_merge::Resolved;
+use mount_settings::written_paths;
+use site_table::SiteTable;
+use std::alloc::Global;
+
+/// The settings of a unit, where it launches a program and all its settings can be judged.
+///
+/// Calls, groups and families are looked up in the table of calls; users, groups of users, and the rows that implied
+/// paths need, in the site. The settings are those that the keys say: the first command in force with what it runs as,
+/// the filters that are on with their rules, the mentions with none of the root's place, and all notes in order.
+pub fn settings(
+    alloc: Global,
+    unit: &Resolved,
+    calls: &CallTable,
+    site: &SiteTable,
+) -> Result<Settings, SettingsError>
+    ensures refuses_first { RefusesFirst (refusal_of unit.now calls.now site.now) result }
+    ensures settles { IfOk result (AreSettings unit.now calls.now site.now) }
+{
+    let mut notes = text_notes(alloc, unit)?;
+    let paths = written_paths(alloc, unit)?.noted_in(&mut notes)?;
+    let program = launched_program(alloc, unit, &paths, &mut notes)?;
+    let own = read_credentials(alloc, unit, site, &mut notes)?;
+    let made = read_filters(alloc, unit, calls, own.is_dynamic, &mut notes)?;
+    let mentions = read_mentions(alloc, unit, &paths, site, made.switches, &mut notes)?;
+    put_in_order(&mut notes)?;
+    let Identity { uid, gid, groups } = own.identity;
+    let has_filter = !made.filters.is_empty();
+    Ok(Settings {
+        program,
+        uid,
+        gid,
+        groups,
+        bounding: own.bounding.minus(made.taken),
+        ambient: own.ambient,
+        no_new_privs: no_new_privs(own.sets_no_new_privs, has_filter, uid, own.ambient),
+        filters: made.filters,
+        mentions,
+        notes,
+    })
+}

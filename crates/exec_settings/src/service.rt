@@ -1,0 +1,32 @@
+//! What the settings of a unit are.
+use abs_path::AbsPath;
+use cap_sets::CapSet;
+use cred_settings::Gids;
+use filter_rules::Filter;
+use path_settings::Mentions;
+use unit_values::FileNote;
+
+/// The settings of a unit.
+#[derive(Drop)]
+pub struct Settings {
+    /// The program that is launched.
+    pub program: AbsPath,
+    /// The user that the service runs as.
+    pub uid: u32,
+    /// Its group.
+    pub gid: u32,
+    /// Its supplementary groups.
+    pub groups: Gids,
+    /// The capabilities that the service and its descendants may ever have, capabilities(7).
+    pub bounding: CapSet,
+    /// The capabilities that it keeps over execve(2).
+    pub ambient: CapSet,
+    /// Whether execve(2) can give it no new privileges.
+    pub no_new_privs: bool,
+    /// The filters of system calls that are on, in the order in which they are installed.
+    pub filters: Vec<Filter>,
+    /// What is written of paths, and behind it what is implied.
+    pub mentions: Mentions,
+    /// What was passed over, in the order of files and lines.
+    pub notes: Vec<FileNote>,
+}

@@ -1,0 +1,21 @@
+use Rattle.std.proofs.Common.{ap, ◌∙◌}
+use Rattle.command_answers.specs.Laws.{IsAdmitted, laws_over}
+use Rattle.command_answers.proofs.FileCommands.{at_stop, stop_is_admitted}
+use Rattle.command_answers.proofs.Refusing.{quiet}
+use Rattle.unit_settings.specs.declared.settling.SettledUnit.{SettledUnit}
+use Rattle.filter_command.specs.Prints.{ending_of, filter_laws, filters_text}
+use Rattle.filter_command.proofs.Prepared.{prepared}
+use Rattle.filter_command.proofs.command.prepare.Goals as goal
+
+pub returns-in_err-one-clause-prepares : goal.returns-in_err-one-clause-prepares
+returns-in_err-one-clause-prepares g c =
+    at_stop (IsAdmitted (laws_over (g.S.Shelf.told c.args.shelf.now) (filter_laws c.args.unit.now)) ending_of filters_text) c.from_residual.result c.in_err-one.field-0.0 c.from_residual.ensures.1
+    (stop_is_admitted (filter_laws c.args.unit.now) ending_of filters_text {T = SettledUnit} (λ one. Unit {0}) (g.S.Shelf.told c.args.shelf.now) c.in_err-one.field-0.0 c.in_err-one.ensures.settles_by_the_files)
+
+pub returns-clause-prepares : goal.returns-clause-prepares
+returns-clause-prepares g c =
+    prepared (g.S.Shelf.told c.args.shelf.now) c.args.unit.now c.in_ok-one.one c.as_slice.result.now c.compiled.result (c.as_slice.ensures.value ∙ ap (λ settings. settings.filters.items) c.deref.ensures)
+    c.in_ok-one.ensures.settles_by_the_files c.in_ok-one.ensures.has_settings c.compiled.ensures.compiles c.compiled.ensures.refuses_nothing
+
+pub returns-clause-fault_rose : goal.returns-clause-fault_rose
+returns-clause-fault_rose g c = quiet (g.S.Shelf.faults c.args.shelf.now) (g.S.Shelf.faults c.settle_unit.new.shelf) c.compiled.result c.in_ok-one.ensures.fault_rose.no_other_fault c.compiled.ensures.reads_nothing

@@ -1,0 +1,11 @@
+use Rattle.std.proofs.Common.{◌≡◌, take}
+use Rattle.std.specs.Prelude.{flat_map}
+use Rattle.host_io.specs.Writing.{Grew}
+use Rattle.filter_command.specs.Lines.{filter_text}
+use Rattle.filter_command.proofs.printing.print_each.Given as goal
+
+abbrev pub invariant-filters : goal.invariant-filters
+invariant-filters g l = record {
+  taken : Grew (g.K.Sink.taken l.fn.out) (g.K.Sink.taken l.out) (flat_map filter_text (take l.filter-index l.filters));
+  same : g.K.Sink.faults l.out ≡ g.K.Sink.faults l.fn.out;
+}

@@ -1,0 +1,103 @@
+-- Suffixes and default actions refuse.
+use Rattle.std.proofs.Common.{◌≤◌, ℕ, Bool, true, false, cond, Option, Some, None, List, [], ◌∷◌, codes}
+use Rattle.std.specs.Option.{option_map, IfSome}
+use Rattle.std.specs.List.{All}
+use Rattle.std.specs.Str.{bytes_eq, byte as ascii}
+use Rattle.std.proofs.lemmas.List.Elements.{All-append, All-nil, All-cons}
+use Rattle.linux_numbers.specs.Limits.{max_errno}
+use Rattle.text_forms.specs.Errnos.{errno_value}
+use Rattle.text_forms.proofs.Bounded.{errno_bounded}
+use Rattle.unit_grammar.specs.Kinds.{cut_at}
+use Rattle.dropin_merge.specs.declared.resolved.Resolved.{Resolved}
+use Rattle.unit_values.specs.declared.listed.Listed.{Listed}
+use Rattle.unit_values.specs.Lasting.{unit_last}
+use Rattle.unit_values.specs.Listed.{unit_listed}
+use Rattle.unit_values.specs.Values.{values_of}
+use Rattle.call_rules.specs.declared.actions.Action.{Action}
+use Rattle.call_rules.specs.declared.actions.Action.TheVariants.{KillProcess, Errno}
+use Rattle.filter_settings.specs.declared.error_actions.ErrorAction.{ErrorAction}
+use Rattle.call_table.specs.Table.{Table}
+use Rattle.filter_rules.specs.declared.mentions.Mode.{Mode}
+use Rattle.filter_rules.specs.declared.mentions.Mode.TheVariants.{Allow, Deny}
+use Rattle.filter_rules.specs.declared.mentions.CallList.{CallList}
+use Rattle.filter_rules.specs.Refusing.{IsRefusing, HasRefusal, HasRefusals, AreRefusing}
+use Rattle.filter_settings.specs.Lines.{in_force}
+use Rattle.filter_settings.specs.Modes.{mode_of, adds_to}
+use Rattle.filter_settings.specs.ErrorActions.{error_action, default_action, error_action_value, unit_error_action}
+use Rattle.filter_settings.specs.CallWords.{CallWord, may_have_suffix, suffixed, word_of_sides, word_of, is_known, mention_of, word_mention}
+use Rattle.filter_settings.specs.CallLists.{implied, line_mentions, list_of, call_list, unit_call_list}
+use Rattle.filter_settings.specs.Settings.{settings_of}
+use Rattle.filter_settings.proofs.Each.{each_some, each_of_all, last_of_all}
+
+action_refuses : (text : List ℕ) → IfSome (error_action text) IsRefusing
+unfolding error_action
+action_refuses text = by (bytes_eq text (codes "kill")) (errno_value text) (errno_bounded text)
+  where
+    by : (b : Bool) (o : Option ℕ) → IfSome o (λ number. number ≤ max_errno) → IfSome (cond b (Some KillProcess) (option_map Errno o)) IsRefusing
+    by true o h = tt
+    by false None h = tt
+    by false (Some number) h = h
+
+value_refuses : (text : List ℕ) → IfSome (error_action_value text) (λ value. IsRefusing value.action)
+value_refuses [] = tt
+value_refuses (byte ∷ text) = by (error_action (byte ∷ text)) (action_refuses (byte ∷ text))
+  where
+    by : (o : Option Action) → IfSome o IsRefusing → IfSome (option_map (λ action. record { action = action }) o) (λ (value : ErrorAction). IsRefusing value.action)
+    by None h = tt
+    by (Some action) h = h
+
+default_refuses : (unit : Resolved) (key : List ℕ) → IsRefusing (unit_error_action unit key)
+unfolding unit_last
+default_refuses unit key = last_of_all (λ value. IsRefusing value.action) default_action tt _ (each_some (λ value. IsRefusing value.action) (λ value. error_action_value value.text) (λ value. value_refuses value.text) (values_of unit key))
+
+abbrev Refuses : CallWord → Type 0
+Refuses word = IfSome word.action IsRefusing
+
+suffix_refuses : (may : Bool) (name suffix : List ℕ) → IfSome (suffixed may name suffix) Refuses
+suffix_refuses true name suffix = by (error_action suffix) (action_refuses suffix)
+  where
+    by : (o : Option Action) → IfSome o IsRefusing → IfSome (option_map (λ action. record { name = name; action = Some action; has_stray = false }) o) Refuses
+    by None h = tt
+    by (Some action) h = h
+suffix_refuses false name suffix = tt
+
+word_refuses : (may : Bool) (word : List ℕ) → IfSome (word_of may word) Refuses
+word_refuses may word = by (cut_at (ascii ":") word)
+  where
+    by : (sides : Option (List ℕ × List ℕ)) → IfSome (word_of_sides may word sides) Refuses
+    by None = tt
+    by (Some sides) = suffix_refuses may sides.0 sides.1
+
+mention_refuses : (table : Table) (mode : Mode) (adds : Bool) (word : List ℕ) → IfSome (word_mention table mode adds word) HasRefusal
+mention_refuses table mode adds word = by (word_of (may_have_suffix mode adds) word) (word_refuses (may_have_suffix mode adds) word)
+  where
+    known : (b : Bool) (read : CallWord) → Refuses read → IfSome (cond b (Some (record { adds = adds; name = read.name; action = read.action })) None) HasRefusal
+    known true read h = h
+    known false read h = tt
+
+    by : (o : Option CallWord) → IfSome o Refuses → IfSome (mention_of table adds o) HasRefusal
+    by None h = tt
+    by (Some read) h = known (is_known table read.name) read h
+
+abbrev AllRefuse : CallList → Type 0
+AllRefuse list = All HasRefusal list.mentions
+
+implied_refuse : (mode : Mode) → All HasRefusal (implied mode)
+implied_refuse Allow = All-cons HasRefusal _ [] tt (All-nil HasRefusal)
+implied_refuse Deny = All-nil HasRefusal
+
+lines_refuse : (table : Table) (mode : Mode) (lines : List Listed) → AllRefuse (list_of table mode lines)
+lines_refuse table mode lines =
+    All-append HasRefusal (implied mode) _ (implied_refuse mode)
+    (each_of_all HasRefusal (λ one. line_mentions table mode one.line) (λ one. each_some HasRefusal (word_mention table mode (adds_to mode one.line)) (mention_refuses table mode (adds_to mode one.line)) one.line.words) lines)
+
+list_refuses : (table : Table) (lines : List Listed) → IfSome (call_list table lines) AllRefuse
+list_refuses table [] = tt
+list_refuses table (first ∷ more) = lines_refuse table (mode_of first.line) (first ∷ more)
+
+suffixes_refuse : (unit : Resolved) (table : Table) (key : List ℕ) → HasRefusals (unit_call_list unit table key)
+unfolding unit_call_list
+suffixes_refuse unit table key = list_refuses table (in_force (unit_listed unit key))
+
+pub settings_refuse : (unit : Resolved) (table : Table) → AreRefusing (settings_of unit table)
+settings_refuse unit table = record { default = default_refuses unit (codes "SystemCallErrorNumber"); suffixes = suffixes_refuse unit table (codes "SystemCallFilter") }

@@ -1,0 +1,23 @@
+use Rattle.std.proofs.Common.{ap, sym, ◌∙◌, ◌++◌}
+use Rattle.std.specs.Prelude.{unwrap_or}
+use Rattle.filter_settings.specs.Modes.{mode_of}
+use Rattle.filter_settings.specs.CallLists.{line_notes}
+use Rattle.filter_settings.specs.Steps.{next_mode}
+use Rattle.filter_settings.proofs.NextModes.{mode_next, notes_next}
+use Rattle.filter_settings.proofs.call_lists.note_all.Goals as goal
+
+pub lines-preserved : goal.lines-preserved
+lines-preserved c =
+    let i = c.lines.one-index in
+    let all = c.args.all.now in
+    let one = c.one-item.result in
+    let below = c.lines-test.true in
+    let now = c.lines.notes.items in
+    record {
+      mode = c.next_mode-mode.ensures ∙ ap (λ mode. next_mode mode one) c.lines.invariant.mode ∙ sym (mode_next all i one below c.one-item.is);
+      noted =
+          notes_next c.args.table.now all i one c.args.notes.now.items now _ below c.one-item.is c.lines.invariant.noted
+          (c.in_ok-note_line.ensures
+          ∙ ap (λ mode. now ++ line_notes c.args.table.now mode one) (c.unwrap_or.ensures ∙ ap (unwrap_or c.lines.mode) c.mode_of.ensures)
+          ∙ ap (λ mode. now ++ line_notes c.args.table.now (unwrap_or mode (mode_of one.line)) one) c.lines.invariant.mode);
+    }

@@ -1,0 +1,8 @@
+use Rattle.std.proofs.Common.{◌≡◌, ◌++◌, drop}
+use Rattle.filter_settings.specs.FamilyLists.{family_notes}
+use Rattle.filter_settings.proofs.family_lists.note_all.Given as goal
+
+abbrev pub invariant-lines : goal.invariant-lines
+invariant-lines l =
+    l.notes.items ++ family_notes l.table (drop l.one-index l.all)
+    ≡ l.fn.notes.items ++ family_notes l.table l.all

@@ -1,0 +1,8 @@
+use Rattle.std.proofs.Common.{◌≡◌, ◌++◌, drop}
+use Rattle.filter_settings.specs.Namespaces.{namespaces_notes}
+use Rattle.filter_settings.proofs.namespaces.note_all.Given as goal
+
+abbrev pub invariant-lines : goal.invariant-lines
+invariant-lines l =
+    l.notes.items ++ namespaces_notes (drop l.one-index l.all)
+    ≡ l.fn.notes.items ++ namespaces_notes l.all

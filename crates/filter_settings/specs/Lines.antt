@@ -1,0 +1,9 @@
+-- The lines of a list that are in force.
+use Rattle.std.specs.Prelude.{List}
+use Rattle.std.specs.List.{after_last}
+use Rattle.unit_values.specs.declared.listed.Listed.{Listed}
+use Rattle.unit_values.specs.Listed.{is_reset}
+
+-- those behind the last empty value, which resets what was listed before it
+abbrev pub in_force : List Listed → List Listed
+in_force all = after_last is_reset all

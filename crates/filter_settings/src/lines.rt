@@ -1,0 +1,21 @@
+//! The lines of a list that are in force.
+ghost use Rattle.std.specs.Prelude.{◌≡◌, not};
+ghost use Rattle.std.specs.List.{suffix_len};
+ghost use Rattle.unit_values.specs.Listed.{is_reset};
+ghost use Rattle.filter_settings.specs.Lines.{in_force};
+
+use unit_values::Listed;
+
+// How many values stand behind the last empty one.
+fn count_in_force(all: &[Listed]) -> usize
+    ensures { result ≡ suffix_len (λ one. not (is_reset one)) all.now }
+{
+    all.iter().rev().take_while(|one| !one.is_reset()).count()
+}
+
+/// The lines behind the last empty value, which resets what was listed before it.
+pub fn in_force(all: &[Listed]) -> &[Listed]
+    ensures { result.now ≡ in_force all.now }
+{
+    &all[all.len() - count_in_force(all)..]
+}

@@ -1,0 +1,82 @@
+-- What a launch asks of a table of mounts, and what it makes of one: each step adds an entry at a place of its own, and none
+-- is refused (mount(2), mount_namespaces(7)).
+use Rattle.std.specs.Prelude.{◌≡◌, ◌≢◌, ◌≤◌, ◌⊎◌, ⊤, Bool, true, false, codes, List, [], ◌∷◌, ◌++◌, length, map, Option, Some}
+use Rattle.std.specs.List.{AllByRecursion}
+use Rattle.abs_path.specs.Paths.{Path, text_of, is_normal}
+use Rattle.abs_path.specs.ByteOrder.{AreAscending}
+use Rattle.kern_mounts.specs.declared.step.Flags.{Flags}
+use Rattle.kern_mounts.specs.declared.step.What.{What}
+use Rattle.kern_mounts.specs.declared.step.What.TheVariants.{Host, Empty, Hidden}
+use Rattle.kern_mounts.specs.declared.step.MountStep.{MountStep}
+use Rattle.kern_mounts.specs.Table.{start, no_flags}
+use Rattle.kern_mounts.specs.Entry.{entry_of}
+use Rattle.kern_mounts.specs.Finds.{Found, row, empty_directory, nothing, finds}
+
+-- the first entry is the root on the host
+abbrev pub BeginsAtRoot : List MountStep → Type 0
+BeginsAtRoot [] = ⊥
+BeginsAtRoot (step ∷ steps) = (step.place ≡ []) × (step.what ≡ Host [])
+
+-- a place is a normal path of at most 250 bytes
+pub record HasShortPlace (step : MountStep) : Type 0 where
+  pub normal : is_normal step.place ≡ true
+  pub short : length (text_of step.place) ≤ 250
+
+-- a fact of what is hidden
+abbrev pub OnHidden : What → Type 0 → Type 0
+OnHidden (Host source) Fact = ⊤
+OnHidden Empty Fact = ⊤
+OnHidden (Hidden is_dir) Fact = Fact
+
+-- what is hidden has no flags
+abbrev pub IsPlainIfHidden : MountStep → Type 0
+IsPlainIfHidden step = OnHidden step.what (step.flags ≡ no_flags)
+
+-- set-user-id programs keep their effect there, mount(2), MS_NOSUID
+abbrev pub IsNotNoSuid : MountStep → Type 0
+IsNotNoSuid step = step.flags.no_suid ≡ false
+
+-- what is found is a directory
+abbrev pub IsDirectory : Found Bool → Type 0
+IsDirectory (row is_dir) = is_dir ≡ true
+IsDirectory empty_directory = ⊤
+IsDirectory (nothing errno) = ⊥
+
+-- the path is the place of a hidden directory, and belongs to that entry
+abbrev pub IsHiddenDirectory : List MountStep → Path → Type 0
+IsHiddenDirectory table path = (step : MountStep) × (entry_of table path ≡ Some step) × (step.place ≡ path) × (step.what ≡ Hidden true)
+
+-- the folder of the processes, proc(5)
+abbrev pub proc : Path
+proc = codes "proc" ∷ []
+
+-- it is found as a directory, or is the place of a hidden one; the rows of a site say whether they are directories
+abbrev pub FindsProc : (Path → Option Bool) → List MountStep → Type 0
+FindsProc rows table = IsDirectory (finds rows table proc) ⊎ IsHiddenDirectory table proc
+
+-- the first entry is the root on the host; the places are short, each stands in byte order behind those above it, and no two
+-- are one; there are 160 of them at most beside the root; no entry takes privileges from programs, and what is hidden has no
+-- flags; the folder of the processes is there, or is the place of a hidden one
+pub record CanBeMounted (rows : Path → Option Bool) (table : List MountStep) : Type 0 where
+  pub begins_at_root : BeginsAtRoot table
+  pub places_are_short : AllByRecursion HasShortPlace table
+  pub places_ascend : AreAscending (map (λ step. step.place) table)
+  pub few : length table ≤ 161
+  pub none_is_no_suid : AllByRecursion IsNotNoSuid table
+  pub hidden_without_flags : AllByRecursion IsPlainIfHidden table
+  pub finds_proc : FindsProc rows table
+
+-- the host itself with these flags at its root
+abbrev pub start_with : Flags → List MountStep
+start_with flags = record { place = []; what = Host []; flags = flags } ∷ []
+
+-- what a launch makes of a table: it gives the flags of the first entry to the table that it starts with, which is the host
+-- itself, and adds each other entry behind it
+abbrev pub mounted : List MountStep → List MountStep
+mounted [] = start
+mounted (first ∷ steps) = start_with first.flags ++ steps
+
+-- no path comes twice
+abbrev pub NoneTwice : List Path → Type 0
+NoneTwice [] = Unit {0}
+NoneTwice (path ∷ paths) = AllByRecursion (λ other. path ≢ other) paths × NoneTwice paths

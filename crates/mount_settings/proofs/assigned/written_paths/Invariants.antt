@@ -1,0 +1,15 @@
+use Rattle.std.proofs.Common.{◌≡◌, [], ◌++◌}
+use Rattle.std.specs.Prelude.{flat_map}
+use Rattle.std.specs.List.{filter_map}
+use Rattle.unit_values.specs.Assignments.{service_assignments}
+use Rattle.unit_values.specs.Walk.{assignments_left}
+use Rattle.mount_settings.specs.Assigned.{assigned_by, assigned_of}
+use Rattle.mount_settings.specs.Notes.{notes_by}
+use Rattle.mount_settings.specs.Steps.{after}
+use Rattle.mount_settings.proofs.assigned.written_paths.Given as goal
+
+abbrev pub invariant-assignments : goal.invariant-assignments
+invariant-assignments l = record {
+  means : after [] (assigned_of l.unit) ≡ after l.paths.items (filter_map (assigned_by l.unit.name) (assignments_left l.place-iterator));
+  noted : flat_map (notes_by l.unit.name) (service_assignments l.unit) ≡ l.notes.items ++ flat_map (notes_by l.unit.name) (assignments_left l.place-iterator);
+}

@@ -1,0 +1,39 @@
+-- The plan of mentions, and the path that is refused.
+use Rattle.std.proofs.Common.{◌≡◌, ◌≢◌, ◌∙◌, ℕ, List, [], ◌∷◌, Some, None, Result, Ok, Err, Vec, Global, refl, sym, ap, subst}
+use Rattle.std.specs.Prelude.{IfOk}
+use Rattle.std.specs.declared.alloc.AllocError.{AllocError}
+use Rattle.path_settings.specs.declared.mentions.Mention.{Mention}
+use Rattle.view_map.specs.Kept.{Host, KeepsByRules, kept_of}
+use Rattle.kern_mounts.specs.Launch.{CanBeMounted}
+use Rattle.kern_mounts.specs.declared.step.MountStep.{MountStep}
+use Rattle.mount_plan.specs.Answers.{Plans}
+use Rattle.mount_plan.specs.AsView.{FindsAsView}
+use Rattle.mount_plan.specs.Form.{HasPlacesOf}
+use Rattle.mount_plan.specs.declared.error.PlanError.{PlanError}
+use Rattle.mount_plan.specs.declared.error.PlanError.TheVariants.{Missing, Kind, Memory}
+use Rattle.command_answers.specs.Stops.{Prepares, first_refusal, or_line, refusal_in, stop_of}
+use Rattle.plan_command.specs.Planned.{IsPlan, path_refusals}
+use Rattle.plan_command.specs.Refusals.{error_line, plan_line}
+
+module _ (unit : List ℕ) (row_at : Host) (mentions : List Mention) where
+  -- a table is the plan
+  pub plan_is : (table : List MountStep) → Plans row_at mentions (Ok table) → IfOk (kept_of row_at mentions) (KeepsByRules row_at mentions) → IfOk (kept_of row_at mentions) (λ kept. FindsAsView kept table) → HasPlacesOf mentions table → CanBeMounted row_at table → Prepares (IsPlan row_at mentions) (path_refusals unit row_at mentions) (Ok table)
+  plan_is table (kept, is, made) keeps finds places can = (
+    ap (λ found. first_refusal (refusal_in (or_line (plan_line unit) found) ∷ [])) is,
+    record {
+      kept = kept;
+      keeps = is;
+      keeps_by_rules = subst (λ found. IfOk found (KeepsByRules row_at mentions)) is keeps;
+      table_of_the_kept = made;
+      finds_as_view = subst (λ found. IfOk found (λ kept. FindsAsView kept table)) is finds;
+      places_are_mentioned = places;
+      can_be_mounted = can;
+    },
+  )
+
+  -- an error is the first path that is refused
+  pub plan_stops : (error : PlanError) (line : Result (Vec ℕ Global) AllocError) → error ≢ Memory → Plans row_at mentions (Err error) → IfOk line (λ l. l.items ≡ error_line unit error) → Prepares (IsPlan row_at mentions) (path_refusals unit row_at mentions) (Err (stop_of line))
+  plan_stops error (Err none) told refuses is = tt
+  plan_stops (Missing path) (Ok line) told refuses is = ap (λ found. first_refusal (refusal_in (or_line (plan_line unit) found) ∷ [])) refuses ∙ ap Some (sym is)
+  plan_stops (Kind path) (Ok line) told refuses is = ap (λ found. first_refusal (refusal_in (or_line (plan_line unit) found) ∷ [])) refuses ∙ ap Some (sym is)
+  plan_stops Memory (Ok line) told refuses is = absurd (told refl)

@@ -1,0 +1,81 @@
+-- What is ready, and the line of a refusal, are what the definitions admit.
+use Rattle.std.proofs.Common.{◌≡◌, ◌∙◌, ℕ, Option, Some, None, List, Result, Ok, Err, refl, sym, ap, subst}
+use Rattle.std.specs.Prelude.{IfSome, IsErrOf, IsTrue}
+use Rattle.host_io.specs.Files.{Files}
+use Rattle.kern_mounts.specs.declared.step.MountStep.{MountStep}
+use Rattle.mount_plan.specs.Host.{host_of}
+use Rattle.exec_settings.specs.Mounts.{unit_mentions}
+use Rattle.path_settings.specs.declared.mentions.Mention.{Mention}
+use Rattle.command_answers.specs.Endings.{is_answer}
+use Rattle.command_answers.specs.Laws.{AcceptsFiles, GoTogether, IsAdmitted, laws_over}
+use Rattle.command_answers.specs.Stops.{HasReadCause, Prepares, first_refusal}
+use Rattle.command_answers.specs.declared.ending.Ending.{Ending}
+use Rattle.command_answers.specs.declared.stop.Stop.{Stop}
+use Rattle.command_answers.specs.declared.stop.Stop.TheVariants as stop
+use Rattle.command_answers.proofs.FileCommands.{go_together, ready_is_admitted, stop_is_admitted}
+use Rattle.command_answers.proofs.Refusing.{quiet, stops_as, stops_before}
+use Rattle.site_table.specs.Table.{Site}
+use Rattle.unit_inputs.specs.Inputs.{inputs_of, inputs_view}
+use Rattle.unit_settings.specs.Settled.{AreSettled, refusals_by, unit_refusals}
+use Rattle.unit_settings.specs.declared.settling.SettledUnit.{SettledUnit}
+use Rattle.unit_settings.proofs.Steps.{refusals_with}
+use Rattle.plan_command.specs.declared.command.Mounts.{Mounts}
+use Rattle.plan_command.specs.Lines.{text_of}
+use Rattle.plan_command.specs.Planned.{IsPlan, path_refusals}
+use Rattle.plan_command.specs.Prints.{PrintsPlan, ending_of, mounts_text, plan_laws, plan_refusals, refused_paths}
+
+-- the answer is printed whole
+pub done_is_answer : (unit : List ℕ) (ending : Ending) → (plan_laws unit).may_end ending → IsTrue (is_answer ending)
+done_is_answer unit ending done = subst (λ e. IsTrue (is_answer e)) (sym done) refl
+
+pub together : (told : Option Files) (unit : List ℕ) → GoTogether (laws_over told (plan_laws unit))
+together told unit = go_together (plan_laws unit) told (done_is_answer unit)
+
+-- an input or a setting is refused
+refused_before : (P : SettledUnit → Type 0) (told : Option Files) (unit : List ℕ) (stop : Stop) → IfSome told (λ files. Prepares P (unit_refusals files unit) (Err stop)) → IfSome told (λ files. Prepares P (plan_refusals files unit) (Err stop))
+refused_before P None unit stop said = tt
+refused_before P (Some files) unit stop said = stops_before P P stop (unit_refusals files unit) (refusals_by (refused_paths unit) (inputs_of files unit)) said
+
+pub stops_before_paths : (P : SettledUnit → Type 0) (told : Option Files) (unit : List ℕ) (stop : Stop) → IfSome told (λ files. Prepares P (unit_refusals files unit) (Err stop)) → IsAdmitted (laws_over told (plan_laws unit)) ending_of mounts_text (Err stop)
+stops_before_paths P told unit stop said = stop_is_admitted (plan_laws unit) ending_of mounts_text P told stop (refused_before P told unit stop said)
+
+-- a stop that was no fault has none
+pub quiet_stop : {T U : Type 0} (before now : ℕ) (why : Stop) → now ≡ before → (IsErrOf {T = T} (Err why) stop.ReadFault → ⊥) → HasReadCause {T = U} before now (Err why)
+quiet_stop before now (stop.Refused line) same reads = quiet before now (Err (stop.Refused line)) same (λ e. cc)
+quiet_stop before now stop.ReadFault same reads = absurd (reads refl)
+quiet_stop before now stop.Memory same reads = quiet before now (Err stop.Memory) same (λ e. cc)
+
+module _ (told : Option Files) (unit : List ℕ) (one : SettledUnit) (mentions : List Mention) (site : Site) where
+  -- with the inputs the paths of the settings are those that the unit mentions
+  refused_as : (files : Files) → mentions ≡ unit_mentions (inputs_view one.inputs).unit (inputs_view one.inputs).site → site ≡ (inputs_view one.inputs).site → (first_refusal (unit_refusals files unit) ≡ None) × (inputs_of files unit ≡ Some (inputs_view one.inputs)) → first_refusal (plan_refusals files unit) ≡ first_refusal (path_refusals unit (host_of site) mentions)
+  refused_as files same lies settles =
+      refusals_with files unit (unit_refusals files unit) (refused_paths unit) (inputs_view one.inputs) settles.0 settles.1
+      ∙ ap (λ these. first_refusal (path_refusals unit (host_of (inputs_view one.inputs).site) these)) (sym same)
+      ∙ ap (λ place. first_refusal (path_refusals unit (host_of place) mentions)) (sym lies)
+
+  at_paths : (P : List MountStep → Type 0) (told : Option Files) (stop : Stop) → mentions ≡ unit_mentions (inputs_view one.inputs).unit (inputs_view one.inputs).site → site ≡ (inputs_view one.inputs).site → IfSome told (λ files. (first_refusal (unit_refusals files unit) ≡ None) × (inputs_of files unit ≡ Some (inputs_view one.inputs))) → Prepares P (path_refusals unit (host_of site) mentions) (Err stop) → IfSome told (λ files. Prepares P (plan_refusals files unit) (Err stop))
+  at_paths P None stop same lies settles said = tt
+  at_paths P (Some files) stop same lies settles said = stops_as P stop (path_refusals unit (host_of site) mentions) (plan_refusals files unit) (refused_as files same lies settles) said
+
+  -- a path is refused
+  pub stops_at_paths : (stop : Stop) → mentions ≡ unit_mentions (inputs_view one.inputs).unit (inputs_view one.inputs).site → site ≡ (inputs_view one.inputs).site → IfSome told (λ files. (first_refusal (unit_refusals files unit) ≡ None) × (inputs_of files unit ≡ Some (inputs_view one.inputs))) → Prepares (IsPlan (host_of site) mentions) (path_refusals unit (host_of site) mentions) (Err stop) → IsAdmitted (laws_over told (plan_laws unit)) ending_of mounts_text (Err stop)
+  stops_at_paths stop same lies settles said =
+      stop_is_admitted (plan_laws unit) ending_of mounts_text (IsPlan (host_of site) mentions) told stop
+      (at_paths (IsPlan (host_of site) mentions) told stop same lies settles said)
+
+  prints_it : (table : List MountStep) (told : Option Files) → mentions ≡ unit_mentions (inputs_view one.inputs).unit (inputs_view one.inputs).site → site ≡ (inputs_view one.inputs).site → IfSome told (λ files. (first_refusal (unit_refusals files unit) ≡ None) × (inputs_of files unit ≡ Some (inputs_view one.inputs))) → first_refusal (path_refusals unit (host_of site) mentions) ≡ None → IsPlan (host_of site) mentions table → IfSome told (λ files. AcceptsFiles (plan_laws unit) files × PrintsPlan files unit (text_of table))
+  prints_it table None same lies settles none is = tt
+  prints_it table (Some files) same lies settles none is = (
+    refused_as files same lies settles ∙ none,
+    record {
+      inputs = inputs_view one.inputs;
+      inputs_are = settles.1;
+      table = table;
+      is_plan = subst (λ these. IsPlan (host_of (inputs_view one.inputs).site) these table) same (subst (λ place. IsPlan (host_of place) mentions table) lies is);
+      is_its_text = refl;
+    },
+  )
+
+  -- the plan is ready
+  pub ready : (mounts : Mounts) → mentions ≡ unit_mentions (inputs_view one.inputs).unit (inputs_view one.inputs).site → site ≡ (inputs_view one.inputs).site → IfSome told (λ files. (first_refusal (unit_refusals files unit) ≡ None) × (inputs_of files unit ≡ Some (inputs_view one.inputs))) → (first_refusal (path_refusals unit (host_of site) mentions) ≡ None) × IsPlan (host_of site) mentions mounts.table → IsAdmitted (laws_over told (plan_laws unit)) ending_of mounts_text (Ok mounts)
+  ready mounts same lies settles planned = ready_is_admitted (plan_laws unit) ending_of mounts_text told mounts refl (prints_it mounts.table told same lies settles planned.0 planned.1)

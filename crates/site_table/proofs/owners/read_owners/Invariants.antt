@@ -1,0 +1,8 @@
+use Rattle.std.proofs.Common.{map}
+use Rattle.toml.specs.View.{view}
+use Rattle.site_table.specs.Owners.{is_wrong, refusal_of, user_of}
+use Rattle.site_table.proofs.OwnersRead.{OwnersRead}
+use Rattle.site_table.proofs.owners.read_owners.Given as goal
+
+abbrev pub invariant-owners : goal.invariant-owners
+invariant-owners l = OwnersRead (is_wrong l.fn.kind) (refusal_of l.fn.kind) user_of (map view l.owners) l.at l.names l.read.items

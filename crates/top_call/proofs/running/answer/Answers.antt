@@ -1,0 +1,10 @@
+use Rattle.std.proofs.Common.{refl}
+use Rattle.command_answers.specs.declared.ending.Ending.TheVariants.{NoCommand}
+use Rattle.top_call.specs.Texts.{words_line}
+use Rattle.top_call.proofs.Runs.{ran_fixed}
+use Rattle.top_call.proofs.running.answer.Goals as goal
+
+pub returns-in-None-clause-runs : goal.returns-in-None-clause-runs
+returns-in-None-clause-runs g c =
+    rw c.in-None.is
+    (ran_fixed c.no_command.result NoCommand words_line ⊥ _ c.finish.result refl (λ none. absurd none) c.no_command.ensures.ending c.no_command.ensures.text refl c.finish.ensures.finishes)

@@ -1,0 +1,46 @@
+use Rattle.std.proofs.Common.{refl, sym, ap, subst}
+use Rattle.std.specs.Option.{option_map}
+use Rattle.command_answers.specs.Runs.{IsRun}
+use Rattle.command_answers.specs.Laws.{laws_over}
+use Rattle.command_answers.specs.declared.ending.Ending.TheVariants.{Done}
+use Rattle.command_answers.proofs.Runs.{ran}
+use Rattle.filter_command.specs.Prints.{filter_laws, filters_text, ending_of as filter_ending}
+use Rattle.filter_command.proofs.Prepared.{together as filter_together}
+use Rattle.plan_command.specs.Prints.{plan_laws, mounts_text, ending_of as plan_ending}
+use Rattle.plan_command.proofs.Prepared.{together as plan_together}
+use Rattle.thin_judge.specs.Answers.{text_of_answer, ending_of as judge_ending}
+use Rattle.thin_judge.specs.JudgePrints.{judge_laws}
+use Rattle.thin_judge.proofs.JudgeEndings.{together as judge_together}
+use Rattle.top_call.specs.Asked.{laws_by}
+use Rattle.top_call.specs.Requests.{request_of}
+use Rattle.top_call.specs.Texts.{help_text, version_text}
+use Rattle.top_call.proofs.Runs.{ran_fixed}
+use Rattle.top_call.proofs.running.answer_request.Goals as goal
+
+pub returns-in-Help-clause-runs : goal.returns-in-Help-clause-runs
+returns-in-Help-clause-runs g c =
+    rw c.in-Help.is
+    (ran_fixed c.help.result Done help_text (Unit {0}) _ c.finish.result refl (λ all. refl) c.help.ensures.ending c.help.ensures.text refl c.finish.ensures.finishes)
+
+pub returns-in-Version-clause-runs : goal.returns-in-Version-clause-runs
+returns-in-Version-clause-runs g c =
+    rw c.in-Version.is
+    (ran_fixed c.version.result Done version_text (Unit {0}) _ c.finish-in-Version.result refl (λ all. refl) c.version.ensures.ending c.version.ensures.text refl c.finish-in-Version.ensures.finishes)
+
+pub returns-in-Filter-clause-runs : goal.returns-in-Filter-clause-runs
+returns-in-Filter-clause-runs g c =
+    rw c.in-Filter.is
+    (ran (laws_over (g.S.Shelf.told c.args.shelf.now) (filter_laws c.in-Filter.unit.now)) (filter_together (g.S.Shelf.told c.args.shelf.now) c.in-Filter.unit.now) _ filter_ending filters_text c.prepare.result c.finish-in-Filter.result
+    c.prepare.ensures.prepares c.prepare.ensures.reads_for_a_name c.prepare.ensures.fault_rose c.finish-in-Filter.ensures.finishes)
+
+pub returns-in-Plan-clause-runs : goal.returns-in-Plan-clause-runs
+returns-in-Plan-clause-runs g c =
+    rw c.in-Plan.is
+    (ran (laws_over (g.S.Shelf.told c.args.shelf.now) (plan_laws c.in-Plan.unit.now)) (plan_together (g.S.Shelf.told c.args.shelf.now) c.in-Plan.unit.now) _ plan_ending mounts_text c.prepare-in-Plan.result c.finish-in-Plan.result
+    c.prepare-in-Plan.ensures.prepares c.prepare-in-Plan.ensures.reads_for_a_name c.prepare-in-Plan.ensures.fault_rose c.finish-in-Plan.ensures.finishes)
+
+pub returns-in-Judge-clause-runs : goal.returns-in-Judge-clause-runs
+returns-in-Judge-clause-runs g c =
+    rw c.in-Judge.is
+    (ran (judge_laws (g.S.Shelf.told c.args.shelf.now) c.in-Judge.unit.now) (judge_together (g.S.Shelf.told c.args.shelf.now) c.in-Judge.unit.now) _ judge_ending text_of_answer c.prepare-in-Judge.result c.finish-in-Judge.result
+    c.prepare-in-Judge.ensures.prepares c.prepare-in-Judge.ensures.reads_for_a_thin_name c.prepare-in-Judge.ensures.fault_rose c.finish-in-Judge.ensures.finishes)

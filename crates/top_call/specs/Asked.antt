@@ -1,0 +1,48 @@
+-- What is asked, and the laws of what is asked: the request decides first, and the files second.
+use Rattle.std.specs.Prelude.{ℕ, List, map, Option, Some, None}
+use Rattle.host_io.specs.Files.{Files}
+use Rattle.command_answers.specs.Laws.{Laws, fixed_laws, laws_over}
+use Rattle.command_answers.specs.declared.ending.Ending.{Ending}
+use Rattle.command_answers.specs.declared.ending.Ending.TheVariants.{Done, NoCommand}
+use Rattle.filter_command.specs.Prints.{filter_laws}
+use Rattle.plan_command.specs.Prints.{plan_laws}
+use Rattle.thin_judge.specs.JudgePrints.{judge_laws}
+use Rattle.top_call.specs.Requests.{Request, HelpAlone, VersionAlone, FilterOf, PlanOf, JudgeOf, request_in}
+use Rattle.top_call.specs.Texts.{help_text, version_text, words_line}
+use denote.Ref.{Bor}
+
+-- the words behind the program's name, and the files of the shelf, where it tells them
+pub record Asked : Type 0 where
+  pub words : List (List ℕ)
+  pub told : Option Files
+
+abbrev pub asked : List (Bor (List ℕ)) → Option Files → Asked
+asked words told = record { words = map (λ word. word.now) words; told = told }
+
+-- each request has its laws
+abbrev pub laws_for : Request → Option Files → Laws
+laws_for HelpAlone told = fixed_laws Done help_text (Unit {0})
+laws_for VersionAlone told = fixed_laws Done version_text (Unit {0})
+laws_for (FilterOf unit) told = laws_over told (filter_laws unit)
+laws_for (PlanOf unit) told = laws_over told (plan_laws unit)
+laws_for (JudgeOf unit) told = judge_laws told unit
+
+-- words that are no command are refused whatever the files
+abbrev pub laws_by : Option Request → Option Files → Laws
+laws_by None told = fixed_laws NoCommand words_line ⊥
+laws_by (Some request) told = laws_for request told
+
+abbrev pub laws_of : Asked → Laws
+laws_of asked = laws_by (request_in asked.words) asked.told
+
+-- the texts that are admitted, each with the ending behind it
+abbrev pub Prints : Asked → Ending → List ℕ → Type 0
+Prints asked = (laws_of asked).admits
+
+-- all that is asked is accepted
+abbrev pub Accepts : Asked → Type 0
+Accepts asked = (laws_of asked).accepts
+
+-- files are read for it
+abbrev pub ReadsFiles : Asked → Type 0
+ReadsFiles asked = (laws_of asked).reads

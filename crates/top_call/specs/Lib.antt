@@ -1,0 +1,4 @@
+pub mod Texts
+pub mod Requests
+pub mod Asked
+pub mod Statuses

@@ -1,0 +1,41 @@
+-- What a list of words asks for.
+use Rattle.std.specs.Prelude.{List, [], ◌∷◌, ℕ, codes, cond, Option, Some, None}
+use Rattle.std.specs.Str.{bytes_eq}
+use Rattle.top_call.specs.declared.request.Request.{Request as Code}
+use Rattle.top_call.specs.declared.request.Request.TheVariants.{Help, Version, Filter, Plan, Judge}
+
+-- what is asked for
+pub data Request : Type 0 where
+  HelpAlone : Request
+  VersionAlone : Request
+  FilterOf : (unit : List ℕ) → Request
+  PlanOf : (unit : List ℕ) → Request
+  JudgeOf : (unit : List ℕ) → Request
+
+-- a word by itself
+abbrev pub request_alone : List ℕ → Option Request
+request_alone word =
+    cond (bytes_eq word (codes "--help")) (Some HelpAlone)
+    (cond (bytes_eq word (codes "--version")) (Some VersionAlone) None)
+
+-- a word and a unit
+abbrev pub request_on : List ℕ → List ℕ → Option Request
+request_on word unit =
+    cond (bytes_eq word (codes "filter")) (Some (FilterOf unit))
+    (cond (bytes_eq word (codes "plan")) (Some (PlanOf unit))
+    (cond (bytes_eq word (codes "judge")) (Some (JudgeOf unit)) None))
+
+-- all other words are no command
+abbrev pub request_in : List (List ℕ) → Option Request
+request_in [] = None
+request_in (word ∷ []) = request_alone word
+request_in (word ∷ unit ∷ []) = request_on word unit
+request_in (word ∷ unit ∷ more ∷ words) = None
+
+-- a request of the code, as contracts see it
+abbrev pub request_of : Code → Request
+request_of Help = HelpAlone
+request_of Version = VersionAlone
+request_of (Filter unit) = FilterOf unit.now
+request_of (Plan unit) = PlanOf unit.now
+request_of (Judge unit) = JudgeOf unit.now

@@ -1,0 +1,59 @@
+-- Texts that are printed as they stand, each line ended by a line feed.
+use Rattle.std.specs.Prelude.{ℕ, List, [], ◌∷◌, ◌++◌, codes, flat_map}
+use Rattle.command_answers.specs.declared.ending.Ending.{Ending}
+use Rattle.top_call.specs.declared.texts.Fixed.{Fixed}
+
+-- lines, each ended by a line feed
+abbrev pub text_of_lines : List (List ℕ) → List ℕ
+text_of_lines lines = flat_map (λ line. line ++ 10 ∷ []) lines
+
+-- words that are no command
+abbrev pub words_line : List ℕ
+words_line = text_of_lines (codes "refused words" ∷ [])
+
+-- the name and the version
+abbrev pub version_text : List ℕ
+version_text = text_of_lines (codes "lentsheep 0.1.0" ∷ [])
+
+-- what the program is for, its words, the files that it reads, its statuses, and where the manual is
+abbrev pub help_lines : List (List ℕ)
+help_lines =
+    codes "Lentsheep judges the sandbox of a systemd service without starting it." ∷
+    [] ∷
+    codes "usage: sandbox_cli COMMAND UNIT" ∷
+    [] ∷
+    codes "  filter UNIT    print the compiled seccomp filters of the unit" ∷
+    codes "  plan UNIT      print the mounts that give the service its view of files" ∷
+    codes "  judge UNIT     print which system calls the service can reach (thin inputs)" ∷
+    codes "  --help         print this text" ∷
+    codes "  --version      print the name and the version" ∷
+    [] ∷
+    codes "UNIT is the name of a service, as web.service. Files are read below the current folder:" ∷
+    [] ∷
+    codes "  etc/systemd/system/UNIT, and the same below run/systemd and usr/lib/systemd," ∷
+    codes "                 the unit, with its drop-ins beside it" ∷
+    codes "  calls.txt      the table of system calls and their groups" ∷
+    codes "  site.toml      the files, the users and the groups of the host" ∷
+    [] ∷
+    codes "The status says how it ended:" ∷
+    [] ∷
+    codes "  0  done" ∷
+    codes "  2  the words are no command" ∷
+    codes "  3  an input is refused, and the line says which and why" ∷
+    codes "  4  a read failed, and nothing was printed" ∷
+    codes "  5  a write failed, and the text was cut" ∷
+    codes "  6  memory ran out, and the text was cut" ∷
+    codes "  7  the launch of judge is refused" ∷
+    [] ∷
+    codes "The manual is README.md; docs/PROFILE.md says how units are read." ∷
+    []
+
+abbrev pub help_text : List ℕ
+help_text = text_of_lines help_lines
+
+-- what stands ready, and how a run ends behind it
+abbrev pub text_of : Fixed → List ℕ
+text_of fixed = flat_map (λ line. line.now) fixed.lines.now
+
+abbrev pub ending_of : Fixed → Ending
+ending_of fixed = fixed.ending

@@ -1,0 +1,71 @@
+//! The top call.
+ghost use Rattle.std.specs.Prelude.{◌≡◌, IsTrue};
+ghost use Rattle.std.specs.Option.{option_map};
+ghost use Rattle.command_answers.specs.Endings.{is_whole};
+ghost use Rattle.command_answers.specs.Runs.{Completes, EndsBy, HasFaultCause, IsRun, WroteWhole, WrotePrefix};
+ghost use Rattle.top_call.specs.Asked.{Accepts, Prints, ReadsFiles, asked, laws_by, laws_for, laws_of};
+ghost use Rattle.top_call.specs.Requests.{request_of};
+
+use crate::request::{Request, parse};
+use crate::status::Status;
+use crate::texts;
+use command_answers::{Ending, finish};
+use host_io::{Shelf, Sink};
+use std::alloc::Global;
+
+// Prepares what is requested, and prints it.
+fn answer_request<S: Shelf, K: Sink>(
+    alloc: Global,
+    request: Request,
+    shelf: &mut S,
+    out: &mut K,
+) -> Ending
+    ensures runs { IsRun (laws_for (request_of request.entry) (S.told shelf.old)) result
+        (record { shelf_before = S.faults shelf.old; shelf_after = S.faults shelf.new; sink = record { faults_before = K.faults out.old; faults_after = K.faults out.new; taken_before = K.taken out.old; taken_after = K.taken out.new } }) }
+    ensures reads_only_for_it { ((laws_for (request_of request.entry) (S.told shelf.old)).reads → ⊥) → shelf.new ≡ shelf.old }
+    ensures map_stays { S.told shelf.new ≡ S.told shelf.old }
+{
+    match request {
+        Request::Help => finish(alloc, Ok(texts::help()), out),
+        Request::Version => finish(alloc, Ok(texts::version()), out),
+        Request::Filter(unit) => finish(alloc, filter_command::prepare(alloc, shelf, unit), out),
+        Request::Plan(unit) => finish(alloc, plan_command::prepare(alloc, shelf, unit), out),
+        Request::Judge(unit) => finish(alloc, thin_judge::prepare(alloc, shelf, unit), out),
+    }
+}
+
+// The same, where the words are a command.
+fn answer<S: Shelf, K: Sink>(
+    alloc: Global,
+    request: Option<Request>,
+    shelf: &mut S,
+    out: &mut K,
+) -> Ending
+    ensures runs { IsRun (laws_by (option_map request_of request.entry) (S.told shelf.old)) result
+        (record { shelf_before = S.faults shelf.old; shelf_after = S.faults shelf.new; sink = record { faults_before = K.faults out.old; faults_after = K.faults out.new; taken_before = K.taken out.old; taken_after = K.taken out.new } }) }
+    ensures reads_only_for_it { ((laws_by (option_map request_of request.entry) (S.told shelf.old)).reads → ⊥) → shelf.new ≡ shelf.old }
+    ensures map_stays { S.told shelf.new ≡ S.told shelf.old }
+{
+    match request {
+        None => finish(alloc, Ok(texts::no_command()), out),
+        Some(request) => answer_request(alloc, request, shelf, out),
+    }
+}
+
+/// Does what the words ask for: prepares it over the shelf, and prints it to the sink.
+///
+/// The words are those behind the program's name. The status says how it ended: with 0, 2, 3 and 7 a whole text was
+/// printed, with 4 nothing, and with 5 and 6 a prefix of one.
+pub fn run<S: Shelf, K: Sink>(alloc: Global, words: &[&str], shelf: &mut S, out: &mut K) -> Status
+    ensures prints_the_whole_text { IsTrue (is_whole result) → WroteWhole (Prints (asked words.now (S.told shelf.old)) result) (K.taken out.old) (K.taken out.new) }
+    ensures prints_a_prefix { WrotePrefix (Prints (asked words.now (S.told shelf.old))) (K.taken out.old) (K.taken out.new) }
+    ensures ends_by_the_inputs { EndsBy (laws_of (asked words.now (S.told shelf.old))) result }
+    ensures faults_have_causes { HasFaultCause result
+        (record { shelf_before = S.faults shelf.old; shelf_after = S.faults shelf.new; sink = record { faults_before = K.faults out.old; faults_after = K.faults out.new; taken_before = K.taken out.old; taken_after = K.taken out.new } }) }
+    ensures completes { Completes (Accepts (asked words.now (S.told shelf.old))) result
+        (record { shelf_before = S.faults shelf.old; shelf_after = S.faults shelf.new; sink = record { faults_before = K.faults out.old; faults_after = K.faults out.new; taken_before = K.taken out.old; taken_after = K.taken out.new } }) }
+    ensures reads_only_for_a_command { (ReadsFiles (asked words.now (S.told shelf.old)) → ⊥) → shelf.new ≡ shelf.old }
+    ensures map_stays { S.told shelf.new ≡ S.told shelf.old }
+{
+    Status::of(answer(alloc, parse(words), shelf, out))
+}

@@ -1,0 +1,113 @@
+//! Texts that are printed as they stand.
+ghost use Rattle.std.specs.Prelude.{◌≡◌, flat_map};
+ghost use Rattle.command_answers.specs.Printing.{HasWriteCause, TakesText};
+ghost use Rattle.top_call.specs.Texts.{help_text, text_of, version_text, words_line};
+
+use command_answers::{Ending, Ready, put_piece};
+use host_io::{Sink, SinkError};
+use std::alloc::Global;
+
+/// What the program is for, its words, the files that it reads, and its statuses.
+const HELP: &[&str] = &[
+    "Lentsheep judges the sandbox of a systemd service without starting it.\n",
+    "\n",
+    "usage: sandbox_cli COMMAND UNIT\n",
+    "\n",
+    "  filter UNIT    print the compiled seccomp filters of the unit\n",
+    "  plan UNIT      print the mounts that give the service its view of files\n",
+    "  judge UNIT     print which system calls the service can reach (thin inputs)\n",
+    "  --help         print this text\n",
+    "  --version      print the name and the version\n",
+    "\n",
+    "UNIT is the name of a service, as web.service. Files are read below the current folder:\n",
+    "\n",
+    "  etc/systemd/system/UNIT, and the same below run/systemd and usr/lib/systemd,\n",
+    "                 the unit, with its drop-ins beside it\n",
+    "  calls.txt      the table of system calls and their groups\n",
+    "  site.toml      the files, the users and the groups of the host\n",
+    "\n",
+    "The status says how it ended:\n",
+    "\n",
+    "  0  done\n",
+    "  2  the words are no command\n",
+    "  3  an input is refused, and the line says which and why\n",
+    "  4  a read failed, and nothing was printed\n",
+    "  5  a write failed, and the text was cut\n",
+    "  6  memory ran out, and the text was cut\n",
+    "  7  the launch of judge is refused\n",
+    "\n",
+    "The manual is README.md; docs/PROFILE.md says how units are read.\n",
+];
+
+/// The name and the version.
+const VERSION: &[&str] = &["lentsheep 0.1.0\n"];
+
+/// Words that are no command.
+const NO_COMMAND: &[&str] = &["refused words\n"];
+
+/// A text that is printed as it stands.
+#[derive(Drop)]
+pub struct Fixed {
+    ending: Ending,
+    lines: &'static [&'static str],
+}
+
+impl Ready for Fixed {
+    ghost use Rattle.top_call.specs.Texts.{ending_of, text_of};
+
+    ghost text = { text_of };
+
+    ghost ending = { ending_of };
+
+    fn ending(&self) -> Ending {
+        self.ending
+    }
+
+    fn print<K: Sink>(&self, _alloc: Global, out: &mut K) -> Result<(), SinkError> {
+        print_lines(self.lines, out)
+    }
+}
+
+// Prints lines, one behind the other.
+fn print_lines<K: Sink>(lines: &[&str], out: &mut K) -> Result<(), SinkError>
+    ensures takes_the_text { TakesText (K.taken out.old) (K.taken out.new) (flat_map (λ line. line.now) lines.now) result }
+    ensures fault_rose { HasWriteCause (K.faults out.old) (K.faults out.new) result }
+{
+    'lines: for line in lines {
+        put_piece(out, line.as_bytes())?;
+    }
+    Ok(())
+}
+
+/// What the program is for, and its words.
+pub fn help() -> Fixed
+    ensures text { text_of result ≡ help_text }
+    ensures ending { result.ending ≡ Ending.Done }
+{
+    Fixed {
+        ending: Ending::Done,
+        lines: HELP,
+    }
+}
+
+/// The name and the version.
+pub fn version() -> Fixed
+    ensures text { text_of result ≡ version_text }
+    ensures ending { result.ending ≡ Ending.Done }
+{
+    Fixed {
+        ending: Ending::Done,
+        lines: VERSION,
+    }
+}
+
+/// The line of words that are no command.
+pub fn no_command() -> Fixed
+    ensures text { text_of result ≡ words_line }
+    ensures ending { result.ending ≡ Ending.NoCommand }
+{
+    Fixed {
+        ending: Ending::NoCommand,
+        lines: NO_COMMAND,
+    }
+}

@@ -1,0 +1,27 @@
+-- From inputs to settings.
+use Rattle.std.proofs.Common.{◌≡◌, ℕ, ◌≤◌, Option, Some, None, List, ◌∷◌, ◌++◌, Result, Ok, Err, refl, sym, ap, ◌∙◌}
+use Rattle.std.specs.Prelude.{IfSome}
+use Rattle.host_io.specs.Files.{Files}
+use Rattle.command_answers.specs.Stops.{Prepares, first_refusal}
+use Rattle.command_answers.specs.declared.stop.Stop.{Stop}
+use Rattle.command_answers.specs.declared.stop.Stop.TheVariants as stop
+use Rattle.command_answers.proofs.Refusing.{behind_none}
+use Rattle.exec_settings.specs.declared.service.Settings.{Settings}
+use Rattle.unit_inputs.specs.Inputs.{Inputs, input_refusals, inputs_of, inputs_view}
+use Rattle.unit_inputs.specs.declared.inputs.UnitInputs.{UnitInputs}
+use Rattle.unit_settings.specs.Settled.{AreSettled, refusals_by, refusals_of, unit_refusals}
+use Rattle.unit_settings.specs.declared.settling.SettledUnit.{SettledUnit}
+
+-- with the inputs, what is refused behind others is what they are refused for
+pub refusals_with : (files : Files) (unit : List ℕ) (some : List (Option (List ℕ))) (more : Inputs → List (Option (List ℕ))) (inputs : Inputs) → first_refusal some ≡ None → inputs_of files unit ≡ Some inputs → first_refusal (some ++ refusals_by more (inputs_of files unit)) ≡ first_refusal (more inputs)
+refusals_with files unit some more inputs none is =
+    behind_none some (refusals_by more (inputs_of files unit)) none
+    ∙ ap (λ found. first_refusal (refusals_by more found)) is
+
+-- inputs that are read, and then their settings
+pub settled : (told : Option Files) (unit : List ℕ) (inputs : UnitInputs) (result : Result SettledUnit Stop) → IfSome told (λ files. (first_refusal (input_refusals files unit) ≡ None) × (inputs_of files unit ≡ Some (inputs_view inputs))) → Prepares (λ one. (one.inputs ≡ inputs) × AreSettled (inputs_view inputs) one.settings.value) (refusals_of unit (inputs_view inputs)) result → IfSome told (λ files. Prepares (λ one. inputs_of files unit ≡ Some (inputs_view one.inputs)) (unit_refusals files unit) result)
+settled None unit inputs result read settles = tt
+settled (Some files) unit inputs (Ok one) read settles = (refusals_with files unit (input_refusals files unit) (refusals_of unit) (inputs_view inputs) read.0 read.1 ∙ settles.0, read.1 ∙ ap (λ these. Some (inputs_view these)) (sym settles.1.0))
+settled (Some files) unit inputs (Err (stop.Refused line)) read settles = refusals_with files unit (input_refusals files unit) (refusals_of unit) (inputs_view inputs) read.0 read.1 ∙ settles
+settled (Some files) unit inputs (Err stop.ReadFault) read settles = tt
+settled (Some files) unit inputs (Err stop.Memory) read settles = tt

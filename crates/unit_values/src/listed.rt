@@ -1,0 +1,94 @@
+//! Lists of lines, of which an empty value resets what was listed before it (systemd.exec(5), SystemCallFilter=).
+ghost use Rattle.std.specs.Prelude.{◌≡◌, ◌++◌, [], IfOk, OnOk};
+ghost use Rattle.std.specs.List.{cons_option, filter_map};
+ghost use Rattle.unit_values.specs.Lasting.{unless_read, unread_notes};
+ghost use Rattle.unit_values.specs.Lines.{listed_line};
+ghost use Rattle.unit_values.specs.Listed.{listed, is_reset, unit_listed, unit_listed_notes};
+ghost use Rattle.unit_values.specs.Notes.{notes_at};
+
+use crate::lines::{Line, read_line};
+use crate::noting::note_value;
+use crate::reading::values_of_key;
+use crate::value::{FileNote, Said, Value};
+use dropin_merge::Resolved;
+use std::alloc::{AllocError, Global};
+use unit_grammar::NoteCause;
+
+/// A value of a list that could be split into words.
+#[derive(Drop)]
+pub struct Listed {
+    /// The value, with its place.
+    pub value: Value,
+    /// The line that it is; of an empty value, one without words.
+    pub line: Line,
+}
+
+impl Listed {
+    /// Whether the value is empty, which resets what was listed before it.
+    pub fn is_reset(&self) -> bool
+        ensures { result ≡ is_reset self.now }
+    {
+        self.value.text.as_str().is_empty()
+    }
+}
+
+fn line_of(alloc: Global, text: &str) -> Result<Option<Line>, AllocError>
+    ensures { IfOk result (λ line. line ≡ listed_line text.now) }
+{
+    if text.is_empty() {
+        Ok(Some(Line::empty(alloc)))
+    } else {
+        read_line(alloc, text)
+    }
+}
+
+// Puts a value behind those that are listed, or notes that it cannot be split.
+fn add_listed(
+    alloc: Global,
+    value: Value,
+    all: &mut Vec<Listed>,
+    notes: &mut Vec<FileNote>,
+) -> Result<(), AllocError>
+    ensures means { OnOk result (all.new.items ≡ all.old.items ++ cons_option (listed value) []) }
+    ensures noted { OnOk result (notes.new.items ≡ notes.old.items ++ notes_at value (unless_read (listed_line value.text))) }
+{
+    match line_of(alloc, value.text.as_str())? {
+        Some(line) => {
+            all.push(Listed { value, line })?;
+            Ok(())
+        }
+        None => note_value(notes, &value, NoteCause::Value),
+    }
+}
+
+// The values of such a key that can be split.
+fn all_listed(alloc: Global, values: Vec<Value>) -> Result<Said<Vec<Listed>>, AllocError>
+    ensures means { IfOk result (λ said. said.what.items ≡ filter_map listed values.items) }
+    ensures noted { IfOk result (λ said. said.notes.items ≡ unread_notes listed_line values.items) }
+{
+    let mut all = Vec::new(alloc);
+    let mut notes = Vec::new(alloc);
+    'values: for value in values {
+        add_listed(alloc, value, &mut all, &mut notes)?;
+    }
+    Ok(Said { what: all, notes })
+}
+
+/// The lines that the files of a unit give to such a key, with their values, in their order; those that are reset
+/// later and what resets them are among them. Values that cannot be expanded are noted, and then those that cannot be
+/// split.
+#[tactic(auto, unfolding(crate::specs::Listed::unit_listed, crate::specs::Listed::unit_listed_notes))]
+pub fn lines_of_key(
+    alloc: Global,
+    unit: &Resolved,
+    key: &str,
+) -> Result<Said<Vec<Listed>>, AllocError>
+    ensures all_in_order { IfOk result (λ said. said.what.items ≡ unit_listed unit.now key.now) }
+    ensures notes_the_unread { IfOk result (λ said. said.notes.items ≡ unit_listed_notes unit.now key.now) }
+{
+    let Said {
+        what: values,
+        notes,
+    } = values_of_key(alloc, unit, key)?;
+    all_listed(alloc, values)?.behind(notes)
+}
