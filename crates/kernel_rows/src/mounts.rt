@@ -1,0 +1,115 @@
+//! Tables of mounts.
+use abs_path::{AbsPath, PathError};
+use kern_mounts::{Flags, MountStep, MountTable, What};
+use row_text::{number, said};
+use std::alloc::{AllocError, Global};
+
+/// What the call of a row answers.
+pub fn answer(alloc: Global, table: &mut MountTable, row: &[&str]) -> Result<String, AllocError> {
+    match row {
+        ["new"] => {
+            *table = MountTable::new(alloc)?;
+            length(alloc, table)
+        }
+        ["push", place, what, flags] => push(alloc, table, step(alloc, place, what, flags)),
+        ["push many", count] => push_many(alloc, table, number(count)),
+        ["length"] => length(alloc, table),
+        ["entry", at] => entry(alloc, table, number(at) as usize),
+        ["resolve", path] => resolve(alloc, table, path),
+        _ => said(alloc, "no row"),
+    }
+}
+
+fn length(alloc: Global, table: &MountTable) -> Result<String, AllocError> {
+    format!(in alloc; "{} entries", table.len())
+}
+
+fn step(alloc: Global, place: &str, what: &str, flags: &str) -> Result<MountStep, PathError> {
+    let what = what_of(alloc, what)?;
+    Ok(MountStep {
+        place: AbsPath::read(alloc, place)?,
+        what,
+        flags: flags_of(flags),
+    })
+}
+
+// `empty`, `a hidden folder`, `a hidden file`, or a path of the host.
+fn what_of(alloc: Global, text: &str) -> Result<What, PathError> {
+    match text {
+        "empty" => Ok(What::Empty),
+        "a hidden folder" => Ok(What::Hidden(true)),
+        "a hidden file" => Ok(What::Hidden(false)),
+        path => Ok(What::Host(AbsPath::read(alloc, path)?)),
+    }
+}
+
+fn flags_of(text: &str) -> Flags {
+    let mut flags = Flags::default();
+    for word in text.split(' ') {
+        match word {
+            "ro" => flags.read_only = true,
+            "noexec" => flags.no_exec = true,
+            "nosuid" => flags.no_suid = true,
+            _ => {}
+        }
+    }
+    flags
+}
+
+fn push(
+    alloc: Global,
+    table: &mut MountTable,
+    step: Result<MountStep, PathError>,
+) -> Result<String, AllocError> {
+    match step {
+        Ok(step) => pushed(alloc, table, step),
+        Err(error) => error.to_string(alloc),
+    }
+}
+
+fn pushed(alloc: Global, table: &mut MountTable, step: MountStep) -> Result<String, AllocError> {
+    match table.push(step) {
+        Ok(()) => length(alloc, table),
+        Err(error) => error.to_string(alloc),
+    }
+}
+
+// Pushes so many entries at the root, and says what the last push answers.
+fn push_many(alloc: Global, table: &mut MountTable, count: u64) -> Result<String, AllocError> {
+    let mut answer = String::new(alloc);
+    for _ in 0..count {
+        answer = push(alloc, table, step(alloc, "/", "empty", ""))?;
+    }
+    Ok(answer)
+}
+
+fn entry(alloc: Global, table: &MountTable, at: usize) -> Result<String, AllocError> {
+    if at < table.len() {
+        shown(alloc, table.entry(at))
+    } else {
+        said(alloc, "none")
+    }
+}
+
+fn shown(alloc: Global, step: &MountStep) -> Result<String, AllocError> {
+    let what = match &step.what {
+        What::Host(path) => path.text(),
+        What::Empty => "empty",
+        What::Hidden(true) => "a hidden folder",
+        What::Hidden(false) => "a hidden file",
+    };
+    let read_only = if step.flags.read_only { " ro" } else { "" };
+    let no_exec = if step.flags.no_exec { " noexec" } else { "" };
+    let no_suid = if step.flags.no_suid { " nosuid" } else { "" };
+    format!(in alloc;
+        "{}: {what}{read_only}{no_exec}{no_suid}",
+        step.place.text()
+    )
+}
+
+fn resolve(alloc: Global, table: &MountTable, path: &str) -> Result<String, AllocError> {
+    match &AbsPath::read(alloc, path) {
+        Ok(path) => table.resolve(path).to_string(alloc),
+        Err(error) => error.to_string(alloc),
+    }
+}

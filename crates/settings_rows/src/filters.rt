@@ -1,0 +1,117 @@
+//! What the filters of a unit do.
+ghost use Rattle.filter_rules.specs.Known.{HasKnownFamilies};
+
+use crate::described;
+use crate::inputs::Inputs;
+use bpf_code::CallData;
+use call_rules::action;
+use call_table::CallTable;
+use filter_rules::{
+    CallList, Filter, FilterSettings, Mention, allows_call, filters, permits_family,
+};
+use filter_settings::filter_settings;
+use row_text::{said, yes_or_no};
+use std::alloc::{AllocError, Global};
+use text_forms::read_u64;
+use unit_grammar::Text;
+
+/// What the call of a row answers.
+pub fn answer(alloc: Global, inputs: &Inputs, words: &[&str]) -> Result<String, AllocError> {
+    let mut said = filter_settings(alloc, &inputs.unit, &inputs.calls)?;
+    if let ["with", name, rest @ ..] = words {
+        add_name(alloc, &mut said.what.calls, name)?;
+        return of_settings(alloc, &inputs.calls, &said.what, rest);
+    }
+    of_settings(alloc, &inputs.calls, &said.what, words)
+}
+
+// Puts a name on the list of calls, also one that the table lacks.
+fn add_name(alloc: Global, calls: &mut Option<CallList>, name: &str) -> Result<(), AllocError> {
+    if let Some(list) = calls {
+        list.mentions.push(Mention {
+            adds: true,
+            name: Text::new(alloc, name)?,
+            action: None,
+        })?;
+    }
+    Ok(())
+}
+
+fn of_settings(
+    alloc: Global,
+    table: &CallTable,
+    settings: &FilterSettings,
+    words: &[&str],
+) -> Result<String, AllocError>
+    requires { HasKnownFamilies table.now settings.now }
+{
+    match words {
+        ["allows", name] => yes_or_no(alloc, allows_call(table, settings, name)),
+        ["permits", number] => yes_or_no(alloc, permits_family(&settings.families, id(number))),
+        _ => of_filters(alloc, table, &filters(alloc, table, settings)?, words),
+    }
+}
+
+fn of_filters(
+    alloc: Global,
+    table: &CallTable,
+    filters: &[Filter],
+    words: &[&str],
+) -> Result<String, AllocError> {
+    match words {
+        ["names"] => names(alloc, filters),
+        [filter, call, args @ ..] => done(alloc, filters, filter, &call_of(table, call, args)),
+        _ => said(alloc, "no row"),
+    }
+}
+
+fn names(alloc: Global, filters: &[Filter]) -> Result<String, AllocError> {
+    let mut text = format!(in alloc; "{} filters", filters.len())?;
+    for filter in filters {
+        text.push(' ')?;
+        text.push_str(filter.name.text())?;
+    }
+    Ok(text)
+}
+
+// The number of a word, or 0.
+fn id(word: &str) -> u32 {
+    word.parse::<u32>().unwrap_or(0)
+}
+
+fn argument(args: &[&str], at: usize) -> u64 {
+    match args.get(at) {
+        Some(word) => read_u64(word).unwrap_or(0),
+        None => 0,
+    }
+}
+
+// A call of the table, or of a number, with these arguments.
+fn call_of(table: &CallTable, call: &str, args: &[&str]) -> CallData {
+    CallData {
+        nr: table.number(call).unwrap_or(id(call)),
+        arch: table.arch(),
+        ip: 0,
+        args: [
+            argument(args, 0),
+            argument(args, 1),
+            argument(args, 2),
+            argument(args, 3),
+            0,
+            0,
+        ],
+    }
+}
+
+// What the filter of a name does with a call.
+fn done(
+    alloc: Global,
+    filters: &[Filter],
+    name: &str,
+    call: &CallData,
+) -> Result<String, AllocError> {
+    match filters.iter().find(|filter| filter.name.text() == name) {
+        Some(filter) => described::action(alloc, action(&filter.rules, call)),
+        None => said(alloc, "off"),
+    }
+}

@@ -1,0 +1,37 @@
+//! Rows over unit files as text: what they say, names and specifiers, the files in force, and the values of keys.
+//!
+//! Each line of the standard input is a call with its words, parted by bars; it is printed with what came
+//! out. A line that begins with `#` says what the next rows show.
+#![tactic(auto)]
+
+mod escapes;
+mod files;
+mod grammar;
+mod names;
+mod rows;
+mod values;
+mod words;
+
+use rows::Rows;
+use std::io;
+
+fn main(rt: HostRuntime) -> io::Result<()> {
+    let mut rows = Rows::new(rt.alloc());
+    answer_lines(&rt, &mut rows)
+}
+
+fn answer_lines(rt: &HostRuntime, rows: &mut Rows) -> io::Result<()> {
+    for line in rt.lines(rt.alloc()) {
+        answer_line(rt, rows, line?.as_str())?;
+    }
+    Ok(())
+}
+
+// Prints a line, and behind a row what came out.
+fn answer_line(rt: &HostRuntime, rows: &mut Rows, line: &str) -> io::Result<()> {
+    if line.starts_with('#') {
+        return rt.println(line);
+    }
+    let answer = rows.answer(rt.alloc(), line)?;
+    println!(rt; "{line} -> {answer}")
+}
