@@ -6,3 +6,4 @@ pub mod Reading
 pub mod Stripped
 pub mod Putting
 pub mod Given
+pub mod Plain

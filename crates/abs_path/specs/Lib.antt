@@ -2,3 +2,4 @@ pub mod Paths
 pub mod Prefix
 pub mod ByteOrder
 pub mod Read
+pub mod Plain

@@ -19,3 +19,5 @@ pub mod Found
 pub mod Worked
 pub mod CapSets
 pub mod Exact
+pub mod Behind
+pub mod PlainRows

@@ -86,17 +86,17 @@ always_is_dir row right here e =
 
 -- ---- what only an executable has
 
-none_from : {X : Type 0} (found : Option X) → is_some found ≡ false → found ≡ None
+pub none_from : {X : Type 0} (found : Option X) → is_some found ≡ false → found ≡ None
 none_from None h = refl
 none_from (Some x) h = absurd (false≢true (sym h))
 
-absent_number : (key : List ℕ) (row : Data) → has key row ≡ false → id_at key row ≡ None
+pub absent_number : (key : List ℕ) (row : Data) → has key row ≡ false → id_at key row ≡ None
 absent_number key row h = ap (λ found. option_and_then id_of (option_and_then as_integer found)) (none_from (get key row) h)
 
-absent_flag : (key : List ℕ) (row : Data) → has key row ≡ false → flag_at key row ≡ None
+pub absent_flag : (key : List ℕ) (row : Data) → has key row ≡ false → flag_at key row ≡ None
 absent_flag key row h = ap (λ found. option_and_then as_bool found) (none_from (get key row) h)
 
-absent_names : (key : List ℕ) (row : Data) → has key row ≡ false → elements_at key row ≡ []
+pub absent_names : (key : List ℕ) (row : Data) → has key row ≡ false → elements_at key row ≡ []
 absent_names key row h = ap (λ found. option_map_or elements_of found []) (none_from (get key row) h)
 
 no_exe_key : (kind : RowKind) (keys : Bool) → kind ≢ Exe → (is_exe kind || not keys) ≡ true → keys ≡ false

@@ -5,6 +5,8 @@ use Rattle.std.specs.List.{list_any}
 use Rattle.std.specs.Str.{bytes_eq}
 use Rattle.site_table.specs.Kinds.{is_dir}
 use Rattle.toml.specs.Data.{Data}
+use Rattle.cap_sets.specs.Sets.{none}
+use Rattle.site_table.specs.declared.kinds.RowKind.{RowKind}
 use Rattle.abs_path.specs.Paths.{Path, tail_of}
 use Rattle.site_table.specs.declared.row.Row.{Row}
 use Rattle.site_table.specs.declared.error.RowCause.{RowCause}
@@ -40,6 +42,10 @@ dir_placed path rows = cond (has_row rows path) rows (row_placed (plain_dir path
 abbrev pub fixed_placed : List Row → List Row
 fixed_placed rows = dir_placed proc (dir_placed root rows)
 
+-- a file of which only the path and the kind are said
+abbrev pub plain_file : Path → RowKind → Row
+plain_file path kind = record { path = path; kind = kind; setuid = None; setgid = None; caps = none; effective = false }
+
 -- what a row with good keys and a path says, or its first cause
 abbrev pub SaysFile : Data → Result Row RowCause → Type 0
 SaysFile row (Ok said) = (first_of (drop 2 (own_causes row)) ≡ None) × (said ≡ row_of row)
@@ -72,3 +78,15 @@ causes_among folders rows path = (has_row rows path, Duplicate) ∷ (not (stands
 abbrev pub Places : ℕ → List (List ℕ) → List Row → Row → List Row → Result (Unit {0}) SiteError → Type 0
 Places number folders rows row placed (Ok done) = (first_of (causes_among folders rows row.path) ≡ None) × (placed ≡ row_placed row rows)
 Places number folders rows row placed (Err error) = IsRefused number (first_of (causes_among folders rows row.path)) error
+
+-- one of the rows is a directory whose path has this text
+abbrev pub has_dir_row : List Row → List ℕ → Bool
+has_dir_row rows text = list_any (λ row. is_dir row.kind && bytes_eq text (tail_of row.path)) rows
+
+-- the path is the root's, or its folder is always there or one of the rows
+abbrev pub stands_behind : List Row → Path → Bool
+stands_behind rows path = option_map_or (λ text. is_always_dir_text text || has_dir_row rows text) (option_map tail_of (parent_of path)) true
+
+-- the row has no cause of its own, a new path and its folder among the rows, and is placed among them
+abbrev pub PlacesBehind : List Row → Data → List Row → Type 0
+PlacesBehind rows row placed = (first_of (own_causes row) ≡ None) × (placed ≡ row_placed (row_of row) rows) × (has_row rows (row_of row).path ≡ false) × (stands_behind rows (row_of row).path ≡ true)

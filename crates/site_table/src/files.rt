@@ -1,11 +1,11 @@
 //! What a row of the file says by itself.
 
-ghost use Rattle.std.specs.Prelude.{◌≡◌, ◌&&◌, ◌||◌, not, false, Some, map};
+ghost use Rattle.std.specs.Prelude.{◌≡◌, ◌&&◌, ◌||◌, not, false, Some, map, drop};
 ghost use Rattle.toml.specs.Data.{get};
 ghost use Rattle.toml.specs.View.{view};
 ghost use Rattle.site_table.specs.Kinds.{is_dir, is_exe};
-ghost use Rattle.site_table.specs.Rows.{path_of, kind_of, cap_names, has, has_exe_key, is_always_dir, has_wrong_number, has_wrong_caps, has_both};
-ghost use Rattle.site_table.specs.RowSteps.{is_always_dir_text, SaysFile, SaysRow};
+ghost use Rattle.site_table.specs.Rows.{path_of, kind_of, cap_names, has, has_exe_key, is_always_dir, has_wrong_number, has_wrong_caps, has_both, first_of, own_causes, row_of};
+ghost use Rattle.site_table.specs.RowSteps.{is_always_dir_text, plain_file, SaysFile, SaysRow};
 ghost use Rattle.std.specs.Option.{option_map_or};
 
 use crate::caps::{are_caps, caps_of};
@@ -16,6 +16,7 @@ use crate::kinds::RowKind;
 use crate::paths::{path_of, tail};
 use crate::row::Row;
 use abs_path::AbsPath;
+use cap_sets::CapSet;
 use std::alloc::Global;
 use toml::Value;
 use toml_shapes::{elements_at, flag_at, has_keys, text_at};
@@ -61,14 +62,13 @@ fn is_always_dir(path: &AbsPath) -> bool
     is_always_dir_text(tail(path))
 }
 
-// whether the row at this path may be of this kind
-fn may_be(kind: RowKind, path: &AbsPath, row: &Value) -> bool
-    ensures { result ≡ ((is_exe kind || not (has_exe_key (view row.now)))
-        && (is_dir kind || not (is_always_dir path.now))) }
+// whether the row at this path may be of this kind, which has a key that only an executable may have or not
+fn may_be(kind: RowKind, has_exe_key: bool, path: &AbsPath) -> bool
+    ensures { result ≡ ((is_exe kind || not has_exe_key) && (is_dir kind || not (is_always_dir path.now))) }
 {
     match kind {
-        RowKind::Dir => !has_exe_key(row),
-        RowKind::File => !has_exe_key(row) && !is_always_dir(path),
+        RowKind::Dir => !has_exe_key,
+        RowKind::File => !has_exe_key && !is_always_dir(path),
         RowKind::Exe => !is_always_dir(path),
     }
 }
@@ -94,6 +94,52 @@ fn has_both(row: &Value) -> bool
     has(row, "setuid") && !elements_at(row, "caps").is_empty()
 }
 
+// what is wrong with the keys that only an executable may have
+fn exe_cause(row: &Value) -> Option<RowCause>
+    ensures { result ≡ first_of (drop 3 (own_causes (view row.now))) }
+{
+    if has_wrong_number(row) {
+        return Some(RowCause::Number);
+    }
+    if has_wrong_caps(row) {
+        return Some(RowCause::Caps);
+    }
+    if has_both(row) {
+        return Some(RowCause::Both);
+    }
+    None
+}
+
+// what the row says of the file at its path, where it has no key that only an executable may have
+fn plain_file(path: AbsPath, kind: RowKind) -> Row
+    ensures { result ≡ plain_file path kind }
+{
+    Row {
+        path,
+        kind,
+        setuid: None,
+        setgid: None,
+        caps: CapSet::empty(),
+        effective: false,
+    }
+}
+
+// what the row says of the file at its path, whatever keys it has
+fn whole_file(path: AbsPath, kind: RowKind, row: &Value) -> Row
+    requires path { path_of (view row.now) ≡ Some path }
+    requires kind { kind_of (view row.now) ≡ Some kind }
+    ensures { result ≡ row_of (view row.now) }
+{
+    Row {
+        path,
+        kind,
+        setuid: id_at(row, "setuid"),
+        setgid: id_at(row, "setgid"),
+        caps: caps_of(elements_at(row, "caps")),
+        effective: flag_at(row, "effective").unwrap_or(false),
+    }
+}
+
 // what the row says of the file at its path
 fn read_file(path: AbsPath, row: &Value) -> Result<Row, RowCause>
     requires { path_of (view row.now) ≡ Some path }
@@ -102,26 +148,17 @@ fn read_file(path: AbsPath, row: &Value) -> Result<Row, RowCause>
     let Some(kind) = kind_of(row) else {
         return Err(RowCause::Kind);
     };
-    if !may_be(kind, &path, row) {
+    let has_exe_key = has_exe_key(row);
+    if !may_be(kind, has_exe_key, &path) {
         return Err(RowCause::Kind);
     }
-    if has_wrong_number(row) {
-        return Err(RowCause::Number);
+    if !has_exe_key {
+        return Ok(plain_file(path, kind));
     }
-    if has_wrong_caps(row) {
-        return Err(RowCause::Caps);
+    match exe_cause(row) {
+        Some(cause) => Err(cause),
+        None => Ok(whole_file(path, kind, row)),
     }
-    if has_both(row) {
-        return Err(RowCause::Both);
-    }
-    Ok(Row {
-        path,
-        kind,
-        setuid: id_at(row, "setuid"),
-        setgid: id_at(row, "setgid"),
-        caps: caps_of(elements_at(row, "caps")),
-        effective: flag_at(row, "effective").unwrap_or(false),
-    })
 }
 
 /// What the row of this number says, or the first cause by which it is wrong by itself.

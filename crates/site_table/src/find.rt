@@ -47,14 +47,21 @@ fn ends_before(rows: &[Row], front: &str, rest: &str) -> bool
 
 /// The place of the row whose path has the text of the front with the rest behind it, or the place
 /// where such a row would go. Rows that come in their order are placed at once.
+pub fn search_text(rows: &[Row], front: &str, rest: &str) -> Result<usize, usize>
+    requires { AreOrdered rows.now }
+    ensures { Searches rows.now (front.now ++ rest.now) result }
+{
+    if ends_before(rows, front, rest) {
+        return Err(rows.len());
+    }
+    rows.binary_search_by(|row| row_order(row, front, rest))
+}
+
+/// The same of the text of a path.
 pub fn search(rows: &[Row], front: &AbsPath, rest: &str) -> Result<usize, usize>
     requires { AreOrdered rows.now }
     ensures searches { Searches rows.now (tail_of front.now ++ rest.now) result }
     ensures normal { IsTrue (is_normal front.now) }
 {
-    let front = tail(front);
-    if ends_before(rows, front, rest) {
-        return Err(rows.len());
-    }
-    rows.binary_search_by(|row| row_order(row, front, rest))
+    search_text(rows, tail(front), rest)
 }

@@ -1,6 +1,6 @@
 //! The rows of a site: each by itself, and then its place among the others.
 
-ghost use Rattle.std.specs.Prelude.{◌≡◌, ◌||◌, ℕ, List, [], true, cond, map, OnOk, IfOk};
+ghost use Rattle.std.specs.Prelude.{◌≡◌, ◌||◌, ℕ, List, [], true, cond, map, Ok, OnOk, IfOk, IfSome};
 ghost use Rattle.std.specs.List.{list_any};
 ghost use Rattle.toml.specs.Data.{Data};
 ghost use Rattle.toml.specs.View.{view};
@@ -8,7 +8,7 @@ ghost use Rattle.site_table.specs.Paths.{proc};
 ghost use Rattle.site_table.specs.Order.{with_fixed, rows_in_order};
 ghost use Rattle.site_table.specs.Reading.{IsUnlessMemory, unless_fault, row_faults};
 ghost use Rattle.site_table.specs.Rows.{row_of, kind_of};
-ghost use Rattle.site_table.specs.RowSteps.{Places, stands_in, has_folder, TakesFolder, fixed_placed};
+ghost use Rattle.site_table.specs.RowSteps.{Places, stands_in, has_folder, TakesFolder, fixed_placed, PlacesBehind};
 ghost use Rattle.site_table.specs.Texts.{has_text};
 
 use crate::error::{RowCause, SiteError};
@@ -70,8 +70,49 @@ fn place(number: u64, folders: &Seen, ordered: &mut OrderedRows, row: Row) -> Re
     Ok(())
 }
 
-// the listed rows in their order
-fn listed_rows(alloc: Global, rows: &[Value]) -> Result<OrderedRows, SiteError>
+// puts a row in its place, where it has no fault and its folder is among the rows before it; the number
+// of that folder's row comes back
+fn place_behind(
+    alloc: Global,
+    ordered: &mut OrderedRows,
+    hint: usize,
+    value: &Value,
+) -> Result<Option<usize>, AllocError>
+    ensures { IfOk result (λ found. IfSome found (λ at. PlacesBehind ordered.old (view value.now) ordered.new)) }
+{
+    let row = match read_row(alloc, 1, value) {
+        Ok(row) => row,
+        Err(SiteError::Memory) => return Err(AllocError),
+        Err(_) => return Ok(None),
+    };
+    let Some(at) = ordered.place_for(&row.path) else {
+        return Ok(None);
+    };
+    let Some(folder) = ordered.folder_of(hint, &row.path) else {
+        return Ok(None);
+    };
+    ordered.put(at, row)?;
+    Ok(Some(folder))
+}
+
+// the listed rows in their order, where none has a fault and each comes behind its folder
+fn rows_behind_folders(alloc: Global, rows: &[Value]) -> Result<Option<OrderedRows>, AllocError>
+    ensures { IfOk result (λ found. IfSome found (λ ordered.
+        unless_fault (row_faults (map view rows.now)) (rows_in_order (map row_of (map view rows.now))) ≡ Ok ordered)) }
+{
+    let mut ordered = OrderedRows::new(alloc);
+    let mut hint = 0;
+    'rows: for value in rows {
+        match place_behind(alloc, &mut ordered, hint, value)? {
+            Some(folder) => hint = folder,
+            None => return Ok(None),
+        }
+    }
+    Ok(Some(ordered))
+}
+
+// the listed rows in their order, wherever their folders are
+fn all_rows(alloc: Global, rows: &[Value]) -> Result<OrderedRows, SiteError>
     ensures { IsUnlessMemory (λ ordered. ordered) result
         (unless_fault (row_faults (map view rows.now)) (rows_in_order (map row_of (map view rows.now)))) }
 {
@@ -83,6 +124,18 @@ fn listed_rows(alloc: Global, rows: &[Value]) -> Result<OrderedRows, SiteError>
         place(number, &folders, &mut ordered, row)?;
     }
     Ok(ordered)
+}
+
+// the listed rows in their order: in one pass where each comes behind its folder, as in a sorted list; else
+// the folders are looked up first
+fn listed_rows(alloc: Global, rows: &[Value]) -> Result<OrderedRows, SiteError>
+    ensures { IsUnlessMemory (λ ordered. ordered) result
+        (unless_fault (row_faults (map view rows.now)) (rows_in_order (map row_of (map view rows.now)))) }
+{
+    match rows_behind_folders(alloc, rows)? {
+        Some(ordered) => Ok(ordered),
+        None => all_rows(alloc, rows),
+    }
 }
 
 // the folder of the processes (proc(5))

@@ -1,9 +1,10 @@
 //! Reading a path: the pieces of the text between its slashes, looked at and folded together.
 
-ghost use Rattle.std.specs.Prelude.{◌≡◌, ◌==◌, not, filter, map, codes, IfOk, string_bytes, nat_eq};
+ghost use Rattle.std.specs.Prelude.{◌≡◌, ◌≤◌, ◌==◌, false, length, not, filter, map, codes, IfOk, string_bytes, nat_eq};
 ghost use Rattle.std.specs.List.{list_any, starts_with};
 ghost use Rattle.std.specs.Str.{bytes_eq};
 ghost use Rattle.abs_path.specs.Paths.{tail_of, pieces_of, is_idle};
+ghost use Rattle.abs_path.specs.Plain.{is_plain};
 ghost use Rattle.abs_path.specs.Read.{Reads};
 
 use super::{AbsPath, LONGEST};
@@ -57,6 +58,21 @@ fn climbs(pieces: &[&str]) -> bool
     pieces.iter().any(|piece| *piece == "..")
 }
 
+// whether nothing in the text folds away, where a slash is in front: no byte is NUL, and each slash
+// has a byte behind it that is no slash and no dot
+fn is_plain(text: &str) -> bool
+    ensures { result ≡ is_plain false text.now }
+{
+    let mut behind = false;
+    for byte in text.as_bytes() {
+        if *byte == 0 || (behind && (*byte == b'/' || *byte == b'.')) {
+            return false;
+        }
+        behind = *byte == b'/';
+    }
+    !behind
+}
+
 impl AbsPath {
     /// The parts, from the root on.
     pub fn parts(&self, alloc: Global) -> Result<Vec<&str>, AllocError>
@@ -79,6 +95,18 @@ impl AbsPath {
         if text.len() > LONGEST {
             return Err(PathError::TooLong);
         }
+        if is_rooted(text) && is_plain(text) {
+            let tail = String::from_str(alloc, text)?;
+            return Ok(AbsPath { tail });
+        }
+        AbsPath::read_pieces(alloc, text)
+    }
+
+    // reads a text piece by piece
+    fn read_pieces(alloc: Global, text: &str) -> Result<AbsPath, PathError>
+        requires { length text.now ≤ 512 }
+        ensures { Reads text.now result }
+    {
         if has_nul(text) {
             return Err(PathError::HasNul);
         }

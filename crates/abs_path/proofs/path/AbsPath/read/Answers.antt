@@ -1,25 +1,23 @@
-use Rattle.std.proofs.Common.{sym, arith, string_bytes}
-use Rattle.abs_path.proofs.Reading.{no_fault, climbs_fault, climbs_is, folded_is, read_is, read_parts}
+use Rattle.std.proofs.Common.{sym, arith, string_bytes, ◌∙◌}
+use Rattle.abs_path.proofs.Plain.{plain_clean, plain_level, plain_whole}
+use Rattle.abs_path.proofs.Reading.{no_fault, read_is, read_parts}
 use Rattle.abs_path.proofs.path.AbsPath.read.Goals as goal
 
-pub returns-then-climbs : goal.returns-then-climbs
-returns-then-climbs c = record {
-  reads_or_first_fault = climbs_fault c.args.text.now (omega arith) (sym c.if-has_nul.ensures) (sym c.if-not-is_rooted.ensures)
-      (climbs_is c.args.text.now _ _ _ c.deref.ensures.value c.in_ok-pieces.ensures c.if-climbs.ensures);
-}
-
 pub invariant_of-result : goal.invariant_of-result
-invariant_of-result c = read_is c.args.text.now (string_bytes c.in_ok-tail.tail) (omega arith) (sym c.if-has_nul.ensures) (sym c.if-not-is_rooted.ensures)
-    (climbs_is c.args.text.now _ _ _ c.deref.ensures.value c.in_ok-pieces.ensures c.if-climbs.ensures)
-    (folded_is c.args.text.now _ _ _ c.deref-2.ensures.value c.in_ok-pieces.ensures c.in_ok-tail.ensures)
+invariant_of-result c =
+    let text = c.args.text.now in
+    let rooted = sym c.is_rooted.ensures ∙ c.if-is_rooted.true in
+    let plain = sym c.is_plain.ensures ∙ c.if-is_plain.true in
+    read_is text (string_bytes c.in_ok-tail.tail) (omega arith) (plain_clean _ text plain) rooted (plain_level text rooted plain) (c.in_ok-tail.ensures.ok ∙ plain_whole text rooted plain)
 
-pub returns : goal.returns
-returns c =
-    let level = climbs_is c.args.text.now _ _ _ c.deref.ensures.value c.in_ok-pieces.ensures c.if-climbs.ensures in
+pub returns-then-is_plain : goal.returns-then-is_plain
+returns-then-is_plain c =
+    let text = c.args.text.now in
+    let rooted = sym c.is_rooted.ensures ∙ c.if-is_rooted.true in
+    let plain = sym c.is_plain.ensures ∙ c.if-is_plain.true in
     record {
       reads_or_first_fault = (
-        no_fault c.args.text.now (omega arith) (sym c.if-has_nul.ensures) (sym c.if-not-is_rooted.ensures) level,
-        read_parts c.args.text.now (string_bytes c.in_ok-tail.tail) (sym c.if-has_nul.ensures) level
-            (folded_is c.args.text.now _ _ _ c.deref-2.ensures.value c.in_ok-pieces.ensures c.in_ok-tail.ensures),
+        no_fault text (omega arith) (plain_clean _ text plain) rooted (plain_level text rooted plain),
+        read_parts text (string_bytes c.in_ok-tail.tail) (plain_clean _ text plain) (plain_level text rooted plain) (c.in_ok-tail.ensures.ok ∙ plain_whole text rooted plain),
       );
     }

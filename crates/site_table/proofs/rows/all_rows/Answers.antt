@@ -7,7 +7,7 @@ use Rattle.site_table.specs.Order.{rows_in_order}
 use Rattle.site_table.specs.Rows.{row_of}
 use Rattle.site_table.proofs.Faults.{stands_at}
 use Rattle.site_table.proofs.RowsRead.{rows_none, row_more, row_stops, place_stops, rows_all}
-use Rattle.site_table.proofs.rows.listed_rows.Goals as goal
+use Rattle.site_table.proofs.rows.all_rows.Goals as goal
 
 pub rows-init : goal.rows-init
 rows-init c = rows_none (map view c.args.rows.now) c.new-ordered.result c.new-ordered.ensures

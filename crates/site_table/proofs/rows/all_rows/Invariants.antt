@@ -1,7 +1,7 @@
 use Rattle.std.proofs.Common.{map}
 use Rattle.toml.specs.View.{view}
 use Rattle.site_table.proofs.RowsRead.{RowsPlaced}
-use Rattle.site_table.proofs.rows.listed_rows.Given as goal
+use Rattle.site_table.proofs.rows.all_rows.Given as goal
 
 abbrev pub invariant-rows : goal.invariant-rows
 invariant-rows l = RowsPlaced (map view l.rows) l.at l.ordered

@@ -1,0 +1,21 @@
+use Rattle.std.proofs.Common.{map, arith, ℕ, Option, subst}
+use Rattle.std.specs.Prelude.{IfSome}
+use Rattle.site_table.specs.RowSteps.{PlacesBehind}
+use Rattle.std.proofs.lemmas.List.{length-map}
+use Rattle.toml.specs.View.{view}
+use Rattle.site_table.proofs.Behind.{behind_none, behind_more}
+use Rattle.site_table.proofs.Faults.{stands_at}
+use Rattle.site_table.proofs.RowsRead.{rows_none, rows_all}
+use Rattle.site_table.proofs.rows.rows_behind_folders.Goals as goal
+
+pub rows-init : goal.rows-init
+rows-init c = behind_none (map view c.args.rows.now) c.new-ordered.result c.new-ordered.ensures (rows_none (map view c.args.rows.now) c.new-ordered.result c.new-ordered.ensures)
+
+pub rows-preserved : goal.rows-preserved
+rows-preserved c =
+    behind_more (map view c.args.rows.now) c.rows.value-index c.rows.ordered (view c.value-item.result) c.place_behind.new.ordered c.rows.invariant
+    (stands_at c.args.rows.now c.rows.value-index c.value-item.result c.rows-test.true c.value-item.is)
+    (subst (λ (found : Option ℕ). IfSome found (λ at. PlacesBehind c.rows.ordered (view c.value-item.result) c.place_behind.new.ordered)) c.in-Some.is c.in_ok-folder.ensures)
+
+pub returns : goal.returns
+returns c = rows_all (map view c.args.rows.now) c.rows.value-index c.rows.ordered c.rows.invariant.placed (omega (arith, length-map c.args.rows.now view))
