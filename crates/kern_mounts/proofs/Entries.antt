@@ -76,7 +76,7 @@ no_entry : (steps : List MountStep) (path : Path) → AllByRecursion (λ step. l
 no_entry steps path h = ap (last_or None) (filter_none (leads_to path) steps h)
 
 -- the same among the entries behind the first
-behind_first : (first : MountStep) (steps : List MountStep) (path : Path) (at : ℕ) → Belongs (first ∷ steps) path (suc at) → Belongs steps path at
+pub behind_first : (first : MountStep) (steps : List MountStep) (path : Path) (at : ℕ) → Belongs (first ∷ steps) path (suc at) → Belongs steps path at
 behind_first first steps path at h = record {
   in_range = omega (arith, h.in_range);
   leads = λ d. h.leads d;

@@ -1,3 +1,13 @@
 pub mod Entries
 pub mod Finding
 mod Mounting
+pub mod Paths
+pub mod Splits
+pub mod Unmounting
+pub mod Taking
+pub mod Changing
+pub mod Binding
+pub mod Showing
+pub mod Alike
+pub mod Leaving
+pub mod Bindable

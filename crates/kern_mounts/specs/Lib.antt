@@ -2,3 +2,10 @@ pub mod Table
 pub mod Entry
 pub mod Finds
 pub mod Launch
+pub mod Split
+pub mod Umount
+pub mod Remount
+pub mod Push
+pub mod Bind
+pub mod Unmounts
+pub mod Answer

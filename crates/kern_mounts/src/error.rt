@@ -3,7 +3,7 @@
 ghost use Rattle.std.specs.Prelude.{◌≡◌};
 ghost use Rattle.kern_mounts.specs.declared.error.MountError.TheVariants.{Memory};
 
-use std::alloc::AllocFailed;
+use std::alloc::{AllocError, AllocFailed};
 use thiserror::Error;
 
 /// Why a call that adds entries is refused.
@@ -21,6 +21,14 @@ impl<T: Drop> From<AllocFailed<T>> for MountError {
     ghost from_gives = { λ _ e. e ≡ Memory };
 
     fn from(_: AllocFailed<T>) -> Self {
+        MountError::Memory
+    }
+}
+
+impl From<AllocError> for MountError {
+    ghost from_gives = { λ _ e. e ≡ Memory };
+
+    fn from(_: AllocError) -> Self {
         MountError::Memory
     }
 }

@@ -1,5 +1,5 @@
-//! The table of a mount namespace in a modelled Linux kernel, and which of its entries a path belongs to
-//! (mount_namespaces(7)).
+//! The table of a mount namespace in a modelled Linux kernel: which of its entries a path belongs to, and what mount(2) and
+//! umount2(2) make of it (mount_namespaces(7)).
 //!
 //! A later mount hides what an earlier one shows, so a path belongs to the last entry whose place leads to it.
 //! The crate rests on `abs_path` and `linux_numbers`; `MountTable::new(alloc)?` shows the host itself at every path.

@@ -1,6 +1,9 @@
 //! One entry of a mount table: where it stands, what it shows there, and how that may be used.
 
+ghost use Rattle.std.specs.Prelude.{◌≡◌, IfOk};
+
 use abs_path::AbsPath;
+use std::alloc::{AllocError, Global};
 
 /// How what a mount shows may be used, mount(2).
 #[derive(Clone, Copy, Debug, Default, PartialEq, Eq)]
@@ -24,6 +27,22 @@ pub enum What {
     Hidden(bool),
 }
 
+impl What {
+    // The same again.
+    pub(crate) fn copy(&self, alloc: Global) -> Result<What, AllocError>
+        ensures same { IfOk result (λ what. what ≡ self.now) }
+    {
+        match self {
+            What::Host(source) => {
+                let copy = source.copy(alloc)?;
+                Ok(What::Host(copy))
+            }
+            What::Empty => Ok(What::Empty),
+            What::Hidden(directory) => Ok(What::Hidden(*directory)),
+        }
+    }
+}
+
 /// An entry of a mount table, and the step that adds it.
 #[derive(Drop)]
 pub struct MountStep {
@@ -31,4 +50,17 @@ pub struct MountStep {
     pub place: AbsPath,
     pub what: What,
     pub flags: Flags,
+}
+
+impl MountStep {
+    // The same again.
+    pub(crate) fn copy(&self, alloc: Global) -> Result<MountStep, AllocError>
+        ensures same { IfOk result (λ step. step ≡ self.now) }
+    {
+        Ok(MountStep {
+            place: self.place.copy(alloc)?,
+            what: self.what.copy(alloc)?,
+            flags: self.flags,
+        })
+    }
 }

@@ -1,12 +1,18 @@
-//! The type of a mount table: its start, its entries, and the entry of a path.
+//! The type of a mount table: its start, its entries, the entry of a path, and tables that are copied or grow.
 //!
 //! A contract sees a table as the list of its entries.
 
-ghost use Rattle.std.specs.Prelude.{◌≡◌, ◌++◌, ◌∷◌, [], ◌<◌, ◌↔◌, length, slice_get, Some, IfOk, OnOk, OnErr, IsErrOf};
+mod bind;
+mod remount;
+mod umount;
+
+ghost use Rattle.std.specs.Prelude.{◌≡◌, ◌+◌, drop, ◌++◌, ◌∷◌, [], ◌<◌, ◌↔◌, length, slice_get, Some, IfOk, OnOk, OnErr, IsErrOf};
 ghost use Rattle.linux_numbers.specs.Errnos.{enospc};
 ghost use Rattle.linux_numbers.specs.Limits.{mount_max};
 ghost use Rattle.kern_mounts.specs.Table.{start, StartsAtRoot, IsTable, IsFullOrMemory};
 ghost use Rattle.kern_mounts.specs.Entry.{Belongs, entry_of};
+ghost use Rattle.kern_mounts.specs.Push.{after_push};
+ghost use Rattle.kern_mounts.specs.Answer.{BecomesOrMemory};
 
 use crate::error::MountError;
 use crate::step::{Flags, MountStep, What};
@@ -79,6 +85,7 @@ impl MountTable {
         ensures unchanged_on_error { OnErr result (self.new ≡ self.old) }
         ensures full_exactly_at_the_limit { IsErrOf result (MountError.Errno enospc) ↔ (length self.old ≡ mount_max) }
         ensures no_other_errno { IsFullOrMemory result }
+        ensures by_the_rule { BecomesOrMemory self.old self.new result (after_push self.old step) }
     {
         if self.entries.len() >= MOUNT_MAX {
             return Err(MountError::Errno(ENOSPC));
@@ -86,6 +93,34 @@ impl MountTable {
         self.entries.push(step)?;
         Ok(())
     }
+
+    /// An equal table, as for a mount namespace that starts with the mounts of another, mount_namespaces(7).
+    pub fn copy(&self) -> Result<MountTable, AllocError>
+        ensures equal { IfOk result (λ table. table ≡ self.now) }
+    {
+        Ok(MountTable {
+            entries: copied(*self.entries.allocator(), &self.entries)?,
+        })
+    }
+}
+
+// The entries behind the one of this number.
+fn later_than(entries: &[MountStep], at: usize) -> &[MountStep]
+    requires in_range { at < length entries.now }
+    ensures behind { result.now ≡ drop (at + 1) entries.now }
+{
+    &entries[at + 1..]
+}
+
+// The same entries again.
+fn copied(alloc: Global, entries: &[MountStep]) -> Result<Vec<MountStep>, AllocError>
+    ensures same { IfOk result (λ copies. copies.items ≡ entries.now) }
+{
+    let mut copies = Vec::new(alloc);
+    for entry in entries {
+        copies.push(entry.copy(alloc)?)?;
+    }
+    Ok(copies)
 }
 
 // The number of the last entry whose place leads to the path.

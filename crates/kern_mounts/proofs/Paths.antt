@@ -1,0 +1,94 @@
+-- Prefixes of paths, what lies behind them, and how long paths are.
+use Rattle.std.proofs.Common.{◌≡◌, ◌≤◌, ◌+◌, ℕ, Bool, true, false, List, [], ◌∷◌, ◌++◌, ◌⊎◌, inl, inr, length, refl, sym, ap, ◌∙◌, arith, length-append, cond, Some, None}
+use Rattle.std.specs.Prelude.{nat_lt, not}
+use Rattle.std.proofs.lemmas.Bool.{and_parts, and_from, false≢true}
+use Rattle.abs_path.specs.Paths.{Path, tail_of, parts_of, is_normal}
+use Rattle.abs_path.specs.Prefix.{is_prefix, is_same, rest_of, rest_text, is_below as is_path_below}
+use Rattle.abs_path.proofs.ByteOrder.{tail-append}
+use Rattle.abs_path.proofs.Reading.{rest_then_join}
+use Rattle.abs_path.proofs.Prefixes.{part_itself, prefix_itself, prefix_and_rest, prefix-append, prefix_chain, prefix_trans, same_path}
+use Rattle.kern_mounts.specs.declared.step.MountStep.{MountStep}
+use Rattle.kern_mounts.specs.Split.{is_below}
+use Rattle.kern_mounts.specs.Bind.{is_long}
+
+pub rest-append : (front more : Path) → rest_of front (front ++ more) ≡ more
+rest-append [] more = refl
+rest-append (part ∷ front) more = rest-append front more
+
+pub behind : (front path : Path) → is_prefix front path ≡ true → path ≡ front ++ rest_of front path
+behind front path h = sym (prefix_and_rest front path h)
+
+-- what leads to a prefix leads to the path
+pub leads_on : (front path more : Path) → is_prefix front path ≡ true → is_prefix front (path ++ more) ≡ true
+leads_on front path more h = prefix_trans front path (path ++ more) h (prefix-append path more)
+
+by_bool : (b : Bool) → (b ≡ true) ⊎ (b ≡ false)
+by_bool true = inl refl
+by_bool false = inr refl
+
+pub either : (b : Bool) → (b ≡ true) ⊎ (b ≡ false)
+either b = by_bool b
+
+-- what does not lead to the longer path does not lead to the shorter
+pub leads_not : (front path more : Path) → is_prefix front (path ++ more) ≡ false → is_prefix front path ≡ false
+leads_not front path more h = by (is_prefix front path) (leads_on front path more)
+  where
+    by : (b : Bool) → (b ≡ true → is_prefix front (path ++ more) ≡ true) → b ≡ false
+    by true on = let e = on refl in cc
+    by false on = refl
+
+-- a common front changes nothing
+pub front_leads : (front one other : Path) → is_prefix (front ++ one) (front ++ other) ≡ is_prefix one other
+front_leads [] one other = refl
+front_leads (part ∷ front) one other = rw (part_itself part part refl) (front_leads front one other)
+
+pub front_same : (front one other : Path) → is_same (front ++ one) (front ++ other) ≡ is_same one other
+front_same [] one other = refl
+front_same (part ∷ front) one other = rw (part_itself part part refl) (front_same front one other)
+
+-- a place that leads to a path below a front, and not to the front, stands strictly below it
+pub stands_below : (front rest place : Path) → is_prefix place (front ++ rest) ≡ true → is_prefix place front ≡ false → is_path_below place front ≡ true
+stands_below front rest place leads not_there = elim (prefix_chain place front (front ++ rest) leads (prefix-append front rest)) [
+  | inl there ↦ absurd (false≢true (sym not_there ∙ there))
+  | inr below ↦ and_from (is_prefix front place) (not (is_same front place)) below (apart (is_same front place) (same_path front place))
+]
+  where
+    apart : (b : Bool) → (b ≡ true → front ≡ place) → not b ≡ true
+    apart false same = refl
+    apart true same =
+        let there : is_prefix place front ≡ true = ap (is_prefix place) (same refl) ∙ prefix_itself place in
+        absurd (false≢true (sym not_there ∙ there))
+
+-- the parts of the rest that a path has behind a front
+pub parts_behind : (front path : Path) (rest : List ℕ) → is_normal path ≡ true → rest_text front path ≡ Some rest → parts_of rest ≡ rest_of front path
+parts_behind front path rest normal e = sym (rest-append front (parts_of rest)) ∙ ap (rest_of front) (rest_then_join front path rest normal e)
+
+-- a path is too long by its parts with the slashes before them
+pub long_tail : (path : Path) → is_long path ≡ nat_lt 512 (length (tail_of path))
+long_tail [] = refl
+long_tail (part ∷ path) = refl
+
+-- what stands strictly below a path has the path as a front
+pub below_leads : (path : Path) (entry : MountStep) → is_below path entry ≡ true → is_prefix path entry.place ≡ true
+below_leads path entry h = (and_parts (is_prefix path entry.place) (not (is_same path entry.place)) h).0
+
+-- the text of the rest behind a front that leads to the path
+pub rest_is : (front path : Path) (rest : List ℕ) → is_prefix front path ≡ true → Some rest ≡ rest_text front path → rest ≡ tail_of (rest_of front path)
+rest_is front path rest leads e = some_is (e ∙ ap (λ b. cond b (Some (tail_of (rest_of front path))) None) leads)
+  where
+    some_is : {a b : List ℕ} → Some a ≡ Some b → a ≡ b
+    some_is e = cc
+
+-- whether two paths joined are too long, by their lengths
+pub long_by_length : (onto front path : Path) (n : ℕ) (rest : List ℕ) → n ≡ length (tail_of onto) → rest ≡ tail_of (rest_of front path) → nat_lt 512 (n + length rest) ≡ is_long (onto ++ rest_of front path)
+long_by_length onto front path n rest e f =
+    ap (λ k. nat_lt 512 (k + length rest)) e ∙ ap (λ t. nat_lt 512 (length (tail_of onto) + length t)) f
+    ∙ ap (nat_lt 512) (sym (length-append (tail_of onto) (tail_of (rest_of front path))))
+    ∙ ap (λ t. nat_lt 512 (length t)) (sym (tail-append onto (rest_of front path)))
+    ∙ sym (long_tail (onto ++ rest_of front path))
+
+not_less : (a b : ℕ) → nat_lt a b ≡ false → b ≤ a
+not_less a b h = grind arith
+
+pub short_tail : (path : Path) → is_long path ≡ false → length (tail_of path) ≤ 512
+short_tail path h = not_less 512 (length (tail_of path)) (sym (long_tail path) ∙ h)

@@ -1,0 +1,7 @@
+use Rattle.kern_mounts.proofs.Paths.{rest_is, long_by_length}
+use Rattle.kern_mounts.proofs.table.bind.is_long.Goals as goal
+
+pub returns : goal.returns
+returns c =
+    long_by_length c.args.onto.now c.args.front.now c.args.path.now c.tail_len.result c.in-Some.rest.now c.tail_len.ensures.length
+    (rest_is c.args.front.now c.args.path.now c.in-Some.rest.now c.requires.leads c.in-Some.ensures.behind)

@@ -1,0 +1,39 @@
+-- A mount table about one of its entries: the last of a kind, as the one that a path belongs to (mount_namespaces(7)).
+use Rattle.std.specs.Prelude.{Bool, true, false, List, [], ◌∷◌, Option, Some, None}
+use Rattle.abs_path.specs.Paths.{Path}
+use Rattle.abs_path.specs.Prefix.{is_same, is_below as is_path_below}
+use Rattle.kern_mounts.specs.declared.step.MountStep.{MountStep}
+use Rattle.kern_mounts.specs.Entry.{leads_to}
+
+-- the entries of a table, the earliest first
+abbrev pub Table : Type 0
+Table = List MountStep
+
+-- an entry, with what comes before it and what comes after it
+pub record Split : Type 0 where
+  pub earlier : Table
+  pub entry : MountStep
+  pub later : Table
+
+-- about an entry of the later ones, or else about this one where it is of the kind
+abbrev pub split_or : Option Split → Bool → MountStep → Table → Option Split
+split_or (Some split) own entry table = Some (record split { earlier = entry ∷ split.earlier })
+split_or None true entry table = Some (record { earlier = []; entry = entry; later = table })
+split_or None false entry table = None
+
+-- about the last entry of this kind
+abbrev pub split_last : (MountStep → Bool) → Table → Option Split
+split_last p [] = None
+split_last p (entry ∷ table) = split_or (split_last p table) (p entry) entry table
+
+-- about the entry that a path belongs to, the last whose place leads to it
+abbrev pub split_at : Path → Table → Option Split
+split_at path table = split_last (leads_to path) table
+
+-- the entry stands at this path
+abbrev pub is_at : Path → MountStep → Bool
+is_at path entry = is_same entry.place path
+
+-- the entry stands strictly below this path, by whole parts
+abbrev pub is_below : Path → MountStep → Bool
+is_below path entry = is_path_below entry.place path
