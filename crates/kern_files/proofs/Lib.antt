@@ -1,0 +1,4 @@
+mod CanBind
+mod Seeing
+mod Mounted
+mod Unmounted

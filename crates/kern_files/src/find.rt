@@ -1,0 +1,95 @@
+//! What a path finds on a mount table (path_resolution(7)): no path is built, and no memory is taken.
+
+ghost use Rattle.std.specs.Prelude.{◌≡◌, ◌++◌, option_map, true};
+ghost use Rattle.abs_path.specs.Paths.{parts_of};
+ghost use Rattle.abs_path.specs.Prefix.{IsRest, is_prefix, rest_of};
+ghost use Rattle.site_table.specs.Table.{row_at};
+ghost use Rattle.kern_mounts.specs.Entry.{entry_of};
+ghost use Rattle.kern_mounts.specs.Finds.{row_or_nothing, found_by, finds};
+ghost use Rattle.kern_files.specs.Found.{shown};
+
+use abs_path::AbsPath;
+use kern_mounts::{MountStep, MountTable, What};
+use linux_numbers::errnos::{EACCES, ENOENT};
+use site_table::{Row, SiteTable};
+
+/// What is found at a path.
+#[derive(Clone, Copy)]
+pub enum Found<'a> {
+    /// A row of the site.
+    Row(&'a Row),
+    /// The directory of an empty file system.
+    EmptyDirectory,
+    /// Nothing that may be looked at, with the errno.
+    Nothing(u32),
+}
+
+// the row at the front with the rest behind it
+fn row_behind<'a>(site: &'a SiteTable, front: &AbsPath, rest: &str) -> Option<&'a Row>
+    requires { IsRest rest.now }
+    ensures { option_map (λ row. row.now) result ≡ row_at site.now.rows (front.now ++ parts_of rest.now) }
+{
+    match site.find(front, rest) {
+        None => None,
+        Some(at) => Some(site.row(at)),
+    }
+}
+
+// the row at the source with what the path has behind the place
+fn row_through<'a>(
+    site: &'a SiteTable,
+    source: &AbsPath,
+    place: &AbsPath,
+    path: &AbsPath,
+) -> Option<&'a Row>
+    requires { is_prefix place.now path.now ≡ true }
+    ensures { option_map (λ row. row.now) result
+        ≡ row_at site.now.rows (source.now ++ rest_of place.now path.now) }
+{
+    match place.rest(path) {
+        None => None,
+        Some(rest) => row_behind(site, source, rest),
+    }
+}
+
+fn row_or_nothing<'a>(row: Option<&'a Row>) -> Found<'a>
+    ensures { shown result ≡ row_or_nothing (option_map (λ row. row.now) row.entry) }
+{
+    match row {
+        None => Found::Nothing(ENOENT),
+        Some(row) => Found::Row(row),
+    }
+}
+
+// what an entry shows at a path that its place leads to
+fn found_by<'a>(site: &'a SiteTable, entry: &MountStep, path: &AbsPath) -> Found<'a>
+    requires { is_prefix entry.now.place path.now ≡ true }
+    ensures { shown result ≡ found_by (row_at site.now.rows) entry.now.what entry.now.place path.now }
+{
+    match &entry.what {
+        What::Host(source) => row_or_nothing(row_through(site, source, &entry.place, path)),
+        What::Empty => {
+            if entry.place == *path {
+                Found::EmptyDirectory
+            } else {
+                Found::Nothing(ENOENT)
+            }
+        }
+        What::Hidden(_) => Found::Nothing(EACCES),
+    }
+}
+
+/// The entry that the path belongs to.
+pub fn entry_of<'a>(table: &'a MountTable, path: &AbsPath) -> &'a MountStep
+    ensures entry { entry_of table.now path.now ≡ Some result.now }
+    ensures leads { is_prefix result.now.place path.now ≡ true }
+{
+    table.entry(table.resolve(path))
+}
+
+/// What the path finds, by the entry that it belongs to.
+pub fn find<'a>(table: &MountTable, site: &'a SiteTable, path: &AbsPath) -> Found<'a>
+    ensures { shown result ≡ finds (row_at site.now.rows) table.now path.now }
+{
+    found_by(site, entry_of(table, path), path)
+}

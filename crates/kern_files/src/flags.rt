@@ -1,0 +1,30 @@
+//! Flags of calls, tested by masks, and the flags of the mount that a path is on.
+
+ghost use Rattle.std.specs.Prelude.{◌≡◌};
+ghost use Rattle.kern_files.specs.Bits.{has_some, has_all};
+ghost use Rattle.kern_files.specs.Looking.{flags_at};
+
+use crate::find::entry_of;
+use abs_path::AbsPath;
+use kern_mounts::{Flags, MountTable};
+
+/// Whether some bit of the mask is on.
+pub fn has_some(mask: u32, flags: u32) -> bool
+    ensures { result ≡ has_some mask flags }
+{
+    flags & mask != 0
+}
+
+/// Whether every bit of the mask is on.
+pub fn has_all(mask: u32, flags: u32) -> bool
+    ensures { result ≡ has_all mask flags }
+{
+    flags & mask == mask
+}
+
+/// The flags of the mount that the path is on, mount(2).
+pub fn flags_at(table: &MountTable, path: &AbsPath) -> Flags
+    ensures { result ≡ flags_at table.now path.now }
+{
+    entry_of(table, path).flags
+}

@@ -1,0 +1,77 @@
+//! Laws of calls on paths, each the contract of a function that does nothing.
+
+ghost use Rattle.std.specs.Prelude.{◌≡◌, ◌↔◌, ◌⊎◌, ◌==◌, ◌||◌, ℕ, Bool, true, false, [], Option, Some, Ok, Err};
+ghost use Rattle.abs_path.specs.Paths.{Path};
+ghost use Rattle.linux_numbers.specs.Errnos.{eacces, ebusy, einval, enotdir};
+ghost use Rattle.site_table.specs.declared.row.Row.{Row};
+ghost use Rattle.kern_mounts.specs.Finds.{finds};
+ghost use Rattle.kern_mounts.specs.Split.{Table};
+ghost use Rattle.kern_files.specs.declared.program.Program.{Program};
+ghost use Rattle.kern_files.specs.Bits.{has_some, has_all};
+ghost use Rattle.kern_files.specs.Looking.{access_mode, flags_at, see_answer, write_answer, open_answer};
+ghost use Rattle.kern_files.specs.Executing.{program_answer};
+ghost use Rattle.kern_files.specs.MountCall.{ms_bind, ms_remount, ms_remount_bind, has_other_kind, target_kind, after_mount};
+ghost use Rattle.kern_files.specs.UmountCall.{mnt_detach, umount_answer};
+ghost use Rattle.kern_files.specs.There.{ShowsRow, IsEmptyPlace, IsHidden, IsWritableFile, IsProgram};
+
+/// A path is seen exactly where it shows a file of the host, or is the place of an empty file system.
+pub fn what_is_seen()
+    ensures files_and_empty_places { (rows : Path → Option Row) (table : Table) (path : Path) (value : ℕ)
+        → (see_answer value (finds rows table path) ≡ Ok value)
+        ↔ (((found : Row) × ShowsRow rows table path found) ⊎ IsEmptyPlace table path) }
+{}
+
+/// A path may be written exactly where it shows a file of the host that is no directory, on a mount that is not read-only.
+pub fn what_may_be_written()
+    ensures files_on_writable_mounts { (rows : Path → Option Row) (table : Table) (path : Path) (value : ℕ)
+        → (write_answer value (flags_at table path) (finds rows table path) ≡ Ok value)
+        ↔ IsWritableFile rows table path }
+{}
+
+/// A path may be executed exactly where it shows an executable file of the host, on a mount that is not noexec; then
+/// execve(2) reads the marks of that file and the nosuid of that mount.
+pub fn what_may_be_executed()
+    ensures programs_where_they_may_run { (rows : Path → Option Row) (table : Table) (path : Path) (program : Program)
+        → (program_answer (flags_at table path) (finds rows table path) ≡ Ok program)
+        ↔ IsProgram rows table path program }
+{}
+
+/// Whatever a hidden mount shows is refused with EACCES.
+pub fn what_is_hidden()
+    ensures not_seen { (rows : Path → Option Row) (table : Table) (path : Path) (value : ℕ)
+        → IsHidden table path → see_answer value (finds rows table path) ≡ Err eacces }
+    ensures not_written { (rows : Path → Option Row) (table : Table) (path : Path) (value : ℕ)
+        → IsHidden table path → write_answer value (flags_at table path) (finds rows table path) ≡ Err eacces }
+    ensures not_opened { (rows : Path → Option Row) (table : Table) (path : Path) (flags : ℕ)
+        → IsHidden table path → (access_mode flags == 3) ≡ false
+        → open_answer flags (flags_at table path) (finds rows table path) ≡ Err eacces }
+    ensures not_executed { (rows : Path → Option Row) (table : Table) (path : Path)
+        → IsHidden table path → program_answer (flags_at table path) (finds rows table path) ≡ Err eacces }
+    ensures not_bound { (rows : Path → Option Row) (table : Table) (source target : Path) (flags : ℕ) (directory : Bool)
+        → IsHidden table source → has_other_kind flags ≡ false → has_some ms_remount flags ≡ false
+        → has_some ms_bind flags ≡ true → (target ≡ [] → ⊥) → target_kind rows table target ≡ Ok directory
+        → after_mount rows table source target flags ≡ Err eacces }
+{}
+
+/// The errors of mount(2) that come before it looks at a path, in their order, and the kind of the target without MS_BIND.
+pub fn order_of_mount()
+    ensures other_kinds_first { (rows : Path → Option Row) (table : Table) (source target : Path) (flags : ℕ)
+        → has_other_kind flags ≡ true → after_mount rows table source target flags ≡ Err einval }
+    ensures remount_of_a_single_mount_alone { (rows : Path → Option Row) (table : Table) (source target : Path) (flags : ℕ)
+        → has_some ms_remount flags ≡ true → has_all ms_remount_bind flags ≡ false
+        → after_mount rows table source target flags ≡ Err einval }
+    ensures root_is_busy { (rows : Path → Option Row) (table : Table) (source : Path) (flags : ℕ)
+        → has_other_kind flags ≡ false → has_some ms_remount flags ≡ false
+        → after_mount rows table source [] flags ≡ Err ebusy }
+    ensures no_file_system_on_a_file { (rows : Path → Option Row) (table : Table) (source target : Path) (flags : ℕ)
+        → has_other_kind flags ≡ false → has_some ms_remount flags ≡ false
+        → has_some ms_bind flags ≡ false → (target ≡ [] → ⊥) → target_kind rows table target ≡ Ok false
+        → after_mount rows table source target flags ≡ Err enotdir }
+{}
+
+/// umount2(2) takes no flags but MNT_DETACH, and the root stays.
+pub fn limits_of_umount()
+    ensures no_other_flags { (table : Table) (path : Path) (flags : ℕ)
+        → (flags == 0 || flags == mnt_detach) ≡ false → umount_answer table path flags ≡ Err einval }
+    ensures root_stays { (table : Table) (flags : ℕ) → umount_answer table [] flags ≡ Err einval }
+{}

@@ -1,0 +1,38 @@
+//! What a call asks a kernel with a table for.
+
+ghost use Rattle.std.specs.Prelude.{◌≡◌, map};
+ghost use Rattle.kernel_calls.specs.Doing.{asked_of};
+ghost use Rattle.kernel_calls.specs.Rules.{rule_of};
+ghost use Rattle.kernel_calls.specs.Seen.{asked_seen};
+
+use crate::call::Call;
+use crate::doing::{Doing, doing_of};
+use crate::rules::Rules;
+use call_table::CallTable;
+
+/// What a call asks for.
+#[derive(Clone, Copy)]
+pub enum Asked<'a> {
+    /// The kernel lacks the call: it answers ENOSYS.
+    Lacking,
+    /// The payload is not of the form of the call: the kernel answers EFAULT.
+    Misformed,
+    /// This is asked for.
+    Does(Doing<'a>),
+}
+
+impl Rules {
+    /// What a call asks for, by its number in the table that the rules are of. It takes no memory.
+    pub fn asked<'a>(&self, calls: &CallTable, call: &'a Call) -> Asked<'a>
+        requires { self.now ≡ map rule_of calls.now.calls }
+        ensures by_number_words_and_payload { asked_seen result ≡ asked_of calls.now.calls call.now }
+    {
+        match self.rule(calls, call.nr) {
+            None => Asked::Lacking,
+            Some(rule) => match doing_of(rule, call) {
+                None => Asked::Misformed,
+                Some(doing) => Asked::Does(doing),
+            },
+        }
+    }
+}
