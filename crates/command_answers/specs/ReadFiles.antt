@@ -1,7 +1,5 @@
 -- Files of the shelf, as the commands read them.
-use Rattle.std.specs.Prelude.{◌≡◌, ℕ, nat_le, cond, List, length, codes, Option, Some, None, option_and_then, Vec}
-use Rattle.std.specs.Option.{option_map}
-use Rattle.std.specs.declared.alloc.Global.{Global}
+use Rattle.std.specs.Prelude.{◌≡◌, ℕ, nat_le, cond, List, length, codes, Option, Some, None}
 use Rattle.host_io.specs.Files.{Files, bytes_at}
 use Rattle.command_answers.specs.declared.files.FileRead.{FileRead}
 use Rattle.command_answers.specs.declared.files.FileRead.TheVariants as read
@@ -31,15 +29,6 @@ content_view read.TooLarge = IsTooLarge
 abbrev pub ReadsContent : List ℕ → Option Files → FileRead → Type 0
 ReadsContent path None found = Unit {0}
 ReadsContent path (Some files) found = content_view found ≡ content_at files path
-
--- the bytes of a file that is there and has at most 1 MiB
-abbrev pub file_of : Files → List ℕ → Option (List ℕ)
-file_of files path = option_and_then (λ bytes. cond (nat_le (length bytes) 1048576) (Some bytes) None) (bytes_at files path)
-
--- its bytes, where the shelf tells its files
-abbrev pub ReadsIfTold : List ℕ → Option Files → Option (Vec ℕ Global) → Type 0
-ReadsIfTold path None found = Unit {0}
-ReadsIfTold path (Some files) found = option_map (λ bytes. bytes.items) found ≡ file_of files path
 
 abbrev pub table_path : List ℕ
 table_path = codes "calls.txt"

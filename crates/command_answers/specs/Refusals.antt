@@ -5,7 +5,3 @@ use Rattle.text_forms.specs.Escaped.{escaped_word}
 -- what is refused, as an escaped word, and why
 abbrev pub refused_line : List ℕ → List ℕ → List ℕ
 refused_line what why = codes "refused " ++ escaped_word what ++ codes " " ++ why ++ 10 ∷ []
-
--- an input that this program does not read yet
-abbrev pub unbuilt_line : List ℕ → List ℕ
-unbuilt_line file = refused_line file (codes "unbuilt")

@@ -1,7 +1,7 @@
 // Files of the shelf, as the commands read them.
 ghost use Rattle.std.specs.Prelude.{◌≡◌, IfOk};
 ghost use Rattle.command_answers.specs.Stops.{HasReadCause, RefusesNothing};
-ghost use Rattle.command_answers.specs.ReadFiles.{ReadsContent, ReadsIfTold};
+ghost use Rattle.command_answers.specs.ReadFiles.{ReadsContent};
 
 use crate::stop::Stop;
 use host_io::{Shelf, ShelfError};
@@ -37,22 +37,5 @@ pub fn read_file<S: Shelf>(alloc: Global, shelf: &mut S, path: &str) -> Result<F
         Err(ShelfError::TooLarge) => Ok(FileRead::TooLarge),
         Err(ShelfError::Failed) => Err(Stop::ReadFault),
         Err(ShelfError::Memory) => Err(Stop::Memory),
-    }
-}
-
-/// The bytes of a file, or none where it is missing or too large.
-pub fn read_bytes<S: Shelf>(
-    alloc: Global,
-    shelf: &mut S,
-    path: &str,
-) -> Result<Option<Vec<u8>>, Stop>
-    ensures reads_the_file { IfOk result (ReadsIfTold path.now (S.told shelf.old)) }
-    ensures refuses_nothing { RefusesNothing result }
-    ensures map_stays { S.told shelf.new ≡ S.told shelf.old }
-    ensures fault_rose { HasReadCause (S.faults shelf.old) (S.faults shelf.new) result }
-{
-    match read_file(alloc, shelf, path)? {
-        FileRead::Bytes(bytes) => Ok(Some(bytes)),
-        FileRead::Missing | FileRead::TooLarge => Ok(None),
     }
 }

@@ -16,9 +16,9 @@ mod refusals;
 mod stop;
 
 pub use ending::Ending;
-pub use files::{FileRead, TABLE_PATH, read_bytes, read_file};
+pub use files::{FileRead, TABLE_PATH, read_file};
 pub use finishing::finish;
 pub use printing::{put_line, put_piece};
 pub use ready::Ready;
-pub use refusals::{refused_line, unbuilt_line};
+pub use refusals::refused_line;
 pub use stop::{Stop, boxed, refuse};

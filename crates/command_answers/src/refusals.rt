@@ -1,6 +1,6 @@
 // The lines of refused inputs.
 ghost use Rattle.std.specs.Prelude.{◌≡◌, IfOk};
-ghost use Rattle.command_answers.specs.Refusals.{refused_line, unbuilt_line};
+ghost use Rattle.command_answers.specs.Refusals.{refused_line};
 
 use std::alloc::{AllocError, Global};
 use text_forms::push_word;
@@ -15,11 +15,4 @@ pub fn refused_line(alloc: Global, what: &str, why: &[u8]) -> Result<Vec<u8>, Al
     line.extend_from_slice(why)?;
     line.push(b'\n')?;
     Ok(line)
-}
-
-/// The line of an input that this program does not read yet.
-pub fn unbuilt_line(alloc: Global, file: &str) -> Result<Vec<u8>, AllocError>
-    ensures names_the_file { IfOk result (λ line. line.items ≡ unbuilt_line file.now) }
-{
-    refused_line(alloc, file, b"unbuilt")
 }

@@ -1,112 +1,285 @@
--- From a rule on the caller to the whole world.
-use Rattle.std.proofs.Common.{◌≡◌, ℕ, zero, suc, ◌-◌, ◌==◌, Bool, true, false, cond, List, [], ◌∷◌, get_or, Option, Some, None, Result, Ok, Err, refl, sym, ap, ◌∙◌, subst}
-use Rattle.std.specs.Prelude.{slice_get, slice_set, IfOk, OnErr}
-use Rattle.std.specs.Option.{option_map}
+-- From what is done at a caller's place to the whole world.
+use Rattle.std.proofs.Common.{◌≡◌, ℕ, ◌<◌, ◌-◌, ◌+◌, Bool, true, false, [], ◌∷◌, ◌++◌, length, get_or, Some, Result, Ok, Err, refl, sym, ap, ◌∙◌, subst, arith}
+use Rattle.std.specs.Prelude.{◌||◌, slice_get, slice_set, IfOk, OnErr, IsOk}
+use Rattle.std.specs.List.{AllByRecursion}
 use Rattle.bpf_code.specs.declared.decision.Decision.{Decision}
+use Rattle.bpf_code.specs.declared.decision.Decision.TheVariants as decision
 use Rattle.bpf_code.specs.Stack.{decision_on}
-use Rattle.kernel_model.specs.declared.call.Reply.{Reply}
-use Rattle.kernel_model.specs.declared.call.Reply.TheVariants.{Done, Refused}
+use Rattle.call_table.specs.Table as calls
+use Rattle.site_table.specs.Table.{Site}
+use Rattle.kern_mounts.specs.Split.{Table}
+use Rattle.kernel_calls.specs.declared.call.Call.{Call}
+use Rattle.kernel_calls.specs.Doing.{Doing, Does, asked_of}
 use Rattle.kernel_model.specs.declared.process.Process.{Process}
-use Rattle.kernel_model.specs.World.{World, Call, living_of, if_alive, place_of}
-use Rattle.kernel_model.specs.Rules.{Answer, on_caller}
-use Rattle.kernel_model.specs.Step.{replied, data_of, decided, step_by, step, Answers}
-use Rattle.kernel_model.proofs.Processes.{living_get}
+use Rattle.kernel_model.specs.declared.reply.Reply.{Reply}
+use Rattle.kernel_model.specs.declared.reply.Reply.TheVariants as reply
+use Rattle.kernel_model.specs.declared.outcome.Outcome.{Outcome}
+use Rattle.kernel_model.specs.declared.outcome.Outcome.TheVariants.{Replied, MakesChild, MakesTable}
+use Rattle.kernel_model.specs.Effects as f
+use Rattle.kernel_model.specs.Effects.{Effect, effect_of}
+use Rattle.kernel_model.specs.Memory.{asks_for_room, makes_one, takes_doing, takes_asked, takes_decided, takes_by, takes_memory}
+use Rattle.kernel_model.specs.Parts.{Parts, parts, caller_by, done_here, Left, UnlessReplied}
+use Rattle.kernel_model.specs.State.{State, world_of, host_by, place_of, AtPlace, Applies}
+use Rattle.kernel_model.specs.World.{World, table_of, table_or, host_of, caller_of, put_number, ended}
+use Rattle.kernel_model.specs.Worlds.{HasSpace, IsKernel}
+use Rattle.kernel_model.proofs.Kernels.{kernel_step, kernel_process, spaced, living_space}
+use Rattle.kernel_model.specs.Step.{applied, answered, decided, step, step_by, data_of}
+use Rattle.kernel_model.proofs.Lists.{set_same, set_or, get_same, get_some}
+use Rattle.kernel_model.proofs.Places.{has_table, stands}
 
-set_same : {X : Type 0} (xs : List X) (i : ℕ) (x : X) → x ≡ get_or xs i x → slice_set xs i x ≡ xs
-set_same [] i x e = refl
-set_same (y ∷ ys) zero x e = ap (λ z. z ∷ ys) e
-set_same (y ∷ ys) (suc i) x e = ap (λ zs. y ∷ zs) (set_same ys i x e)
-
-get_same : {X : Type 0} (xs : List X) (i : ℕ) (x y : X) → x ≡ get_or xs i x → slice_get xs i ≡ Some y → x ≡ y
-get_same [] i x y e h = cc
-get_same (z ∷ zs) zero x y e h = cc
-get_same (z ∷ zs) (suc i) x y e h = get_same zs i x y e h
-
-place_alive : (process : Process) (t : Bool) (place at : ℕ) → option_map (λ p. at) (cond t (Some process) None) ≡ Some place → place ≡ at
-place_alive process true place at e = cc
-place_alive process false place at e = cc
-
-place_found : (found : Option Process) (place at : ℕ) → option_map (λ process. at) (if_alive found) ≡ Some place → place ≡ at
-place_found None place at e = cc
-place_found (Some process) place at e = place_alive process process.alive place at e
-
-place_by : (t : Bool) (found : Option Process) (at place : ℕ) → cond t None (option_map (λ process. at) (if_alive found)) ≡ Some place → place ≡ at
-place_by true found at place e = cc
-place_by false found at place e = place_found found place at e
-
-place_is : (processes : List Process) (pid place : ℕ) → place_of processes pid ≡ Some place → place ≡ pid - 1
-place_is processes pid place e = place_by (pid == 0) (slice_get processes (pid - 1)) (pid - 1) place e
-
--- the process in the place of the caller is the caller
-place_holds : (world : World) (pid place : ℕ) (old process : Process) → place_of world.processes pid ≡ Some place → old ≡ get_or world.processes place old → living_of world pid ≡ Some process → old ≡ process
-place_holds world pid place old process at is living =
-    get_same world.processes place old process is (ap (slice_get world.processes) (place_is world.processes pid place at) ∙ living_get world pid process living)
-
-replied_caller : (world : World) (pid place : ℕ) (old new : Process) (reply : Reply) (answer : Answer Process) → place ≡ pid - 1 → old ≡ get_or world.processes place old → (reply, new) ≡ replied old answer → (reply, record world { processes = slice_set world.processes place new }) ≡ replied world (on_caller world pid answer)
-replied_caller world pid place old new reply (Ok (value, after)) at is e =
-    let f : new ≡ after = ap (λ p. p.1) e in
-    let g : reply ≡ Done value = ap (λ p. p.0) e in
-    rw (f, g, at) refl
-replied_caller world pid place old new reply (Err errno) at is e =
-    let f : new ≡ old = ap (λ p. p.1) e in
-    let g : reply ≡ Refused errno = ap (λ p. p.0) e in
-    let s : slice_set world.processes place old ≡ world.processes = set_same world.processes place old is in
-    rw (f, g, s) refl
-
-if_ok : {T E : Type 0} (P Q : T → Type 0) (result : Result T E) → IfOk result P → ((value : T) → P value → Q value) → IfOk result Q
+pub if_ok : {T E : Type 0} (P Q : T → Type 0) (result : Result T E) → IfOk result P → ((value : T) → P value → Q value) → IfOk result Q
 if_ok P Q (Ok value) h next = next value h
 if_ok P Q (Err error) h next = tt
 
-local_here : {E : Type 0} (world : World) (pid place : ℕ) (old new : Process) (result : Result Reply E) (answer : Process → Answer Process)
-    → place_of world.processes pid ≡ Some place → old ≡ get_or world.processes place old → IfOk result (λ reply. (reply, new) ≡ replied old (answer old))
-    → IfOk result (λ reply. Answers world pid (λ process. replied world (on_caller world pid (answer process))) (reply, record world { processes = slice_set world.processes place new }))
-local_here world pid place old new result answer at is h =
-    if_ok _ _ result h (λ reply e process living.
-    let same = place_holds world pid place old process at is living in
-    replied_caller world pid place old new reply (answer old) (place_is world.processes pid place at) is e
-    ∙ ap (λ p. replied world (on_caller world pid (answer p))) same)
+-- the state with the parts of a caller put back
+abbrev pub put_back : State → ℕ → ℕ → Parts → State
+put_back state place at new = record { processes = slice_set state.processes place new.process; tables = slice_set state.tables at new.table }
 
--- a rule on the caller, done in its place, is the rule of the world
-pub local_rule : {E : Type 0} (viewed world : World) → viewed ≡ world → (pid place : ℕ) (old new : Process) (result : Result Reply E) (answer : Process → Answer Process)
-    → place_of world.processes pid ≡ Some place → old ≡ get_or viewed.processes place old → IfOk result (λ reply. (reply, new) ≡ replied old (answer old))
-    → IfOk result (λ reply. Answers world pid (λ process. replied world (on_caller world pid (answer process))) (reply, record viewed { processes = slice_set viewed.processes place new }))
-local_rule viewed world v pid place old new result answer at is h =
-    subst (λ w. IfOk result (λ reply. Answers w pid (λ process. replied w (on_caller w pid (answer process))) (reply, record viewed { processes = slice_set viewed.processes place new })))
-    v (local_here viewed pid place old new result answer (subst (λ w. place_of w.processes pid ≡ Some place) (sym v) at) is h)
+-- a caller stands at a place, and its table at another
+pub record Seat (state : State) (place at pid : ℕ) (process : Process) (table : Table) : Type 0 where
+  pub place_is : place ≡ pid - 1
+  pub stands : slice_get state.processes place ≡ Some process
+  pub space : at + 1 ≡ process.namespace
+  pub has : slice_get state.tables at ≡ Some table
 
--- where the rule stays without memory, the world stays
-pub local_stays : {T E : Type 0} (viewed world : World) → viewed ≡ world → (place : ℕ) (old new : Process) (result : Result T E) → old ≡ get_or viewed.processes place old → OnErr result (new ≡ old) → OnErr result (record viewed { processes = slice_set viewed.processes place new } ≡ world)
-local_stays viewed world v place old new (Ok value) is h = tt
-local_stays viewed world v place old new (Err error) is h =
-    let s : slice_set viewed.processes place old ≡ viewed.processes = set_same viewed.processes place old is in
-    (rw (h, s) refl) ∙ v
+module _ (calls : calls.Table) (site : Site) (state : State) (place at pid : ℕ) (process : Process) (table : Table) (seat : Seat state place at pid process table) where
+  same_process : slice_set state.processes place process ≡ state.processes
+  same_process = set_same state.processes place process seat.stands
 
-place_alive_lives : (process : Process) (t : Bool) (place at : ℕ) → option_map (λ p. at) (cond t (Some process) None) ≡ Some place → (caller : Process) × (cond t (Some process) None ≡ Some caller)
-place_alive_lives process true place at e = (process, refl)
-place_alive_lives process false place at e = cc
+  same_table : slice_set state.tables at table ≡ state.tables
+  same_table = set_same state.tables at table seat.has
 
-place_found_lives : (found : Option Process) (place at : ℕ) → option_map (λ process. at) (if_alive found) ≡ Some place → (caller : Process) × (if_alive found ≡ Some caller)
-place_found_lives None place at e = cc
-place_found_lives (Some process) place at e = place_alive_lives process process.alive place at e
+  same : world_of calls site (put_back state place at (parts process table)) ≡ world_of calls site state
+  same = rw (same_process, same_table) refl
 
-place_by_lives : (t : Bool) (found : Option Process) (at place : ℕ) → cond t None (option_map (λ process. at) (if_alive found)) ≡ Some place → (caller : Process) × (if_alive (cond t None found) ≡ Some caller)
-place_by_lives true found at place e = cc
-place_by_lives false found at place e = place_found_lives found place at e
+  one_process : (now : Process) → world_of calls site (put_back state place at (parts now table)) ≡ record (world_of calls site state) { processes = slice_set state.processes (pid - 1) now }
+  one_process now = rw (same_table, seat.place_is) refl
 
--- who stands in the place of a caller lives
-place_lives : (world : World) (pid place : ℕ) → place_of world.processes pid ≡ Some place → (caller : Process) × (living_of world pid ≡ Some caller)
-place_lives world pid place e = place_by_lives (pid == 0) (slice_get world.processes (pid - 1)) (pid - 1) place e
+  one_table : (now : Table) → world_of calls site (put_back state place at (parts process now)) ≡ record (world_of calls site state) { tables = slice_set state.tables (process.namespace - 1) now }
+  one_table now = let there : at ≡ process.namespace - 1 = omega (arith, seat.space) in rw (same_process, there) refl
 
--- what a decision of the caller's stack comes to is the step
-pub stepped : (world : World) (call : Call) (place : ℕ) (decision : Decision) (out : Reply × World) → place_of world.processes call.pid ≡ Some place
-    → ((process : Process) → living_of world call.pid ≡ Some process → decision ≡ decision_on process.stack (data_of world call))
-    → Answers world call.pid (λ process. decided world process call decision) out → out ≡ step world call
-stepped world call place decision out at is answers =
-    let (process, lives) = place_lives world call.pid place at in
-    answers process lives ∙ ap (decided world process call) (is process lives) ∙ sym (ap (step_by world call) lives)
+  abbrev Now : Effect → Outcome × Parts → Type 0
+  Now effect out = Left (world_of calls site state) pid process out.0 (world_of calls site (put_back state place at out.1)) effect
 
--- the same for a reply that may be missing for want of memory
-pub stepped_if_ok : {E : Type 0} (world after : World) (call : Call) (place : ℕ) (decision : Decision) (result : Result Reply E) → place_of world.processes call.pid ≡ Some place
-    → ((process : Process) → living_of world call.pid ≡ Some process → decision ≡ decision_on process.stack (data_of world call))
-    → IfOk result (λ reply. Answers world call.pid (λ process. decided world process call decision) (reply, after)) → IfOk result (λ reply. (reply, after) ≡ step world call)
-stepped_if_ok world after call place decision result at is answers = if_ok _ _ result answers (λ reply h. stepped world call place decision (reply, after) at is h)
+  with_reply : (r : Reply) (one other : World) → one ≡ other → ◌≡◌ {A = Reply × World} (r, one) (r, other)
+  with_reply r one other e = let f : World → Reply × World = λ w. (r, w) in ap f e
+
+  left_by : (effect : Effect) → Now effect (done_here (parts process table) effect)
+  left_by (f.Refuse errno) = with_reply (reply.Refused errno) _ _ same
+  left_by (f.Answer value) = with_reply (reply.Done value) _ _ same
+  left_by (f.SetCreds creds) = with_reply (reply.Done 0) _ _ (one_process (record process { creds = creds }))
+  left_by (f.SetTable now) = with_reply (reply.Done 0) _ _ (one_table now)
+  left_by (f.Push program) = with_reply (reply.Done 0) _ _ (one_process (record process { stack = process.stack ++ program ∷ [] }))
+  left_by (f.Child own) = (refl, same)
+  left_by f.OwnTable = (refl, same)
+  left_by f.End = with_reply (reply.Done 0) _ _ (one_process (ended process))
+
+  -- what is done at the parts is what is left of the world
+  pub left : (effect : Effect) (outcome : Outcome) (new : Parts) → (outcome, new) ≡ done_here (parts process table) effect → Left (world_of calls site state) pid process outcome (world_of calls site (put_back state place at new)) effect
+  left effect outcome new e = subst (Now effect) (sym e) (left_by effect)
+
+unless_done : (old : Parts) (effect : Effect) → UnlessReplied (done_here old effect).0 ((done_here old effect).1 ≡ old)
+unless_done old (f.Refuse errno) = tt
+unless_done old (f.Answer value) = tt
+unless_done old (f.SetCreds creds) = tt
+unless_done old (f.SetTable now) = tt
+unless_done old (f.Push program) = tt
+unless_done old (f.Child own) = refl
+unless_done old f.OwnTable = refl
+unless_done old f.End = tt
+
+unless_map : {A B : Type 0} (outcome : Outcome) → UnlessReplied outcome A → (A → B) → UnlessReplied outcome B
+unless_map (Replied reply) h next = tt
+unless_map (MakesChild own) h next = next h
+unless_map MakesTable h next = next h
+
+-- where something is to be made, the parts are put back as they were
+unless_there : (state : State) (place at : ℕ) (old now : Process) (table new : Table) (outcome : Outcome) (effect : Effect) → old ≡ get_or state.processes place old → table ≡ get_or state.tables at table
+    → (outcome, parts now new) ≡ done_here (parts old table) effect → UnlessReplied outcome (put_back state place at (parts now new) ≡ state)
+unless_there state place at old now table new outcome effect is has e =
+    let same : UnlessReplied outcome (parts now new ≡ parts old table) = subst (λ (out : Outcome × Parts). UnlessReplied out.0 (out.1 ≡ parts old table)) (sym e) (unless_done (parts old table) effect) in
+    unless_map outcome same (λ p. ap (put_back state place at) p ∙ rw (set_or state.processes place old is, set_or state.tables at table has) refl)
+
+-- what the rules make of a caller and its table, in the place of both
+there_here : {E : Type 0} (calls : calls.Table) (site : Site) (state : State) (place at : ℕ) (old now : Process) (table new : Table) (doing : Doing) (result : Result Outcome E)
+    → old ≡ get_or state.processes place old → table ≡ get_or state.tables at table → at < length state.tables → AtPlace state place (λ pid process. at + 1 ≡ process.namespace)
+    → IfOk result (λ outcome. (outcome, parts now new) ≡ done_here (parts old table) (effect_of (host_by calls site) (caller_by old table) doing))
+    → IfOk result (λ outcome. AtPlace state place (λ pid process. Left (world_of calls site state) pid process outcome (world_of calls site (put_back state place at (parts now new))) (effect_of (host_of (world_of calls site state)) (caller_of (world_of calls site state) process) doing)))
+there_here calls site state place at old now table new doing result is tis lt spaces h =
+    if_ok _ _ result h (λ outcome e pid process place_is stands.
+    let same : old ≡ process = get_same state.processes place old process is stands in
+    let has : slice_get state.tables at ≡ Some table = get_some state.tables at table lt tis in
+    let space : at + 1 ≡ process.namespace = spaces pid process place_is stands in
+    let own : table_of (world_of calls site state) process.namespace ≡ table = ap table_or (has_table state.tables process at table space has) in
+    let seat : Seat state place at pid process table = record { place_is = place_is; stands = stands; space = space; has = has } in
+    let effect : effect_of (host_by calls site) (caller_by old table) doing ≡ effect_of (host_of (world_of calls site state)) (caller_of (world_of calls site state) process) doing =
+    ap (λ (p : Process). effect_of (host_by calls site) (caller_by p table) doing) same ∙ ap (λ (t : Table). effect_of (host_by calls site) (caller_by process t) doing) (sym own) in
+    left calls site state place at pid process table seat (effect_of (host_of (world_of calls site state)) (caller_of (world_of calls site state) process) doing) outcome (parts now new)
+    (e ∙ ap (λ (p : Process). done_here (parts p table) (effect_of (host_by calls site) (caller_by old table) doing)) same ∙ ap (done_here (parts process table)) effect))
+
+-- the same where the state is seen through its lists
+pub performed_there : {E : Type 0} (viewed state : State) → viewed ≡ state → (calls : calls.Table) (site : Site) (place at : ℕ) (old now : Process) (table new : Table) (doing : Doing) (result : Result Outcome E)
+    → old ≡ get_or viewed.processes place old → table ≡ get_or viewed.tables at table → at < length state.tables → AtPlace state place (λ pid process. at + 1 ≡ process.namespace)
+    → IfOk result (λ outcome. (outcome, parts now new) ≡ done_here (parts old table) (effect_of (host_by calls site) (caller_by old table) doing))
+    → IfOk result (λ outcome. AtPlace state place (λ pid process. Left (world_of calls site state) pid process outcome (world_of calls site (put_back viewed place at (parts now new))) (effect_of (host_of (world_of calls site state)) (caller_of (world_of calls site state) process) doing)))
+performed_there viewed state v calls site place at old now table new doing result is tis lt spaces h =
+    subst (λ (s : State). IfOk result (λ outcome. AtPlace state place (λ pid process. Left (world_of calls site state) pid process outcome (world_of calls site (put_back s place at (parts now new))) (effect_of (host_of (world_of calls site state)) (caller_of (world_of calls site state) process) doing))))
+    (sym v)
+    (there_here calls site state place at old now table new doing result (subst (λ (s : State). old ≡ get_or s.processes place old) v is) (subst (λ (s : State). table ≡ get_or s.tables at table) v tis) lt spaces h)
+
+pub stays_there : {E : Type 0} (viewed state : State) → viewed ≡ state → (place at : ℕ) (old now : Process) (table new : Table) (effect : Effect) (result : Result Outcome E)
+    → old ≡ get_or viewed.processes place old → table ≡ get_or viewed.tables at table → IfOk result (λ outcome. (outcome, parts now new) ≡ done_here (parts old table) effect)
+    → IfOk result (λ outcome. UnlessReplied outcome (put_back viewed place at (parts now new) ≡ state))
+stays_there viewed state v place at old now table new effect result is tis h =
+    if_ok _ _ result h (λ outcome e. unless_map outcome (unless_there viewed place at old now table new outcome effect is tis e) (λ p. p ∙ v))
+
+-- of a call of which nothing is left the reply is that of its effect
+pub replied_there : (state after : State) (calls : calls.Table) (site : Site) (place : ℕ) (effect : Process → Effect) (outcome : Outcome) (r : Reply) → outcome ≡ Replied r
+    → AtPlace state place (λ pid process. Left (world_of calls site state) pid process outcome (world_of calls site after) (effect process))
+    → AtPlace state place (λ pid process. (r, world_of calls site after) ≡ applied (world_of calls site state) pid process (effect process))
+replied_there state after calls site place effect outcome r is h pid process place_is stands =
+    subst (λ (o : Outcome). Left (world_of calls site state) pid process o (world_of calls site after) (effect process)) is (h pid process place_is stands)
+
+-- where a child or a namespace is to be made, that is the effect
+child_is : (state after : State) (calls : calls.Table) (site : Site) (place : ℕ) (effect : Process → Effect) (outcome : Outcome) (own : Bool) → outcome ≡ MakesChild own
+    → AtPlace state place (λ pid process. Left (world_of calls site state) pid process outcome (world_of calls site after) (effect process)) → AtPlace state place (λ pid process. effect process ≡ f.Child own)
+child_is state after calls site place effect outcome own is h pid process place_is stands =
+    (subst (λ (o : Outcome). Left (world_of calls site state) pid process o (world_of calls site after) (effect process)) is (h pid process place_is stands)).0
+
+table_is : (state after : State) (calls : calls.Table) (site : Site) (place : ℕ) (effect : Process → Effect) (outcome : Outcome) → outcome ≡ MakesTable
+    → AtPlace state place (λ pid process. Left (world_of calls site state) pid process outcome (world_of calls site after) (effect process)) → AtPlace state place (λ pid process. effect process ≡ f.OwnTable)
+table_is state after calls site place effect outcome is h pid process place_is stands =
+    (subst (λ (o : Outcome). Left (world_of calls site state) pid process o (world_of calls site after) (effect process)) is (h pid process place_is stands)).0
+
+-- what is made then is what the effect makes
+made_there : {E : Type 0} (state mid new : State) → mid ≡ state → (calls : calls.Table) (site : Site) (place : ℕ) (effect : Process → Effect) (one : Effect) (result : Result Reply E)
+    → AtPlace state place (λ pid process. effect process ≡ one) → IfOk result (λ r. Applies mid place one r new)
+    → IfOk result (λ r. AtPlace state place (λ pid process. (r, world_of calls site new) ≡ applied (world_of calls site state) pid process (effect process)))
+made_there state mid new m calls site place effect one result is h =
+    if_ok _ _ result h (λ r made pid process place_is stands.
+    let here : Applies state place one r new = subst (λ (s : State). Applies s place one r new) m made in
+    here calls site pid process place_is stands ∙ ap (applied (world_of calls site state) pid process) (sym (is pid process place_is stands)))
+
+pub child_made : {E : Type 0} (state mid new : State) (unless : Outcome) → (calls : calls.Table) (site : Site) (place : ℕ) (effect : Process → Effect) (own : Bool) (result : Result Reply E) → unless ≡ MakesChild own
+    → UnlessReplied unless (mid ≡ state) → AtPlace state place (λ pid process. Left (world_of calls site state) pid process unless (world_of calls site mid) (effect process))
+    → IfOk result (λ r. Applies mid place (f.Child own) r new)
+    → IfOk result (λ r. AtPlace state place (λ pid process. (r, world_of calls site new) ≡ applied (world_of calls site state) pid process (effect process)))
+child_made state mid new unless calls site place effect own result is same h made =
+    made_there state mid new (subst (λ (o : Outcome). UnlessReplied o (mid ≡ state)) is same) calls site place effect (f.Child own) result (child_is state mid calls site place effect unless own is h) made
+
+pub table_made : {E : Type 0} (state mid new : State) (unless : Outcome) → (calls : calls.Table) (site : Site) (place : ℕ) (effect : Process → Effect) (result : Result Reply E) → unless ≡ MakesTable
+    → UnlessReplied unless (mid ≡ state) → AtPlace state place (λ pid process. Left (world_of calls site state) pid process unless (world_of calls site mid) (effect process))
+    → IfOk result (λ r. Applies mid place f.OwnTable r new)
+    → IfOk result (λ r. AtPlace state place (λ pid process. (r, world_of calls site new) ≡ applied (world_of calls site state) pid process (effect process)))
+table_made state mid new unless calls site place effect result is same h made =
+    made_there state mid new (subst (λ (o : Outcome). UnlessReplied o (mid ≡ state)) is same) calls site place effect f.OwnTable result (table_is state mid calls site place effect unless is h) made
+
+-- and it needs no memory where the effect does not
+or_right : (a b : Bool) → (a || b) ≡ false → b ≡ false
+or_right true b e = cc
+or_right false b e = e
+
+pub child_ready : {E : Type 0} (state mid : State) (unless : Outcome) (calls : calls.Table) (site : Site) (place : ℕ) (doing : Doing) (own : Bool) (result : Result Reply E) → unless ≡ MakesChild own
+    → UnlessReplied unless (mid ≡ state)
+    → AtPlace state place (λ pid process. Left (world_of calls site state) pid process unless (world_of calls site mid) (effect_of (host_of (world_of calls site state)) (caller_of (world_of calls site state) process) doing))
+    → (makes_one (length mid.processes) (length mid.tables) (f.Child own) ≡ false → IsOk result)
+    → AtPlace state place (λ pid process. takes_doing (world_of calls site state) process doing ≡ false → IsOk result)
+child_ready state mid unless calls site place doing own result is same h ready pid process place_is stands none =
+    let effect : Process → Effect = λ p. effect_of (host_of (world_of calls site state)) (caller_of (world_of calls site state) p) doing in
+    let m : mid ≡ state = subst (λ (o : Outcome). UnlessReplied o (mid ≡ state)) is same in
+    let one : effect process ≡ f.Child own = child_is state mid calls site place effect unless own is h pid process place_is stands in
+    let not_made : makes_one (length state.processes) (length state.tables) (effect process) ≡ false = or_right (asks_for_room doing) (makes_one (length state.processes) (length state.tables) (effect process)) none in
+    ready (subst (λ (s : State). makes_one (length s.processes) (length s.tables) (f.Child own) ≡ false) (sym m) (subst (λ (e : Effect). makes_one (length state.processes) (length state.tables) e ≡ false) one not_made))
+
+pub table_ready : {E : Type 0} (state mid : State) (unless : Outcome) (calls : calls.Table) (site : Site) (place : ℕ) (doing : Doing) (result : Result Reply E) → unless ≡ MakesTable
+    → UnlessReplied unless (mid ≡ state)
+    → AtPlace state place (λ pid process. Left (world_of calls site state) pid process unless (world_of calls site mid) (effect_of (host_of (world_of calls site state)) (caller_of (world_of calls site state) process) doing))
+    → (makes_one (length mid.processes) (length mid.tables) f.OwnTable ≡ false → IsOk result)
+    → AtPlace state place (λ pid process. takes_doing (world_of calls site state) process doing ≡ false → IsOk result)
+table_ready state mid unless calls site place doing result is same h ready pid process place_is stands none =
+    let effect : Process → Effect = λ p. effect_of (host_of (world_of calls site state)) (caller_of (world_of calls site state) p) doing in
+    let m : mid ≡ state = subst (λ (o : Outcome). UnlessReplied o (mid ≡ state)) is same in
+    let one : effect process ≡ f.OwnTable = table_is state mid calls site place effect unless is h pid process place_is stands in
+    let not_made : makes_one (length state.processes) (length state.tables) (effect process) ≡ false = or_right (asks_for_room doing) (makes_one (length state.processes) (length state.tables) (effect process)) none in
+    ready (subst (λ (s : State). makes_one (length s.processes) (length s.tables) f.OwnTable ≡ false) (sym m) (subst (λ (e : Effect). makes_one (length state.processes) (length state.tables) e ≡ false) one not_made))
+
+-- the step of a call that is asked for
+pub step_is : {E : Type 0} (world after : World) (call : Call) (place : ℕ) (d : Decision) (doing : Doing) (result : Result Reply E) → place_of world.processes call.pid ≡ Some place
+    → ((pid : ℕ) (process : Process) → place ≡ pid - 1 → slice_get world.processes place ≡ Some process → d ≡ decision_on process.stack (data_of world call)) → d ≡ decision.Pass → asked_of world.calls.calls call ≡ Does doing
+    → IfOk result (λ r. (pid : ℕ) (process : Process) → place ≡ pid - 1 → slice_get world.processes place ≡ Some process → (r, after) ≡ applied world pid process (effect_of (host_of world) (caller_of world process) doing))
+    → IfOk result (λ r. (r, after) ≡ step world call)
+step_is world after call place d doing result at is passes asked h =
+    if_ok _ _ result h (λ r made.
+    let who = stands world call.pid place at in
+    let decided_is : decision_on who.caller.stack (data_of world call) ≡ decision.Pass = sym (is call.pid who.caller who.place_is who.stands) ∙ passes in
+    made call.pid who.caller who.place_is who.stands
+    ∙ sym (ap (step_by world call) who.lives ∙ ap (decided world call who.caller) decided_is ∙ ap (answered world call.pid who.caller) asked))
+
+pub step_ready : {E : Type 0} (world : World) (call : Call) (place : ℕ) (d : Decision) (doing : Doing) (result : Result Reply E) → place_of world.processes call.pid ≡ Some place
+    → ((pid : ℕ) (process : Process) → place ≡ pid - 1 → slice_get world.processes place ≡ Some process → d ≡ decision_on process.stack (data_of world call)) → d ≡ decision.Pass → asked_of world.calls.calls call ≡ Does doing
+    → ((pid : ℕ) (process : Process) → place ≡ pid - 1 → slice_get world.processes place ≡ Some process → takes_doing world process doing ≡ false → IsOk result)
+    → takes_memory world call ≡ false → IsOk result
+step_ready world call place d doing result at is passes asked h none =
+    let who = stands world call.pid place at in
+    let decided_is : decision_on who.caller.stack (data_of world call) ≡ decision.Pass = sym (is call.pid who.caller who.place_is who.stands) ∙ passes in
+    let takes : takes_memory world call ≡ takes_doing world who.caller doing = ap (takes_by world call) who.lives ∙ ap (takes_decided world call who.caller) decided_is ∙ ap (takes_asked world who.caller) asked in
+    h call.pid who.caller who.place_is who.stands (sym takes ∙ none)
+
+-- the same of a world that is seen through its parts
+pub step_seen : {E : Type 0} (viewed world : World) → viewed ≡ world → (after : World) (call : Call) (place : ℕ) (d : Decision) (doing : Doing) (result : Result Reply E) → place_of viewed.processes call.pid ≡ Some place
+    → ((pid : ℕ) (process : Process) → place ≡ pid - 1 → slice_get viewed.processes place ≡ Some process → d ≡ decision_on process.stack (data_of viewed call)) → d ≡ decision.Pass → asked_of viewed.calls.calls call ≡ Does doing
+    → IfOk result (λ r. (pid : ℕ) (process : Process) → place ≡ pid - 1 → slice_get viewed.processes place ≡ Some process → (r, after) ≡ applied viewed pid process (effect_of (host_of viewed) (caller_of viewed process) doing))
+    → IfOk result (λ r. (r, after) ≡ step world call)
+step_seen viewed world v after call place d doing result at is passes asked h =
+    subst (λ (w : World). IfOk result (λ r. (r, after) ≡ step w call)) v (step_is viewed after call place d doing result at is passes asked h)
+
+pub ready_seen : {E : Type 0} (viewed world : World) → viewed ≡ world → (call : Call) (place : ℕ) (d : Decision) (doing : Doing) (result : Result Reply E) → place_of viewed.processes call.pid ≡ Some place
+    → ((pid : ℕ) (process : Process) → place ≡ pid - 1 → slice_get viewed.processes place ≡ Some process → d ≡ decision_on process.stack (data_of viewed call)) → d ≡ decision.Pass → asked_of viewed.calls.calls call ≡ Does doing
+    → ((pid : ℕ) (process : Process) → place ≡ pid - 1 → slice_get viewed.processes place ≡ Some process → takes_doing viewed process doing ≡ false → IsOk result)
+    → takes_memory world call ≡ false → IsOk result
+ready_seen viewed world v call place d doing result at is passes asked h none =
+    step_ready viewed call place d doing result at is passes asked h (subst (λ (w : World). takes_memory w call ≡ false) (sym v) none)
+
+-- what holds of every world, after a step
+pub kernel_after : {E : Type 0} (calls : calls.Table) (site : Site) (old new : State) (call : Call) (result : Result Reply E) → IsKernel old.processes old.tables
+    → IfOk result (λ r. (r, world_of calls site new) ≡ step (world_of calls site old) call) → OnErr result (new ≡ old) → IsKernel new.processes new.tables
+kernel_after calls site old new call (Ok r) k h s =
+    let same : world_of calls site new ≡ (step (world_of calls site old) call).1 = ap (λ (out : Reply × World). out.1) h in
+    subst (λ (w : World). IsKernel w.processes w.tables) (sym same) (kernel_step (world_of calls site old) call k)
+kernel_after calls site old new call (Err e) k h s = rw s k
+
+-- and after the end of a process
+pub kernel_ended : (calls : calls.Table) (site : Site) (old new : State) (pid place : ℕ) → place_of old.processes pid ≡ Some place → IsKernel old.processes old.tables
+    → AtPlace old place (λ pid process. new ≡ record old { processes = put_number old.processes pid (ended process) }) → IsKernel new.processes new.tables
+kernel_ended calls site old new pid place at k h =
+    let world : World = world_of calls site old in
+    let who = stands world pid place at in
+    let space = living_space world pid who.caller k who.lives in
+    subst (λ (s : State). IsKernel s.processes s.tables) (sym (h pid who.caller who.place_is who.stands)) (kernel_process world pid (ended who.caller) k (spaced (length old.tables) who.caller (ended who.caller) space refl))
+
+-- what the programs decide, with the architecture of the table
+pub decides_here : (state : State) (place : ℕ) (call : Call) (arch other : ℕ) (d : Decision) → arch ≡ other
+    → AtPlace state place (λ pid process. d ≡ decision_on process.stack (record { nr = call.nr; arch = arch; ip = 0; args = call.args }))
+    → AtPlace state place (λ pid process. d ≡ decision_on process.stack (record { nr = call.nr; arch = other; ip = 0; args = call.args }))
+decides_here state place call arch other d e h =
+    subst (λ (a : ℕ). AtPlace state place (λ pid process. d ≡ decision_on process.stack (record { nr = call.nr; arch = a; ip = 0; args = call.args }))) e h
+
+-- the effect of what the process at a place asks for
+abbrev pub effect_at : calls.Table → Site → State → Doing → Process → Effect
+effect_at calls site state doing process = effect_of (host_of (world_of calls site state)) (caller_of (world_of calls site state) process) doing
+
+pub child_same : {A : Type 0} (outcome : Outcome) (own : Bool) → outcome ≡ MakesChild own → UnlessReplied outcome A → A
+child_same {A} outcome own is h = let P : Outcome → Type 0 = λ o. UnlessReplied o A in subst P is h
+
+pub table_same : {A : Type 0} (outcome : Outcome) → outcome ≡ MakesTable → UnlessReplied outcome A → A
+table_same {A} outcome is h = let P : Outcome → Type 0 = λ o. UnlessReplied o A in subst P is h
+
+pub there_too : (mid state : State) (place : ℕ) → mid ≡ state → place < length state.processes → place < length mid.processes
+there_too mid state place m h = subst (λ (s : State). place < length s.processes) (sym m) h
+
+pub spaces_too : (mid state : State) → mid ≡ state → AllByRecursion (HasSpace (length state.tables)) state.processes → AllByRecursion (HasSpace (length mid.tables)) mid.processes
+spaces_too mid state m h = subst (λ (s : State). AllByRecursion (HasSpace (length s.tables)) s.processes) (sym m) h
+
+pub stays_too : {T E : Type 0} (result : Result T E) (new mid state : State) → mid ≡ state → OnErr result (new ≡ mid) → OnErr result (new ≡ state)
+stays_too (Ok value) new mid state m h = tt
+stays_too (Err error) new mid state m h = h ∙ m

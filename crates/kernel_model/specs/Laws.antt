@@ -1,33 +1,87 @@
 -- Laws of all worlds, all calls and all runs.
-use Rattle.std.specs.Prelude.{◌≡◌, ℕ, IsTrue, List, slice_get, Some}
+use Rattle.std.specs.Prelude.{◌≡◌, ℕ, ◌+◌, ◌++◌, true, List, length, Some}
+use Rattle.std.specs.List.{AllByRecursion}
 use Rattle.bpf_code.specs.declared.machine.Insn.{Insn}
-use Rattle.bpf_code.specs.Meaning.{Answers}
-use Rattle.kernel_model.specs.declared.outcome.Launch.{Launch}
-use Rattle.kernel_model.specs.declared.call.Reply.TheVariants.{Refused}
-use Rattle.kernel_model.specs.declared.rules.Rule.TheVariants.{Plain}
-use Rattle.kernel_model.specs.Judged.{IsLaunched, first_stack}
-use Rattle.kernel_model.specs.Kept.{OfEach, StandsOn}
-use Rattle.kernel_model.specs.Launch.{LaunchesTo, can_launch, execve_data, outcome_of}
-use Rattle.kernel_model.specs.Plain.{is_plain_name}
-use Rattle.kernel_model.specs.Rules.{rule_at}
-use Rattle.kernel_model.specs.Runs.{AreCalls, run}
+use Rattle.kern_files.specs.Bits.{has_some}
+use Rattle.kernel_calls.specs.declared.call.Call.{Call}
+use Rattle.kernel_calls.specs.Doing.{Does, Fork, Clone, Unshare, asked_of}
+use Rattle.kernel_model.specs.declared.reply.Reply.{Reply}
+use Rattle.kernel_model.specs.declared.reply.Reply.TheVariants.{Done, Refused, Killed}
+use Rattle.kernel_model.specs.declared.process.Process.{Process}
+use Rattle.kernel_model.specs.Effects.{newns}
+use Rattle.kernel_model.specs.World.{World, living_of, process_of, table_of, with_process, ended}
 use Rattle.kernel_model.specs.Step.{step}
-use Rattle.kernel_model.specs.Table.{IsTable, NamedCall}
-use Rattle.kernel_model.specs.World.{World, Call}
+use Rattle.kernel_model.specs.StepCases.{StepCase}
+use Rattle.kernel_model.specs.Runs.{run}
+use Rattle.kernel_model.specs.Worlds.{IsKernel}
 
--- a call that is refused leaves the world as it was
+-- each step is one of the cases
+abbrev pub StepsByCases : Type 0
+StepsByCases = (world : World) (call : Call) → StepCase world call (step world call)
+
+-- and each case is the step
+abbrev pub CasesAreSteps : Type 0
+CasesAreSteps = (world : World) (call : Call) (out : Reply × World) → StepCase world call out → out ≡ step world call
+
+-- a refused call changes nothing
 abbrev pub RefusedChangesNothing : Type 0
 RefusedChangesNothing = (world : World) (call : Call) (errno : ℕ) → (step world call).0 ≡ Refused errno → (step world call).1 ≡ world
 
--- in every world that calls lead to from a launched one, the launch programs are the oldest of every process
-abbrev pub LaunchProgramsStay : Type 0
-LaunchProgramsStay = (world : World) → IsLaunched world → (calls : List Call) → AreCalls calls → OfEach (StandsOn (first_stack world)) (run world calls)
+-- a call that kills ends its caller and changes nothing else
+abbrev pub KilledEndsTheCaller : Type 0
+KilledEndsTheCaller = (world : World) (call : Call) → (step world call).0 ≡ Killed → (process : Process) × (living_of world call.pid ≡ Some process) × ((step world call).1 ≡ with_process world call.pid (ended process))
 
--- a call of the table with the name of a plain call changes nothing
-abbrev pub PlainNamesArePlainCalls : Type 0
-PlainNamesArePlainCalls = (calls : List NamedCall) (at : ℕ) (call : NamedCall) → IsTable calls → slice_get calls at ≡ Some call → IsTrue (is_plain_name call.name) → rule_at calls call.number ≡ Some Plain
+-- programs are the oldest of a process
+abbrev pub StandsOn : List (List Insn) → Process → Type 0
+StandsOn programs process = (newer : List (List Insn)) × (process.stack ≡ programs ++ newer)
 
--- programs that answer a launch's execve alike are launched alike: every step is done for both, or the same step is the first
--- that is not
-abbrev pub LaunchesEndAlike : Type 0
-LaunchesEndAlike = (arch : ℕ) (calls : List NamedCall) (program other : List Insn) (answer : ℕ) (launched second : Launch) → IsTable calls → IsTrue (can_launch calls) → Answers program (execve_data arch calls) answer → Answers other (execve_data arch calls) answer → LaunchesTo arch calls program launched → LaunchesTo arch calls other second → outcome_of second ≡ outcome_of launched
+abbrev pub OfEach : (Process → Type 0) → World → Type 0
+OfEach P world = AllByRecursion P world.processes
+
+-- programs that are the oldest of every process, as those of a launch are, stay so whatever calls follow
+abbrev pub ProgramsStay : Type 0
+ProgramsStay = (programs : List (List Insn)) (world : World) → OfEach (StandsOn programs) world → (calls : List Call) → OfEach (StandsOn programs) (run world calls)
+
+-- what holds of a world holds of each that calls make of it
+abbrev pub WorldsStay : Type 0
+WorldsStay = (world : World) → IsKernel world.processes world.tables → (calls : List Call) → IsKernel (run world calls).processes (run world calls).tables
+
+-- what the kernel was told stays
+abbrev pub ToldStays : Type 0
+ToldStays = (world : World) (calls : List Call) → ((run world calls).calls ≡ world.calls) × ((run world calls).site ≡ world.site)
+
+-- after fork(2) the child is as its parent, in the parent's namespace, so that both have one table from then on
+pub record IsForked (world : World) (pid : ℕ) (process : Process) (value : ℕ) (after : World) : Type 0 where
+  pub parent : process_of after pid ≡ Some process
+  pub child : process_of after value ≡ Some process
+  pub number : value ≡ length world.processes + 1
+  pub tables : after.tables ≡ world.tables
+
+abbrev pub ForkShares : Type 0
+ForkShares = (world : World) (call : Call) (process : Process) (value : ℕ)
+    → living_of world call.pid ≡ Some process → asked_of world.calls.calls call ≡ Does Fork → (step world call).0 ≡ Done value
+    → IsForked world call.pid process value (step world call).1
+
+-- after clone(2) with CLONE_NEWNS the child is as its parent but for its namespace, which is a new one with an equal table
+pub record IsCloned (world : World) (pid : ℕ) (process : Process) (value : ℕ) (after : World) : Type 0 where
+  pub parent : process_of after pid ≡ Some process
+  pub child : process_of after value ≡ Some (record process { namespace = length world.tables + 1 })
+  pub number : value ≡ length world.processes + 1
+  pub own_table : table_of after (length world.tables + 1) ≡ table_of world process.namespace
+  pub count : length after.tables ≡ length world.tables + 1
+
+abbrev pub CloneGivesACopy : Type 0
+CloneGivesACopy = (world : World) (call : Call) (process : Process) (flags value : ℕ)
+    → living_of world call.pid ≡ Some process → asked_of world.calls.calls call ≡ Does (Clone flags) → has_some newns flags ≡ true → (step world call).0 ≡ Done value
+    → IsCloned world call.pid process value (step world call).1
+
+-- after unshare(2) with CLONE_NEWNS the caller is as before but for its namespace, which is a new one with an equal table
+pub record IsUnshared (world : World) (pid : ℕ) (process : Process) (after : World) : Type 0 where
+  pub caller : process_of after pid ≡ Some (record process { namespace = length world.tables + 1 })
+  pub own_table : table_of after (length world.tables + 1) ≡ table_of world process.namespace
+  pub count : length after.tables ≡ length world.tables + 1
+
+abbrev pub UnshareGivesACopy : Type 0
+UnshareGivesACopy = (world : World) (call : Call) (process : Process) (flags value : ℕ)
+    → living_of world call.pid ≡ Some process → asked_of world.calls.calls call ≡ Does (Unshare flags) → has_some newns flags ≡ true → (step world call).0 ≡ Done value
+    → IsUnshared world call.pid process (step world call).1

@@ -1,49 +1,70 @@
--- One step: one call of one process, and the reply to it.
-use Rattle.std.specs.Prelude.{◌≡◌, ℕ, Bool, true, false, Option, Some, None, Ok, Err}
+-- One step: one call of one process, the reply to it, and the world after it.
+use Rattle.std.specs.Prelude.{ℕ, ◌+◌, nat_lt, Bool, true, false, [], ◌∷◌, ◌++◌, length, Option, Some, None, if◌then◌else◌}
 use Rattle.bpf_code.specs.declared.machine.CallData.{CallData}
 use Rattle.bpf_code.specs.declared.decision.Decision.{Decision}
-use Rattle.bpf_code.specs.declared.decision.Decision.TheVariants.{Pass, Errno, Kill}
+use Rattle.bpf_code.specs.declared.decision.Decision.TheVariants as decision
 use Rattle.bpf_code.specs.Stack.{decision_on}
-use Rattle.kernel_model.specs.declared.call.Reply.{Reply}
-use Rattle.kernel_model.specs.declared.call.Reply.TheVariants.{Done, Refused, Killed}
-use Rattle.linux_numbers.specs.Errnos.{esrch}
+use Rattle.linux_numbers.specs.Errnos.{esrch, eagain, efault, enospc, enosys}
+use Rattle.kernel_calls.specs.declared.call.Call.{Call}
+use Rattle.kernel_calls.specs.Doing.{Asked, Lacking, Misformed, Does, asked_of}
+use Rattle.kernel_model.specs.declared.reply.Reply.{Reply}
+use Rattle.kernel_model.specs.declared.reply.Reply.TheVariants.{Done, Refused, Killed}
 use Rattle.kernel_model.specs.declared.process.Process.{Process}
-use Rattle.kernel_model.specs.declared.rules.Rule.{Rule}
-use Rattle.kernel_model.specs.declared.rules.Rule.TheVariants.{Fork, Exit, Seccomp, Plain}
-use Rattle.kernel_model.specs.World.{World, Call, living_of, with_process, ended}
-use Rattle.kernel_model.specs.Rules.{Answer, answer_by, rule_at}
+use Rattle.kernel_model.specs.Effects.{Effect, Refuse, Answer, SetCreds, SetTable, Push, Child, OwnTable, End, effect_of}
+use Rattle.kernel_model.specs.World.{World, living_of, with_process, with_table, with_child, with_copy, moved_to, ended, host_of, caller_of}
 
--- what the stack is asked: the number, the table's architecture, no instruction pointer and the six words
+-- at most 1,024 processes are made in a world, those that ended among them
+abbrev pub most_processes : ℕ
+most_processes = 1024
+
+-- and at most 64 mount namespaces
+abbrev pub most_namespaces : ℕ
+most_namespaces = 64
+
+-- fork(2): the child is as the caller, in the caller's namespace; clone(2) with CLONE_NEWNS: in a namespace of its own, whose
+-- table is a copy of the caller's; ENOSPC where no namespace is left. The value is the child's number
+abbrev pub child_of : World → Process → Bool → Reply × World
+child_of world process false = (Done (length world.processes + 1), with_child world process)
+child_of world process true =
+    if nat_lt (length world.tables) most_namespaces
+    then (Done (length world.processes + 1), with_child (with_copy world process.namespace) (moved_to process (length world.tables)))
+    else (Refused enospc, world)
+
+-- what an effect makes of the world, and the reply: EAGAIN where no process is left, ENOSPC where no namespace is
+abbrev pub applied : World → ℕ → Process → Effect → Reply × World
+applied world pid process (Refuse errno) = (Refused errno, world)
+applied world pid process (Answer value) = (Done value, world)
+applied world pid process (SetCreds creds) = (Done 0, with_process world pid (record process { creds = creds }))
+applied world pid process (SetTable table) = (Done 0, with_table world process.namespace table)
+applied world pid process (Push program) = (Done 0, with_process world pid (record process { stack = process.stack ++ program ∷ [] }))
+applied world pid process (Child own) = if nat_lt (length world.processes) most_processes then child_of world process own else (Refused eagain, world)
+applied world pid process OwnTable =
+    if nat_lt (length world.tables) most_namespaces
+    then (Done 0, with_process (with_copy world process.namespace) pid (moved_to process (length world.tables)))
+    else (Refused enospc, world)
+applied world pid process End = (Done 0, with_process world pid (ended process))
+
+-- ENOSYS where the kernel lacks the call, then EFAULT where the payload is not of its form, then the call's rule
+abbrev pub answered : World → ℕ → Process → Asked → Reply × World
+answered world pid process Lacking = (Refused enosys, world)
+answered world pid process Misformed = (Refused efault, world)
+answered world pid process (Does doing) = applied world pid process (effect_of (host_of world) (caller_of world process) doing)
+
+-- what the stack is asked, struct seccomp_data of seccomp(2): the number, the table's architecture, no instruction pointer and
+-- the six words
 abbrev pub data_of : World → Call → CallData
-data_of world call = record { nr = call.nr; arch = world.arch; ip = 0; args = call.args }
+data_of world call = record { nr = call.nr; arch = world.calls.arch; ip = 0; args = call.args }
 
--- the reply to a call that a rule answers, and what there is then
-abbrev pub replied : {X : Type 0} → X → Answer X → Reply × X
-replied old (Ok (value, new)) = (Done value, new)
-replied old (Err errno) = (Refused errno, old)
+-- what the stack lets through is looked at; an errno of the stack answers the call; or the caller is killed
+abbrev pub decided : World → Call → Process → Decision → Reply × World
+decided world call process decision.Pass = answered world call.pid process (asked_of world.calls.calls call)
+decided world call process (decision.Errno errno) = (Refused errno, world)
+decided world call process decision.Kill = (Killed, with_process world call.pid (ended process))
 
--- a living process makes the call: what its stack lets through is performed, an errno answers it, or it is killed
-abbrev pub decided : World → Process → Call → Decision → Reply × World
-decided world process call Pass = replied world (answer_by (rule_at world.calls call.nr) world process call)
-decided world process call (Errno errno) = (Refused errno, world)
-decided world process call Kill = (Killed, with_process world call.pid (ended process))
-
+-- ESRCH where no living process makes the call
 abbrev pub step_by : World → Call → Option Process → Reply × World
 step_by world call None = (Refused esrch, world)
-step_by world call (Some process) = decided world process call (decision_on process.stack (data_of world call))
+step_by world call (Some process) = decided world call process (decision_on process.stack (data_of world call))
 
--- the reply to a call, and the world after it
 abbrev pub step : World → Call → Reply × World
 step world call = step_by world call (living_of world call.pid)
-
--- the call of the living process with this number comes to this
-abbrev pub Answers : World → ℕ → (Process → Reply × World) → Reply × World → Type 0
-Answers world pid answer out = (process : Process) → living_of world pid ≡ Some process → out ≡ answer process
-
--- the call may need memory: it makes a process or installs a program
-abbrev pub takes_memory : Option Rule → Bool
-takes_memory (Some Fork) = true
-takes_memory (Some Seccomp) = true
-takes_memory (Some Exit) = false
-takes_memory (Some Plain) = false
-takes_memory None = false

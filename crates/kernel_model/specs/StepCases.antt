@@ -1,24 +1,47 @@
 -- The step by its cases: each reply, the world after it, and why it came.
-use Rattle.std.specs.Prelude.{◌≡◌, ℕ, Some, None, Ok, Err}
+use Rattle.std.specs.Prelude.{◌≡◌, ℕ, ◌+◌, ◌<◌, ◌≤◌, Bool, true, false, Some, None, [], ◌∷◌, ◌++◌, length, List}
+use Rattle.bpf_code.specs.declared.machine.Insn.{Insn}
 use Rattle.bpf_code.specs.declared.decision.Decision.TheVariants.{Pass, Errno, Kill}
 use Rattle.bpf_code.specs.Stack.{decision_on}
-use Rattle.kernel_model.specs.declared.call.Reply.{Reply}
-use Rattle.kernel_model.specs.declared.call.Reply.TheVariants.{Done, Refused, Killed}
-use Rattle.linux_numbers.specs.Errnos.{esrch}
+use Rattle.linux_numbers.specs.Errnos.{esrch, eagain, efault, enospc, enosys}
+use Rattle.kern_creds.specs.declared.creds.Creds.{Creds}
+use Rattle.kern_mounts.specs.Split.{Table}
+use Rattle.kernel_calls.specs.declared.call.Call.{Call}
+use Rattle.kernel_calls.specs.Doing.{Doing, Lacking, Misformed, Does, asked_of}
+use Rattle.kernel_model.specs.declared.reply.Reply.{Reply}
+use Rattle.kernel_model.specs.declared.reply.Reply.TheVariants.{Done, Refused, Killed}
 use Rattle.kernel_model.specs.declared.process.Process.{Process}
-use Rattle.kernel_model.specs.World.{World, Call, living_of, with_process, ended}
-use Rattle.kernel_model.specs.Rules.{answer_by, rule_at}
-use Rattle.kernel_model.specs.Step.{data_of}
+use Rattle.kernel_model.specs.Effects.{Effect, Refuse, Answer, SetCreds, SetTable, Push, Child, OwnTable, End, effect_of}
+use Rattle.kernel_model.specs.World.{World, living_of, with_process, with_table, with_child, with_copy, moved_to, ended, host_of, caller_of}
+use Rattle.kernel_model.specs.Step.{data_of, most_processes, most_namespaces}
 
 -- the caller lives, and its stack lets the call through
 pub record Passes (world : World) (call : Call) (process : Process) : Type 0 where
   pub living : living_of world call.pid ≡ Some process
   pub passes : decision_on process.stack (data_of world call) ≡ Pass
 
--- nobody makes the call; its caller's stack refuses it, or has the caller killed; its rule refuses it, or it is done
+-- what an effect comes to, by its cases
+pub data EffectCase (world : World) (pid : ℕ) (process : Process) : Effect → Reply × World → Type 0 where
+  refuses : (errno : ℕ) → EffectCase world pid process (Refuse errno) (Refused errno, world)
+  answers : (value : ℕ) → EffectCase world pid process (Answer value) (Done value, world)
+  takes_creds : (creds : Creds) → EffectCase world pid process (SetCreds creds) (Done 0, with_process world pid (record process { creds = creds }))
+  takes_table : (table : Table) → EffectCase world pid process (SetTable table) (Done 0, with_table world process.namespace table)
+  takes_program : (program : List Insn) → EffectCase world pid process (Push program) (Done 0, with_process world pid (record process { stack = process.stack ++ program ∷ [] }))
+  no_process_left : (own : Bool) → most_processes ≤ length world.processes → EffectCase world pid process (Child own) (Refused eagain, world)
+  shares : length world.processes < most_processes → EffectCase world pid process (Child false) (Done (length world.processes + 1), with_child world process)
+  no_namespace_for_child : length world.processes < most_processes → most_namespaces ≤ length world.tables → EffectCase world pid process (Child true) (Refused enospc, world)
+  gives_copy : length world.processes < most_processes → length world.tables < most_namespaces → EffectCase world pid process (Child true) (Done (length world.processes + 1), with_child (with_copy world process.namespace) (moved_to process (length world.tables)))
+  no_namespace_left : most_namespaces ≤ length world.tables → EffectCase world pid process OwnTable (Refused enospc, world)
+  moves : length world.tables < most_namespaces → EffectCase world pid process OwnTable (Done 0, with_process (with_copy world process.namespace) pid (moved_to process (length world.tables)))
+  ends : EffectCase world pid process End (Done 0, with_process world pid (ended process))
+
+-- nobody makes the call; its caller's stack refuses it, or has the caller killed; the kernel lacks it; its payload is not of its
+-- form; or it is asked for something, which comes to what its effect comes to
 pub data StepCase (world : World) (call : Call) : Reply × World → Type 0 where
   absent : living_of world call.pid ≡ None → StepCase world call (Refused esrch, world)
   filtered : (process : Process) (errno : ℕ) → living_of world call.pid ≡ Some process → decision_on process.stack (data_of world call) ≡ Errno errno → StepCase world call (Refused errno, world)
   killed : (process : Process) → living_of world call.pid ≡ Some process → decision_on process.stack (data_of world call) ≡ Kill → StepCase world call (Killed, with_process world call.pid (ended process))
-  refused : (process : Process) (errno : ℕ) → Passes world call process → answer_by (rule_at world.calls call.nr) world process call ≡ Err errno → StepCase world call (Refused errno, world)
-  done : (process : Process) (value : ℕ) (after : World) → Passes world call process → answer_by (rule_at world.calls call.nr) world process call ≡ Ok (value, after) → StepCase world call (Done value, after)
+  lacking : (process : Process) → Passes world call process → asked_of world.calls.calls call ≡ Lacking → StepCase world call (Refused enosys, world)
+  misformed : (process : Process) → Passes world call process → asked_of world.calls.calls call ≡ Misformed → StepCase world call (Refused efault, world)
+  does : (process : Process) (doing : Doing) (out : Reply × World) → Passes world call process → asked_of world.calls.calls call ≡ Does doing
+      → EffectCase world call.pid process (effect_of (host_of world) (caller_of world process) doing) out → StepCase world call out

@@ -1,60 +1,80 @@
--- A world, and a call in it, as contracts see them.
-use Rattle.std.specs.Prelude.{ℕ, ◌-◌, ◌≤◌, ◌==◌, true, false, if◌then◌else◌, List, [], ◌∷◌, length, slice_get, slice_set, Option, Some, None}
-use Rattle.std.specs.Option.{option_map}
-use Rattle.bpf_code.specs.declared.machine.Insn.{Insn}
-use Rattle.kernel_model.specs.declared.call.ThinCall.{ThinCall}
+-- A world of the kernel: processes that share mount tables.
+use Rattle.std.specs.Prelude.{ℕ, ◌+◌, ◌-◌, ◌==◌, true, false, List, [], ◌∷◌, ◌++◌, slice_get, slice_set, Option, Some, None, if◌then◌else◌}
+use Rattle.call_table.specs.Table as calls
+use Rattle.site_table.specs.Table.{Site, row_at}
+use Rattle.kern_creds.specs.Start as creds
+use Rattle.kern_mounts.specs.Table as mounts
+use Rattle.kern_mounts.specs.Split.{Table}
 use Rattle.kernel_model.specs.declared.process.Process.{Process}
-use Rattle.kernel_model.specs.Table.{NamedCall}
+use Rattle.kernel_model.specs.Effects.{Caller, Host}
 
--- an architecture and its calls, and the processes that were made: number n stands at the place n - 1
+-- the tables that the kernel is told, and the processes and mount tables that were made: number n stands at the place n - 1
 pub record World : Type 0 where
-  pub arch : ℕ
-  pub calls : List NamedCall
+  pub calls : calls.Table
+  pub site : Site
   pub processes : List Process
+  pub tables : List Table
 
--- a call, whose payload is a program's bytes or nothing
-pub record Call : Type 0 where
-  pub pid : ℕ
-  pub nr : ℕ
-  pub args : List ℕ
-  pub code : Option (List ℕ)
+-- things numbered from 1
+abbrev pub of_number : {X : Type 0} → List X → ℕ → Option X
+of_number xs number = if number == 0 then None else slice_get xs (number - 1)
 
-abbrev pub call_view : ThinCall → Call
-call_view call = record { pid = call.pid; nr = call.nr; args = call.args; code = option_map (λ bytes. bytes.items) call.code }
+abbrev pub put_number : {X : Type 0} → List X → ℕ → X → List X
+put_number xs number x = slice_set xs (number - 1) x
 
--- process 1 alone, living, without a program
-abbrev pub start_world : ℕ → List NamedCall → World
-start_world arch calls = record { arch = arch; calls = calls; processes = record { alive = true; stack = [] } ∷ [] }
+-- the process that was made with this number, credentials(7)
+abbrev pub process_of : World → ℕ → Option Process
+process_of world pid = of_number world.processes pid
 
 abbrev pub if_alive : Option Process → Option Process
 if_alive None = None
 if_alive (Some process) = if process.alive then Some process else None
 
--- the process that was made with this number
-abbrev pub process_of : World → ℕ → Option Process
-process_of world pid = if pid == 0 then None else slice_get world.processes (pid - 1)
-
 -- the same, while it lives
 abbrev pub living_of : World → ℕ → Option Process
 living_of world pid = if_alive (process_of world pid)
 
--- its programs, the oldest first, whether it lives or not
-abbrev pub stack_of : World → ℕ → Option (List (List Insn))
-stack_of world pid = option_map (λ process. process.stack) (process_of world pid)
+abbrev pub table_or : Option Table → Table
+table_or None = []
+table_or (Some table) = table
 
--- a process was made with this number
-pub record IsMade (world : World) (pid : ℕ) : Type 0 where
-  pub numbered : 1 ≤ pid
-  pub within : pid ≤ length world.processes
+-- the mount table of a namespace, mount_namespaces(7)
+abbrev pub table_of : World → ℕ → Table
+table_of world namespace = table_or (of_number world.tables namespace)
 
--- the world with this process under that number
 abbrev pub with_process : World → ℕ → Process → World
-with_process world pid process = record world { processes = slice_set world.processes (pid - 1) process }
+with_process world pid process = record world { processes = put_number world.processes pid process }
+
+abbrev pub with_table : World → ℕ → Table → World
+with_table world namespace table = record world { tables = put_number world.tables namespace table }
 
 -- the process, no longer living
 abbrev pub ended : Process → Process
 ended process = record process { alive = false }
 
--- where the living process with this number stands
-abbrev pub place_of : List Process → ℕ → Option ℕ
-place_of processes pid = if pid == 0 then None else option_map (λ process. pid - 1) (if_alive (slice_get processes (pid - 1)))
+-- what the kernel is told, as a rule sees it
+abbrev pub host_of : World → Host
+host_of world = record { rows = row_at world.site.rows; families = world.calls.families }
+
+-- the process and its table, as a rule sees them
+abbrev pub caller_of : World → Process → Caller
+caller_of world process = record { creds = process.creds; stack = process.stack; table = table_of world process.namespace }
+
+-- one process more
+abbrev pub with_child : World → Process → World
+with_child world child = record world { processes = world.processes ++ child ∷ [] }
+
+-- one namespace more, with the table of this one
+abbrev pub with_copy : World → ℕ → World
+with_copy world namespace = record world { tables = world.tables ++ table_of world namespace ∷ [] }
+
+-- the process in the newest of so many namespaces and one more
+abbrev pub moved_to : Process → ℕ → Process
+moved_to process count = record process { namespace = count + 1 }
+
+-- process 1 alone, as the kernel starts it: root, without programs, in the first namespace
+abbrev pub first_process : Process
+first_process = record { creds = creds.start; stack = []; namespace = 1; alive = true }
+
+abbrev pub start_world : calls.Table → Site → World
+start_world calls site = record { calls = calls; site = site; processes = first_process ∷ []; tables = mounts.start ∷ [] }

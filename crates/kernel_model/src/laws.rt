@@ -1,22 +1,29 @@
-// Laws of the kernel: each function does nothing, and its contract is the law.
-ghost use Rattle.kernel_model.specs.Laws.{LaunchProgramsStay, LaunchesEndAlike, PlainNamesArePlainCalls, RefusedChangesNothing};
+//! Laws of the kernel, each the contract of a function that does nothing.
 
-/// A call that is refused changes nothing.
-pub fn refused_changes_nothing()
-    ensures { RefusedChangesNothing }
+ghost use Rattle.kernel_model.specs.Laws.{StepsByCases, CasesAreSteps, RefusedChangesNothing, KilledEndsTheCaller, ProgramsStay, WorldsStay, ToldStays, ForkShares, CloneGivesACopy, UnshareGivesACopy};
+
+/// Each step is one of its cases, and each case is the step.
+pub fn steps_by_cases()
+    ensures each_step_is_a_case { StepsByCases }
+    ensures each_case_is_the_step { CasesAreSteps }
 {}
 
-/// Whatever calls follow a launch, the launch programs stay the oldest of every process.
-pub fn launch_programs_stay()
-    ensures { LaunchProgramsStay }
+/// A call that is refused changes nothing, and one that kills ends its caller and changes nothing else.
+pub fn what_refusals_change()
+    ensures refused_changes_nothing { RefusedChangesNothing }
+    ensures killed_ends_the_caller { KilledEndsTheCaller }
 {}
 
-/// A call of the table with a plain name has a verdict.
-pub fn plain_names_are_plain_calls()
-    ensures { PlainNamesArePlainCalls }
+/// What stays, whatever calls follow: the oldest programs of every process, what holds of every world, and what the kernel is told.
+pub fn what_stays()
+    ensures oldest_programs { ProgramsStay }
+    ensures what_holds_of_worlds { WorldsStay }
+    ensures what_is_told { ToldStays }
 {}
 
-/// Programs that answer the launch's execve alike are launched alike.
-pub fn launches_end_alike()
-    ensures { LaunchesEndAlike }
+/// Processes share a table after fork(2), and have equal tables of their own after clone(2) and unshare(2) with CLONE_NEWNS.
+pub fn shared_tables()
+    ensures fork_shares { ForkShares }
+    ensures clone_gives_a_copy { CloneGivesACopy }
+    ensures unshare_gives_a_copy { UnshareGivesACopy }
 {}

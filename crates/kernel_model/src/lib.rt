@@ -1,27 +1,28 @@
-//! A thin kernel: processes with stacks of programs, and what each of their calls comes to.
+//! A modelled Linux kernel: processes that share mount tables, and what each of their calls comes to (syscalls(2)).
 //!
-//! It rests on `bpf_code`, whose stacks decide about calls, and on `call_names` for which calls the kernel knows. A world starts with one process:
-//! `ThinWorld::start(alloc, 0xc000_003e, calls)?.step(alloc, &call)?` is the reply to its first call.
+//! A `World` is started with a table of calls and a site, which it borrows, and has one process, as root and without programs:
+//! `World::start(alloc, &calls, &site)?.step(alloc, &call)?` is the reply to its first call. It rests on `kernel_calls` for what
+//! a call asks for, on `bpf_code` for what the caller's programs decide about it, and on `kern_creds` and `kern_files` for rules.
 #![tactic(auto)]
 
-mod answer;
-mod call;
-mod judge;
-mod launcher;
-mod laws;
+mod calls;
+mod clones;
+mod identity;
+pub mod laws;
+mod looks;
+mod makers;
+mod mounts;
 mod outcome;
-mod plain;
+mod perform;
+mod prctl;
 mod process;
-mod rules;
-mod table;
+mod reply;
+mod seccomp;
+mod state;
+mod steps;
+mod told;
 mod world;
 
-pub use answer::Verdict;
-pub use call::{Reply, ThinCall};
-pub use judge::{is_plain_call, open_calls, verdict};
-pub use launcher::{can_launch, launch};
-pub use laws::{launch_programs_stay, plain_names_are_plain_calls, refused_changes_nothing};
-pub use outcome::Launch;
-pub use plain::is_plain_name;
-pub use table::{ThinName, is_table};
-pub use world::ThinWorld;
+pub use process::Process;
+pub use reply::Reply;
+pub use world::World;

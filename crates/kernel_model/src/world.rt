@@ -1,225 +1,145 @@
-// The world: processes that make the calls of a table.
-ghost use Rattle.std.specs.Prelude.{◌≡◌, ◌↔◌, [], ◌∷◌, false, IfOk, OnErr, IsOk, IsSome};
-ghost use Rattle.std.specs.Option.{option_map};
-ghost use Rattle.bpf_code.specs.Stack.{decision_on};
-ghost use Rattle.kernel_model.specs.Rules.{answer_by, fork_answer, has_form, on_caller, rule_answer, rule_at, seccomp_answer};
-ghost use Rattle.kernel_model.specs.Step.{Answers, data_of, replied, step, takes_memory};
-ghost use Rattle.kernel_model.specs.Table.{IsTable, calls_view};
-ghost use Rattle.kernel_model.specs.World.{IsMade, World, call_view, ended, living_of, place_of, stack_of, start_world, with_process};
-ghost use Rattle.kernel_model.specs.declared.process.Process.{Process};
+//! The world: a kernel and the processes that call it.
 
-use crate::call::{Reply, ThinCall};
-use crate::process::{Process, seccomp};
-use crate::rules::{Rule, rule_for};
-use crate::table::ThinName;
-use bpf_code::{CallData, Decision, Stack};
-use linux_numbers::errnos::{EAGAIN, EFAULT, ENOSYS, ESRCH};
+ghost use Rattle.std.specs.Prelude.{◌≡◌, false, true, IfOk, IsOk, OnOk, OnErr, option_map};
+ghost use Rattle.abs_path.specs.Paths.{is_root};
+ghost use Rattle.kernel_model.specs.Memory.{takes_memory};
+ghost use Rattle.kernel_model.specs.MountStep.{CanStep, after_mount_step};
+ghost use Rattle.kernel_model.specs.Step.{step};
+ghost use Rattle.kernel_model.specs.World.{of_number, process_of, start_world};
+ghost use Rattle.kernel_model.specs.Worlds.{IsKernel};
+
+use crate::process::Process;
+use crate::reply::Reply;
+use crate::state::State;
+use crate::told::Told;
+use bpf_code::{CallData, Decision};
+use call_table::CallTable;
+use kern_mounts::{MountStep, MountTable};
+use kernel_calls::{Asked, Call, Rules};
+use linux_numbers::errnos::{EFAULT, ENOSYS, ESRCH};
+use site_table::SiteTable;
 use std::alloc::{AllocError, Global};
 use std::marker::Model;
 
-/// The most processes that are made, those that ended among them.
-pub const MAX_PROCESSES: usize = 1024;
-
-/// Processes that make the calls of a table.
+/// Processes that share mount tables, and the calls and files that they are told of.
+///
+/// Contracts see a world as its table of calls, its site, and the lists of the processes and of the mount tables that were made:
+/// at most 1,024 and 64.
 #[derive(Drop)]
-pub struct ThinWorld {
-    arch: u32,
-    calls: Vec<ThinName>,
-    processes: Vec<Process>,
+pub struct World<'a> {
+    told: Told<'a>,
+    rules: Rules,
+    state: State,
 }
 
-impl Model for ThinWorld {
-    ghost use Rattle.std.specs.Prelude.{length, ◌≤◌};
-    ghost use Rattle.kernel_model.specs.Table.{calls_view};
+impl<'a> Model for World<'a> {
+    ghost use Rattle.std.specs.Prelude.{◌≡◌, map};
+    ghost use Rattle.kernel_calls.specs.Rules.{rule_of};
+    ghost use Rattle.kernel_model.specs.State.{world_of};
     ghost use Rattle.kernel_model.specs.World.{World};
+    ghost use Rattle.kernel_model.specs.Worlds.{IsKernel};
 
     ghost Value = { World };
 
-    ghost view = { λ w. record { arch = w.arch; calls = calls_view w.calls.items; processes = w.processes.items } };
+    ghost view = { λ world. world_of world.told.calls.now world.told.site.now world.state };
 
-    ghost invariant = { λ w. length w.processes.items ≤ 1024 };
+    ghost invariant = { λ world. (world.rules ≡ map rule_of world.told.calls.now.calls) × IsKernel world.state.processes world.state.tables };
 }
 
-// The place of the living process with this number.
-fn living_place(processes: &[Process], pid: u32) -> Option<usize>
-    ensures { result ≡ place_of processes.now pid }
-{
-    match pid.checked_sub(1) {
-        None => None,
-        Some(place) => match processes.get(place as usize) {
-            None => None,
-            Some(process) => if process.alive {
-                Some(place as usize)
-            } else {
-                None
-            },
-        },
-    }
-}
-
-// Whether the payload is of the call's form.
-fn has_form(rule: Rule, call: &ThinCall) -> bool
-    ensures { result ≡ has_form rule (call_view call.now).code }
-{
-    match rule {
-        Rule::Seccomp => call.code.is_some(),
-        Rule::Fork | Rule::Exit | Rule::Plain => call.code.is_none(),
-    }
-}
-
-impl ThinWorld {
-    /// The start: process 1 alone, living, without a program, and the calls of a table.
-    pub fn start(alloc: Global, arch: u32, calls: Vec<ThinName>) -> Result<ThinWorld, AllocError>
-        requires { IsTable (calls_view calls.items) }
-        ensures { IfOk result (λ world. world ≡ start_world arch (calls_view calls.items)) }
-    {
-        let mut processes = Vec::new(alloc);
-        processes.push(Process {
-            alive: true,
-            stack: Stack::new(alloc),
-        })?;
-        Ok(ThinWorld {
-            arch,
-            calls,
-            processes,
-        })
-    }
-
-    // Copies the process at this place.
-    fn fork(&mut self, pid: u32, place: usize) -> Result<Reply, AllocError>
-        requires { place_of self.old.processes pid ≡ Some place }
-        ensures forks { IfOk result (λ reply. Answers self.old pid (λ process. replied self.old (fork_answer self.old process)) (reply, self.new)) }
-        ensures stays { OnErr result (self.new ≡ self.old) }
-    {
-        if self.processes.len() >= MAX_PROCESSES {
-            return Ok(Reply::Refused(EAGAIN));
-        }
-        let stack = self.processes[place].stack.copy()?;
-        self.processes.push(Process { alive: true, stack })?;
-        Ok(Reply::Done(self.processes.len() as u64))
-    }
-
-    // Ends the process at this place.
-    fn end(&mut self, pid: u32, place: usize)
-        requires { place_of self.old.processes pid ≡ Some place }
-        ensures { (process : Process) → living_of self.old pid ≡ Some process → self.new ≡ with_process self.old pid (ended process) }
-    {
-        self.processes[place].alive = false;
-    }
-
-    // Installs a program for the process at this place.
-    fn install(&mut self, alloc: Global, place: usize, call: &ThinCall) -> Result<Reply, AllocError>
-        requires { place_of self.old.processes call.now.pid ≡ Some place }
-        ensures installs { IfOk result (λ reply. Answers self.old call.now.pid (λ process. replied self.old (on_caller self.old call.now.pid (seccomp_answer process (call_view call.now).args (call_view call.now).code))) (reply, self.new)) }
-        ensures stays { OnErr result (self.new ≡ self.old) }
-    {
-        seccomp(alloc, &mut self.processes[place], call)
-    }
-
-    // What the stack of the process at this place decides about its call.
-    fn decision(&self, place: usize, call: &ThinCall) -> Decision
-        requires { place_of self.now.processes call.now.pid ≡ Some place }
-        ensures { (process : Process) → living_of self.now call.now.pid ≡ Some process → result ≡ decision_on process.stack (data_of self.now (call_view call.now)) }
-    {
-        let input = CallData {
-            nr: call.nr,
-            arch: self.arch,
-            ip: 0,
-            args: call.args,
-        };
-        self.processes[place].stack.decide(&input)
-    }
-
-    // What the rule says, for a payload of the call's form.
-    fn obey(
-        &mut self,
+impl<'a> World<'a> {
+    /// The start: process 1 alone, as root and without programs, in namespace 1, whose table is the host's.
+    pub fn start(
         alloc: Global,
-        rule: Rule,
-        place: usize,
-        call: &ThinCall,
-    ) -> Result<Reply, AllocError>
-        requires { place_of self.old.processes call.now.pid ≡ Some place }
-        ensures obeys { IfOk result (λ reply. Answers self.old call.now.pid (λ process. replied self.old (rule_answer rule self.old process (call_view call.now))) (reply, self.new)) }
-        ensures needs_no_memory { takes_memory (Some rule) ≡ false → IsOk result }
-        ensures stays { OnErr result (self.new ≡ self.old) }
+        calls: &'a CallTable,
+        site: &'a SiteTable,
+    ) -> Result<World<'a>, AllocError>
+        ensures starts { IfOk result (λ world. world ≡ start_world calls.now site.now) }
     {
-        match rule {
-            Rule::Fork => self.fork(call.pid, place),
-            Rule::Exit => {
-                self.end(call.pid, place);
-                Ok(Reply::Done(0))
-            }
-            Rule::Seccomp => self.install(alloc, place, call),
-            Rule::Plain => Ok(Reply::Done(0)),
-        }
-    }
-
-    // A call that the stack lets through.
-    fn perform(&mut self, alloc: Global, place: usize, call: &ThinCall) -> Result<Reply, AllocError>
-        requires { place_of self.old.processes call.now.pid ≡ Some place }
-        ensures performs { IfOk result (λ reply. Answers self.old call.now.pid (λ process. replied self.old (answer_by (rule_at self.old.calls call.now.nr) self.old process (call_view call.now))) (reply, self.new)) }
-        ensures needs_no_memory { takes_memory (rule_at self.old.calls call.now.nr) ≡ false → IsOk result }
-        ensures stays { OnErr result (self.new ≡ self.old) }
-    {
-        match rule_for(&self.calls, call.nr) {
-            None => Ok(Reply::Refused(ENOSYS)),
-            Some(rule) => if has_form(rule, call) {
-                self.obey(alloc, rule, place, call)
-            } else {
-                Ok(Reply::Refused(EFAULT))
-            },
-        }
+        Ok(World {
+            told: Told { calls, site },
+            rules: Rules::new(alloc, calls)?,
+            state: State::first(alloc)?,
+        })
     }
 
     /// One call of one process, and its reply.
     ///
-    /// A process that does not live is refused with ESRCH. Then the stack of the process decides. Then a call that
-    /// the table or the kernel lacks is refused with ENOSYS, and a payload that is not of the call's form with
-    /// EFAULT. Then the call's rule answers: fork(2) and vfork(2), exit(2) and exit_group(2), seccomp(2); every
-    /// other call is done and changes nothing. Where memory runs out the world stays as it was.
-    pub fn step(&mut self, alloc: Global, call: &ThinCall) -> Result<Reply, AllocError>
-        ensures makes_the_step { IfOk result (λ reply. (reply, self.new) ≡ step self.old (call_view call.now)) }
-        ensures needs_no_memory { takes_memory (rule_at self.old.calls call.now.nr) ≡ false → IsOk result }
+    /// A process that does not live is refused with ESRCH. Then its programs decide, seccomp(2). Then a call that the table or
+    /// the kernel lacks is refused with ENOSYS, and a payload that is not of the call's form with EFAULT. Then the call's rule
+    /// answers, which is its manual page's. A refused call changes nothing. Where memory runs out the world stays as it was.
+    pub fn step(&mut self, alloc: Global, call: &Call) -> Result<Reply, AllocError>
+        ensures makes_the_step { IfOk result (λ reply. (reply, self.new) ≡ step self.old call.now) }
+        ensures needs_no_memory { takes_memory self.old call.now ≡ false → IsOk result }
         ensures stays { OnErr result (self.new ≡ self.old) }
     {
-        let Some(place) = living_place(&self.processes, call.pid) else {
+        let Some(place) = self.state.living_place(call.pid) else {
             return Ok(Reply::Refused(ESRCH));
         };
-        match self.decision(place, call) {
+        let input = CallData {
+            nr: call.nr,
+            arch: self.told.calls.arch(),
+            ip: 0,
+            args: call.args,
+        };
+        match self.state.decide(place, &input) {
             Decision::Errno(errno) => Ok(Reply::Refused(errno)),
             Decision::Kill => {
-                self.end(call.pid, place);
+                self.state.end(place);
                 Ok(Reply::Killed)
             }
-            Decision::Pass => self.perform(alloc, place, call),
-        }
-    }
-
-    /// The architecture of the table.
-    pub fn arch(&self) -> u32
-        ensures { result ≡ self.now.arch }
-    {
-        self.arch
-    }
-
-    /// The calls of the table.
-    pub fn calls(&self) -> &[ThinName]
-        ensures { calls_view result.now ≡ self.now.calls }
-    {
-        &self.calls
-    }
-
-    /// The stack of a process that was made, whether it lives or not.
-    pub fn stack(&self, pid: u32) -> Option<&Stack>
-        ensures made { IsSome result ↔ IsMade self.now pid }
-        ensures lends { option_map (λ stack. stack.now) result ≡ stack_of self.now pid }
-    {
-        match pid.checked_sub(1) {
-            None => None,
-            Some(place) => match self.processes.get(place as usize) {
-                None => None,
-                Some(process) => Some(&process.stack),
+            Decision::Pass => match self.rules.asked(self.told.calls, call) {
+                Asked::Lacking => Ok(Reply::Refused(ENOSYS)),
+                Asked::Misformed => Ok(Reply::Refused(EFAULT)),
+                Asked::Does(doing) => self.state.perform(alloc, &self.told, place, &doing),
             },
         }
+    }
+
+    /// A mount step for a process that lives and whose table has fewer than 4,096 entries: at `/` the first entry of the table
+    /// gets its flags, everywhere else it becomes the last entry. No rule of mount(2) is asked.
+    pub fn mount_step(
+        &mut self,
+        alloc: Global,
+        pid: u32,
+        step: &MountStep,
+    ) -> Result<(), AllocError>
+        requires can_step { CanStep self.old pid }
+        ensures mounts { OnOk result (self.new ≡ after_mount_step self.old pid step.now) }
+        ensures needs_no_memory_at_the_root { is_root step.now.place ≡ true → IsOk result }
+        ensures stays { OnErr result (self.new ≡ self.old) }
+    {
+        match self.state.living_place(pid) {
+            None => unreachable!(),
+            Some(place) => self.state.mount_step(alloc, place, step),
+        }
+    }
+
+    /// The process with this number, whether it lives or not.
+    pub fn process(&self, pid: u32) -> Option<&Process>
+        ensures process_of_the_number { option_map (λ process. process.now) result ≡ process_of self.now pid }
+    {
+        self.state.process(pid)
+    }
+
+    /// The mount table of the namespace with this number.
+    pub fn table(&self, namespace: u32) -> Option<&MountTable>
+        ensures table_of_the_number { option_map (λ table. table.now) result ≡ of_number self.now.tables namespace }
+    {
+        self.state.table(namespace)
+    }
+
+    /// The calls and families that the kernel is told.
+    pub fn call_table(&self) -> &'a CallTable
+        ensures told { result.now ≡ self.now.calls }
+        ensures holds_of_each_world { IsKernel self.now.processes self.now.tables }
+    {
+        self.told.calls
+    }
+
+    /// The files, users and groups that the kernel is told.
+    pub fn site_table(&self) -> &'a SiteTable
+        ensures told { result.now ≡ self.now.site }
+    {
+        self.told.site
     }
 }

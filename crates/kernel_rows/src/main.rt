@@ -1,13 +1,11 @@
-//! Rows over a modelled kernel: credentials, tables of mounts, what a service finds at paths, and processes with filters.
+//! Rows over the parts of a modelled kernel: credentials, tables of mounts, and what a service finds at paths.
 //!
 //! Each line of the standard input is a call with its words, parted by bars; it is printed with what came
 //! out. A line that begins with `#` says what the next rows show.
 #![tactic(auto)]
 
 mod creds;
-mod launches;
 mod mounts;
-mod processes;
 mod rows;
 mod views;
 

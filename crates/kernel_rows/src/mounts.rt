@@ -16,6 +16,26 @@ pub fn answer(alloc: Global, table: &mut MountTable, row: &[&str]) -> Result<Str
         ["length"] => length(alloc, table),
         ["entry", at] => entry(alloc, table, number(at) as usize),
         ["resolve", path] => resolve(alloc, table, path),
+        ["bind", source, target, how] => bind(alloc, table, source, target, *how == "recursive"),
+        ["remount", place, flags] => match AbsPath::read(alloc, place) {
+            Ok(place) => match table.remount(&place, flags_of(flags)) {
+                Ok(()) => said(alloc, "done"),
+                Err(errno) => format!(in alloc; "errno {errno}"),
+            },
+            Err(error) => error.to_string(alloc),
+        },
+        ["umount", path, how] => match AbsPath::read(alloc, path) {
+            Ok(path) => match table.umount(&path, *how == "detach") {
+                Ok(()) => length(alloc, table),
+                Err(errno) => format!(in alloc; "errno {errno}"),
+            },
+            Err(error) => error.to_string(alloc),
+        },
+        ["copy"] => {
+            let copy = table.copy()?;
+            *table = copy;
+            length(alloc, table)
+        }
         _ => said(alloc, "no row"),
     }
 }
@@ -110,6 +130,28 @@ fn shown(alloc: Global, step: &MountStep) -> Result<String, AllocError> {
 fn resolve(alloc: Global, table: &MountTable, path: &str) -> Result<String, AllocError> {
     match &AbsPath::read(alloc, path) {
         Ok(path) => table.resolve(path).to_string(alloc),
+        Err(error) => error.to_string(alloc),
+    }
+}
+
+fn bind(
+    alloc: Global,
+    table: &mut MountTable,
+    source: &str,
+    target: &str,
+    recursive: bool,
+) -> Result<String, AllocError> {
+    let Ok(source) = AbsPath::read(alloc, source) else {
+        return said(alloc, "no source");
+    };
+    let Ok(target) = AbsPath::read(alloc, target) else {
+        return said(alloc, "no target");
+    };
+    if !table.can_bind(&source) {
+        return said(alloc, "cannot be bound");
+    }
+    match table.bind(&source, &target, recursive) {
+        Ok(()) => length(alloc, table),
         Err(error) => error.to_string(alloc),
     }
 }

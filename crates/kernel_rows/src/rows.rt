@@ -1,29 +1,26 @@
 //! The calls that rows name.
 use crate::creds::{self, States};
-use crate::{launches, mounts, processes, views};
+use crate::{mounts, views};
 use kern_mounts::MountTable;
-use kernel_model::ThinWorld;
 use path_settings::Mentions;
 use row_text::said;
 use std::alloc::{AllocError, Global};
 
-/// What rows have put together: named credentials, a table of mounts, mentions, and processes.
+/// What rows have put together: named credentials, a table of mounts, and mentions.
 #[derive(Drop)]
 pub struct Rows {
     states: States,
     table: MountTable,
     mentions: Mentions,
-    world: Option<ThinWorld>,
 }
 
 impl Rows {
-    /// No credentials, the host alone, no mention and no process.
+    /// No credentials, the host alone, and no mention.
     pub fn new(alloc: Global) -> Result<Self, AllocError> {
         Ok(Rows {
             states: Vec::new(alloc),
             table: MountTable::new(alloc)?,
             mentions: Mentions::new(alloc),
-            world: None,
         })
     }
 
@@ -38,8 +35,6 @@ impl Rows {
             ["creds", rest @ ..] => creds::answer(alloc, &mut self.states, rest),
             ["mounts", rest @ ..] => mounts::answer(alloc, &mut self.table, rest),
             ["view", rest @ ..] => views::answer(alloc, &mut self.mentions, rest),
-            ["process", rest @ ..] => processes::answer(alloc, &mut self.world, rest),
-            ["launch", rest @ ..] => launches::answer(alloc, rest),
             _ => said(alloc, "no row"),
         }
     }

@@ -32,7 +32,7 @@ pub together : (told : Option Files) (unit : List ℕ) → GoTogether (laws_over
 together told unit = go_together (plan_laws unit) told (done_is_answer unit)
 
 -- an input or a setting is refused
-refused_before : (P : SettledUnit → Type 0) (told : Option Files) (unit : List ℕ) (stop : Stop) → IfSome told (λ files. Prepares P (unit_refusals files unit) (Err stop)) → IfSome told (λ files. Prepares P (plan_refusals files unit) (Err stop))
+pub refused_before : (P : SettledUnit → Type 0) (told : Option Files) (unit : List ℕ) (stop : Stop) → IfSome told (λ files. Prepares P (unit_refusals files unit) (Err stop)) → IfSome told (λ files. Prepares P (plan_refusals files unit) (Err stop))
 refused_before P None unit stop said = tt
 refused_before P (Some files) unit stop said = stops_before P P stop (unit_refusals files unit) (refusals_by (refused_paths unit) (inputs_of files unit)) said
 
@@ -47,13 +47,13 @@ quiet_stop before now stop.Memory same reads = quiet before now (Err stop.Memory
 
 module _ (told : Option Files) (unit : List ℕ) (one : SettledUnit) (mentions : List Mention) (site : Site) where
   -- with the inputs the paths of the settings are those that the unit mentions
-  refused_as : (files : Files) → mentions ≡ unit_mentions (inputs_view one.inputs).unit (inputs_view one.inputs).site → site ≡ (inputs_view one.inputs).site → (first_refusal (unit_refusals files unit) ≡ None) × (inputs_of files unit ≡ Some (inputs_view one.inputs)) → first_refusal (plan_refusals files unit) ≡ first_refusal (path_refusals unit (host_of site) mentions)
+  pub refused_as : (files : Files) → mentions ≡ unit_mentions (inputs_view one.inputs).unit (inputs_view one.inputs).site → site ≡ (inputs_view one.inputs).site → (first_refusal (unit_refusals files unit) ≡ None) × (inputs_of files unit ≡ Some (inputs_view one.inputs)) → first_refusal (plan_refusals files unit) ≡ first_refusal (path_refusals unit (host_of site) mentions)
   refused_as files same lies settles =
       refusals_with files unit (unit_refusals files unit) (refused_paths unit) (inputs_view one.inputs) settles.0 settles.1
       ∙ ap (λ these. first_refusal (path_refusals unit (host_of (inputs_view one.inputs).site) these)) (sym same)
       ∙ ap (λ place. first_refusal (path_refusals unit (host_of place) mentions)) (sym lies)
 
-  at_paths : (P : List MountStep → Type 0) (told : Option Files) (stop : Stop) → mentions ≡ unit_mentions (inputs_view one.inputs).unit (inputs_view one.inputs).site → site ≡ (inputs_view one.inputs).site → IfSome told (λ files. (first_refusal (unit_refusals files unit) ≡ None) × (inputs_of files unit ≡ Some (inputs_view one.inputs))) → Prepares P (path_refusals unit (host_of site) mentions) (Err stop) → IfSome told (λ files. Prepares P (plan_refusals files unit) (Err stop))
+  pub at_paths : (P : List MountStep → Type 0) (told : Option Files) (stop : Stop) → mentions ≡ unit_mentions (inputs_view one.inputs).unit (inputs_view one.inputs).site → site ≡ (inputs_view one.inputs).site → IfSome told (λ files. (first_refusal (unit_refusals files unit) ≡ None) × (inputs_of files unit ≡ Some (inputs_view one.inputs))) → Prepares P (path_refusals unit (host_of site) mentions) (Err stop) → IfSome told (λ files. Prepares P (plan_refusals files unit) (Err stop))
   at_paths P None stop same lies settles said = tt
   at_paths P (Some files) stop same lies settles said = stops_as P stop (path_refusals unit (host_of site) mentions) (plan_refusals files unit) (refused_as files same lies settles) said
 

@@ -6,7 +6,7 @@ use Rattle.command_answers.specs.declared.ending.Ending.{Ending}
 use Rattle.command_answers.specs.declared.ending.Ending.TheVariants.{Done, NoCommand}
 use Rattle.filter_command.specs.Prints.{filter_laws}
 use Rattle.plan_command.specs.Prints.{plan_laws}
-use Rattle.thin_judge.specs.JudgePrints.{judge_laws}
+use Rattle.judge_command.specs.Prints.{judge_laws}
 use Rattle.top_call.specs.Requests.{Request, HelpAlone, VersionAlone, FilterOf, PlanOf, JudgeOf, request_in}
 use Rattle.top_call.specs.Texts.{help_text, version_text, words_line}
 use denote.Ref.{Bor}
@@ -25,7 +25,7 @@ laws_for HelpAlone told = fixed_laws Done help_text (Unit {0})
 laws_for VersionAlone told = fixed_laws Done version_text (Unit {0})
 laws_for (FilterOf unit) told = laws_over told (filter_laws unit)
 laws_for (PlanOf unit) told = laws_over told (plan_laws unit)
-laws_for (JudgeOf unit) told = judge_laws told unit
+laws_for (JudgeOf unit) told = laws_over told (judge_laws unit)
 
 -- words that are no command are refused whatever the files
 abbrev pub laws_by : Option Request → Option Files → Laws

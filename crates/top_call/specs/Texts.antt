@@ -24,7 +24,7 @@ help_lines =
     [] ∷
     codes "  filter UNIT    print the compiled seccomp filters of the unit" ∷
     codes "  plan UNIT      print the mounts that give the service its view of files" ∷
-    codes "  judge UNIT     print which system calls the service can reach (thin inputs)" ∷
+    codes "  judge UNIT     launch the service in a model, print what it can reach" ∷
     codes "  --help         print this text" ∷
     codes "  --version      print the name and the version" ∷
     [] ∷

@@ -30,7 +30,7 @@ fn answer_request<S: Shelf, K: Sink>(
         Request::Version => finish(alloc, Ok(texts::version()), out),
         Request::Filter(unit) => finish(alloc, filter_command::prepare(alloc, shelf, unit), out),
         Request::Plan(unit) => finish(alloc, plan_command::prepare(alloc, shelf, unit), out),
-        Request::Judge(unit) => finish(alloc, thin_judge::prepare(alloc, shelf, unit), out),
+        Request::Judge(unit) => finish(alloc, judge_command::prepare(alloc, shelf, unit), out),
     }
 }
 

@@ -15,7 +15,7 @@ const HELP: &[&str] = &[
     "\n",
     "  filter UNIT    print the compiled seccomp filters of the unit\n",
     "  plan UNIT      print the mounts that give the service its view of files\n",
-    "  judge UNIT     print which system calls the service can reach (thin inputs)\n",
+    "  judge UNIT     launch the service in a model, print what it can reach\n",
     "  --help         print this text\n",
     "  --version      print the name and the version\n",
     "\n",

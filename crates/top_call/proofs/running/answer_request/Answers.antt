@@ -8,9 +8,9 @@ use Rattle.filter_command.specs.Prints.{filter_laws, filters_text, ending_of as 
 use Rattle.filter_command.proofs.Prepared.{together as filter_together}
 use Rattle.plan_command.specs.Prints.{plan_laws, mounts_text, ending_of as plan_ending}
 use Rattle.plan_command.proofs.Prepared.{together as plan_together}
-use Rattle.thin_judge.specs.Answers.{text_of_answer, ending_of as judge_ending}
-use Rattle.thin_judge.specs.JudgePrints.{judge_laws}
-use Rattle.thin_judge.proofs.JudgeEndings.{together as judge_together}
+use Rattle.judge_command.specs.Prints.{judge_laws}
+use Rattle.judge_command.specs.Report.{ending_of as judge_ending, text_of as report_text}
+use Rattle.judge_command.proofs.Prepared.{together as judge_together}
 use Rattle.top_call.specs.Asked.{laws_by}
 use Rattle.top_call.specs.Requests.{request_of}
 use Rattle.top_call.specs.Texts.{help_text, version_text}
@@ -42,5 +42,5 @@ returns-in-Plan-clause-runs g c =
 pub returns-in-Judge-clause-runs : goal.returns-in-Judge-clause-runs
 returns-in-Judge-clause-runs g c =
     rw c.in-Judge.is
-    (ran (judge_laws (g.S.Shelf.told c.args.shelf.now) c.in-Judge.unit.now) (judge_together (g.S.Shelf.told c.args.shelf.now) c.in-Judge.unit.now) _ judge_ending text_of_answer c.prepare-in-Judge.result c.finish-in-Judge.result
-    c.prepare-in-Judge.ensures.prepares c.prepare-in-Judge.ensures.reads_for_a_thin_name c.prepare-in-Judge.ensures.fault_rose c.finish-in-Judge.ensures.finishes)
+    (ran (laws_over (g.S.Shelf.told c.args.shelf.now) (judge_laws c.in-Judge.unit.now)) (judge_together (g.S.Shelf.told c.args.shelf.now) c.in-Judge.unit.now) _ judge_ending report_text c.prepare-in-Judge.result c.finish-in-Judge.result
+    c.prepare-in-Judge.ensures.prepares c.prepare-in-Judge.ensures.reads_for_a_name c.prepare-in-Judge.ensures.fault_rose c.finish-in-Judge.ensures.finishes)

@@ -1,0 +1,4 @@
+pub mod Prepared
+pub mod Answered
+pub mod Lines
+pub mod Bare

@@ -1,0 +1,38 @@
+-- What a reply Done tells of the step.
+use Rattle.std.proofs.Common.{◌≡◌, Option, Some, None, refl}
+use Rattle.bpf_code.specs.declared.decision.Decision.{Decision}
+use Rattle.bpf_code.specs.declared.decision.Decision.TheVariants as decision
+use Rattle.bpf_code.specs.Stack.{decision_on}
+use Rattle.kernel_calls.specs.declared.call.Call.{Call}
+use Rattle.kernel_calls.specs.Doing.{Doing, Asked, Lacking, Misformed, Does, asked_of}
+use Rattle.kernel_model.specs.declared.process.Process.{Process}
+use Rattle.kernel_model.specs.Effects.{effect_of}
+use Rattle.kernel_model.specs.World.{World, living_of, host_of, caller_of}
+use Rattle.kernel_model.specs.Step.{applied, answered, decided, data_of, step_by, step}
+use Rattle.kernel_model.specs.Runs.{IsDone}
+use Rattle.kernel_laws.proofs.Numbered.{Lives, lives}
+
+pub record WasDone (world : World) (call : Call) : Type 0 where
+  pub process : Process
+  pub living : Lives world call.pid process
+  pub passed : decision_on process.stack (data_of world call) ≡ decision.Pass
+  pub doing : Doing
+  pub asks : asked_of world.calls.calls call ≡ Does doing
+  pub done : IsDone (applied world call.pid process (effect_of (host_of world) (caller_of world process) doing)).0
+
+pub was_done : (world : World) (call : Call) → IsDone (step world call).0 → WasDone world call
+was_done world call e = by (living_of world call.pid) refl e
+  where
+    by_asked : (process : Process) → Lives world call.pid process → decision_on process.stack (data_of world call) ≡ decision.Pass → (a : Asked) → asked_of world.calls.calls call ≡ a → IsDone (answered world call.pid process a).0 → WasDone world call
+    by_asked process l p Lacking is e = absurd e
+    by_asked process l p Misformed is e = absurd e
+    by_asked process l p (Does doing) is e = record { process = process; living = l; passed = p; doing = doing; asks = is; done = e }
+
+    by_decision : (process : Process) → Lives world call.pid process → (c : Decision) → decision_on process.stack (data_of world call) ≡ c → IsDone (decided world call process c).0 → WasDone world call
+    by_decision process l decision.Pass p e = by_asked process l p (asked_of world.calls.calls call) refl e
+    by_decision process l (decision.Errno errno) p e = absurd e
+    by_decision process l decision.Kill p e = absurd e
+
+    by : (o : Option Process) → living_of world call.pid ≡ o → IsDone (step_by world call o).0 → WasDone world call
+    by None is e = absurd e
+    by (Some process) is e = by_decision process (lives world call.pid process is) (decision_on process.stack (data_of world call)) refl e

@@ -1,0 +1,511 @@
+-- Each filter, by the names that it looks at.
+use Rattle.std.proofs.Common.{◌≡◌, ℕ, Bool, true, false, cond, List, [], ◌∷◌, Option, Some, None, ◌⊎◌, inl, inr, refl, ap, ◌∙◌, sym, subst, arith, eqb}
+use Rattle.std.specs.Prelude.{◌&&◌, ◌||◌, not, ◌==◌, ◌%◌, ◌^◌, codes, slice_index}
+use Rattle.std.specs.Str.{bytes_eq}
+use Rattle.std.specs.List.{list_any}
+use Rattle.std.specs.Option.{option_map_or}
+use Rattle.std.specs.Int.RustNames.{bit_and}
+use Rattle.std.proofs.lemmas.Bool.{and_parts, and_from, or_left, or_right, or_cases, eqb-true, eq-eqb, not-true}
+use Rattle.std.proofs.lemmas.Bool.Decides.{nat_tests}
+use Rattle.std.proofs.lemmas.Slice.Eq.{bytes_eq-Decides}
+use Rattle.bpf_code.specs.declared.machine.CallData.{CallData}
+use Rattle.bpf_code.specs.declared.decision.Decision.TheVariants as decision
+use Rattle.bpf_code.specs.Stack.{decision_of}
+use Rattle.cap_sets.specs.Sets.{has, none, cut, union, single, within}
+use Rattle.cap_sets.proofs.Members.{has_cut, has_none, has_union, has_single, same_sets, within_through, IsWithin-from_within, within-from_IsWithin}
+use Rattle.call_table.specs.declared.listed.CallLine.{CallLine}
+use Rattle.call_names.specs.Known.{known_call}
+use Rattle.filter_rules.specs.declared.mentions.FamilyList.{FamilyList}
+use Rattle.filter_rules.specs.declared.names.FilterName.TheVariants as filter
+use Rattle.filter_rules.specs.declared.namespace_types.NamespaceType.{NamespaceType}
+use Rattle.filter_rules.specs.declared.namespace_types.NamespaceTypes.{NamespaceTypes}
+use Rattle.filter_rules.specs.NamespaceTypes as spaces
+use Rattle.filter_rules.specs.Actions.{low, has_bits, unless_refused, is_one_of}
+use Rattle.filter_rules.specs.Families.{refuses_family, is_refused_family}
+use Rattle.filter_rules.specs.Mapping.{refuses_mapping}
+use Rattle.filter_rules.specs.Realtime.{refuses_policy, is_ordinary}
+use Rattle.filter_rules.specs.Suid.{refuses_mode, sets_id_bit, has_mode}
+use Rattle.filter_rules.specs.Namespaces.{refuses_namespace, has_forbidden, forbidden_types}
+use Rattle.filter_rules.specs.Personality.{refuses_personality, keeps_domain}
+use Rattle.kernel_calls.specs.Words.{low_word}
+use Rattle.kern_files.specs.Bits.{has_some, has_all}
+use Rattle.kernel_calls.specs.declared.payload.Payload.{Payload}
+use Rattle.kernel_calls.specs.Doing as d
+use Rattle.kernel_calls.specs.Doing.{Doing, bare, doing_by}
+use Rattle.kernel_laws.specs.Kinds as k
+use Rattle.kernel_laws.specs.Kinds.{Kind, asks, words, one_word, no_words}
+use Rattle.kernel_laws.specs.Questions as q
+use Rattle.call_names.specs.Known.{place_of}
+use Rattle.call_names.specs.declared.rule.Argument.{Argument}
+use Rattle.call_names.specs.declared.rule.Argument.TheVariants as argument
+use Rattle.call_rules.specs.Action.{word_of}
+use Rattle.kernel_calls.specs.declared.rule.Rule.TheVariants as rule
+use Rattle.call_names.specs.declared.rule.CallRule.TheVariants as known
+use Rattle.kernel_calls.specs.declared.rule.Rule.{Rule}
+use Rattle.kernel_calls.specs.Rules.{rule_of}
+use Rattle.kernel_laws.specs.FirstChoice.{FirstPasses}
+use Rattle.kernel_laws.proofs.Filters.{bare_is}
+
+abbrev with_name : CallLine → List ℕ → CallLine
+with_name line name = record { name = name; number = line.number; cap = line.cap }
+
+at_name : (line : CallLine) (name : List ℕ) (rule' : Rule) → bytes_eq line.name name ≡ true → rule_of line ≡ Some rule' → rule_of (with_name line name) ≡ Some rule'
+at_name line name rule' h e = let P : List ℕ → Type 0 = λ n. rule_of (with_name line n) ≡ Some rule' in subst P ((bytes_eq-Decides line.name name).0 h) e
+
+some_same : (own rule' : Rule) → Some own ≡ Some rule' → own ≡ rule'
+some_same own rule' e = cc
+
+rule-socket : (line : CallLine) (rule' : Rule) → bytes_eq line.name (codes "socket") ≡ true → rule_of line ≡ Some rule' → (rule.Known known.Socket) ≡ rule'
+unfolding rule_of known_call
+rule-socket line rule' h e = some_same (rule.Known known.Socket) rule' (at_name line (codes "socket") rule' h e)
+
+rule-mmap : (line : CallLine) (rule' : Rule) → bytes_eq line.name (codes "mmap") ≡ true → rule_of line ≡ Some rule' → (rule.Known known.Map) ≡ rule'
+unfolding rule_of known_call
+rule-mmap line rule' h e = some_same (rule.Known known.Map) rule' (at_name line (codes "mmap") rule' h e)
+
+rule-mprotect : (line : CallLine) (rule' : Rule) → bytes_eq line.name (codes "mprotect") ≡ true → rule_of line ≡ Some rule' → (rule.Known known.Protect) ≡ rule'
+unfolding rule_of known_call
+rule-mprotect line rule' h e = some_same (rule.Known known.Protect) rule' (at_name line (codes "mprotect") rule' h e)
+
+rule-pkey_mprotect : (line : CallLine) (rule' : Rule) → bytes_eq line.name (codes "pkey_mprotect") ≡ true → rule_of line ≡ Some rule' → (rule.Known known.Protect) ≡ rule'
+unfolding rule_of known_call
+rule-pkey_mprotect line rule' h e = some_same (rule.Known known.Protect) rule' (at_name line (codes "pkey_mprotect") rule' h e)
+
+rule-shmat : (line : CallLine) (rule' : Rule) → bytes_eq line.name (codes "shmat") ≡ true → rule_of line ≡ Some rule' → (rule.Known known.Attach) ≡ rule'
+unfolding rule_of known_call
+rule-shmat line rule' h e = some_same (rule.Known known.Attach) rule' (at_name line (codes "shmat") rule' h e)
+
+rule-sched_setscheduler : (line : CallLine) (rule' : Rule) → bytes_eq line.name (codes "sched_setscheduler") ≡ true → rule_of line ≡ Some rule' → (rule.Known known.Schedule) ≡ rule'
+unfolding rule_of known_call
+rule-sched_setscheduler line rule' h e = some_same (rule.Known known.Schedule) rule' (at_name line (codes "sched_setscheduler") rule' h e)
+
+rule-personality : (line : CallLine) (rule' : Rule) → bytes_eq line.name (codes "personality") ≡ true → rule_of line ≡ Some rule' → (rule.Known known.Personality) ≡ rule'
+unfolding rule_of known_call
+rule-personality line rule' h e = some_same (rule.Known known.Personality) rule' (at_name line (codes "personality") rule' h e)
+
+rule-chmod : (line : CallLine) (rule' : Rule) → bytes_eq line.name (codes "chmod") ≡ true → rule_of line ≡ Some rule' → (rule.Known (known.SetMode argument.Second)) ≡ rule'
+unfolding rule_of known_call
+rule-chmod line rule' h e = some_same (rule.Known (known.SetMode argument.Second)) rule' (at_name line (codes "chmod") rule' h e)
+
+rule-fchmod : (line : CallLine) (rule' : Rule) → bytes_eq line.name (codes "fchmod") ≡ true → rule_of line ≡ Some rule' → (rule.Known (known.SetMode argument.Second)) ≡ rule'
+unfolding rule_of known_call
+rule-fchmod line rule' h e = some_same (rule.Known (known.SetMode argument.Second)) rule' (at_name line (codes "fchmod") rule' h e)
+
+rule-mkdir : (line : CallLine) (rule' : Rule) → bytes_eq line.name (codes "mkdir") ≡ true → rule_of line ≡ Some rule' → (rule.Known (known.SetMode argument.Second)) ≡ rule'
+unfolding rule_of known_call
+rule-mkdir line rule' h e = some_same (rule.Known (known.SetMode argument.Second)) rule' (at_name line (codes "mkdir") rule' h e)
+
+rule-mknod : (line : CallLine) (rule' : Rule) → bytes_eq line.name (codes "mknod") ≡ true → rule_of line ≡ Some rule' → (rule.Known (known.SetMode argument.Second)) ≡ rule'
+unfolding rule_of known_call
+rule-mknod line rule' h e = some_same (rule.Known (known.SetMode argument.Second)) rule' (at_name line (codes "mknod") rule' h e)
+
+rule-creat : (line : CallLine) (rule' : Rule) → bytes_eq line.name (codes "creat") ≡ true → rule_of line ≡ Some rule' → (rule.Known known.Create) ≡ rule'
+unfolding rule_of known_call
+rule-creat line rule' h e = some_same (rule.Known known.Create) rule' (at_name line (codes "creat") rule' h e)
+
+rule-fchmodat : (line : CallLine) (rule' : Rule) → bytes_eq line.name (codes "fchmodat") ≡ true → rule_of line ≡ Some rule' → (rule.Known (known.SetMode argument.Third)) ≡ rule'
+unfolding rule_of known_call
+rule-fchmodat line rule' h e = some_same (rule.Known (known.SetMode argument.Third)) rule' (at_name line (codes "fchmodat") rule' h e)
+
+rule-mkdirat : (line : CallLine) (rule' : Rule) → bytes_eq line.name (codes "mkdirat") ≡ true → rule_of line ≡ Some rule' → (rule.Known (known.SetMode argument.Third)) ≡ rule'
+unfolding rule_of known_call
+rule-mkdirat line rule' h e = some_same (rule.Known (known.SetMode argument.Third)) rule' (at_name line (codes "mkdirat") rule' h e)
+
+rule-mknodat : (line : CallLine) (rule' : Rule) → bytes_eq line.name (codes "mknodat") ≡ true → rule_of line ≡ Some rule' → (rule.Known (known.SetMode argument.Third)) ≡ rule'
+unfolding rule_of known_call
+rule-mknodat line rule' h e = some_same (rule.Known (known.SetMode argument.Third)) rule' (at_name line (codes "mknodat") rule' h e)
+
+rule-open : (line : CallLine) (rule' : Rule) → bytes_eq line.name (codes "open") ≡ true → rule_of line ≡ Some rule' → (rule.Known (known.Open argument.Second)) ≡ rule'
+unfolding rule_of known_call
+rule-open line rule' h e = some_same (rule.Known (known.Open argument.Second)) rule' (at_name line (codes "open") rule' h e)
+
+rule-openat : (line : CallLine) (rule' : Rule) → bytes_eq line.name (codes "openat") ≡ true → rule_of line ≡ Some rule' → (rule.Known (known.Open argument.Third)) ≡ rule'
+unfolding rule_of known_call
+rule-openat line rule' h e = some_same (rule.Known (known.Open argument.Third)) rule' (at_name line (codes "openat") rule' h e)
+
+rule-unshare : (line : CallLine) (rule' : Rule) → bytes_eq line.name (codes "unshare") ≡ true → rule_of line ≡ Some rule' → (rule.Known known.Unshare) ≡ rule'
+unfolding rule_of known_call
+rule-unshare line rule' h e = some_same (rule.Known known.Unshare) rule' (at_name line (codes "unshare") rule' h e)
+
+rule-clone : (line : CallLine) (rule' : Rule) → bytes_eq line.name (codes "clone") ≡ true → rule_of line ≡ Some rule' → (rule.Known known.Clone) ≡ rule'
+unfolding rule_of known_call
+rule-clone line rule' h e = some_same (rule.Known known.Clone) rule' (at_name line (codes "clone") rule' h e)
+
+rule-setns : (line : CallLine) (rule' : Rule) → bytes_eq line.name (codes "setns") ≡ true → rule_of line ≡ Some rule' → (rule.Known known.Enter) ≡ rule'
+unfolding rule_of known_call
+rule-setns line rule' h e = some_same (rule.Known known.Enter) rule' (at_name line (codes "setns") rule' h e)
+
+-- the words that ask first have this in their place
+first_is : (one first : List ℕ) → Some one ≡ Some first → one ≡ first
+first_is one first e = cc
+
+below : (n word : ℕ) → eqb (word % 2 ^ 32) n ≡ true → n % 2 ^ 32 ≡ word % 2 ^ 32
+below n word h = let e = eqb-true (word % 2 ^ 32) n h in omega (arith, e)
+
+kind-Socket : (kind : Kind) (args first : List ℕ) → asks kind (d.Socket (low_word args 0)) ≡ true → words kind (rule.Known known.Socket) ≡ Some first → low_word first 0 ≡ low_word args 0
+kind-Socket (k.ForPath q.ToSee) args first h e = cc
+kind-Socket (k.ForPath q.ToRead) args first h e = cc
+kind-Socket (k.ForPath q.ToWrite) args first h e = cc
+kind-Socket (k.ForPath q.ToExec) args first h e = cc
+kind-Socket (k.ForFamily family) args first h e = ap (λ (w : List ℕ). low_word w 0) (sym (first_is (one_word 0 family) first e)) ∙ below family (slice_index args 0) h
+kind-Socket kind args first h e = cc
+
+kind-Map : (kind : Kind) (args first : List ℕ) → asks kind (d.Map (low_word args 2)) ≡ true → words kind (rule.Known known.Map) ≡ Some first → has_bits (low_word args 2) 6 ≡ true
+kind-Map (k.ForPath q.ToSee) args first h e = cc
+kind-Map (k.ForPath q.ToRead) args first h e = cc
+kind-Map (k.ForPath q.ToWrite) args first h e = cc
+kind-Map (k.ForPath q.ToExec) args first h e = cc
+kind-Map k.MapsWx args first h e = h
+kind-Map kind args first h e = cc
+
+kind-Protect : (kind : Kind) (args first : List ℕ) → asks kind (d.Protect (low_word args 2)) ≡ true → words kind (rule.Known known.Protect) ≡ Some first → has_bits (low_word args 2) 4 ≡ true
+kind-Protect (k.ForPath q.ToSee) args first h e = cc
+kind-Protect (k.ForPath q.ToRead) args first h e = cc
+kind-Protect (k.ForPath q.ToWrite) args first h e = cc
+kind-Protect (k.ForPath q.ToExec) args first h e = cc
+kind-Protect k.ProtectsX args first h e = h
+kind-Protect kind args first h e = cc
+
+kind-Attach : (kind : Kind) (args first : List ℕ) → asks kind (d.Attach (low_word args 2)) ≡ true → words kind (rule.Known known.Attach) ≡ Some first → has_bits (low_word args 2) 0x8000 ≡ true
+kind-Attach (k.ForPath q.ToSee) args first h e = cc
+kind-Attach (k.ForPath q.ToRead) args first h e = cc
+kind-Attach (k.ForPath q.ToWrite) args first h e = cc
+kind-Attach (k.ForPath q.ToExec) args first h e = cc
+kind-Attach k.AttachesX args first h e = h
+kind-Attach kind args first h e = cc
+
+realtime_is : (policy : ℕ) → (policy == 1 || policy == 2) ≡ true → not (is_ordinary policy) ≡ true
+realtime_is policy h = grind (arith, nat_tests)
+
+kind-Schedule : (kind : Kind) (args first : List ℕ) → asks kind (d.Schedule (low_word args 1)) ≡ true → words kind (rule.Known known.Schedule) ≡ Some first → not (is_ordinary (low_word args 1)) ≡ true
+kind-Schedule (k.ForPath q.ToSee) args first h e = cc
+kind-Schedule (k.ForPath q.ToRead) args first h e = cc
+kind-Schedule (k.ForPath q.ToWrite) args first h e = cc
+kind-Schedule (k.ForPath q.ToExec) args first h e = cc
+kind-Schedule k.SchedulesRealtime args first h e = realtime_is (low_word args 1) h
+kind-Schedule kind args first h e = cc
+
+kind-Personality : (kind : Kind) (args first : List ℕ) → asks kind (d.Personality (low_word args 0)) ≡ true → words kind (rule.Known known.Personality) ≡ Some first → not (keeps_domain (low_word args 0)) ≡ true
+kind-Personality (k.ForPath q.ToSee) args first h e = cc
+kind-Personality (k.ForPath q.ToRead) args first h e = cc
+kind-Personality (k.ForPath q.ToWrite) args first h e = cc
+kind-Personality (k.ForPath q.ToExec) args first h e = cc
+kind-Personality k.TakesPersonality args first h e = h
+kind-Personality kind args first h e = cc
+
+-- a set-user-id or a set-group-id bit
+bit_is : (mode number : ℕ) → has mode number ≡ true → has_bits mode (2 ^ number) ≡ true
+unfolding cut single
+bit_is mode number h = eq-eqb (bit_and mode (2 ^ number)) (2 ^ number) (same_sets (cut mode (single number)) (single number) (λ n. by n (n == number) refl))
+  where
+    by : (n : ℕ) (b : Bool) → (n == number) ≡ b → has (cut mode (single number)) n ≡ has (single number) n
+    by n true e =
+        let same : n ≡ number = eqb-true n number e in
+        has_cut mode (single number) n ∙ ap (λ m. has mode m && has (single number) n) same ∙ ap (λ b. b && has (single number) n) h
+    by n false e =
+        let off : has (single number) n ≡ false = has_single number n ∙ e in
+        has_cut mode (single number) n ∙ ap (λ b. has mode n && b) off ∙ and_off (has mode n) ∙ sym off
+      where
+        and_off : (b : Bool) → (b && false) ≡ false
+        and_off true = refl
+        and_off false = refl
+
+abbrev id_mask : ℕ
+id_mask = 0xc00
+
+mask_is : (number : ℕ) → has id_mask number ≡ true → (number ≡ 11) ⊎ (number ≡ 10)
+unfolding union single
+mask_is number h =
+    let parts : (has (single 11) number || has (single 10) number) ≡ true = sym (has_union (single 11) (single 10) number) ∙ h in
+    elim (or_cases (has (single 11) number) (has (single 10) number) parts) [
+      | inl a ↦ inl (eqb-true number 11 (sym (has_single 11 number) ∙ a))
+      | inr b ↦ inr (eqb-true number 10 (sym (has_single 10 number) ∙ b))
+    ]
+
+id_bit : (mode : ℕ) → has_some id_mask mode ≡ true → sets_id_bit mode ≡ true
+unfolding cut none
+id_bit mode h = by (has mode 11) (has mode 10) refl refl
+  where
+    empty : has mode 11 ≡ false → has mode 10 ≡ false → cut mode id_mask ≡ none
+    empty a b = same_sets (cut mode id_mask) none (λ n. has_cut mode id_mask n ∙ each n (has id_mask n) refl ∙ sym (has_none n))
+      where
+        off_both : (x : Bool) → (x && false) ≡ false
+        off_both true = refl
+        off_both false = refl
+
+        each : (n : ℕ) (m : Bool) → has id_mask n ≡ m → (has mode n && has id_mask n) ≡ false
+        each n true e = elim (mask_is n e) [
+          | inl s ↦ ap (λ x. has mode x && has id_mask n) s ∙ ap (λ x. x && has id_mask n) a
+          | inr s ↦ ap (λ x. has mode x && has id_mask n) s ∙ ap (λ x. x && has id_mask n) b
+        ]
+        each n false e = ap (λ x. has mode n && x) e ∙ off_both (has mode n)
+
+    by : (a b : Bool) → has mode 11 ≡ a → has mode 10 ≡ b → sets_id_bit mode ≡ true
+    by true b e g = or_left _ _ (bit_is mode 11 e)
+    by false true e g = or_right _ _ (bit_is mode 10 g)
+    by false false e g =
+        let zero' : eqb (bit_and mode id_mask) 0 ≡ true = eq-eqb (bit_and mode id_mask) 0 (empty e g) in
+        let off = not-true (eqb (bit_and mode id_mask) 0) h in
+        cc
+
+kind-SetMode : (kind : Kind) (args first : List ℕ) (at : Argument) → asks kind (d.SetMode (low_word args (place_of at))) ≡ true → words kind (rule.Known (known.SetMode at)) ≡ Some first → sets_id_bit (low_word args (place_of at)) ≡ true
+kind-SetMode (k.ForPath q.ToSee) args first at h e = cc
+kind-SetMode (k.ForPath q.ToRead) args first at h e = cc
+kind-SetMode (k.ForPath q.ToWrite) args first at h e = cc
+kind-SetMode (k.ForPath q.ToExec) args first at h e = cc
+kind-SetMode k.SetsMode args first at h e = id_bit (low_word args (place_of at)) h
+kind-SetMode kind args first at h e = cc
+
+flag_low : (space : q.Space) → q.flag_of space % 2 ^ 32 ≡ q.flag_of space
+flag_low q.Cgroup = refl
+flag_low q.Ipc = refl
+flag_low q.Net = refl
+flag_low q.Mnt = refl
+flag_low q.Pid = refl
+flag_low q.User = refl
+flag_low q.Uts = refl
+
+-- a mask that the flag has, flags with the flag have
+more_bits : (flag flags mask : ℕ) → has_all flag flags ≡ true → has_bits flag mask ≡ true → has_bits flags mask ≡ true
+unfolding within
+more_bits flag flags mask h g = within-from_IsWithin mask flags (within_through mask flag flags (IsWithin-from_within mask flag g) (IsWithin-from_within flag flags h))
+
+abbrev MoreBits : List ℕ → List ℕ → Type 0
+MoreBits args first = (mask : ℕ) → has_bits (low_word first 0) mask ≡ true → has_bits (low_word args 0) mask ≡ true
+
+space_bits : (space : q.Space) (args first : List ℕ) → has_all (q.flag_of space) (low_word args 0) ≡ true → Some (one_word 0 (q.flag_of space)) ≡ Some first → MoreBits args first
+space_bits space args first h e mask g =
+    let low' : low_word first 0 ≡ q.flag_of space = ap (λ (w : List ℕ). low_word w 0) (sym (first_is (one_word 0 (q.flag_of space)) first e)) ∙ flag_low space in
+    more_bits (q.flag_of space) (low_word args 0) mask h (ap (λ n. has_bits n mask) (sym low') ∙ g)
+
+kind-Unshare : (kind : Kind) (args first : List ℕ) → asks kind (d.Unshare (low_word args 0)) ≡ true → words kind (rule.Known known.Unshare) ≡ Some first → MoreBits args first
+kind-Unshare (k.ForPath q.ToSee) args first h e = cc
+kind-Unshare (k.ForPath q.ToRead) args first h e = cc
+kind-Unshare (k.ForPath q.ToWrite) args first h e = cc
+kind-Unshare (k.ForPath q.ToExec) args first h e = cc
+kind-Unshare (k.ForSpace space) args first h e = space_bits space args first h e
+kind-Unshare kind args first h e = cc
+
+kind-Clone : (kind : Kind) (args first : List ℕ) → asks kind (d.Clone (low_word args 0)) ≡ true → words kind (rule.Known known.Clone) ≡ Some first → MoreBits args first
+kind-Clone (k.ForPath q.ToSee) args first h e = cc
+kind-Clone (k.ForPath q.ToRead) args first h e = cc
+kind-Clone (k.ForPath q.ToWrite) args first h e = cc
+kind-Clone (k.ForPath q.ToExec) args first h e = cc
+kind-Clone (k.ForSpace space) args first h e = space_bits space args first h e
+kind-Clone kind args first h e = cc
+
+kind-Enter : (kind : Kind) (first : List ℕ) → words kind (rule.Known known.Enter) ≡ Some first → ⊥
+kind-Enter (k.ForPath q.ToSee) first e = cc
+kind-Enter (k.ForPath q.ToRead) first e = cc
+kind-Enter (k.ForPath q.ToWrite) first e = cc
+kind-Enter (k.ForPath q.ToExec) first e = cc
+kind-Enter kind first e = cc
+
+kind-Create : (kind : Kind) (first : List ℕ) → words kind (rule.Known known.Create) ≡ Some first → low_word first 1 ≡ 0
+kind-Create (k.ForPath q.ToSee) first e = cc
+kind-Create (k.ForPath q.ToRead) first e = cc
+kind-Create (k.ForPath q.ToWrite) first e = ap (λ (w : List ℕ). low_word w 1) (sym (first_is no_words first e))
+kind-Create (k.ForPath q.ToExec) first e = cc
+kind-Create kind first e = cc
+
+kind-Open-1 : (kind : Kind) (first : List ℕ) → words kind (rule.Known (known.Open argument.Second)) ≡ Some first → has_bits (low_word first 1) 0x40 ≡ false
+kind-Open-1 (k.ForPath q.ToSee) first e = cc
+kind-Open-1 (k.ForPath q.ToRead) first e = ap (λ (w : List ℕ). has_bits (low_word w 1) 0x40) (sym (first_is no_words first e))
+kind-Open-1 (k.ForPath q.ToWrite) first e = ap (λ (w : List ℕ). has_bits (low_word w 1) 0x40) (sym (first_is (one_word 1 1) first e))
+kind-Open-1 (k.ForPath q.ToExec) first e = cc
+kind-Open-1 kind first e = cc
+
+kind-Open-2 : (kind : Kind) (first : List ℕ) → words kind (rule.Known (known.Open argument.Third)) ≡ Some first → has_bits (low_word first 2) 0x40 ≡ false
+kind-Open-2 (k.ForPath q.ToSee) first e = cc
+kind-Open-2 (k.ForPath q.ToRead) first e = ap (λ (w : List ℕ). has_bits (low_word w 2) 0x40) (sym (first_is no_words first e))
+kind-Open-2 (k.ForPath q.ToWrite) first e = ap (λ (w : List ℕ). has_bits (low_word w 2) 0x40) (sym (first_is (one_word 2 1) first e))
+kind-Open-2 (k.ForPath q.ToExec) first e = cc
+kind-Open-2 kind first e = cc
+
+never-true : false ≡ true → ⊥
+never-true e = cc
+
+-- ---- the filters
+module _ (line : CallLine) (rule' : Rule) (kind : Kind) (payload : Payload) (doing : Doing) (input first : CallData) (is : rule_of line ≡ Some rule') (does : doing_by rule' input.args payload ≡ Some doing)
+    (asked : asks kind doing ≡ true) (are : words kind rule' ≡ Some first.args) where
+  words_at : (own : Rule) → own ≡ rule' → words kind own ≡ Some first.args
+  words_at own e = ap (λ (r : Rule). words kind r) e ∙ are
+
+  bare_at : (own : Rule) (what : Doing) → own ≡ rule' → ((p : Payload) → doing_by own input.args p ≡ bare what p) → asks kind what ≡ true
+  bare_at own what e h =
+      let does' : doing_by own input.args payload ≡ Some doing = ap (λ (r : Rule). doing_by r input.args payload) e ∙ does in
+      ap (asks kind) (bare_is doing what payload (sym (h payload) ∙ does')) ∙ asked
+
+  family_first : (families : Option FamilyList) → refuses_family families line.name first ≡ true → refuses_family families line.name input ≡ true
+  family_first families h =
+      let parts = and_parts (bytes_eq line.name (codes "socket")) (option_map_or (λ list. is_refused_family list (low first 0)) families false) h in
+      let e = rule-socket line rule' parts.0 is in
+      let same = kind-Socket kind input.args first.args (bare_at (rule.Known known.Socket) (d.Socket (low_word input.args 0)) e (λ p. refl)) (words_at (rule.Known known.Socket) e) in
+      and_from _ _ parts.0 (ap (λ n. option_map_or (λ list. is_refused_family list n) families false) (sym same) ∙ parts.1)
+
+  mapping_first : refuses_mapping line.name first ≡ true → refuses_mapping line.name input ≡ true
+  mapping_first h = by (bytes_eq line.name (codes "mmap")) (is_one_of line.name (codes "mprotect" ∷ codes "pkey_mprotect" ∷ [])) (bytes_eq line.name (codes "shmat")) refl refl refl h
+    where
+      protect : ((rule.Known known.Protect) ≡ rule') → has_bits (low input 2) 4 ≡ true
+      protect e = kind-Protect kind input.args first.args (bare_at (rule.Known known.Protect) (d.Protect (low_word input.args 2)) e (λ p. refl)) (words_at (rule.Known known.Protect) e)
+
+      by : (a b c : Bool) → bytes_eq line.name (codes "mmap") ≡ a → is_one_of line.name (codes "mprotect" ∷ codes "pkey_mprotect" ∷ []) ≡ b → bytes_eq line.name (codes "shmat") ≡ c
+          → cond a (has_bits (low first 2) 6) (cond b (has_bits (low first 2) 4) (cond c (has_bits (low first 2) 0x8000) false)) ≡ true
+          → cond a (has_bits (low input 2) 6) (cond b (has_bits (low input 2) 4) (cond c (has_bits (low input 2) 0x8000) false)) ≡ true
+      by true b c x y z h = let e = rule-mmap line rule' x is in kind-Map kind input.args first.args (bare_at (rule.Known known.Map) (d.Map (low_word input.args 2)) e (λ p. refl)) (words_at (rule.Known known.Map) e)
+      by false true c x y z h = elim (or_cases (bytes_eq line.name (codes "mprotect")) (bytes_eq line.name (codes "pkey_mprotect") || false) y) [
+        | inl n ↦ protect (rule-mprotect line rule' n is)
+        | inr m ↦ elim (or_cases (bytes_eq line.name (codes "pkey_mprotect")) false m) [ inl n ↦ protect (rule-pkey_mprotect line rule' n is) | inr n ↦ absurd (never n) ]
+      ]
+        where
+          never : false ≡ true → ⊥
+          never e = cc
+      by false false true x y z h = let e = rule-shmat line rule' z is in kind-Attach kind input.args first.args (bare_at (rule.Known known.Attach) (d.Attach (low_word input.args 2)) e (λ p. refl)) (words_at (rule.Known known.Attach) e)
+      by false false false x y z h = cc
+
+  realtime_first : refuses_policy line.name first ≡ true → refuses_policy line.name input ≡ true
+  realtime_first h =
+      let parts = and_parts (bytes_eq line.name (codes "sched_setscheduler")) (not (is_ordinary (low first 1))) h in
+      let e = rule-sched_setscheduler line rule' parts.0 is in
+      and_from _ _ parts.0 (kind-Schedule kind input.args first.args (bare_at (rule.Known known.Schedule) (d.Schedule (low_word input.args 1)) e (λ p. refl)) (words_at (rule.Known known.Schedule) e))
+
+  personality_first : refuses_personality line.name first ≡ true → refuses_personality line.name input ≡ true
+  personality_first h =
+      let parts = and_parts (bytes_eq line.name (codes "personality")) (not (keeps_domain (low first 0))) h in
+      let e = rule-personality line rule' parts.0 is in
+      and_from _ _ parts.0 (kind-Personality kind input.args first.args (bare_at (rule.Known known.Personality) (d.Personality (low_word input.args 0)) e (λ p. refl)) (words_at (rule.Known known.Personality) e))
+
+  -- at the name that the line has
+  by_name : (refuses : List ℕ → CallData → Bool) (name : List ℕ) → bytes_eq line.name name ≡ true → (refuses name first ≡ true → refuses name input ≡ true) → refuses line.name first ≡ true → refuses line.name input ≡ true
+  by_name refuses name h g r =
+      let same : line.name ≡ name = (bytes_eq-Decides line.name name).0 h in
+      ap (λ n. refuses n input) same ∙ g (ap (λ n. refuses n first) (sym same) ∙ r)
+
+  forbidden_first : (types : NamespaceTypes) → MoreBits input.args first.args → has_forbidden types (low first 0) ≡ true → has_forbidden types (low input 0) ≡ true
+  forbidden_first types more h = by (forbidden_types types) h
+    where
+      step : (own : NamespaceType) (list : List NamespaceType) → (has_bits (low first 0) (spaces.flag_of own) ≡ true) ⊎ (list_any (λ kind. has_bits (low first 0) (spaces.flag_of kind)) list ≡ true)
+          → (list_any (λ kind. has_bits (low first 0) (spaces.flag_of kind)) list ≡ true → list_any (λ kind. has_bits (low input 0) (spaces.flag_of kind)) list ≡ true)
+          → list_any (λ kind. has_bits (low input 0) (spaces.flag_of kind)) (own ∷ list) ≡ true
+      step own list (inl a) rest = or_left _ _ (more (spaces.flag_of own) a)
+      step own list (inr b) rest = or_right _ _ (rest b)
+
+      by : (list : List NamespaceType) → list_any (λ kind. has_bits (low first 0) (spaces.flag_of kind)) list ≡ true → list_any (λ kind. has_bits (low input 0) (spaces.flag_of kind)) list ≡ true
+      by [] h = cc
+      by (own ∷ list) h = step own list (or_cases (has_bits (low first 0) (spaces.flag_of own)) (list_any (λ kind. has_bits (low first 0) (spaces.flag_of kind)) list) h) (by list)
+
+  space_first : (types : NamespaceTypes) → refuses_namespace types line.name first ≡ true → refuses_namespace types line.name input ≡ true
+  space_first types h = by (is_one_of line.name (codes "unshare" ∷ codes "clone" ∷ [])) (bytes_eq line.name (codes "setns")) refl refl h
+    where
+      unshares : bytes_eq line.name (codes "unshare") ≡ true → refuses_namespace types line.name input ≡ true
+      unshares n = let e = rule-unshare line rule' n is in
+          by_name (refuses_namespace types) (codes "unshare") n (forbidden_first types (kind-Unshare kind input.args first.args (bare_at (rule.Known known.Unshare) (d.Unshare (low_word input.args 0)) e (λ p. refl)) (words_at (rule.Known known.Unshare) e))) h
+
+      clones : bytes_eq line.name (codes "clone") ≡ true → refuses_namespace types line.name input ≡ true
+      clones n = let e = rule-clone line rule' n is in
+          by_name (refuses_namespace types) (codes "clone") n (forbidden_first types (kind-Clone kind input.args first.args (bare_at (rule.Known known.Clone) (d.Clone (low_word input.args 0)) e (λ p. refl)) (words_at (rule.Known known.Clone) e))) h
+
+      by : (a b : Bool) → is_one_of line.name (codes "unshare" ∷ codes "clone" ∷ []) ≡ a → bytes_eq line.name (codes "setns") ≡ b
+          → ((b && low first 1 == 0) || option_map_or (λ at. has_forbidden types (low first at)) (cond a (Some 0) (cond b (Some 1) None)) false) ≡ true → refuses_namespace types line.name input ≡ true
+      by true b x y g = elim (or_cases (bytes_eq line.name (codes "unshare")) (bytes_eq line.name (codes "clone") || false) x) [
+        | inl n ↦ unshares n
+        | inr m ↦ elim (or_cases (bytes_eq line.name (codes "clone")) false m) [ inl n ↦ clones n | inr n ↦ absurd (never' n) ]
+      ]
+        where
+          never' : false ≡ true → ⊥
+          never' e = cc
+      by false true x y g = absurd (kind-Enter kind first.args (words_at (rule.Known known.Enter) (rule-setns line rule' y is)))
+      by false false x y g = cc
+
+  suid-chmod : bytes_eq line.name (codes "chmod") ≡ true → refuses_mode line.name first ≡ true → refuses_mode line.name input ≡ true
+  suid-chmod n h = let e = rule-chmod line rule' n is in
+      by_name refuses_mode (codes "chmod") n (λ r. kind-SetMode kind input.args first.args argument.Second (bare_at (rule.Known (known.SetMode argument.Second)) (d.SetMode (low_word input.args 1)) e (λ p. refl)) (words_at (rule.Known (known.SetMode argument.Second)) e)) h
+
+  suid-fchmod : bytes_eq line.name (codes "fchmod") ≡ true → refuses_mode line.name first ≡ true → refuses_mode line.name input ≡ true
+  suid-fchmod n h = let e = rule-fchmod line rule' n is in
+      by_name refuses_mode (codes "fchmod") n (λ r. kind-SetMode kind input.args first.args argument.Second (bare_at (rule.Known (known.SetMode argument.Second)) (d.SetMode (low_word input.args 1)) e (λ p. refl)) (words_at (rule.Known (known.SetMode argument.Second)) e)) h
+
+  suid-mkdir : bytes_eq line.name (codes "mkdir") ≡ true → refuses_mode line.name first ≡ true → refuses_mode line.name input ≡ true
+  suid-mkdir n h = let e = rule-mkdir line rule' n is in
+      by_name refuses_mode (codes "mkdir") n (λ r. kind-SetMode kind input.args first.args argument.Second (bare_at (rule.Known (known.SetMode argument.Second)) (d.SetMode (low_word input.args 1)) e (λ p. refl)) (words_at (rule.Known (known.SetMode argument.Second)) e)) h
+
+  suid-mknod : bytes_eq line.name (codes "mknod") ≡ true → refuses_mode line.name first ≡ true → refuses_mode line.name input ≡ true
+  suid-mknod n h = let e = rule-mknod line rule' n is in
+      by_name refuses_mode (codes "mknod") n (λ r. kind-SetMode kind input.args first.args argument.Second (bare_at (rule.Known (known.SetMode argument.Second)) (d.SetMode (low_word input.args 1)) e (λ p. refl)) (words_at (rule.Known (known.SetMode argument.Second)) e)) h
+
+  suid-fchmodat : bytes_eq line.name (codes "fchmodat") ≡ true → refuses_mode line.name first ≡ true → refuses_mode line.name input ≡ true
+  suid-fchmodat n h = let e = rule-fchmodat line rule' n is in
+      by_name refuses_mode (codes "fchmodat") n (λ r. kind-SetMode kind input.args first.args argument.Third (bare_at (rule.Known (known.SetMode argument.Third)) (d.SetMode (low_word input.args 2)) e (λ p. refl)) (words_at (rule.Known (known.SetMode argument.Third)) e)) h
+
+  suid-mkdirat : bytes_eq line.name (codes "mkdirat") ≡ true → refuses_mode line.name first ≡ true → refuses_mode line.name input ≡ true
+  suid-mkdirat n h = let e = rule-mkdirat line rule' n is in
+      by_name refuses_mode (codes "mkdirat") n (λ r. kind-SetMode kind input.args first.args argument.Third (bare_at (rule.Known (known.SetMode argument.Third)) (d.SetMode (low_word input.args 2)) e (λ p. refl)) (words_at (rule.Known (known.SetMode argument.Third)) e)) h
+
+  suid-mknodat : bytes_eq line.name (codes "mknodat") ≡ true → refuses_mode line.name first ≡ true → refuses_mode line.name input ≡ true
+  suid-mknodat n h = let e = rule-mknodat line rule' n is in
+      by_name refuses_mode (codes "mknodat") n (λ r. kind-SetMode kind input.args first.args argument.Third (bare_at (rule.Known (known.SetMode argument.Third)) (d.SetMode (low_word input.args 2)) e (λ p. refl)) (words_at (rule.Known (known.SetMode argument.Third)) e)) h
+
+  suid-creat : bytes_eq line.name (codes "creat") ≡ true → refuses_mode line.name first ≡ true → refuses_mode line.name input ≡ true
+  suid-creat n h = by_name refuses_mode (codes "creat") n (λ r. let zero' = kind-Create kind first.args (words_at (rule.Known known.Create) (rule-creat line rule' n is)) in
+      let off : sets_id_bit (low first 1) ≡ false = ap sets_id_bit zero' in let on : sets_id_bit (low first 1) ≡ true = r in cc) h
+
+  off_left : (a b : Bool) → a ≡ false → (a && b) ≡ true → ⊥
+  off_left true b e h = cc
+  off_left false b e h = cc
+
+  suid-open : bytes_eq line.name (codes "open") ≡ true → refuses_mode line.name first ≡ true → refuses_mode line.name input ≡ true
+  suid-open n h = by_name refuses_mode (codes "open") n (λ r. absurd (off_left (has_bits (low first 1) 0x40) (sets_id_bit (low first 2)) (kind-Open-1 kind first.args (words_at (rule.Known (known.Open argument.Second)) (rule-open line rule' n is))) r)) h
+
+  suid-openat : bytes_eq line.name (codes "openat") ≡ true → refuses_mode line.name first ≡ true → refuses_mode line.name input ≡ true
+  suid-openat n h = by_name refuses_mode (codes "openat") n (λ r. absurd (off_left (has_bits (low first 2) 0x40) (sets_id_bit (low first 3)) (kind-Open-2 kind first.args (words_at (rule.Known (known.Open argument.Third)) (rule-openat line rule' n is))) r)) h
+
+  abbrev Suid : Type 0
+  Suid = refuses_mode line.name input ≡ true
+
+  either-one : (name : List ℕ) (names : List (List ℕ)) → is_one_of line.name (name ∷ names) ≡ true → (bytes_eq line.name name ≡ true → Suid) → (is_one_of line.name names ≡ true → Suid) → Suid
+  either-one name names h one rest = elim (or_cases (bytes_eq line.name name) (is_one_of line.name names) h) [ inl n ↦ one n | inr m ↦ rest m ]
+
+  none-left : false ≡ true → Suid
+  none-left e = absurd (never-true e)
+
+  suid_first : refuses_mode line.name first ≡ true → refuses_mode line.name input ≡ true
+  suid_first h = by (is_one_of line.name (codes "chmod" ∷ codes "fchmod" ∷ codes "mkdir" ∷ codes "mknod" ∷ codes "creat" ∷ [])) (is_one_of line.name (codes "fchmodat" ∷ codes "mkdirat" ∷ codes "mknodat" ∷ codes "open" ∷ [])) (bytes_eq line.name (codes "openat")) refl refl refl h
+    where
+      by : (a b c : Bool) → is_one_of line.name (codes "chmod" ∷ codes "fchmod" ∷ codes "mkdir" ∷ codes "mknod" ∷ codes "creat" ∷ []) ≡ a → is_one_of line.name (codes "fchmodat" ∷ codes "mkdirat" ∷ codes "mknodat" ∷ codes "open" ∷ []) ≡ b → bytes_eq line.name (codes "openat") ≡ c
+          → option_map_or (λ at. has_mode line.name first && sets_id_bit (low first at)) (cond a (Some 1) (cond b (Some 2) (cond c (Some 3) None))) false ≡ true → Suid
+      by true b c x y z g =
+          either-one (codes "chmod") (codes "fchmod" ∷ codes "mkdir" ∷ codes "mknod" ∷ codes "creat" ∷ []) x (λ n. suid-chmod n h) λ x. either-one (codes "fchmod") (codes "mkdir" ∷ codes "mknod" ∷ codes "creat" ∷ []) x (λ n. suid-fchmod n h) λ x. either-one (codes "mkdir") (codes "mknod" ∷ codes "creat" ∷ []) x (λ n. suid-mkdir n h) λ x.
+          either-one (codes "mknod") (codes "creat" ∷ []) x (λ n. suid-mknod n h) λ x. either-one (codes "creat") ([]) x (λ n. suid-creat n h) λ x. none-left x
+      by false true c x y z g =
+          either-one (codes "fchmodat") (codes "mkdirat" ∷ codes "mknodat" ∷ codes "open" ∷ []) y (λ n. suid-fchmodat n h) λ y. either-one (codes "mkdirat") (codes "mknodat" ∷ codes "open" ∷ []) y (λ n. suid-mkdirat n h) λ y.
+          either-one (codes "mknodat") (codes "open" ∷ []) y (λ n. suid-mknodat n h) λ y. either-one (codes "open") ([]) y (λ n. suid-open n h) λ y. none-left y
+      by false false true x y z g = suid-openat z h
+      by false false false x y z g = cc
+
+-- ---- let through exactly where not refused
+off-1 : (b : Bool) → decision_of (word_of (unless_refused 1 b)) ≡ decision.Pass → b ≡ false
+off-1 true e = cc
+off-1 false e = refl
+
+off-97 : (b : Bool) → decision_of (word_of (unless_refused 97 b)) ≡ decision.Pass → b ≡ false
+off-97 true e = cc
+off-97 false e = refl
+
+carry : (number : ℕ) (x y : Bool) → ((b : Bool) → decision_of (word_of (unless_refused number b)) ≡ decision.Pass → b ≡ false) → (y ≡ true → x ≡ true)
+    → decision_of (word_of (unless_refused number x)) ≡ decision.Pass → decision_of (word_of (unless_refused number y)) ≡ decision.Pass
+carry number x true off up e = let on = up refl in let no' = off x e in cc
+carry number x false off up e = refl
+
+pub first_passes : FirstPasses
+first_passes filter.Families settings table line r kind p doing input first is does asked are = carry 97 (refuses_family settings.families line.name input) (refuses_family settings.families line.name first) off-97 (family_first line r kind p doing input first is does asked are settings.families)
+first_passes filter.MemoryDenyWriteExecute settings table line r kind p doing input first is does asked are = carry 1 (refuses_mapping line.name input) (refuses_mapping line.name first) off-1 (mapping_first line r kind p doing input first is does asked are)
+first_passes filter.Realtime settings table line r kind p doing input first is does asked are = carry 1 (refuses_policy line.name input) (refuses_policy line.name first) off-1 (realtime_first line r kind p doing input first is does asked are)
+first_passes filter.Suid settings table line r kind p doing input first is does asked are = carry 1 (refuses_mode line.name input) (refuses_mode line.name first) off-1 (suid_first line r kind p doing input first is does asked are)
+first_passes filter.Namespaces settings table line r kind p doing input first is does asked are = carry 1 (refuses_namespace settings.namespaces line.name input) (refuses_namespace settings.namespaces line.name first) off-1 (space_first line r kind p doing input first is does asked are settings.namespaces)
+first_passes filter.Personality settings table line r kind p doing input first is does asked are = carry 1 (refuses_personality line.name input) (refuses_personality line.name first) off-1 (personality_first line r kind p doing input first is does asked are)
+first_passes filter.Hostname settings table line r kind p doing input first is does asked are = λ e. e
+first_passes filter.Modules settings table line r kind p doing input first is does asked are = λ e. e
+first_passes filter.Logs settings table line r kind p doing input first is does asked are = λ e. e
+first_passes filter.Clock settings table line r kind p doing input first is does asked are = λ e. e
+first_passes filter.Devices settings table line r kind p doing input first is does asked are = λ e. e
+first_passes filter.Calls settings table line r kind p doing input first is does asked are = λ e. e

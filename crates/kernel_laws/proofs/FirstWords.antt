@@ -1,0 +1,311 @@
+-- Each call that asks for a kind of thing has words that ask for it first; so filters that go by the number alone let the
+-- first choice through where they let any through.
+use Rattle.std.proofs.Common.{◌≡◌, ℕ, true, List, Option, Some, refl, ◌∙◌, subst}
+use Rattle.std.specs.Prelude.{◌<◌, ◌^◌}
+use Rattle.abs_path.specs.Paths.{Path}
+use Rattle.bpf_code.specs.Stack.{decision_on}
+use Rattle.kernel_calls.specs.Words.{low_word}
+use Rattle.kernel_calls.specs.declared.payload.Payload.TheVariants as pay
+use Rattle.kernel_calls.specs.declared.payload.Payload.{Payload}
+use Rattle.call_names.specs.Known.{place_of}
+use Rattle.call_names.specs.declared.rule.Argument.{Argument}
+use Rattle.kernel_calls.specs.declared.rule.Rule.TheVariants as rule
+use Rattle.call_names.specs.declared.rule.CallRule.TheVariants as known
+use Rattle.kernel_calls.specs.declared.rule.Rule.{Rule}
+use Rattle.kernel_calls.specs.Rules.{rule_at}
+use Rattle.kernel_calls.specs.Doing as d
+use Rattle.kernel_calls.specs.Doing.{Doing, doing_by}
+use Rattle.kernel_laws.specs.Questions as q
+use Rattle.kernel_laws.specs.Kinds as k
+use Rattle.kernel_laws.specs.Kinds.{Kind, asks, words, AreWords}
+use Rattle.kernel_laws.specs.Launched.{Launch, data_at, passes, Chosen}
+
+pub record Has (kind : Kind) (rule' : Rule) : Type 0 where
+  pub args : List ℕ
+  pub are : words kind rule' ≡ Some args
+
+abbrev Given : Doing → Rule → Type 0
+Given doing rule' = (kind : Kind) → asks kind doing ≡ true → Has kind rule'
+
+given-See : (path : Path) → Given (d.See path) (rule.Known known.See)
+given-See path (k.ForPath q.ToSee) h = record { args = _; are = refl }
+given-See path (k.ForPath q.ToRead) h = cc
+given-See path (k.ForPath q.ToWrite) h = cc
+given-See path (k.ForPath q.ToExec) h = cc
+given-See path kind h = cc
+
+given-Open : (args : List ℕ) (at : Argument) (path : Path) → Given (d.Open (low_word args (place_of at)) path) (rule.Known (known.Open at))
+given-Open args at path (k.ForPath q.ToRead) h = record { args = _; are = refl }
+given-Open args at path (k.ForPath q.ToWrite) h = record { args = _; are = refl }
+given-Open args at path (k.ForPath q.ToSee) h = cc
+given-Open args at path (k.ForPath q.ToExec) h = cc
+given-Open args at path kind h = cc
+
+given-Create : (path : Path) → Given (d.Create path) (rule.Known known.Create)
+given-Create path (k.ForPath q.ToWrite) h = record { args = _; are = refl }
+given-Create path (k.ForPath q.ToSee) h = cc
+given-Create path (k.ForPath q.ToRead) h = cc
+given-Create path (k.ForPath q.ToExec) h = cc
+given-Create path kind h = cc
+
+given-Truncate : (path : Path) → Given (d.Truncate path) (rule.Known known.Truncate)
+given-Truncate path (k.ForPath q.ToWrite) h = record { args = _; are = refl }
+given-Truncate path (k.ForPath q.ToSee) h = cc
+given-Truncate path (k.ForPath q.ToRead) h = cc
+given-Truncate path (k.ForPath q.ToExec) h = cc
+given-Truncate path kind h = cc
+
+given-Execve : (path : Path) → Given (d.Execve path) (rule.Known known.Execve)
+given-Execve path (k.ForPath q.ToExec) h = record { args = _; are = refl }
+given-Execve path (k.ForPath q.ToSee) h = cc
+given-Execve path (k.ForPath q.ToRead) h = cc
+given-Execve path (k.ForPath q.ToWrite) h = cc
+given-Execve path kind h = cc
+
+given-SetMode : (args : List ℕ) (at : Argument) → Given (d.SetMode (low_word args (place_of at))) (rule.Known (known.SetMode at))
+given-SetMode args at k.SetsMode h = record { args = _; are = refl }
+given-SetMode args at (k.ForPath q.ToSee) h = cc
+given-SetMode args at (k.ForPath q.ToRead) h = cc
+given-SetMode args at (k.ForPath q.ToWrite) h = cc
+given-SetMode args at (k.ForPath q.ToExec) h = cc
+given-SetMode args at kind h = cc
+
+given-Map : (args : List ℕ) → Given (d.Map (low_word args 2)) (rule.Known known.Map)
+given-Map args k.MapsWx h = record { args = _; are = refl }
+given-Map args (k.ForPath q.ToSee) h = cc
+given-Map args (k.ForPath q.ToRead) h = cc
+given-Map args (k.ForPath q.ToWrite) h = cc
+given-Map args (k.ForPath q.ToExec) h = cc
+given-Map args kind h = cc
+
+given-Protect : (args : List ℕ) → Given (d.Protect (low_word args 2)) (rule.Known known.Protect)
+given-Protect args k.ProtectsX h = record { args = _; are = refl }
+given-Protect args (k.ForPath q.ToSee) h = cc
+given-Protect args (k.ForPath q.ToRead) h = cc
+given-Protect args (k.ForPath q.ToWrite) h = cc
+given-Protect args (k.ForPath q.ToExec) h = cc
+given-Protect args kind h = cc
+
+given-Attach : (args : List ℕ) → Given (d.Attach (low_word args 2)) (rule.Known known.Attach)
+given-Attach args k.AttachesX h = record { args = _; are = refl }
+given-Attach args (k.ForPath q.ToSee) h = cc
+given-Attach args (k.ForPath q.ToRead) h = cc
+given-Attach args (k.ForPath q.ToWrite) h = cc
+given-Attach args (k.ForPath q.ToExec) h = cc
+given-Attach args kind h = cc
+
+given-Schedule : (args : List ℕ) → Given (d.Schedule (low_word args 1)) (rule.Known known.Schedule)
+given-Schedule args k.SchedulesRealtime h = record { args = _; are = refl }
+given-Schedule args (k.ForPath q.ToSee) h = cc
+given-Schedule args (k.ForPath q.ToRead) h = cc
+given-Schedule args (k.ForPath q.ToWrite) h = cc
+given-Schedule args (k.ForPath q.ToExec) h = cc
+given-Schedule args kind h = cc
+
+given-Personality : (args : List ℕ) → Given (d.Personality (low_word args 0)) (rule.Known known.Personality)
+given-Personality args k.TakesPersonality h = record { args = _; are = refl }
+given-Personality args (k.ForPath q.ToSee) h = cc
+given-Personality args (k.ForPath q.ToRead) h = cc
+given-Personality args (k.ForPath q.ToWrite) h = cc
+given-Personality args (k.ForPath q.ToExec) h = cc
+given-Personality args kind h = cc
+
+given-Socket : (args : List ℕ) → Given (d.Socket (low_word args 0)) (rule.Known known.Socket)
+given-Socket args (k.ForFamily family) h = record { args = _; are = refl }
+given-Socket args (k.ForPath q.ToSee) h = cc
+given-Socket args (k.ForPath q.ToRead) h = cc
+given-Socket args (k.ForPath q.ToWrite) h = cc
+given-Socket args (k.ForPath q.ToExec) h = cc
+given-Socket args kind h = cc
+
+given-Enter : Given (d.Enter) (rule.Known known.Enter)
+given-Enter (k.ForPath q.ToSee) h = cc
+given-Enter (k.ForPath q.ToRead) h = cc
+given-Enter (k.ForPath q.ToWrite) h = cc
+given-Enter (k.ForPath q.ToExec) h = cc
+given-Enter kind h = cc
+
+given-Fork : Given (d.Fork) (rule.Known known.Fork)
+given-Fork (k.ForPath q.ToSee) h = cc
+given-Fork (k.ForPath q.ToRead) h = cc
+given-Fork (k.ForPath q.ToWrite) h = cc
+given-Fork (k.ForPath q.ToExec) h = cc
+given-Fork kind h = cc
+
+given-Clone : (args : List ℕ) → Given (d.Clone (low_word args 0)) (rule.Known known.Clone)
+given-Clone args (k.ForSpace space) h = record { args = _; are = refl }
+given-Clone args (k.ForPath q.ToSee) h = cc
+given-Clone args (k.ForPath q.ToRead) h = cc
+given-Clone args (k.ForPath q.ToWrite) h = cc
+given-Clone args (k.ForPath q.ToExec) h = cc
+given-Clone args kind h = cc
+
+given-Unshare : (args : List ℕ) → Given (d.Unshare (low_word args 0)) (rule.Known known.Unshare)
+given-Unshare args (k.ForSpace space) h = record { args = _; are = refl }
+given-Unshare args (k.ForPath q.ToSee) h = cc
+given-Unshare args (k.ForPath q.ToRead) h = cc
+given-Unshare args (k.ForPath q.ToWrite) h = cc
+given-Unshare args (k.ForPath q.ToExec) h = cc
+given-Unshare args kind h = cc
+
+given-Exit : Given (d.Exit) (rule.Known known.Exit)
+given-Exit (k.ForPath q.ToSee) h = cc
+given-Exit (k.ForPath q.ToRead) h = cc
+given-Exit (k.ForPath q.ToWrite) h = cc
+given-Exit (k.ForPath q.ToExec) h = cc
+given-Exit kind h = cc
+
+given-Mount : (args : List ℕ) (source target : Path) → Given (d.Mount source target (low_word args 3)) (rule.Known known.Mount)
+given-Mount args source target k.ChangesMounts h = record { args = _; are = refl }
+given-Mount args source target (k.ForPath q.ToSee) h = cc
+given-Mount args source target (k.ForPath q.ToRead) h = cc
+given-Mount args source target (k.ForPath q.ToWrite) h = cc
+given-Mount args source target (k.ForPath q.ToExec) h = cc
+given-Mount args source target kind h = cc
+
+given-Umount : (args : List ℕ) (path : Path) → Given (d.Umount path (low_word args 1)) (rule.Known known.Umount)
+given-Umount args path k.RemovesMounts h = record { args = _; are = refl }
+given-Umount args path (k.ForPath q.ToSee) h = cc
+given-Umount args path (k.ForPath q.ToRead) h = cc
+given-Umount args path (k.ForPath q.ToWrite) h = cc
+given-Umount args path (k.ForPath q.ToExec) h = cc
+given-Umount args path kind h = cc
+
+given-Setuid : (args : List ℕ) → Given (d.Setuid (low_word args 0)) (rule.Known known.Setuid)
+given-Setuid args k.TakesUid h = record { args = _; are = refl }
+given-Setuid args (k.ForPath q.ToSee) h = cc
+given-Setuid args (k.ForPath q.ToRead) h = cc
+given-Setuid args (k.ForPath q.ToWrite) h = cc
+given-Setuid args (k.ForPath q.ToExec) h = cc
+given-Setuid args kind h = cc
+
+given-Setgid : (args : List ℕ) → Given (d.Setgid (low_word args 0)) (rule.Known known.Setgid)
+given-Setgid args k.TakesGid h = record { args = _; are = refl }
+given-Setgid args (k.ForPath q.ToSee) h = cc
+given-Setgid args (k.ForPath q.ToRead) h = cc
+given-Setgid args (k.ForPath q.ToWrite) h = cc
+given-Setgid args (k.ForPath q.ToExec) h = cc
+given-Setgid args kind h = cc
+
+given-Setresuid : (args : List ℕ) → Given (d.Setresuid (low_word args 0) (low_word args 1) (low_word args 2)) (rule.Known known.Setresuid)
+given-Setresuid args k.TakesUid h = record { args = _; are = refl }
+given-Setresuid args (k.ForPath q.ToSee) h = cc
+given-Setresuid args (k.ForPath q.ToRead) h = cc
+given-Setresuid args (k.ForPath q.ToWrite) h = cc
+given-Setresuid args (k.ForPath q.ToExec) h = cc
+given-Setresuid args kind h = cc
+
+given-Setresgid : (args : List ℕ) → Given (d.Setresgid (low_word args 0) (low_word args 1) (low_word args 2)) (rule.Known known.Setresgid)
+given-Setresgid args k.TakesGid h = record { args = _; are = refl }
+given-Setresgid args (k.ForPath q.ToSee) h = cc
+given-Setresgid args (k.ForPath q.ToRead) h = cc
+given-Setresgid args (k.ForPath q.ToWrite) h = cc
+given-Setresgid args (k.ForPath q.ToExec) h = cc
+given-Setresgid args kind h = cc
+
+given-Setgroups : (ids : List ℕ) → Given (d.Setgroups ids) (rule.Known known.Setgroups)
+given-Setgroups ids k.TakesGid h = record { args = _; are = refl }
+given-Setgroups ids (k.ForPath q.ToSee) h = cc
+given-Setgroups ids (k.ForPath q.ToRead) h = cc
+given-Setgroups ids (k.ForPath q.ToWrite) h = cc
+given-Setgroups ids (k.ForPath q.ToExec) h = cc
+given-Setgroups ids kind h = cc
+
+given-Capset : (p e i : ℕ) → Given (d.Capset p e i) (rule.Known known.Capset)
+given-Capset p e i k.SetsCaps h = record { args = _; are = refl }
+given-Capset p e i (k.ForPath q.ToSee) h = cc
+given-Capset p e i (k.ForPath q.ToRead) h = cc
+given-Capset p e i (k.ForPath q.ToWrite) h = cc
+given-Capset p e i (k.ForPath q.ToExec) h = cc
+given-Capset p e i kind h = cc
+
+given-Prctl : (args : List ℕ) → Given (d.Prctl (low_word args 0) (low_word args 1) (low_word args 2)) (rule.Known known.Prctl)
+given-Prctl args (k.ForPath q.ToSee) h = cc
+given-Prctl args (k.ForPath q.ToRead) h = cc
+given-Prctl args (k.ForPath q.ToWrite) h = cc
+given-Prctl args (k.ForPath q.ToExec) h = cc
+given-Prctl args kind h = cc
+
+given-Seccomp : (args : List ℕ) (bytes : List ℕ) → Given (d.Seccomp (low_word args 0) (low_word args 1) bytes) (rule.Known known.Seccomp)
+given-Seccomp args bytes (k.ForPath q.ToSee) h = cc
+given-Seccomp args bytes (k.ForPath q.ToRead) h = cc
+given-Seccomp args bytes (k.ForPath q.ToWrite) h = cc
+given-Seccomp args bytes (k.ForPath q.ToExec) h = cc
+given-Seccomp args bytes kind h = cc
+
+given-Plain : (number : Option ℕ) → Given (d.Plain number) (rule.Plain number)
+given-Plain number k.PlainCall h = record { args = _; are = refl }
+given-Plain number (k.ForPath q.ToSee) h = cc
+given-Plain number (k.ForPath q.ToRead) h = cc
+given-Plain number (k.ForPath q.ToWrite) h = cc
+given-Plain number (k.ForPath q.ToExec) h = cc
+given-Plain number kind h = cc
+
+by_same : (own doing : Doing) (rule' : Rule) → Given own rule' → own ≡ doing → Given doing rule'
+by_same own doing rule' g e = let P : Doing → Type 0 = λ x. Given x rule' in subst P e g
+
+pub has_words : (rule' : Rule) (args : List ℕ) (payload : Payload) (doing : Doing) → doing_by rule' args payload ≡ Some doing → Given doing rule'
+has_words (rule.Known known.See) args (pay.OnePath path) doing f = by_same (d.See path) doing (rule.Known known.See) (given-See path) (cc)
+has_words (rule.Known known.See) args payload doing f = cc
+has_words (rule.Known (known.Open at)) args (pay.OnePath path) doing f = by_same (d.Open (low_word args (place_of at)) path) doing (rule.Known (known.Open at)) (given-Open args at path) (cc)
+has_words (rule.Known (known.Open at)) args payload doing f = cc
+has_words (rule.Known known.Create) args (pay.OnePath path) doing f = by_same (d.Create path) doing (rule.Known known.Create) (given-Create path) (cc)
+has_words (rule.Known known.Create) args payload doing f = cc
+has_words (rule.Known known.Truncate) args (pay.OnePath path) doing f = by_same (d.Truncate path) doing (rule.Known known.Truncate) (given-Truncate path) (cc)
+has_words (rule.Known known.Truncate) args payload doing f = cc
+has_words (rule.Known known.Execve) args (pay.OnePath path) doing f = by_same (d.Execve path) doing (rule.Known known.Execve) (given-Execve path) (cc)
+has_words (rule.Known known.Execve) args payload doing f = cc
+has_words (rule.Known (known.SetMode at)) args pay.Nothing doing f = by_same (d.SetMode (low_word args (place_of at))) doing (rule.Known (known.SetMode at)) (given-SetMode args at) (cc)
+has_words (rule.Known (known.SetMode at)) args payload doing f = cc
+has_words (rule.Known known.Map) args pay.Nothing doing f = by_same (d.Map (low_word args 2)) doing (rule.Known known.Map) (given-Map args) (cc)
+has_words (rule.Known known.Map) args payload doing f = cc
+has_words (rule.Known known.Protect) args pay.Nothing doing f = by_same (d.Protect (low_word args 2)) doing (rule.Known known.Protect) (given-Protect args) (cc)
+has_words (rule.Known known.Protect) args payload doing f = cc
+has_words (rule.Known known.Attach) args pay.Nothing doing f = by_same (d.Attach (low_word args 2)) doing (rule.Known known.Attach) (given-Attach args) (cc)
+has_words (rule.Known known.Attach) args payload doing f = cc
+has_words (rule.Known known.Schedule) args pay.Nothing doing f = by_same (d.Schedule (low_word args 1)) doing (rule.Known known.Schedule) (given-Schedule args) (cc)
+has_words (rule.Known known.Schedule) args payload doing f = cc
+has_words (rule.Known known.Personality) args pay.Nothing doing f = by_same (d.Personality (low_word args 0)) doing (rule.Known known.Personality) (given-Personality args) (cc)
+has_words (rule.Known known.Personality) args payload doing f = cc
+has_words (rule.Known known.Socket) args pay.Nothing doing f = by_same (d.Socket (low_word args 0)) doing (rule.Known known.Socket) (given-Socket args) (cc)
+has_words (rule.Known known.Socket) args payload doing f = cc
+has_words (rule.Known known.Enter) args pay.Nothing doing f = by_same (d.Enter) doing (rule.Known known.Enter) given-Enter (cc)
+has_words (rule.Known known.Enter) args payload doing f = cc
+has_words (rule.Known known.Fork) args pay.Nothing doing f = by_same (d.Fork) doing (rule.Known known.Fork) given-Fork (cc)
+has_words (rule.Known known.Fork) args payload doing f = cc
+has_words (rule.Known known.Clone) args pay.Nothing doing f = by_same (d.Clone (low_word args 0)) doing (rule.Known known.Clone) (given-Clone args) (cc)
+has_words (rule.Known known.Clone) args payload doing f = cc
+has_words (rule.Known known.Unshare) args pay.Nothing doing f = by_same (d.Unshare (low_word args 0)) doing (rule.Known known.Unshare) (given-Unshare args) (cc)
+has_words (rule.Known known.Unshare) args payload doing f = cc
+has_words (rule.Known known.Exit) args pay.Nothing doing f = by_same (d.Exit) doing (rule.Known known.Exit) given-Exit (cc)
+has_words (rule.Known known.Exit) args payload doing f = cc
+has_words (rule.Known known.Mount) args (pay.TwoPaths source target) doing f = by_same (d.Mount source target (low_word args 3)) doing (rule.Known known.Mount) (given-Mount args source target) (cc)
+has_words (rule.Known known.Mount) args payload doing f = cc
+has_words (rule.Known known.Umount) args (pay.OnePath path) doing f = by_same (d.Umount path (low_word args 1)) doing (rule.Known known.Umount) (given-Umount args path) (cc)
+has_words (rule.Known known.Umount) args payload doing f = cc
+has_words (rule.Known known.Setuid) args pay.Nothing doing f = by_same (d.Setuid (low_word args 0)) doing (rule.Known known.Setuid) (given-Setuid args) (cc)
+has_words (rule.Known known.Setuid) args payload doing f = cc
+has_words (rule.Known known.Setgid) args pay.Nothing doing f = by_same (d.Setgid (low_word args 0)) doing (rule.Known known.Setgid) (given-Setgid args) (cc)
+has_words (rule.Known known.Setgid) args payload doing f = cc
+has_words (rule.Known known.Setresuid) args pay.Nothing doing f = by_same (d.Setresuid (low_word args 0) (low_word args 1) (low_word args 2)) doing (rule.Known known.Setresuid) (given-Setresuid args) (cc)
+has_words (rule.Known known.Setresuid) args payload doing f = cc
+has_words (rule.Known known.Setresgid) args pay.Nothing doing f = by_same (d.Setresgid (low_word args 0) (low_word args 1) (low_word args 2)) doing (rule.Known known.Setresgid) (given-Setresgid args) (cc)
+has_words (rule.Known known.Setresgid) args payload doing f = cc
+has_words (rule.Known known.Setgroups) args (pay.Ids ids) doing f = by_same (d.Setgroups ids) doing (rule.Known known.Setgroups) (given-Setgroups ids) (cc)
+has_words (rule.Known known.Setgroups) args payload doing f = cc
+has_words (rule.Known known.Capset) args (pay.Sets p e i) doing f = by_same (d.Capset p e i) doing (rule.Known known.Capset) (given-Capset p e i) (cc)
+has_words (rule.Known known.Capset) args payload doing f = cc
+has_words (rule.Known known.Prctl) args pay.Nothing doing f = by_same (d.Prctl (low_word args 0) (low_word args 1) (low_word args 2)) doing (rule.Known known.Prctl) (given-Prctl args) (cc)
+has_words (rule.Known known.Prctl) args payload doing f = cc
+has_words (rule.Known known.Seccomp) args (pay.Code bytes) doing f = by_same (d.Seccomp (low_word args 0) (low_word args 1) bytes) doing (rule.Known known.Seccomp) (given-Seccomp args bytes) (cc)
+has_words (rule.Known known.Seccomp) args payload doing f = cc
+has_words (rule.Plain number) args pay.Nothing doing f = by_same (d.Plain number) doing (rule.Plain number) (given-Plain number) (cc)
+has_words (rule.Plain number) args payload doing f = cc
+
+-- filters that go by the number alone
+pub chosen_by_number : (launch : Launch) → ((nr : ℕ) (args other : List ℕ) → decision_on launch.stack (data_at launch nr args) ≡ decision_on launch.stack (data_at launch nr other))
+    → (kind : Kind) (nr : ℕ) (args : List ℕ) (rule' : Rule) (payload : Payload) (doing : Doing) → nr < 2 ^ 32 → AreWords args
+    → rule_at launch.calls.calls nr ≡ Some rule' → doing_by rule' args payload ≡ Some doing → asks kind doing ≡ true → passes launch nr args → Chosen launch kind rule' nr
+chosen_by_number launch alike kind nr args rule' payload doing few fit at is asked p =
+    let w = has_words rule' args payload doing is kind asked in
+    record { args = w.args; are = w.are; passes = alike nr w.args args ∙ p }

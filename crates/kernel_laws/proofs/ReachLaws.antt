@@ -1,0 +1,104 @@
+-- Reach says exactly what can be found.
+use Rattle.std.proofs.Common.{◌≡◌, ℕ, Bool, true, false, [], ◌∷◌, ◌++◌, Some, refl, cond, ap, ◌∙◌, sym, ◌+◌}
+use Rattle.std.specs.Prelude.{not, ◌||◌, is_some}
+use Rattle.std.specs.List.{list_any}
+use Rattle.std.proofs.lemmas.Bool.{and_parts, not-true}
+use Rattle.call_table.proofs.Places.{or_false}
+use Rattle.abs_path.specs.Paths.{Path}
+use Rattle.abs_path.specs.Prefix.{is_prefix, rest_of}
+use Rattle.abs_path.proofs.Prefixes.{prefix-append}
+use Rattle.kern_mounts.specs.Entry.{leads_to}
+use Rattle.kern_mounts.specs.declared.step.What.{What}
+use Rattle.kern_mounts.specs.declared.step.What.TheVariants.{Host, Empty, Hidden}
+use Rattle.kern_mounts.specs.declared.step.MountStep.{MountStep}
+use Rattle.kern_mounts.specs.Split.{Table, split_at}
+use Rattle.kernel_laws.specs.Questions.{Wish}
+use Rattle.kernel_laws.specs.Reach.{fits, Leads, shows_row, serves, reach_from}
+use Rattle.kernel_laws.specs.ReachLaws.{ReachOfTheTable, ReachByUnmounts}
+use Rattle.kern_mounts.proofs.Paths.{behind}
+use Rattle.kern_mounts.proofs.Splits.{None_have, split_is}
+use Rattle.kern_mounts.proofs.Unmounting.{stands_uncovered, unmounts_trim}
+use Rattle.kernel_laws.proofs.Reach.{reach_nowise-complete, reach_unmounting-complete}
+
+pub any_none : (p : MountStep → Bool) (table : Table) → list_any p table ≡ false → None_have p table
+any_none p [] h = tt
+any_none p (entry ∷ table) h = let parts = or_false (p entry) (list_any p table) h in (parts.0, any_none p table parts.1)
+
+record Serving (uncover : Bool) (row : Path) (wish : Wish) (table : Table) : Type 0 where
+  earlier : Table
+  entry : MountStep
+  later : Table
+  whole : table ≡ earlier ++ entry ∷ later
+  served : serves uncover row wish entry later ≡ true
+
+serving : (uncover : Bool) (row : Path) (wish : Wish) (table : Table) (at : ℕ) → is_some (reach_from uncover row wish table at) ≡ true → Serving uncover row wish table
+serving uncover row wish [] at e = cc
+serving uncover row wish (entry ∷ later) at e = by (serves uncover row wish entry later) refl e (serving uncover row wish later (at + 1))
+  where
+    by : (b : Bool) → serves uncover row wish entry later ≡ b → is_some (cond b (Some at) (reach_from uncover row wish later (at + 1))) ≡ true →
+        (is_some (reach_from uncover row wish later (at + 1)) ≡ true → Serving uncover row wish later) → Serving uncover row wish (entry ∷ later)
+    by true s e more = record { earlier = []; entry = entry; later = later; whole = refl; served = s }
+    by false s e more = let m = more e in record { earlier = entry ∷ m.earlier; entry = m.entry; later = m.later; whole = ap (λ (t : Table). entry ∷ t) m.whole; served = m.served }
+
+record Served (uncover : Bool) (row : Path) (wish : Wish) (entry : MountStep) (later : Table) : Type 0 where
+  source : Path
+  host : entry.what ≡ Host source
+  rest : Path
+  row_is : row ≡ source ++ rest
+  flags : fits wish entry.flags ≡ true
+  clear : (uncover || not (list_any (leads_to (entry.place ++ rest)) later)) ≡ true
+
+served_by : (uncover : Bool) (row : Path) (wish : Wish) (entry : MountStep) (later : Table) → fits wish entry.flags ≡ true → (what : What) → entry.what ≡ what → shows_row uncover entry later row what ≡ true → Served uncover row wish entry later
+served_by uncover row wish entry later f (Host source) e s =
+    let parts = and_parts (is_prefix source row) (uncover || not (list_any (leads_to (entry.place ++ rest_of source row)) later)) s in
+    record { source = source; host = e; rest = rest_of source row; row_is = behind source row parts.0; flags = f; clear = parts.1 }
+served_by uncover row wish entry later f Empty e s = cc
+served_by uncover row wish entry later f (Hidden directory) e s = cc
+
+served_of : (uncover : Bool) (row : Path) (wish : Wish) (entry : MountStep) (later : Table) → serves uncover row wish entry later ≡ true → Served uncover row wish entry later
+served_of uncover row wish entry later s =
+    let parts = and_parts (fits wish entry.flags) (shows_row uncover entry later row entry.what) s in
+    served_by uncover row wish entry later parts.0 entry.what refl parts.1
+
+nowise_leads : (row : Path) (wish : Wish) (table : Table) → is_some (reach_from false row wish table 0) ≡ true → Leads table row wish
+nowise_leads row wish table e =
+    let s = serving false row wish table 0 e in
+    let v = served_of false row wish s.entry s.later s.served in
+    let clear = any_none (leads_to (s.entry.place ++ v.rest)) s.later (not-true (list_any (leads_to (s.entry.place ++ v.rest)) s.later) v.clear) in
+    record {
+      path = s.entry.place ++ v.rest;
+      split = record { earlier = s.earlier; entry = s.entry; later = s.later };
+      belongs = ap (split_at (s.entry.place ++ v.rest)) s.whole ∙ split_is (leads_to (s.entry.place ++ v.rest)) s.earlier s.entry s.later (prefix-append s.entry.place v.rest) clear;
+      source = v.source;
+      host = v.host;
+      rest = v.rest;
+      path_is = refl;
+      row_is = v.row_is;
+      flags = v.flags;
+    }
+
+pub reach_of_the_table : ReachOfTheTable
+reach_of_the_table table row wish = (nowise_leads row wish table, reach_nowise-complete row wish table)
+
+pub reach_by_unmounts : ReachByUnmounts
+reach_by_unmounts table row wish root ordered = (
+  (λ e.
+      let s = serving true row wish table 0 e in
+      let v = served_of true row wish s.entry s.later s.served in
+      let u = stands_uncovered table s.entry v.rest ordered (s.earlier, s.later, s.whole) in (
+        u.0,
+        u.3,
+        record {
+          path = u.1;
+          split = u.2;
+          belongs = u.4;
+          source = v.source;
+          host = ap (λ (m : MountStep). m.what) u.5 ∙ v.host;
+          rest = v.rest;
+          path_is = u.6 ∙ ap (λ (m : MountStep). m.place ++ v.rest) (sym u.5);
+          row_is = v.row_is;
+          flags = ap (λ (m : MountStep). fits wish m.flags) u.5 ∙ v.flags;
+        },
+      )),
+  (λ now u l. reach_unmounting-complete row wish table now (unmounts_trim u root) l),
+)

@@ -1,0 +1,161 @@
+-- Programs that answer as the settings say meet what the judge asks of first choices.
+use Rattle.std.proofs.Common.{◌≡◌, ℕ, zero, suc, true, cond, List, [], ◌∷◌, Option, Some, refl, ap, ◌∙◌, sym, subst, arith, length, ◌<◌}
+use Rattle.std.specs.Prelude.{◌^◌, set, ◌%◌, slice_index}
+use Rattle.std.specs.List.{AllByRecursion}
+use Rattle.std.specs.Option.{option_map_or}
+use Rattle.std.proofs.lemmas.Bool.{eq-eqb, eqb-true}
+use Rattle.std.proofs.lemmas.List.Elements.{All-from_recursion}
+use Rattle.bpf_code.specs.declared.machine.Insn.{Insn}
+use Rattle.bpf_code.specs.declared.decision.Decision.TheVariants as decision
+use Rattle.bpf_code.specs.Meaning.{IsCallData}
+use Rattle.bpf_code.specs.Stack.{answer_of, decision_of}
+use Rattle.call_table.specs.declared.listed.CallLine.{CallLine}
+use Rattle.call_table.specs.Lookups.{numbered}
+use Rattle.filter_rules.specs.declared.settings.FilterSettings.{FilterSettings}
+use Rattle.filter_rules.specs.declared.names.FilterName.{FilterName}
+use Rattle.call_rules.specs.declared.actions.Action.TheVariants.{KillProcess}
+use Rattle.call_names.specs.Known.{place_of}
+use Rattle.call_rules.specs.Action.{word_of}
+use Rattle.filter_rules.specs.Wanted.{named_action, unnamed_action, wanted_action}
+use Rattle.kernel_calls.specs.Words.{low_word}
+use Rattle.kernel_calls.specs.declared.payload.Payload.{Payload}
+use Rattle.kernel_calls.specs.Doing as d
+use Rattle.kernel_calls.specs.Doing.{Doing, doing_by}
+use Rattle.kernel_laws.specs.FirstChoice.{Means, SettingsChoose}
+use Rattle.kernel_laws.specs.Kinds as k
+use Rattle.kernel_laws.specs.Kinds.{Kind, asks, words, one_word, no_words, AreWords}
+use Rattle.kernel_laws.specs.Launched.{Launch, data_at}
+use Rattle.kernel_laws.specs.Questions as q
+use Rattle.kernel_calls.specs.declared.rule.Rule.TheVariants as rule
+use Rattle.call_names.specs.declared.rule.CallRule.{CallRule}
+use Rattle.call_names.specs.declared.rule.CallRule.TheVariants as known
+use Rattle.kernel_calls.specs.declared.rule.Rule.{Rule}
+use Rattle.kernel_laws.proofs.FirstWords.{has_words}
+use Rattle.kernel_laws.proofs.FilterChoices.{first_passes}
+use Rattle.kernel_laws.proofs.Filters.{bare_is, HasRule, has_rule}
+use Rattle.kernel_laws.proofs.Programs.{stack_passes}
+
+abbrev Small : List ℕ → Type 0
+Small args = AllByRecursion (λ arg. arg < 2 ^ 64) args
+
+small_set : (args : List ℕ) (at value : ℕ) → value < 2 ^ 64 → Small args → Small (set args at value)
+small_set [] at value h all' = tt
+small_set (arg ∷ args) zero value h all' = (h, all'.1)
+small_set (arg ∷ args) (suc at) value h all' = (all'.0, small_set args at value h all'.1)
+
+length_set : (args : List ℕ) (at value : ℕ) → length (set args at value) ≡ length args
+length_set [] at value = refl
+length_set (arg ∷ args) zero value = refl
+length_set (arg ∷ args) (suc at) value = ap suc (length_set args at value)
+
+no_small : Small no_words
+no_small = (omega arith, (omega arith, (omega arith, (omega arith, (omega arith, (omega arith, tt))))))
+
+bare_words : AreWords no_words
+bare_words = record { count = refl; each = All-from_recursion (λ arg. arg < 2 ^ 64) no_words no_small }
+
+word_words : (at value : ℕ) → value < 2 ^ 64 → AreWords (one_word at value)
+word_words at value h = record { count = length_set no_words at value; each = All-from_recursion (λ arg. arg < 2 ^ 64) (one_word at value) (small_set no_words at value h no_small) }
+
+by_same : (one first : List ℕ) → AreWords one → Some one ≡ Some first → AreWords first
+by_same one first h e = let same : one ≡ first = cc in subst AreWords same h
+
+flag_small : (space : q.Space) → q.flag_of space < 2 ^ 64
+flag_small q.Cgroup = omega arith
+flag_small q.Ipc = omega arith
+flag_small q.Net = omega arith
+flag_small q.Mnt = omega arith
+flag_small q.Pid = omega arith
+flag_small q.User = omega arith
+flag_small q.Uts = omega arith
+
+-- the family of a kind
+abbrev family_or : Kind → ℕ
+family_or (k.ForFamily family) = family
+family_or kind = 0
+
+path_fit : (wish : q.Wish) (call : CallRule) (first : List ℕ) → words (k.ForPath wish) (rule.Known call) ≡ Some first → AreWords first
+path_fit q.ToSee known.See first e = by_same no_words first bare_words e
+path_fit q.ToRead (known.Open at) first e = by_same no_words first bare_words e
+path_fit q.ToWrite (known.Open at) first e = by_same (one_word (place_of at) 1) first (word_words (place_of at) 1 (omega arith)) e
+path_fit q.ToWrite known.Create first e = by_same no_words first bare_words e
+path_fit q.ToWrite known.Truncate first e = by_same no_words first bare_words e
+path_fit q.ToExec known.Execve first e = by_same no_words first bare_words e
+path_fit wish call first e = cc
+
+known_fit : (kind : Kind) (call : CallRule) (first : List ℕ) → family_or kind < 2 ^ 64 → words kind (rule.Known call) ≡ Some first → AreWords first
+known_fit (k.ForPath wish) call first h e = path_fit wish call first e
+known_fit (k.ForFamily family) known.Socket first h e = by_same (one_word 0 family) first (word_words 0 family h) e
+known_fit (k.ForSpace space) known.Clone first h e = by_same (one_word 0 (q.flag_of space)) first (word_words 0 (q.flag_of space) (flag_small space)) e
+known_fit (k.ForSpace space) known.Unshare first h e = by_same (one_word 0 (q.flag_of space)) first (word_words 0 (q.flag_of space) (flag_small space)) e
+known_fit k.MapsWx known.Map first h e = by_same (one_word 2 6) first (word_words 2 6 (omega arith)) e
+known_fit k.ProtectsX known.Protect first h e = by_same (one_word 2 4) first (word_words 2 4 (omega arith)) e
+known_fit k.AttachesX known.Attach first h e = by_same (one_word 2 0x8000) first (word_words 2 0x8000 (omega arith)) e
+known_fit k.SchedulesRealtime known.Schedule first h e = by_same (one_word 1 1) first (word_words 1 1 (omega arith)) e
+known_fit k.TakesPersonality known.Personality first h e = by_same (one_word 0 8) first (word_words 0 8 (omega arith)) e
+known_fit k.SetsMode (known.SetMode at) first h e = by_same (one_word (place_of at) 0x800) first (word_words (place_of at) 0x800 (omega arith)) e
+known_fit k.ChangesMounts known.Mount first h e = by_same no_words first bare_words e
+known_fit k.RemovesMounts known.Umount first h e = by_same no_words first bare_words e
+known_fit k.SetsCaps known.Capset first h e = by_same no_words first bare_words e
+known_fit k.TakesUid known.Setuid first h e = by_same no_words first bare_words e
+known_fit k.TakesUid known.Setresuid first h e = by_same no_words first bare_words e
+known_fit k.TakesGid known.Setgid first h e = by_same no_words first bare_words e
+known_fit k.TakesGid known.Setresgid first h e = by_same no_words first bare_words e
+known_fit k.TakesGid known.Setgroups first h e = by_same no_words first bare_words e
+known_fit kind call first h e = cc
+
+plain_fit : (kind : Kind) (cap' : Option ℕ) (first : List ℕ) → words kind (rule.Plain cap') ≡ Some first → AreWords first
+plain_fit k.PlainCall cap' first e = by_same no_words first bare_words e
+plain_fit (k.ForPath q.ToSee) cap' first e = cc
+plain_fit (k.ForPath q.ToRead) cap' first e = cc
+plain_fit (k.ForPath q.ToWrite) cap' first e = cc
+plain_fit (k.ForPath q.ToExec) cap' first e = cc
+plain_fit kind cap' first e = cc
+
+words_fit : (kind : Kind) (rule' : Rule) (first : List ℕ) → family_or kind < 2 ^ 64 → words kind rule' ≡ Some first → AreWords first
+words_fit kind (rule.Known call) first h e = known_fit kind call first h e
+words_fit kind (rule.Plain cap') first h e = plain_fit kind cap' first e
+
+low_small : (args : List ℕ) (at : ℕ) → low_word args at < 2 ^ 64
+low_small args at = below (slice_index args at)
+  where
+    below : (word : ℕ) → word % 2 ^ 32 < 2 ^ 64
+    below word = omega arith
+
+-- a family that a call asks for is a low word
+family_small : (kind : Kind) (args first : List ℕ) (rule' : Rule) (payload : Payload) (doing : Doing) → words kind rule' ≡ Some first → doing_by rule' args payload ≡ Some doing → asks kind doing ≡ true → family_or kind < 2 ^ 64
+family_small (k.ForFamily family) args first (rule.Known known.Socket) payload doing e is asked =
+    let own = bare_is doing (d.Socket (low_word args 0)) payload is in
+    let same : low_word args 0 ≡ family = eqb-true (low_word args 0) family (ap (asks (k.ForFamily family)) own ∙ asked) in
+    let P : ℕ → Type 0 = λ n. n < 2 ^ 64 in
+    subst P same (low_small args 0)
+family_small (k.ForFamily family) args first rule' payload doing e is asked = cc
+family_small kind args first rule' payload doing e is asked = omega arith
+
+-- what a program answers to a call of a line
+at_line : (settings : FilterSettings) (launch : Launch) (filter : FilterName) (nr : ℕ) (args : List ℕ) (line : CallLine) → numbered nr launch.calls.calls ≡ Some line
+    → wanted_action filter settings launch.calls (data_at launch nr args) ≡ named_action filter settings launch.calls line.name (data_at launch nr args)
+at_line settings launch filter nr args line found =
+    ap (λ b. cond b (option_map_or (λ call. named_action filter settings launch.calls call.name (data_at launch nr args)) (numbered nr launch.calls.calls) (unnamed_action filter settings)) KillProcess) (eq-eqb launch.calls.arch launch.calls.arch refl)
+    ∙ ap (λ o. option_map_or (λ call. named_action filter settings launch.calls call.name (data_at launch nr args)) o (unnamed_action filter settings)) found
+
+pub settings_choose : SettingsChoose
+settings_choose launch settings arch each plain kind nr args rule' payload doing few fit at is asked p =
+    let w = has_words rule' args payload doing is kind asked in
+    let fit' : AreWords w.args = words_fit kind rule' w.args (family_small kind args w.args rule' payload doing w.are is asked) w.are in
+    let one : IsCallData (data_at launch nr args) = record { nr = few; arch = arch; ip = omega arith; count = fit.count; args = fit.each } in
+    let other : IsCallData (data_at launch nr w.args) = record { nr = few; arch = arch; ip = omega arith; count = fit'.count; args = fit'.each } in
+    let h = has_rule launch.calls.calls nr rule' at in
+    record { args = w.args; are = w.are; passes = stack_passes launch.stack (data_at launch nr args) (data_at launch nr w.args) (plain (data_at launch nr args) one) (plain (data_at launch nr w.args) other) (all_of w.args w.are one other h launch.stack each) p }
+  where
+    all_of : (first : List ℕ) → words kind rule' ≡ Some first → IsCallData (data_at launch nr args) → IsCallData (data_at launch nr first) → HasRule launch.calls.calls nr rule' → (programs : List (List Insn)) → AllByRecursion (Means settings launch.calls) programs
+        → AllByRecursion (λ (code : List Insn). decision_of (answer_of code (data_at launch nr args)) ≡ decision.Pass → decision_of (answer_of code (data_at launch nr first)) ≡ decision.Pass) programs
+    all_of first are one other h [] each = tt
+    all_of first are one other h (code ∷ programs) each = (
+      λ e.
+          let m = each.0 in
+          let before = m.answers (data_at launch nr args) one ∙ ap word_of (at_line settings launch m.filter nr args h.line h.found) in
+          let after = m.answers (data_at launch nr first) other ∙ ap word_of (at_line settings launch m.filter nr first h.line h.found) in
+          ap decision_of after ∙ first_passes m.filter settings launch.calls h.line rule' kind payload doing (data_at launch nr args) (data_at launch nr first) h.is is asked are (ap decision_of (sym before) ∙ e),
+      all_of first are one other h programs each.1,
+    )

@@ -1,0 +1,251 @@
+-- What closed bounds rule out is reached by no list of calls.
+use Rattle.std.proofs.Common.{◌≡◌, ℕ, Bool, true, false, Option, Some, None, Result, Ok, Err, ◌⊎◌, inl, inr, refl, cond, ap, ◌∙◌, sym, subst, eqb}
+use Rattle.std.specs.Prelude.{not}
+use Rattle.std.specs.List.{AllByRecursion}
+use Rattle.std.proofs.lemmas.Bool.{eqb-true, and_parts, and_from}
+use Rattle.abs_path.specs.Paths.{Path}
+use Rattle.cap_sets.specs.Sets.{has, cut, none}
+use Rattle.cap_sets.proofs.Members.{has_cut, has_none}
+use Rattle.site_table.specs.declared.row.Row.{Row}
+use Rattle.site_table.specs.Table.{row_at}
+use Rattle.kern_creds.specs.declared.creds.Creds.{Creds}
+use Rattle.kern_creds.specs.Exec.{is_refused, exec_done, after_exec}
+use Rattle.kern_mounts.specs.Entry.{entry_of}
+use Rattle.kern_mounts.specs.Finds.{Found, row, finds}
+use Rattle.kern_mounts.specs.declared.step.Flags.{Flags}
+use Rattle.kern_mounts.specs.declared.step.MountStep.{MountStep}
+use Rattle.kern_mounts.proofs.Entries.{entry_is}
+use Rattle.std.specs.Int.RustNames.{bit_and}
+use Rattle.kern_files.specs.Bits.{has_some, has_all}
+use Rattle.kern_mounts.specs.Split.{Table}
+use Rattle.site_table.specs.Kinds.{is_dir, is_exe}
+use Rattle.kern_mounts.specs.Unmounts.{IsPart, nothing, keeps, leaves}
+use Rattle.kernel_calls.specs.Doing as d
+use Rattle.kernel_calls.specs.Doing.{Doing}
+use Rattle.kernel_model.specs.Effects as f
+use Rattle.kernel_model.specs.Effects.{Effect, effect_of, looks, creds_effect, with_admin, newuser, other_spaces, newns}
+use Rattle.kern_files.specs.Looking.{flags_by, flags_at, access_mode, is_writing, see_answer, write_answer, open_answer}
+use Rattle.linux_numbers.specs.Errnos.{eperm, eisdir, einval, erofs}
+use Rattle.kern_files.specs.declared.program.Program.{Program}
+use Rattle.kern_files.specs.Executing.{marks_of, program_answer, executed, exec_answer}
+use Rattle.kernel_model.specs.World.{World, table_of, host_of, caller_of}
+use Rattle.kernel_model.specs.declared.process.Process.{Process}
+use Rattle.kernel_model.specs.Step.{applied}
+use Rattle.kernel_model.specs.Runs.{IsDone}
+use Rattle.kernel_laws.specs.Questions as q
+use Rattle.kernel_laws.specs.Questions.{Wish, ToSee, ToRead, ToWrite, ToExec, Space, flag_of}
+use Rattle.kernel_laws.specs.Denied.{path_for, asks_space}
+use Rattle.kernel_laws.specs.Reach.{fits, Power, Nowise, Unmounting, Mounting}
+use Rattle.kernel_laws.specs.Bound.{is_user}
+use Rattle.kernel_laws.specs.Ceiling.{CanHave}
+use Rattle.kernel_laws.proofs.Ran.{ran_program}
+use Rattle.kern_mounts.proofs.Unmounting.{trimmed_part}
+
+-- ---- effects that are done
+-- the reply to an effect on a process
+abbrev pub DoneBy : World → ℕ → Process → Effect → Type 0
+DoneBy world pid process effect = IsDone (applied world pid process effect).0
+
+module _ (world : World) (pid : ℕ) (process : Process) where
+  abbrev D : Effect → Type 0
+  D = DoneBy world pid process
+
+  -- of an alternative whose other branch is refused
+  unless : (b : Bool) (errno : ℕ) (effect : Effect) → D (cond b (f.Refuse errno) effect) → (b ≡ false) × D effect
+  unless true errno effect h = absurd h
+  unless false errno effect h = (refl, h)
+
+  when' : (b : Bool) (errno : ℕ) (effect : Effect) → D (cond b effect (f.Refuse errno)) → (b ≡ true) × D effect
+  when' true errno effect h = (refl, h)
+  when' false errno effect h = absurd h
+
+  write_done : (value : ℕ) (flags : Flags) (target : Row) → D (looks (write_answer value flags (row target))) → flags.read_only ≡ false
+  write_done value flags target h = by (is_dir target.kind) flags.read_only h
+    where
+      by : (a b : Bool) → D (looks (cond {A = Result ℕ ℕ} a (Err eisdir) (cond {A = Result ℕ ℕ} b (Err erofs) (Ok value)))) → b ≡ false
+      by true b h = absurd h
+      by false true h = absurd h
+      by false false h = refl
+
+  open_done : (flags : ℕ) (entry : Flags) (target : Row) → is_writing flags ≡ true → D (looks (open_answer flags entry (row target))) → entry.read_only ≡ false
+  open_done flags entry target writing h = write_done 3 entry target (by (eqb (access_mode flags) 3) (is_writing flags) writing h)
+    where
+      by : (a b : Bool) → b ≡ true → D (looks (cond {A = Result ℕ ℕ} a (Err einval) (cond b (write_answer 3 entry (row target)) (see_answer 3 (row target))))) → D (looks (write_answer 3 entry (row target)))
+      by true b e h = absurd h
+      by false true e h = h
+      by false false e h = cc
+
+  pub record RunDone (creds : Creds) (flags : Flags) (target : Row) : Type 0 where
+    pub exe : is_exe target.kind ≡ true
+    pub runs : flags.no_exec ≡ false
+    pub taken : is_refused creds (marks_of target) flags.no_suid ≡ false
+
+  exec_done' : (creds : Creds) (flags : Flags) (target : Row) → D (creds_effect (exec_answer creds flags (row target))) → RunDone creds flags target
+  exec_done' creds flags target h = by (program_answer flags (row target)) refl h
+    where
+      by_refused : (b : Bool) → D (creds_effect (cond b (Err eperm) (Ok (exec_done creds (marks_of target) flags.no_suid)))) → b ≡ false
+      by_refused true h = absurd h
+      by_refused false h = refl
+
+      by : (answer : Result Program ℕ) → program_answer flags (row target) ≡ answer → D (creds_effect (executed creds answer)) → RunDone creds flags target
+      by (Err errno) is h = absurd h
+      by (Ok program) is h =
+          let ran = ran_program flags target program is in
+          let P : Program → Type 0 = λ p. D (creds_effect (after_exec creds p.file p.no_suid)) in
+          record { exe = ran.exe; runs = ran.runs; taken = by_refused (is_refused creds (marks_of target) flags.no_suid) (subst P ran.is h) }
+
+-- a call that is done and whose path finds the row has the flags that it needs
+pub wish_fits : (world : World) (pid : ℕ) (process : Process) (wish : Wish) (doing : Doing) (path : Path) (target : Row) → path_for wish doing ≡ Some path
+    → finds (row_at world.site.rows) (table_of world process.namespace) path ≡ row target → DoneBy world pid process (effect_of (host_of world) (caller_of world process) doing) → fits wish (flags_at (table_of world process.namespace) path) ≡ true
+wish_fits world pid process ToSee doing path target e g h = refl
+wish_fits world pid process ToRead doing path target e g h = refl
+wish_fits world pid process ToWrite (d.Open flags own) path target e g h = by (is_writing flags) refl e
+  where
+    by : (b : Bool) → is_writing flags ≡ b → cond b (Some own) None ≡ Some path → not (flags_at (table_of world process.namespace) path).read_only ≡ true
+    by true is e =
+        let here : own ≡ path = cc in
+        let P : Found Row → Type 0 = λ found. DoneBy world pid process (looks (open_answer flags (flags_at (table_of world process.namespace) own) found)) in
+        let found : finds (row_at world.site.rows) (table_of world process.namespace) own ≡ row target = ap (finds (row_at world.site.rows) (table_of world process.namespace)) here ∙ g in
+        let off = open_done world pid process flags (flags_at (table_of world process.namespace) own) target is (subst P found h) in
+        ap (λ (p : Path). not (flags_at (table_of world process.namespace) p).read_only) (sym here) ∙ ap not off
+    by false is e = cc
+wish_fits world pid process ToWrite (d.Create own) path target e g h =
+    let here : own ≡ path = cc in
+    let P : Found Row → Type 0 = λ found. DoneBy world pid process (looks (write_answer 3 (flags_at (table_of world process.namespace) own) found)) in
+    let found : finds (row_at world.site.rows) (table_of world process.namespace) own ≡ row target = ap (finds (row_at world.site.rows) (table_of world process.namespace)) here ∙ g in
+    let off = write_done world pid process 3 (flags_at (table_of world process.namespace) own) target (subst P found h) in
+    ap (λ (p : Path). not (flags_at (table_of world process.namespace) p).read_only) (sym here) ∙ ap not off
+wish_fits world pid process ToWrite (d.Truncate own) path target e g h =
+    let here : own ≡ path = cc in
+    let P : Found Row → Type 0 = λ found. DoneBy world pid process (looks (write_answer 0 (flags_at (table_of world process.namespace) own) found)) in
+    let found : finds (row_at world.site.rows) (table_of world process.namespace) own ≡ row target = ap (finds (row_at world.site.rows) (table_of world process.namespace)) here ∙ g in
+    let off = write_done world pid process 0 (flags_at (table_of world process.namespace) own) target (subst P found h) in
+    ap (λ (p : Path). not (flags_at (table_of world process.namespace) p).read_only) (sym here) ∙ ap not off
+wish_fits world pid process ToExec (d.Execve own) path target e g h =
+    let here : own ≡ path = cc in
+    let P : Found Row → Type 0 = λ found. DoneBy world pid process (creds_effect (exec_answer process.creds (flags_at (table_of world process.namespace) own) found)) in
+    let found : finds (row_at world.site.rows) (table_of world process.namespace) own ≡ row target = ap (finds (row_at world.site.rows) (table_of world process.namespace)) here ∙ g in
+    let r = exec_done' world pid process process.creds (flags_at (table_of world process.namespace) own) target (subst P found h) in
+    ap (λ (p : Path). not (flags_at (table_of world process.namespace) p).no_exec) (sym here) ∙ ap not r.runs
+wish_fits world pid process wish doing path target e g h = cc
+
+-- and an execve is not refused
+pub run_taken : (world : World) (pid : ℕ) (process : Process) (doing : Doing) (path : Path) (target : Row) → path_for ToExec doing ≡ Some path
+    → finds (row_at world.site.rows) (table_of world process.namespace) path ≡ row target → DoneBy world pid process (effect_of (host_of world) (caller_of world process) doing)
+    → is_refused process.creds (marks_of target) (flags_at (table_of world process.namespace) path).no_suid ≡ false
+run_taken world pid process (d.Execve own) path target e g h =
+    let here : own ≡ path = cc in
+    let P : Found Row → Type 0 = λ found. DoneBy world pid process (creds_effect (exec_answer process.creds (flags_at (table_of world process.namespace) own) found)) in
+    let found : finds (row_at world.site.rows) (table_of world process.namespace) own ≡ row target = ap (finds (row_at world.site.rows) (table_of world process.namespace)) here ∙ g in
+    let r = exec_done' world pid process process.creds (flags_at (table_of world process.namespace) own) target (subst P found h) in
+    ap (λ (p : Path). is_refused process.creds (marks_of target) (flags_at (table_of world process.namespace) p).no_suid) (sym here) ∙ r.taken
+run_taken world pid process doing path target e g h = cc
+
+-- ---- tables without no-suid entries
+part_all : (P : MountStep → Type 0) {part table : Table} → IsPart part table → AllByRecursion P table → AllByRecursion P part
+part_all P nothing h = tt
+part_all P (keeps entry p) h = (h.0, part_all P p h.1)
+part_all P (leaves entry p) h = part_all P p h.1
+
+abbrev pub Honours : MountStep → Type 0
+Honours step = step.flags.no_suid ≡ false
+
+pub honours_at : (table : Table) (path : Path) → AllByRecursion Honours table → (flags_at table path).no_suid ≡ false
+honours_at table path h = by (entry_of table path) refl
+  where
+    by : (o : Option MountStep) → entry_of table path ≡ o → (flags_by o).no_suid ≡ false
+    by None is = refl
+    by (Some step) is = entry_is Honours table path step h is
+
+pub honours_below : (power : Power) (launched table : Table) → (power ≡ Mounting → ⊥) → CanHave power launched table → AllByRecursion Honours launched → AllByRecursion Honours table
+honours_below Nowise launched table low same h = subst (AllByRecursion Honours) (sym same) h
+honours_below Unmounting launched table low part h = part_all Honours (trimmed_part part) h
+honours_below Mounting launched table low any h = absurd (low refl)
+
+-- ---- flags of namespaces
+in_mask : (number mask flags : ℕ) → has mask number ≡ true → has flags number ≡ true → has_some mask flags ≡ true
+unfolding cut none
+in_mask number mask flags m h = by (eqb (bit_and flags mask) 0) refl
+  where
+    by : (b : Bool) → eqb (bit_and flags mask) 0 ≡ b → not b ≡ true
+    by true e =
+        let empty : cut flags mask ≡ none = eqb-true (bit_and flags mask) 0 e in
+        let on : has (cut flags mask) number ≡ true = has_cut flags mask number ∙ and_from (has flags number) (has mask number) h m in
+        let off : has (cut flags mask) number ≡ false = ap (λ s. has s number) empty ∙ has_none number in
+        cc
+    by false e = refl
+
+on_flag : (number mask flags : ℕ) → has mask number ≡ true → has_all mask flags ≡ true → has flags number ≡ true
+unfolding cut
+on_flag number mask flags m h =
+    let same : cut flags mask ≡ mask = eqb-true (bit_and flags mask) mask h in
+    let on : has (cut flags mask) number ≡ true = ap (λ s. has s number) same ∙ m in
+    (and_parts (has flags number) (has mask number) (sym (has_cut flags mask number) ∙ on)).0
+
+bit_of : Space → ℕ
+bit_of q.Cgroup = 25
+bit_of q.Ipc = 27
+bit_of q.Net = 30
+bit_of q.Mnt = 17
+bit_of q.Pid = 29
+bit_of q.User = 28
+bit_of q.Uts = 26
+
+own_bit : (space : Space) → has (flag_of space) (bit_of space) ≡ true
+unfolding has bit_of
+own_bit q.Cgroup = refl
+own_bit q.Ipc = refl
+own_bit q.Net = refl
+own_bit q.Mnt = refl
+own_bit q.Pid = refl
+own_bit q.User = refl
+own_bit q.Uts = refl
+
+-- a user namespace, or one of the others
+user_or_other : (space : Space) → (has newuser (bit_of space) ≡ true) ⊎ ((has other_spaces (bit_of space) ≡ true) × (is_user space ≡ false))
+unfolding has bit_of
+user_or_other q.Cgroup = inr (refl, refl)
+user_or_other q.Ipc = inr (refl, refl)
+user_or_other q.Net = inr (refl, refl)
+user_or_other q.Mnt = inr (refl, refl)
+user_or_other q.Pid = inr (refl, refl)
+user_or_other q.User = inl refl
+user_or_other q.Uts = inr (refl, refl)
+
+abbrev pub MadeSpace : Space → Process → Type 0
+MadeSpace space process = (is_user space ≡ false) × (has process.creds.effective 21 ≡ true)
+
+-- what is behind the test of user namespaces
+space_by : (world : World) (pid : ℕ) (process : Process) (space : Space) (flags : ℕ) (own none' : Effect) → has_all (flag_of space) flags ≡ true
+    → DoneBy world pid process (cond (has_some newuser flags) (f.Refuse 28) (cond (has_some other_spaces flags) (with_admin process.creds own) none')) → MadeSpace space process
+space_by world pid process space flags own none' asked h = by (user_or_other space)
+  where
+    bit : has flags (bit_of space) ≡ true
+    bit = on_flag (bit_of space) (flag_of space) flags (own_bit space) asked
+
+    rest : (has_some newuser flags ≡ false) × DoneBy world pid process (cond (has_some other_spaces flags) (with_admin process.creds own) none')
+    rest = unless world pid process (has_some newuser flags) 28 (cond (has_some other_spaces flags) (with_admin process.creds own) none') h
+
+    by : (has newuser (bit_of space) ≡ true) ⊎ ((has other_spaces (bit_of space) ≡ true) × (is_user space ≡ false)) → MadeSpace space process
+    by (inl user) = let on = in_mask (bit_of space) newuser flags user bit in let off = rest.0 in cc
+    by (inr other) =
+        let on = in_mask (bit_of space) other_spaces flags other.0 bit in
+        let P : Bool → Type 0 = λ b. DoneBy world pid process (cond b (with_admin process.creds own) none') in
+        (other.1, (when' world pid process (has process.creds.effective 21) 1 own (subst P on rest.1)).0)
+
+pub space_done : (world : World) (pid : ℕ) (process : Process) (space : Space) (doing : Doing) → asks_space space doing ≡ true
+    → DoneBy world pid process (effect_of (host_of world) (caller_of world process) doing) → MadeSpace space process
+space_done world pid process space (d.Unshare flags) asked h =
+    let one = unless world pid process (has_some 0x81fd_ffff flags) 22 (cond (has_some newuser flags) (f.Refuse 28) (cond (has_some other_spaces flags) (with_admin process.creds (cond (has_some newns flags) f.OwnTable (f.Answer 0))) (f.Answer 0))) h in
+    space_by world pid process space flags (cond (has_some newns flags) f.OwnTable (f.Answer 0)) (f.Answer 0) asked one.1
+space_done world pid process space (d.Clone flags) asked h =
+    let one = unless world pid process (has_some 0x1_0000 flags) 22 (cond (has_some newuser flags) (f.Refuse 28) (cond (has_some other_spaces flags) (with_admin process.creds (f.Child (has_some newns flags))) (f.Child false))) h in
+    space_by world pid process space flags (f.Child (has_some newns flags)) (f.Child false) asked one.1
+space_done world pid process space doing asked h = cc
+
+-- a capability that a call asks for
+pub cap_done : (world : World) (pid : ℕ) (process : Process) (cap' : Option ℕ) (value number : ℕ) → cap' ≡ Some number → DoneBy world pid process (f.with_cap_of cap' process.creds (f.Answer value)) → has process.creds.effective number ≡ true
+cap_done world pid process None value number e h = cc
+cap_done world pid process (Some own) value number e h =
+    let same : own ≡ number = cc in
+    ap (has process.creds.effective) (sym same) ∙ (when' world pid process (has process.creds.effective own) 1 (f.Answer value) h).0

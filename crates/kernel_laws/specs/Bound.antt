@@ -1,0 +1,165 @@
+-- The ceiling of a launched service, computed; and what it makes of each question.
+use Rattle.std.specs.Prelude.{ℕ, ◌==◌, Bool, true, false, List, [], ◌∷◌, Option, Some, None, if◌then◌else◌, not, ◌&&◌, ◌||◌, slice_get}
+use Rattle.std.specs.List.{list_any}
+use Rattle.cap_sets.specs.Sets.{has, none, union, cut, within}
+use Rattle.site_table.specs.declared.row.Row.{Row}
+use Rattle.linux_numbers.specs.Capabilities.{cap_sys_admin, cap_setuid, cap_setgid}
+use Rattle.kernel_laws.specs.Bounds.{Bounds}
+use Rattle.site_table.specs.Kinds.{is_exe}
+use Rattle.kernel_laws.specs.Reach.{Power, Nowise, Unmounting, Mounting, reaches}
+use Rattle.kernel_calls.specs.declared.rule.Rule.{Rule}
+use Rattle.kernel_calls.specs.declared.rule.Rule.TheVariants.{Plain}
+use Rattle.kernel_calls.specs.Rules.{rule_of}
+use Rattle.kernel_laws.specs.Kinds.{ForPath, PlainCall, ForFamily, ForSpace, MapsWx, ProtectsX, AttachesX, SchedulesRealtime, TakesPersonality, SetsMode, ChangesMounts, RemovesMounts, SetsCaps, TakesUid, TakesGid}
+use Rattle.kernel_laws.specs.Launched.{Launch, lets, lets_line}
+use Rattle.kernel_laws.specs.Questions.{Wish, ToSee, ToRead, ToWrite, ToExec, Space, User, Question, ByPath, Call, Socket, Ns, MapWx, ProtectX, ShmX, Realtime, Personality, SuidBit, Cap, Uid, Gid}
+
+-- the union over the rows
+abbrev pub gathered : (Row → ℕ) → List Row → ℕ
+gathered f [] = none
+gathered f (row ∷ rows) = union (f row) (gathered f rows)
+
+-- the set, if so
+abbrev pub when : Bool → ℕ → ℕ
+when b set = if b then set else none
+
+-- the owner of a set-id bit, if there is one, is this id
+abbrev pub is_owner : ℕ → Option ℕ → Bool
+is_owner id None = false
+is_owner id (Some owner) = owner == id
+
+-- execve refuses the row whatever the process, unless its marks are not looked at: its effective bit is set, and the bounding set
+-- withholds one of its capabilities (capabilities(7), "Safety checking for capability-dumb binaries")
+abbrev pub is_barred : Launch → Row → Bool
+is_barred launch row = row.effective && not (within row.caps launch.creds.bounding)
+
+-- a program that some table leads to, and that execve does not refuse
+abbrev pub can_run : Launch → Power → Row → Bool
+can_run launch power row = (is_exe row.kind && reaches power launch.table row.path ToExec) && not (is_barred launch row)
+
+-- what execve of a row, and capset after it, make effective: all of the bounding set for a program that is run as root; else the
+-- file's capabilities of the bounding set, by its effective bit or by capset
+abbrev pub file_gain : Launch → Row → ℕ
+file_gain launch row =
+    if is_owner 0 row.setuid then launch.creds.bounding
+    else when (row.effective || lets launch SetsCaps) (cut row.caps launch.creds.bounding)
+
+-- the same, if the row can be run
+abbrev pub gain_at : Launch → Power → Row → ℕ
+gain_at launch power row = when (can_run launch power row) (file_gain launch row)
+
+-- the capabilities of the launch, and those that running rows gives
+abbrev pub caps_before : Launch → Power → ℕ
+caps_before launch power = union launch.creds.effective (gathered (gain_at launch power) launch.site.rows)
+
+-- who has CAP_SETUID and may take a uid becomes root, and has all of the bounding set
+abbrev pub with_root : Launch → ℕ → ℕ
+with_root launch caps = union caps (when (has caps cap_setuid && lets launch TakesUid) launch.creds.bounding)
+
+-- the capabilities that can become effective; with no_new_privs none are added, prctl(2)
+abbrev pub caps_at : Launch → Power → ℕ
+caps_at launch power = if launch.creds.no_new_privs then launch.creds.effective else with_root launch (caps_before launch power)
+
+-- by whether CAP_SYS_ADMIN can be had on the launched table, whether mount passes, whether umount2 does
+abbrev pub power_by : Bool → Bool → Bool → Power
+power_by false mounts unmounts = Nowise
+power_by true true unmounts = Mounting
+power_by true false true = Unmounting
+power_by true false false = Nowise
+
+-- how far the service can change its mount tables, mount(2), umount2(2)
+abbrev pub power_of : Launch → Power
+power_of launch = power_by (has (caps_at launch Nowise) cap_sys_admin) (lets launch ChangesMounts) (lets launch RemovesMounts)
+
+-- every uid can be taken, setuid(2)
+abbrev pub any_uid : Launch → ℕ → Bool
+any_uid launch effective = has effective cap_setuid && lets launch TakesUid
+
+-- a program that can be run has a set-user-id bit of this owner
+abbrev pub owned_by : Launch → Power → ℕ → Row → Bool
+owned_by launch power id row = can_run launch power row && is_owner id row.setuid
+
+-- every gid can be taken, setgid(2), setgroups(2)
+abbrev pub any_gid : Launch → ℕ → Bool
+any_gid launch effective = has effective cap_setgid && lets launch TakesGid
+
+-- a program that can be run has a set-group-id bit of this group
+abbrev pub grouped_by : Launch → Power → ℕ → Row → Bool
+grouped_by launch power id row = can_run launch power row && is_owner id row.setgid
+
+-- the bounds at a power
+abbrev pub bounds_at : Launch → Power → Bounds
+bounds_at launch power = record {
+  no_new_privs = launch.creds.no_new_privs;
+  bounding = launch.creds.bounding;
+  inheritable = if lets launch SetsCaps then launch.creds.bounding else launch.creds.inheritable;
+  effective = caps_at launch power;
+  permitted =
+      if launch.creds.no_new_privs then launch.creds.effective
+      else union (caps_at launch power) (gathered (λ row. when (can_run launch power row) (cut row.caps launch.creds.bounding)) launch.site.rows);
+  uid = λ id. any_uid launch (caps_at launch power) || (id == launch.creds.uids.effective || (not launch.creds.no_new_privs && list_any (owned_by launch power id) launch.site.rows));
+  gid = λ id. any_gid launch (caps_at launch power) || ((id == launch.creds.gids.effective || list_any (λ group. id == group) launch.creds.groups) || (not launch.creds.no_new_privs && list_any (grouped_by launch power id) launch.site.rows));
+}
+
+-- the bounds of the service
+abbrev pub ceiling : Launch → Bounds
+ceiling launch = bounds_at launch (power_of launch)
+
+-- the capability that a call or a family asks for, if any, can be had
+abbrev pub can_have_cap : Bounds → Option ℕ → Bool
+can_have_cap top None = true
+can_have_cap top (Some cap) = has top.effective cap
+
+-- the capability of a plain call
+abbrev pub can_have_for : Bounds → Option Rule → Bool
+can_have_for top (Some (Plain cap)) = can_have_cap top cap
+can_have_for top _ = true
+
+-- the service can mount
+abbrev pub is_mounting : Power → Bool
+is_mounting Mounting = true
+is_mounting Unmounting = false
+is_mounting Nowise = false
+
+-- the row is to be executed
+abbrev pub is_to_exec : Wish → Bool
+is_to_exec ToExec = true
+is_to_exec ToSee = false
+is_to_exec ToRead = false
+is_to_exec ToWrite = false
+
+-- user namespaces, which the kernel does not make
+abbrev pub is_user : Space → Bool
+is_user User = true
+is_user _ = false
+
+-- a row can be seen, read, written or run: a call for it passes, some table shows it, and execve does not refuse it
+abbrev pub can_reach : Launch → Power → Wish → Row → Bool
+can_reach launch power wish row =
+    (lets launch (ForPath wish) && reaches power launch.table row.path wish)
+    && not ((is_to_exec wish && not (is_mounting power)) && is_barred launch row)
+
+-- what is listed is so
+abbrev pub if_listed : {X : Type 0} → (X → Bool) → Option X → Bool
+if_listed p None = false
+if_listed p (Some x) = p x
+
+-- the verdict: open where this is so, else denied
+abbrev pub open_at : Launch → Power → Bounds → Question → Bool
+open_at launch power top (ByPath wish place) = if_listed (can_reach launch power wish) (slice_get launch.site.rows place)
+open_at launch power top (Call place) = if_listed (λ line. lets_line launch PlainCall line && can_have_for top (rule_of line)) (slice_get launch.calls.calls place)
+open_at launch power top (Socket place) = if_listed (λ line. lets launch (ForFamily line.number) && can_have_cap top line.cap) (slice_get launch.calls.families place)
+open_at launch power top (Ns space) = not (is_user space) && (lets launch (ForSpace space) && has top.effective cap_sys_admin)
+open_at launch power top MapWx = lets launch MapsWx
+open_at launch power top ProtectX = lets launch ProtectsX
+open_at launch power top ShmX = lets launch AttachesX
+open_at launch power top Realtime = lets launch SchedulesRealtime
+open_at launch power top Personality = lets launch TakesPersonality
+open_at launch power top SuidBit = lets launch SetsMode
+open_at launch power top (Cap number) = has top.effective number
+open_at launch power top (Uid id) = top.uid id
+open_at launch power top (Gid id) = top.gid id
+
+-- the verdict of a launch by its own power and bounds
+abbrev pub is_open : Launch → Question → Bool
+is_open launch question = open_at launch (power_of launch) (ceiling launch) question

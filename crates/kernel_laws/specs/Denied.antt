@@ -1,0 +1,173 @@
+-- What it means that a question is reached, that no list of calls reaches it, and that a list shows it; and what a
+-- service cannot see.
+use Rattle.std.specs.Prelude.{◌≡◌, ℕ, ◌==◌, ◌||◌, ◌⊎◌, not, Bool, true, false, List, [], ◌∷◌, slice_get, Option, Some, None, Any, if◌then◌else◌}
+use Rattle.std.specs.List.{list_any}
+use Rattle.abs_path.specs.Paths.{Path}
+use Rattle.abs_path.specs.Prefix.{is_below}
+use Rattle.cap_sets.specs.Sets.{has}
+use Rattle.call_table.specs.declared.listed.CallLine.{CallLine}
+use Rattle.site_table.specs.declared.row.Row.{Row}
+use Rattle.site_table.specs.Table.{row_at}
+use Rattle.kern_creds.specs.declared.creds.Creds.{Creds}
+use Rattle.kern_mounts.specs.Finds.{row, finds, host_place}
+use Rattle.kern_files.specs.Bits.{has_some, has_all}
+use Rattle.kern_files.specs.Looking.{is_reading, is_writing}
+use Rattle.kernel_calls.specs.declared.call.Call as call
+use Rattle.kernel_calls.specs.Calls.{IsPath, AreCalls}
+use Rattle.kernel_calls.specs.Doing as doing
+use Rattle.kernel_calls.specs.Doing.{Doing, Does, asked_of}
+use Rattle.kernel_model.specs.declared.process.Process.{Process}
+use Rattle.kernel_model.specs.World.{World, process_of, living_of, table_of}
+use Rattle.kernel_model.specs.Runs.{Moment, moments, run, IsDone, AllDone}
+use Rattle.kernel_laws.specs.Questions.{Wish, ToSee, ToRead, ToWrite, ToExec, Space, flag_of, Question, ByPath, Call, Socket, Ns, MapWx, ProtectX, ShmX, Realtime, Personality, SuidBit, Cap, Uid, Gid}
+
+-- the path by which a call does what is wished: stat(2) and its like see, open(2) reads and writes by its access mode, creat(2)
+-- and truncate(2) write, execve(2) executes
+abbrev pub path_for : Wish → Doing → Option Path
+path_for ToSee (doing.See path) = Some path
+path_for ToRead (doing.Open flags path) = if is_reading flags then Some path else None
+path_for ToWrite (doing.Open flags path) = if is_writing flags then Some path else None
+path_for ToWrite (doing.Create path) = Some path
+path_for ToWrite (doing.Truncate path) = Some path
+path_for ToExec (doing.Execve path) = Some path
+path_for _ _ = None
+
+-- a call that is done, whose path finds the row of this place in the caller's mount table
+pub record ReachesRow (wish : Wish) (place : ℕ) (moment : Moment) : Type 0 where
+  pub done : IsDone moment.reply
+  pub doing : Doing
+  pub asks : asked_of moment.before.calls.calls moment.call ≡ Does doing
+  pub path : Path
+  pub wanted : path_for wish doing ≡ Some path
+  pub target : Row
+  pub listed : slice_get moment.before.site.rows place ≡ Some target
+  pub process : Process
+  pub caller : process_of moment.before moment.call.pid ≡ Some process
+  pub found : finds (row_at moment.before.site.rows) (table_of moment.before process.namespace) path ≡ row target
+
+-- a call that is done, with the number of the call of this place
+pub record ReachesCall (place : ℕ) (moment : Moment) : Type 0 where
+  pub done : IsDone moment.reply
+  pub line : CallLine
+  pub listed : slice_get moment.before.calls.calls place ≡ Some line
+  pub same : moment.call.nr ≡ line.number
+
+-- clone(2), unshare(2): the flag of the type is set
+abbrev pub asks_space : Space → Doing → Bool
+asks_space space (doing.Unshare flags) = has_all (flag_of space) flags
+asks_space space (doing.Clone flags) = has_all (flag_of space) flags
+asks_space space _ = false
+
+-- mmap(2): PROT_WRITE and PROT_EXEC
+abbrev pub asks_map : Doing → Bool
+asks_map (doing.Map protection) = has_all 6 protection
+asks_map _ = false
+
+-- mprotect(2), pkey_mprotect(2): PROT_EXEC
+abbrev pub asks_protect : Doing → Bool
+asks_protect (doing.Protect protection) = has_all 4 protection
+asks_protect _ = false
+
+-- shmat(2): SHM_EXEC
+abbrev pub asks_attach : Doing → Bool
+asks_attach (doing.Attach flags) = has_all 0x8000 flags
+asks_attach _ = false
+
+-- sched_setscheduler(2): SCHED_FIFO and SCHED_RR
+abbrev pub asks_realtime : Doing → Bool
+asks_realtime (doing.Schedule policy) = policy == 1 || policy == 2
+asks_realtime _ = false
+
+-- personality(2): neither PER_LINUX nor 0xffffffff, which asks what the domain is
+abbrev pub asks_personality : Doing → Bool
+asks_personality (doing.Personality domain) = not (domain == 0 || domain == 0xffff_ffff)
+asks_personality _ = false
+
+-- inode(7): S_ISUID or S_ISGID
+abbrev pub asks_mode : Doing → Bool
+asks_mode (doing.SetMode mode) = has_some 0xc00 mode
+asks_mode _ = false
+
+-- the family has the number of the line, if there is one
+abbrev pub is_family : Option CallLine → ℕ → Bool
+is_family None family = false
+is_family (Some line) family = family == line.number
+
+-- socket(2) of the family of this place
+abbrev pub asks_family : List CallLine → ℕ → Doing → Bool
+asks_family families place (doing.Socket family) = is_family (slice_get families place) family
+asks_family families place _ = false
+
+-- a call that is done and asks for such a thing
+pub record Performs (asks : Doing → Bool) (moment : Moment) : Type 0 where
+  pub done : IsDone moment.reply
+  pub doing : Doing
+  pub is : asked_of moment.before.calls.calls moment.call ≡ Does doing
+  pub such : asks doing ≡ true
+
+-- the question is answered by a call of a run; of capabilities and ids nothing is asked that a call does
+abbrev pub Reaches : Question → Moment → Type 0
+Reaches (ByPath wish place) moment = ReachesRow wish place moment
+Reaches (Call place) moment = ReachesCall place moment
+Reaches (Socket place) moment = Performs (asks_family moment.before.calls.families place) moment
+Reaches (Ns space) moment = Performs (asks_space space) moment
+Reaches MapWx moment = Performs asks_map moment
+Reaches ProtectX moment = Performs asks_protect moment
+Reaches ShmX moment = Performs asks_attach moment
+Reaches Realtime moment = Performs asks_realtime moment
+Reaches Personality moment = Performs asks_personality moment
+Reaches SuidBit moment = Performs asks_mode moment
+Reaches (Cap number) moment = ⊥
+Reaches (Uid id) moment = ⊥
+Reaches (Gid id) moment = ⊥
+
+-- a living process has such credentials
+pub record SomeLiving (P : Creds → Type 0) (world : World) : Type 0 where
+  pub pid : ℕ
+  pub process : Process
+  pub lives : living_of world pid ≡ Some process
+  pub has : P process.creds
+
+-- as its effective gid or among its groups, credentials(7)
+abbrev pub HasGid : ℕ → Creds → Type 0
+HasGid id creds = (creds.gids.effective ≡ id) ⊎ (list_any (λ group. group == id) creds.groups ≡ true)
+
+-- the question is answered by a world itself
+abbrev pub Holds : Question → World → Type 0
+Holds (Cap number) world = SomeLiving (λ creds. has creds.effective number ≡ true) world
+Holds (Uid id) world = SomeLiving (λ creds. creds.uids.effective ≡ id) world
+Holds (Gid id) world = SomeLiving (HasGid id) world
+Holds _ world = ⊥
+
+-- no list of calls has a run from this world with a moment that reaches the question, nor a world that holds it. The empty
+-- list has the world itself, and each world of a run is the last one of a shorter run.
+pub record IsDenied (world : World) (question : Question) : Type 0 where
+  pub no_moment : (list : List call.Call) → AreCalls list → ¬ Any (Reaches question) (moments world list)
+  pub no_world : (list : List call.Call) → AreCalls list → ¬ Holds question (run world list)
+
+-- the last moment is such
+abbrev pub LastIs : (Moment → Type 0) → List Moment → Type 0
+LastIs P [] = ⊥
+LastIs P (m ∷ []) = P m
+LastIs P (m ∷ next ∷ ms) = LastIs P (next ∷ ms)
+
+-- every call of the list is done, and the last moment reaches the question, or the world after the list holds it
+pub record Shows (world : World) (question : Question) (list : List call.Call) : Type 0 where
+  pub fit : AreCalls list
+  pub done : AllDone (moments world list)
+  pub last : LastIs (Reaches question) (moments world list) ⊎ Holds question (run world list)
+
+-- a path, in the mount table of a living process, has its host place strictly below the folder, path_resolution(7)
+pub record Exposes (folder : Path) (world : World) : Type 0 where
+  pub pid : ℕ
+  pub process : Process
+  pub lives : living_of world pid ≡ Some process
+  pub path : Path
+  pub fits : IsPath path
+  pub place : Path
+  pub shown : host_place (table_of world process.namespace) path ≡ Some place
+  pub below : is_below place folder ≡ true
+
+-- no world of any run exposes the folder
+abbrev pub IsBlind : World → Path → Type 0
+IsBlind world folder = (list : List call.Call) → AreCalls list → ¬ Exposes folder (run world list)

@@ -1,0 +1,39 @@
+-- The filters of settings look at no more words than the first choices need.
+use Rattle.std.specs.Prelude.{◌≡◌, ℕ, ◌<◌, ◌^◌, true, List, Some}
+use Rattle.std.specs.List.{AllByRecursion}
+use Rattle.bpf_code.specs.declared.machine.CallData.{CallData}
+use Rattle.bpf_code.specs.declared.machine.Insn.{Insn}
+use Rattle.bpf_code.specs.declared.decision.Decision.TheVariants as decision
+use Rattle.bpf_code.specs.Meaning.{IsCallData}
+use Rattle.bpf_code.specs.Refusing.{ArePlain}
+use Rattle.bpf_code.specs.Stack.{answer_of, answers_of, decision_of}
+use Rattle.call_rules.specs.Action.{word_of}
+use Rattle.call_table.specs.declared.listed.CallLine.{CallLine}
+use Rattle.call_table.specs.Table as calls
+use Rattle.filter_rules.specs.declared.settings.FilterSettings.{FilterSettings}
+use Rattle.filter_rules.specs.declared.names.FilterName.{FilterName}
+use Rattle.filter_rules.specs.Wanted.{named_action, wanted_action}
+use Rattle.kernel_calls.specs.declared.payload.Payload.{Payload}
+use Rattle.kernel_calls.specs.Doing.{Doing, doing_by}
+use Rattle.kernel_laws.specs.Kinds.{Kind, asks, words, AreWords}
+use Rattle.kernel_laws.specs.Launched.{Launch, passes, Chosen}
+use Rattle.kernel_calls.specs.declared.rule.Rule.{Rule}
+use Rattle.kernel_calls.specs.Rules.{rule_of, rule_at}
+
+-- a filter that lets a call through that asks for a kind of thing lets the words through that ask for it first
+abbrev pub FirstPasses : Type 0
+FirstPasses = (filter : FilterName) (settings : FilterSettings) (table : calls.Table) (line : CallLine) (rule : Rule) (kind : Kind) (payload : Payload) (doing : Doing) (input first : CallData)
+    → rule_of line ≡ Some rule → doing_by rule input.args payload ≡ Some doing → asks kind doing ≡ true → words kind rule ≡ Some first.args
+    → decision_of (word_of (named_action filter settings table line.name input)) ≡ decision.Pass → decision_of (word_of (named_action filter settings table line.name first)) ≡ decision.Pass
+
+-- the program's answers are the words of what some filter of the settings does, seccomp(2)
+pub record Means (settings : FilterSettings) (table : calls.Table) (code : List Insn) : Type 0 where
+  pub filter : FilterName
+  pub answers : (input : CallData) → IsCallData input → answer_of code input ≡ word_of (wanted_action filter settings table input)
+
+-- a launch by programs of the settings meets what is asked of first choices
+abbrev pub SettingsChoose : Type 0
+SettingsChoose = (launch : Launch) (settings : FilterSettings) → launch.calls.arch < 2 ^ 32 → AllByRecursion (Means settings launch.calls) launch.stack
+    → ((input : CallData) → IsCallData input → ArePlain (answers_of launch.stack input))
+    → (kind : Kind) (nr : ℕ) (args : List ℕ) (rule : Rule) (payload : Payload) (doing : Doing) → nr < 2 ^ 32 → AreWords args
+    → rule_at launch.calls.calls nr ≡ Some rule → doing_by rule args payload ≡ Some doing → asks kind doing ≡ true → passes launch nr args → Chosen launch kind rule nr

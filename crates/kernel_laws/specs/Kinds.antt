@@ -1,0 +1,135 @@
+-- Kinds of calls, by what they ask for; and the words with which a kind is asked for first.
+use Rattle.std.specs.Prelude.{◌≡◌, ℕ, ◌==◌, ◌<◌, ◌^◌, Bool, true, false, List, [], ◌∷◌, length, All, set, Option, Some, None}
+use Rattle.std.specs.Option.{is_some}
+use Rattle.call_names.specs.Known.{place_of}
+use Rattle.call_names.specs.declared.rule.CallRule.TheVariants as known
+use Rattle.kernel_calls.specs.declared.rule.Rule.{Rule}
+use Rattle.kernel_calls.specs.declared.rule.Rule.TheVariants as rule
+use Rattle.kernel_calls.specs.Doing as doing
+use Rattle.kernel_calls.specs.Doing.{Doing}
+use Rattle.kernel_laws.specs.Questions.{Wish, ToSee, ToRead, ToWrite, ToExec, Space, flag_of}
+use Rattle.kernel_laws.specs.Denied.{path_for, asks_space, asks_map, asks_protect, asks_attach, asks_realtime, asks_personality, asks_mode}
+
+pub data Kind : Type 0 where
+  -- a row is seen, read, written or executed
+  ForPath : Wish → Kind
+  -- nothing but the call itself
+  PlainCall : Kind
+  -- a socket of the family, socket(2)
+  ForFamily : ℕ → Kind
+  -- a namespace of the type, clone(2), unshare(2)
+  ForSpace : Space → Kind
+  -- memory to be written and executed, mmap(2)
+  MapsWx : Kind
+  -- memory to be executed, mprotect(2)
+  ProtectsX : Kind
+  -- shared memory to be executed, shmat(2)
+  AttachesX : Kind
+  -- a policy of realtime, sched(7)
+  SchedulesRealtime : Kind
+  -- an execution domain, personality(2)
+  TakesPersonality : Kind
+  -- a mode with a set-id bit, chmod(2)
+  SetsMode : Kind
+  -- another mount table, mount(2)
+  ChangesMounts : Kind
+  -- fewer mounts, umount2(2)
+  RemovesMounts : Kind
+  -- other sets of capabilities, capset(2)
+  SetsCaps : Kind
+  -- another uid, setuid(2), setresuid(2)
+  TakesUid : Kind
+  -- another gid, setgid(2), setresgid(2), setgroups(2)
+  TakesGid : Kind
+
+abbrev pub asks_plain : Doing → Bool
+asks_plain (doing.Plain cap) = true
+asks_plain _ = false
+
+abbrev pub asks_number : ℕ → Doing → Bool
+asks_number family (doing.Socket own) = own == family
+asks_number family _ = false
+
+abbrev pub asks_mount : Doing → Bool
+asks_mount (doing.Mount source target flags) = true
+asks_mount _ = false
+
+abbrev pub asks_umount : Doing → Bool
+asks_umount (doing.Umount path flags) = true
+asks_umount _ = false
+
+abbrev pub asks_caps : Doing → Bool
+asks_caps (doing.Capset permitted effective inheritable) = true
+asks_caps _ = false
+
+abbrev pub asks_uid : Doing → Bool
+asks_uid (doing.Setuid id) = true
+asks_uid (doing.Setresuid real effective saved) = true
+asks_uid _ = false
+
+abbrev pub asks_gid : Doing → Bool
+asks_gid (doing.Setgid id) = true
+asks_gid (doing.Setresgid real effective saved) = true
+asks_gid (doing.Setgroups ids) = true
+asks_gid _ = false
+
+-- the call asks for this kind of thing
+abbrev pub asks : Kind → Doing → Bool
+asks (ForPath wish) doing = is_some (path_for wish doing)
+asks PlainCall doing = asks_plain doing
+asks (ForFamily family) doing = asks_number family doing
+asks (ForSpace space) doing = asks_space space doing
+asks MapsWx doing = asks_map doing
+asks ProtectsX doing = asks_protect doing
+asks AttachesX doing = asks_attach doing
+asks SchedulesRealtime doing = asks_realtime doing
+asks TakesPersonality doing = asks_personality doing
+asks SetsMode doing = asks_mode doing
+asks ChangesMounts doing = asks_mount doing
+asks RemovesMounts doing = asks_umount doing
+asks SetsCaps doing = asks_caps doing
+asks TakesUid doing = asks_uid doing
+asks TakesGid doing = asks_gid doing
+
+-- six words 0, syscall(2)
+abbrev pub no_words : List ℕ
+no_words = 0 ∷ 0 ∷ 0 ∷ 0 ∷ 0 ∷ 0 ∷ []
+
+-- all words 0 but the one of this place, counted from 0
+abbrev pub one_word : ℕ → ℕ → List ℕ
+one_word at value = set no_words at value
+
+-- the words with which a call of the rule asks for the kind first; none where the rule does not: O_WRONLY of open(2), PROT_WRITE
+-- and PROT_EXEC of mmap(2), PROT_EXEC of mprotect(2), SHM_EXEC of shmat(2), SCHED_FIFO of sched(7), PER_LINUX32 of
+-- personality(2), S_ISUID of inode(7)
+abbrev pub words : Kind → Rule → Option (List ℕ)
+words (ForPath ToSee) (rule.Known known.See) = Some no_words
+words (ForPath ToRead) (rule.Known (known.Open flags)) = Some no_words
+words (ForPath ToWrite) (rule.Known (known.Open flags)) = Some (one_word (place_of flags) 1)
+words (ForPath ToWrite) (rule.Known known.Create) = Some no_words
+words (ForPath ToWrite) (rule.Known known.Truncate) = Some no_words
+words (ForPath ToExec) (rule.Known known.Execve) = Some no_words
+words PlainCall (rule.Plain cap) = Some no_words
+words (ForFamily family) (rule.Known known.Socket) = Some (one_word 0 family)
+words (ForSpace space) (rule.Known known.Unshare) = Some (one_word 0 (flag_of space))
+words (ForSpace space) (rule.Known known.Clone) = Some (one_word 0 (flag_of space))
+words MapsWx (rule.Known known.Map) = Some (one_word 2 6)
+words ProtectsX (rule.Known known.Protect) = Some (one_word 2 4)
+words AttachesX (rule.Known known.Attach) = Some (one_word 2 0x8000)
+words SchedulesRealtime (rule.Known known.Schedule) = Some (one_word 1 1)
+words TakesPersonality (rule.Known known.Personality) = Some (one_word 0 8)
+words SetsMode (rule.Known (known.SetMode mode)) = Some (one_word (place_of mode) 0x800)
+words ChangesMounts (rule.Known known.Mount) = Some no_words
+words RemovesMounts (rule.Known known.Umount) = Some no_words
+words SetsCaps (rule.Known known.Capset) = Some no_words
+words TakesUid (rule.Known known.Setuid) = Some no_words
+words TakesUid (rule.Known known.Setresuid) = Some no_words
+words TakesGid (rule.Known known.Setgid) = Some no_words
+words TakesGid (rule.Known known.Setresgid) = Some no_words
+words TakesGid (rule.Known known.Setgroups) = Some no_words
+words _ _ = None
+
+-- six words of 64 bits, syscall(2)
+pub record AreWords (args : List ℕ) : Type 0 where
+  pub count : length args ≡ 6
+  pub each : All (λ arg. arg < 2 ^ 64) args

@@ -1,0 +1,13 @@
+pub mod Questions
+pub mod Denied
+pub mod Kinds
+pub mod Launched
+pub mod PlainCalls
+pub mod FirstChoice
+pub mod Bounds
+pub mod Reach
+pub mod ReachLaws
+pub mod Ceiling
+pub mod Bound
+pub mod Laws
+pub mod Blind

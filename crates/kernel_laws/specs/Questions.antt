@@ -1,0 +1,144 @@
+-- What is asked of a launched service, and the list of all questions.
+use Rattle.std.specs.Prelude.{◌≡◌, slice_get, ℕ, zero, suc, ◌+◌, ◌==◌, nat_lt, not, Bool, true, false, List, [], ◌∷◌, ◌++◌, map, Option, Some, None, if◌then◌else◌}
+use Rattle.call_table.specs.declared.listed.CallLine.{CallLine}
+use Rattle.call_table.specs.Table as calls
+use Rattle.site_table.specs.declared.row.Row.{Row}
+use Rattle.site_table.specs.Kinds.{is_dir, is_exe}
+use Rattle.site_table.specs.Table.{Site}
+use Rattle.kernel_calls.specs.declared.rule.Rule.{Rule}
+use Rattle.kernel_calls.specs.declared.rule.Rule.TheVariants.{Plain}
+use Rattle.kernel_calls.specs.Rules.{rule_of}
+
+-- the types of namespaces, namespaces(7)
+pub data Space : Type 0 where
+  Cgroup : Space
+  Ipc : Space
+  Net : Space
+  Mnt : Space
+  Pid : Space
+  User : Space
+  Uts : Space
+
+-- CLONE_NEWCGROUP and its like, clone(2)
+abbrev pub flag_of : Space → ℕ
+flag_of Cgroup = 0x200_0000
+flag_of Ipc = 0x800_0000
+flag_of Net = 0x4000_0000
+flag_of Mnt = 0x2_0000
+flag_of Pid = 0x2000_0000
+flag_of User = 0x1000_0000
+flag_of Uts = 0x400_0000
+
+-- what is wanted of a row: that its path is seen, read, written or executed
+pub data Wish : Type 0 where
+  ToSee : Wish
+  ToRead : Wish
+  ToWrite : Wish
+  ToExec : Wish
+
+-- can a process of the service have a call done that .. ? Rows, calls and families are named by their place in the tables.
+pub data Question : Type 0 where
+  -- does this with the row
+  ByPath : Wish → ℕ → Question
+  -- is this one
+  Call : ℕ → Question
+  -- makes a socket of the family, socket(2)
+  Socket : ℕ → Question
+  -- makes a namespace of the type, clone(2), unshare(2)
+  Ns : Space → Question
+  -- maps memory to be written and executed, mmap(2)
+  MapWx : Question
+  -- makes mapped memory executable, mprotect(2)
+  ProtectX : Question
+  -- attaches shared memory to be executed, shmat(2)
+  ShmX : Question
+  -- takes a policy of realtime, sched(7)
+  Realtime : Question
+  -- takes another execution domain, personality(2)
+  Personality : Question
+  -- sets a set-id bit of a file, chmod(2), inode(7)
+  SuidBit : Question
+  -- or can a process have the capability effective, capabilities(7)?
+  Cap : ℕ → Question
+  -- or the effective uid, credentials(7)?
+  Uid : ℕ → Question
+  -- or the gid, effective or among its groups, credentials(7)?
+  Gid : ℕ → Question
+
+-- a call whose name the kernel does not know: all that can be asked of it is whether it is done
+abbrev pub is_plain : Option Rule → Bool
+is_plain (Some (Plain cap)) = true
+is_plain _ = false
+
+-- what is asked of a call is asked of a plain one
+abbrev pub IsAsked : calls.Table → Question → Type 0
+IsAsked calls (Call place) = (line : CallLine) → slice_get calls.calls place ≡ Some line → is_plain (rule_of line) ≡ true
+IsAsked calls _ = Unit {0}
+
+-- the thing or nothing
+abbrev pub if_so : {X : Type 0} → Bool → X → List X
+if_so true x = x ∷ []
+if_so false x = []
+
+-- of a row: to see and to read it, to write what is no directory, to execute what is a program
+abbrev pub of_row : ℕ → Row → List Question
+of_row at row = ByPath ToSee at ∷ ByPath ToRead at ∷ if_so (not (is_dir row.kind)) (ByPath ToWrite at) ++ if_so (is_exe row.kind) (ByPath ToExec at)
+
+-- of each row, counted from a number
+abbrev pub of_rows : ℕ → List Row → List Question
+of_rows at [] = []
+of_rows at (row ∷ rows) = of_row at row ++ of_rows (at + 1) rows
+
+-- of each plain call, counted from a number
+abbrev pub of_calls : ℕ → List CallLine → List Question
+of_calls at [] = []
+of_calls at (line ∷ lines) = if_so (is_plain (rule_of line)) (Call at) ++ of_calls (at + 1) lines
+
+-- of each family, counted from a number
+abbrev pub of_families : ℕ → List CallLine → List Question
+of_families at [] = []
+of_families at (line ∷ lines) = Socket at ∷ of_families (at + 1) lines
+
+-- from a number on, so many
+abbrev pub count_from : ℕ → ℕ → List ℕ
+count_from at zero = []
+count_from at (suc count) = at ∷ count_from (at + 1) count
+
+-- a number put among ascending ones, each of which stands once
+abbrev pub placed : ℕ → List ℕ → List ℕ
+placed id [] = id ∷ []
+placed id (other ∷ ids) = if nat_lt id other then id ∷ other ∷ ids else if id == other then other ∷ ids else other ∷ placed id ids
+
+-- the numbers in order, each once
+abbrev pub ascending : List ℕ → List ℕ
+ascending [] = []
+ascending (id ∷ ids) = placed id (ascending ids)
+
+-- those that are there
+abbrev pub some_ids : List (Option ℕ) → List ℕ
+some_ids [] = []
+some_ids (None ∷ ids) = some_ids ids
+some_ids (Some id ∷ ids) = id ∷ some_ids ids
+
+-- one list of all
+abbrev pub joined : List (List ℕ) → List ℕ
+joined [] = []
+joined (ids ∷ lists) = ids ++ joined lists
+
+-- root, the dynamic user, the users of the host and the owners of its set-user-id programs
+abbrev pub uids_of : Site → List ℕ
+uids_of site = ascending (0 ∷ site.dynamic_uid ∷ map (λ user. user.uid) site.users ++ some_ids (map (λ row. row.setuid) site.rows))
+
+-- the group root, the dynamic group, the groups of the host, those of its users and of its set-group-id programs
+abbrev pub gids_of : Site → List ℕ
+gids_of site = ascending (0 ∷ site.dynamic_uid ∷ map (λ group. group.gid) site.groups ++ map (λ user. user.gid) site.users ++ joined (map (λ user. user.groups) site.users) ++ some_ids (map (λ row. row.setgid) site.rows))
+
+-- the questions of no table
+abbrev pub other_questions : List Question
+other_questions = Ns Cgroup ∷ Ns Ipc ∷ Ns Net ∷ Ns Mnt ∷ Ns Pid ∷ Ns User ∷ Ns Uts ∷ MapWx ∷ ProtectX ∷ ShmX ∷ Realtime ∷ Personality ∷ SuidBit ∷ []
+
+-- all questions: of the rows, the plain calls, the families, of no table, of the 41 capabilities, the uids and the gids
+abbrev pub questions : calls.Table → Site → List Question
+questions calls site =
+    of_rows 0 site.rows ++ of_calls 0 calls.calls ++ of_families 0 calls.families ++ other_questions ++
+    map Cap (count_from 0 41) ++ map Uid (uids_of site) ++ map Gid (gids_of site)

@@ -1,0 +1,62 @@
+-- Which entry of a mount table leads to a row of the host, by how far the table can be changed.
+use Rattle.std.specs.Prelude.{◌≡◌, ℕ, ◌+◌, Bool, true, false, [], ◌∷◌, ◌++◌, Option, Some, None, if◌then◌else◌, not, ◌&&◌, ◌||◌, is_some}
+use Rattle.std.specs.List.{list_any}
+use Rattle.abs_path.specs.Paths.{Path}
+use Rattle.abs_path.specs.Prefix.{is_prefix, rest_of}
+use Rattle.kern_mounts.specs.Entry.{leads_to}
+use Rattle.kern_mounts.specs.declared.step.Flags.{Flags}
+use Rattle.kern_mounts.specs.declared.step.What.{What}
+use Rattle.kern_mounts.specs.declared.step.What.TheVariants.{Host, Empty, Hidden}
+use Rattle.kern_mounts.specs.declared.step.MountStep.{MountStep}
+use Rattle.kern_mounts.specs.Split.{Table, Split, split_at}
+use Rattle.kernel_laws.specs.Questions.{Wish, ToSee, ToRead, ToWrite, ToExec}
+
+-- what is wished may be done on a mount with these flags, mount(2)
+abbrev pub fits : Wish → Flags → Bool
+fits ToSee flags = true
+fits ToRead flags = true
+fits ToWrite flags = not flags.read_only
+fits ToExec flags = not flags.no_exec
+
+-- a path of this very table finds the row, with the flags that the wish needs
+pub record Leads (table : Table) (row : Path) (wish : Wish) : Type 0 where
+  pub path : Path
+  pub split : Split
+  pub belongs : split_at path table ≡ Some split
+  pub source : Path
+  pub host : split.entry.what ≡ Host source
+  pub rest : Path
+  pub path_is : path ≡ split.entry.place ++ rest
+  pub row_is : row ≡ source ++ rest
+  pub flags : fits wish split.entry.flags ≡ true
+
+-- the entry shows the row at a path that no later entry covers, or that can be uncovered
+abbrev pub shows_row : Bool → MountStep → Table → Path → What → Bool
+shows_row uncover entry later row (Host source) = is_prefix source row && (uncover || not (list_any (leads_to (entry.place ++ rest_of source row)) later))
+shows_row uncover entry later row Empty = false
+shows_row uncover entry later row (Hidden directory) = false
+
+-- and its flags allow what is wished
+abbrev pub serves : Bool → Path → Wish → MountStep → Table → Bool
+serves uncover row wish entry later = fits wish entry.flags && shows_row uncover entry later row entry.what
+
+-- the place of the first entry that serves, counted from a number
+abbrev pub reach_from : Bool → Path → Wish → Table → ℕ → Option ℕ
+reach_from uncover row wish [] at = None
+reach_from uncover row wish (entry ∷ later) at = if serves uncover row wish entry later then Some at else reach_from uncover row wish later (at + 1)
+
+-- how far mount tables can be changed: not at all, by umount2(2) alone, or by mount(2)
+pub data Power : Type 0 where
+  Nowise : Power
+  Unmounting : Power
+  Mounting : Power
+
+-- the place of the entry that leads to the row; with mount every row can be shown, so the first entry's
+abbrev pub reach : Power → Table → Path → Wish → Option ℕ
+reach Nowise table row wish = reach_from false row wish table 0
+reach Unmounting table row wish = reach_from true row wish table 0
+reach Mounting table row wish = Some 0
+
+-- some entry leads to the row
+abbrev pub reaches : Power → Table → Path → Wish → Bool
+reaches power table row wish = is_some (reach power table row wish)

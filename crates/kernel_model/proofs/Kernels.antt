@@ -1,0 +1,371 @@
+-- What holds of every world stays, whatever is called.
+use Rattle.std.proofs.Common.{◌≡◌, ℕ, ◌<◌, ◌≤◌, ◌-◌, ◌+◌, ◌==◌, zero, suc, Bool, true, false, cond, List, [], ◌∷◌, ◌++◌, length, Option, Some, None, Result, Ok, Err, refl, sym, ◌∙◌, subst, arith}
+use Rattle.std.specs.Prelude.{slice_get, nat_lt, nat_le, not, ◌&&◌, ◌||◌}
+use Rattle.std.specs.List.{AllByRecursion}
+use Rattle.bpf_code.specs.declared.machine.Insn.{Insn}
+use Rattle.bpf_code.specs.ProgramOf.{program_of}
+use Rattle.bpf_code.specs.Stack.{room_of}
+use Rattle.cap_sets.specs.Sets.{has}
+use Rattle.linux_numbers.specs.Errnos.{eperm, eacces, einval, enospc, enomem}
+use Rattle.linux_numbers.specs.Capabilities.{cap_sys_admin, cap_last_cap}
+use Rattle.linux_numbers.specs.Limits.{max_insns_per_path}
+use Rattle.kern_files.specs.Bits.{has_some}
+use Rattle.call_table.specs.declared.listed.CallLine.{CallLine}
+use Rattle.kern_creds.specs.declared.creds.Creds.{Creds}
+use Rattle.kern_creds.specs.Prctl.{after_drop_bounding, after_raise, after_lower, after_clear_ambient, after_set_keepcaps, after_set_no_new_privs}
+use Rattle.kern_mounts.specs.Split.{Table}
+use Rattle.kern_files.specs.MountCall.{after_mount}
+use Rattle.kern_files.specs.UmountCall.{umount_answer}
+use Rattle.kernel_calls.specs.declared.call.Call.{Call}
+use Rattle.kernel_calls.specs.Doing as d
+use Rattle.kernel_calls.specs.Doing.{Doing}
+use Rattle.kernel_model.specs.declared.process.Process.{Process}
+use Rattle.kernel_model.specs.declared.reply.Reply.{Reply}
+use Rattle.kernel_model.specs.Effects as f
+use Rattle.kernel_model.specs.Effects.{Effect, Host, Caller, thread_flag, newns, newuser, other_spaces, no_spaces, effect_of, looks, creds_effect, table_effect, with_cap, with_cap_of, with_admin, socket_effect, clone_effect, unshare_effect, is_set_effect, ambient_effect, no_new_privs_effect, keepcaps_effect, prctl_effect, push_effect, seccomp_effect}
+use Rattle.kernel_model.specs.World.{World, living_of, of_number, table_or, table_of, with_process, with_table, with_child, with_copy, moved_to, ended, host_of, caller_of}
+use Rattle.kernel_model.specs.Step.{step, most_processes, most_namespaces}
+use Rattle.kernel_model.specs.StepCases as case
+use Rattle.kernel_model.specs.StepCases.{StepCase, EffectCase}
+use Rattle.kernel_model.specs.Worlds.{HasSpace, IsRooted, IsKernel}
+use Rattle.kernel_model.specs.Laws.{WorldsStay, ToldStays}
+use Rattle.kernel_model.proofs.Lists.{each-set, each-append, each-get, each-map, length-set, length-push}
+use Rattle.kernel_model.proofs.Places.{living_get}
+use Rattle.kernel_model.proofs.Rooted.{rooted_mount, rooted_umount_call}
+use Rattle.kernel_model.proofs.Cases.{steps_by_cases}
+
+abbrev pub Kernel : World → Type 0
+Kernel world = IsKernel world.processes world.tables
+
+-- a table that the effect makes is rooted
+abbrev pub Roots : Effect → Type 0
+Roots (f.SetTable table) = IsRooted table
+Roots (f.Refuse errno) = Unit {0}
+Roots (f.Answer value) = Unit {0}
+Roots (f.SetCreds creds) = Unit {0}
+Roots (f.Push program) = Unit {0}
+Roots (f.Child own) = Unit {0}
+Roots f.OwnTable = Unit {0}
+Roots f.End = Unit {0}
+
+pub record MakesRooted (effect : Effect) : Type 0 where
+  pub rooted : Roots effect
+
+refuses : (errno : ℕ) → MakesRooted (f.Refuse errno)
+refuses errno = record { rooted = tt }
+
+gives : (value : ℕ) → MakesRooted (f.Answer value)
+gives value = record { rooted = tt }
+
+roots_if : (b : Bool) (x y : Effect) → MakesRooted x → MakesRooted y → MakesRooted (cond b x y)
+roots_if true x y p q = p
+roots_if false x y p q = q
+
+roots_looks : (answer : Result ℕ ℕ) → MakesRooted (looks answer)
+roots_looks (Ok value) = gives value
+roots_looks (Err errno) = refuses errno
+
+roots_creds : (answer : Result Creds ℕ) → MakesRooted (creds_effect answer)
+roots_creds (Ok creds) = record { rooted = tt }
+roots_creds (Err errno) = refuses errno
+
+roots_table : (answer : Result Table ℕ) → ((next : Table) → answer ≡ Ok next → IsRooted next) → MakesRooted (table_effect answer)
+roots_table (Ok table) h = record { rooted = h table refl }
+roots_table (Err errno) h = refuses errno
+
+roots_cap : (cap : ℕ) (creds : Creds) (effect : Effect) → MakesRooted effect → MakesRooted (with_cap cap creds effect)
+roots_cap cap creds effect h = roots_if (has creds.effective cap) effect (f.Refuse eperm) h (refuses eperm)
+
+roots_cap_of : (cap : Option ℕ) (creds : Creds) (value : ℕ) → MakesRooted (with_cap_of cap creds (f.Answer value))
+roots_cap_of None creds value = gives value
+roots_cap_of (Some cap) creds value = roots_cap cap creds (f.Answer value) (gives value)
+
+roots_socket : (creds : Creds) (line : Option CallLine) → MakesRooted (socket_effect creds line)
+roots_socket creds None = refuses _
+roots_socket creds (Some line) = roots_cap_of line.cap creds 3
+
+child : (own : Bool) → MakesRooted (f.Child own)
+child own = record { rooted = tt }
+
+own_table : MakesRooted f.OwnTable
+own_table = record { rooted = tt }
+
+roots_clone : (creds : Creds) (flags : ℕ) → MakesRooted (clone_effect creds flags)
+roots_clone creds flags = thread (has_some thread_flag flags)
+  where
+    spaces : (b : Bool) → MakesRooted (cond b (with_admin creds (f.Child (has_some newns flags))) (f.Child false))
+    spaces true = roots_cap cap_sys_admin creds (f.Child (has_some newns flags)) (child (has_some newns flags))
+    spaces false = child false
+
+    user : (b : Bool) → MakesRooted (cond b (f.Refuse enospc) (cond (has_some other_spaces flags) (with_admin creds (f.Child (has_some newns flags))) (f.Child false)))
+    user true = refuses enospc
+    user false = spaces (has_some other_spaces flags)
+
+    thread : (b : Bool) → MakesRooted (cond b (f.Refuse einval) (cond (has_some newuser flags) (f.Refuse enospc) (cond (has_some other_spaces flags) (with_admin creds (f.Child (has_some newns flags))) (f.Child false))))
+    thread true = refuses einval
+    thread false = user (has_some newuser flags)
+
+roots_unshare : (creds : Creds) (flags : ℕ) → MakesRooted (unshare_effect creds flags)
+roots_unshare creds flags = outside (has_some no_spaces flags)
+  where
+    table : (b : Bool) → MakesRooted (cond b f.OwnTable (f.Answer 0))
+    table true = own_table
+    table false = gives 0
+
+    spaces : (b : Bool) → MakesRooted (cond b (with_admin creds (cond (has_some newns flags) f.OwnTable (f.Answer 0))) (f.Answer 0))
+    spaces true = roots_cap cap_sys_admin creds (cond (has_some newns flags) f.OwnTable (f.Answer 0)) (table (has_some newns flags))
+    spaces false = gives 0
+
+    user : (b : Bool) → MakesRooted (cond b (f.Refuse enospc) (cond (has_some other_spaces flags) (with_admin creds (cond (has_some newns flags) f.OwnTable (f.Answer 0))) (f.Answer 0)))
+    user true = refuses enospc
+    user false = spaces (has_some other_spaces flags)
+
+    outside : (b : Bool) → MakesRooted (cond b (f.Refuse einval) (cond (has_some newuser flags) (f.Refuse enospc) (cond (has_some other_spaces flags) (with_admin creds (cond (has_some newns flags) f.OwnTable (f.Answer 0))) (f.Answer 0))))
+    outside true = refuses einval
+    outside false = user (has_some newuser flags)
+
+roots_is_set : (creds : Creds) (cap : ℕ) → MakesRooted (is_set_effect creds cap)
+roots_is_set creds cap = roots_if (nat_lt cap_last_cap cap) (f.Refuse einval) (f.Answer (cond (has creds.ambient cap) 1 0)) (refuses einval) (gives (cond (has creds.ambient cap) 1 0))
+
+roots_clear : (creds : Creds) → MakesRooted (f.SetCreds creds)
+roots_clear creds = record { rooted = tt }
+
+roots_ambient : (creds : Creds) (operation cap : ℕ) → MakesRooted (ambient_effect creds operation cap)
+roots_ambient creds operation cap = is_set (operation == 1)
+  where
+    clear : (b : Bool) → MakesRooted (cond b (f.SetCreds (after_clear_ambient creds)) (f.Refuse einval))
+    clear true = roots_clear (after_clear_ambient creds)
+    clear false = refuses einval
+
+    lower : (b : Bool) → MakesRooted (cond b (creds_effect (after_lower creds cap)) (cond (operation == 4) (f.SetCreds (after_clear_ambient creds)) (f.Refuse einval)))
+    lower true = roots_creds (after_lower creds cap)
+    lower false = clear (operation == 4)
+
+    raise : (b : Bool) → MakesRooted (cond b (creds_effect (after_raise creds cap)) (cond (operation == 3) (creds_effect (after_lower creds cap)) (cond (operation == 4) (f.SetCreds (after_clear_ambient creds)) (f.Refuse einval))))
+    raise true = roots_creds (after_raise creds cap)
+    raise false = lower (operation == 3)
+
+    is_set : (b : Bool)
+        → MakesRooted (cond b (is_set_effect creds cap) (cond (operation == 2) (creds_effect (after_raise creds cap)) (cond (operation == 3) (creds_effect (after_lower creds cap)) (cond (operation == 4) (f.SetCreds (after_clear_ambient creds)) (f.Refuse einval)))))
+    is_set true = roots_is_set creds cap
+    is_set false = raise (operation == 2)
+
+roots_no_new_privs : (creds : Creds) (value : ℕ) → MakesRooted (no_new_privs_effect creds value)
+roots_no_new_privs creds value = roots_if (value == 1) (f.SetCreds (after_set_no_new_privs creds)) (f.Refuse einval) (roots_clear (after_set_no_new_privs creds)) (refuses einval)
+
+roots_keepcaps : (creds : Creds) (value : ℕ) → MakesRooted (keepcaps_effect creds value)
+roots_keepcaps creds value = roots_if (nat_lt value 2) (f.SetCreds (after_set_keepcaps creds (value == 1))) (f.Refuse einval) (roots_clear (after_set_keepcaps creds (value == 1))) (refuses einval)
+
+roots_prctl : (creds : Creds) (option value third : ℕ) → MakesRooted (prctl_effect creds option value third)
+roots_prctl creds option value third = set (option == 38)
+  where
+    ambient : (b : Bool) → MakesRooted (cond b (ambient_effect creds value third) (f.Refuse einval))
+    ambient true = roots_ambient creds value third
+    ambient false = refuses einval
+
+    drop : (b : Bool) → MakesRooted (cond b (creds_effect (after_drop_bounding creds value)) (cond (option == 47) (ambient_effect creds value third) (f.Refuse einval)))
+    drop true = roots_creds (after_drop_bounding creds value)
+    drop false = ambient (option == 47)
+
+    keep : (b : Bool) → MakesRooted (cond b (keepcaps_effect creds value) (cond (option == 24) (creds_effect (after_drop_bounding creds value)) (cond (option == 47) (ambient_effect creds value third) (f.Refuse einval))))
+    keep true = roots_keepcaps creds value
+    keep false = drop (option == 24)
+
+    get : (b : Bool)
+        → MakesRooted (cond b (f.Answer (cond creds.no_new_privs 1 0)) (cond (option == 8) (keepcaps_effect creds value) (cond (option == 24) (creds_effect (after_drop_bounding creds value)) (cond (option == 47) (ambient_effect creds value third) (f.Refuse einval)))))
+    get true = gives (cond creds.no_new_privs 1 0)
+    get false = keep (option == 8)
+
+    set : (b : Bool)
+        → MakesRooted (cond b (no_new_privs_effect creds value) (cond (option == 39) (f.Answer (cond creds.no_new_privs 1 0)) (cond (option == 8) (keepcaps_effect creds value) (cond (option == 24) (creds_effect (after_drop_bounding creds value)) (cond (option == 47) (ambient_effect creds value third) (f.Refuse einval))))))
+    set true = roots_no_new_privs creds value
+    set false = get (option == 39)
+
+pushes : (program : List Insn) → MakesRooted (f.Push program)
+pushes program = record { rooted = tt }
+
+roots_push : (stack : List (List Insn)) (program : Option (List Insn)) → MakesRooted (push_effect stack program)
+roots_push stack None = refuses einval
+roots_push stack (Some program) = roots_if (nat_le (room_of stack + length program) max_insns_per_path) (f.Push program) (f.Refuse enomem) (pushes program) (refuses enomem)
+
+roots_seccomp : (creds : Creds) (stack : List (List Insn)) (operation flags : ℕ) (bytes : List ℕ) → MakesRooted (seccomp_effect creds stack operation flags bytes)
+roots_seccomp creds stack operation flags bytes = mode (not (operation == 1 && flags == 0))
+  where
+    may : (b : Bool) → MakesRooted (cond b (f.Refuse eacces) (push_effect stack (program_of bytes)))
+    may true = refuses eacces
+    may false = roots_push stack (program_of bytes)
+
+    mode : (b : Bool) → MakesRooted (cond b (f.Refuse einval) (cond (not (creds.no_new_privs || has creds.effective cap_sys_admin)) (f.Refuse eacces) (push_effect stack (program_of bytes))))
+    mode true = refuses einval
+    mode false = may (not (creds.no_new_privs || has creds.effective cap_sys_admin))
+
+pub roots_effect : (host : Host) (caller : Caller) (doing : Doing) → IsRooted caller.table → MakesRooted (effect_of host caller doing)
+roots_effect host caller (d.See path) h = roots_looks _
+roots_effect host caller (d.Open flags path) h = roots_looks _
+roots_effect host caller (d.Create path) h = roots_looks _
+roots_effect host caller (d.Truncate path) h = roots_looks _
+roots_effect host caller (d.Execve path) h = roots_creds _
+roots_effect host caller (d.SetMode mode) h = gives 0
+roots_effect host caller (d.Map protection) h = gives 0
+roots_effect host caller (d.Protect protection) h = gives 0
+roots_effect host caller (d.Attach flags) h = gives 0
+roots_effect host caller (d.Schedule policy) h = roots_looks _
+roots_effect host caller (d.Personality persona) h = gives 0
+roots_effect host caller (d.Socket family) h = roots_socket caller.creds _
+roots_effect host caller d.Enter h = refuses _
+roots_effect host caller d.Fork h = child false
+roots_effect host caller (d.Clone flags) h = roots_clone caller.creds flags
+roots_effect host caller (d.Unshare flags) h = roots_unshare caller.creds flags
+roots_effect host caller d.Exit h = record { rooted = tt }
+roots_effect host caller (d.Mount source target flags) h =
+    roots_cap cap_sys_admin caller.creds (table_effect (after_mount host.rows caller.table source target flags)) (roots_table (after_mount host.rows caller.table source target flags) (λ next e. rooted_mount host.rows caller.table next source target flags h e))
+roots_effect host caller (d.Umount path flags) h =
+    roots_cap cap_sys_admin caller.creds (table_effect (umount_answer caller.table path flags)) (roots_table (umount_answer caller.table path flags) (λ next e. rooted_umount_call caller.table next path flags h e))
+roots_effect host caller (d.Setuid id) h = roots_creds _
+roots_effect host caller (d.Setgid id) h = roots_creds _
+roots_effect host caller (d.Setresuid real effective saved) h = roots_creds _
+roots_effect host caller (d.Setresgid real effective saved) h = roots_creds _
+roots_effect host caller (d.Setgroups ids) h = roots_creds _
+roots_effect host caller (d.Capset permitted effective inheritable) h = roots_creds _
+roots_effect host caller (d.Prctl option value third) h = roots_prctl caller.creds option value third
+roots_effect host caller (d.Seccomp operation flags bytes) h = roots_seccomp caller.creds caller.stack operation flags bytes
+roots_effect host caller (d.Plain cap) h = roots_cap_of cap caller.creds 0
+
+-- a process in its namespace, whatever else of it changes
+pub spaced : (count : ℕ) (process now : Process) → HasSpace count process → now.namespace ≡ process.namespace → HasSpace count now
+spaced count process now h e = record { numbered = subst (λ (n : ℕ). 1 ≤ n) (sym e) h.numbered; within = subst (λ (n : ℕ). n ≤ count) (sym e) h.within }
+
+more_space : (count : ℕ) (process : Process) → HasSpace count process → HasSpace (count + 1) process
+more_space count process h = record { numbered = h.numbered; within = omega (arith, h.within) }
+
+new_space : (count : ℕ) (process : Process) → HasSpace (count + 1) (moved_to process count)
+new_space count process = record { numbered = omega arith; within = omega arith }
+
+pub kernel_process : (world : World) (pid : ℕ) (process : Process) → Kernel world → HasSpace (length world.tables) process → Kernel (with_process world pid process)
+kernel_process world pid process k h = record {
+  few_processes = subst (λ (n : ℕ). n ≤ most_processes) (sym (length-set world.processes (pid - 1) process)) k.few_processes;
+  few_namespaces = k.few_namespaces;
+  spaces = each-set (HasSpace (length world.tables)) world.processes (pid - 1) process k.spaces h;
+  roots = k.roots;
+}
+
+pub kernel_table : (world : World) (namespace : ℕ) (table : Table) → Kernel world → IsRooted table → Kernel (with_table world namespace table)
+kernel_table world namespace table k h =
+    let same = length-set world.tables (namespace - 1) table in
+    record {
+      few_processes = k.few_processes;
+      few_namespaces = subst (λ (n : ℕ). n ≤ most_namespaces) (sym same) k.few_namespaces;
+      spaces = subst (λ (n : ℕ). AllByRecursion (HasSpace n) world.processes) (sym same) k.spaces;
+      roots = each-set IsRooted world.tables (namespace - 1) table k.roots h;
+    }
+
+kernel_child : (world : World) (child : Process) → Kernel world → length world.processes < most_processes → HasSpace (length world.tables) child → Kernel (with_child world child)
+kernel_child world child k room h = record {
+  few_processes = subst (λ (n : ℕ). n ≤ most_processes) (sym (length-push world.processes child)) (let more : length world.processes + 1 ≤ most_processes = omega (arith, room) in more);
+  few_namespaces = k.few_namespaces;
+  spaces = each-append (HasSpace (length world.tables)) world.processes (child ∷ []) k.spaces (h, tt);
+  roots = k.roots;
+}
+
+kernel_copy : (world : World) (namespace : ℕ) → Kernel world → length world.tables < most_namespaces → IsRooted (table_of world namespace) → Kernel (with_copy world namespace)
+kernel_copy world namespace k room h =
+    let more = length-push world.tables (table_of world namespace) in
+    record {
+      few_processes = k.few_processes;
+      few_namespaces = subst (λ (n : ℕ). n ≤ most_namespaces) (sym more) (let fits : length world.tables + 1 ≤ most_namespaces = omega (arith, room) in fits);
+      spaces = subst (λ (n : ℕ). AllByRecursion (HasSpace n) world.processes) (sym more) (each-map (HasSpace (length world.tables)) (HasSpace (length world.tables + 1)) world.processes (more_space (length world.tables)) k.spaces);
+      roots = each-append IsRooted world.tables (table_of world namespace ∷ []) k.roots (h, tt);
+    }
+
+-- the process in the new namespace
+moved_space : (world : World) (process : Process) → HasSpace (length (with_copy world process.namespace).tables) (moved_to process (length world.tables))
+moved_space world process =
+    subst (λ (n : ℕ). HasSpace n (moved_to process (length world.tables))) (sym (length-push world.tables (table_of world process.namespace))) (new_space (length world.tables) process)
+
+kernel_effect : (world : World) (pid : ℕ) (process : Process) (effect : Effect) (out : Reply × World) → Kernel world → HasSpace (length world.tables) process → IsRooted (table_of world process.namespace) → MakesRooted effect
+    → EffectCase world pid process effect out → Kernel out.1
+kernel_effect world pid process effect out k h t r (case.refuses errno) = k
+kernel_effect world pid process effect out k h t r (case.answers value) = k
+kernel_effect world pid process effect out k h t r (case.takes_creds creds) = kernel_process world pid (record process { creds = creds }) k (spaced (length world.tables) process (record process { creds = creds }) h refl)
+kernel_effect world pid process effect out k h t r (case.takes_table table) = kernel_table world process.namespace table k r.rooted
+kernel_effect world pid process effect out k h t r (case.takes_program program) =
+    kernel_process world pid (record process { stack = process.stack ++ program ∷ [] }) k (spaced (length world.tables) process (record process { stack = process.stack ++ program ∷ [] }) h refl)
+kernel_effect world pid process effect out k h t r (case.no_process_left own full) = k
+kernel_effect world pid process effect out k h t r (case.shares room) = kernel_child world process k room h
+kernel_effect world pid process effect out k h t r (case.no_namespace_for_child room full) = k
+kernel_effect world pid process effect out k h t r (case.gives_copy room space) =
+    kernel_child (with_copy world process.namespace) (moved_to process (length world.tables)) (kernel_copy world process.namespace k space t) room (moved_space world process)
+kernel_effect world pid process effect out k h t r (case.no_namespace_left full) = k
+kernel_effect world pid process effect out k h t r (case.moves space) =
+    kernel_process (with_copy world process.namespace) pid (moved_to process (length world.tables)) (kernel_copy world process.namespace k space t) (moved_space world process)
+kernel_effect world pid process effect out k h t r case.ends = kernel_process world pid (ended process) k (spaced (length world.tables) process (ended process) h refl)
+
+-- a process of a kernel has a table, and it is rooted
+rooted_or : (tables : List Table) (number : ℕ) → AllByRecursion IsRooted tables → 1 ≤ number → number ≤ length tables → IsRooted (table_or (of_number tables number))
+rooted_or tables number all one within = by (number - 1) (length tables) tables (nonzero number one) (omega (arith, one, within)) refl all
+  where
+    nonzero : (n : ℕ) → 1 ≤ n → (n == 0) ≡ false
+    nonzero n h = grind (arith, h)
+
+    get : (xs : List Table) (i : ℕ) → i < length xs → AllByRecursion IsRooted xs → IsRooted (table_or (slice_get xs i))
+    get [] i lt all = absurd (omega (arith, lt))
+    get (x ∷ xs) zero lt all = all.0
+    get (x ∷ xs) (suc i) lt all = let less : i < length xs = omega (arith, lt) in get xs i less all.1
+
+    by : (i n : ℕ) (xs : List Table) → (number == 0) ≡ false → i < n → n ≡ length xs → AllByRecursion IsRooted xs → IsRooted (table_or (cond (number == 0) None (slice_get xs i)))
+    by i n xs zero_not lt is all = rw zero_not (get xs i (subst (λ (m : ℕ). i < m) is lt) all)
+
+pub rooted_table : (world : World) (process : Process) → Kernel world → HasSpace (length world.tables) process → IsRooted (table_of world process.namespace)
+rooted_table world process k h = rooted_or world.tables process.namespace k.roots h.numbered h.within
+
+pub living_space : (world : World) (pid : ℕ) (process : Process) → Kernel world → living_of world pid ≡ Some process → HasSpace (length world.tables) process
+living_space world pid process k living = each-get (HasSpace (length world.tables)) world.processes (pid - 1) process k.spaces (living_get world pid process living)
+
+kernel_case : (world : World) (call : Call) (out : Reply × World) → Kernel world → StepCase world call out → Kernel out.1
+kernel_case world call out k (case.absent e) = k
+kernel_case world call out k (case.filtered process errno living e) = k
+kernel_case world call out k (case.killed process living e) = kernel_process world call.pid (ended process) k (spaced (length world.tables) process (ended process) (living_space world call.pid process k living) refl)
+kernel_case world call out k (case.lacking process passes e) = k
+kernel_case world call out k (case.misformed process passes e) = k
+kernel_case world call out k (case.does process doing made passes e h) =
+    let space = living_space world call.pid process k passes.living in
+    let table = rooted_table world process k space in
+    kernel_effect world call.pid process (effect_of (host_of world) (caller_of world process) doing) made k space table (roots_effect (host_of world) (caller_of world process) doing table) h
+
+pub kernel_step : (world : World) (call : Call) → Kernel world → Kernel (step world call).1
+kernel_step world call k = kernel_case world call (step world call) k (steps_by_cases world call)
+
+pub worlds_stay : WorldsStay
+worlds_stay world k [] = k
+worlds_stay world k (call ∷ calls) = worlds_stay (step world call).1 (kernel_step world call k) calls
+
+-- and what the kernel is told
+
+told_effect : (world : World) (pid : ℕ) (process : Process) (effect : Effect) (out : Reply × World) → EffectCase world pid process effect out → (out.1.calls ≡ world.calls) × (out.1.site ≡ world.site)
+told_effect world pid process effect out (case.refuses errno) = (refl, refl)
+told_effect world pid process effect out (case.answers value) = (refl, refl)
+told_effect world pid process effect out (case.takes_creds creds) = (refl, refl)
+told_effect world pid process effect out (case.takes_table table) = (refl, refl)
+told_effect world pid process effect out (case.takes_program program) = (refl, refl)
+told_effect world pid process effect out (case.no_process_left own full) = (refl, refl)
+told_effect world pid process effect out (case.shares room) = (refl, refl)
+told_effect world pid process effect out (case.no_namespace_for_child room full) = (refl, refl)
+told_effect world pid process effect out (case.gives_copy room space) = (refl, refl)
+told_effect world pid process effect out (case.no_namespace_left full) = (refl, refl)
+told_effect world pid process effect out (case.moves space) = (refl, refl)
+told_effect world pid process effect out case.ends = (refl, refl)
+
+told_case : (world : World) (call : Call) (out : Reply × World) → StepCase world call out → (out.1.calls ≡ world.calls) × (out.1.site ≡ world.site)
+told_case world call out (case.absent e) = (refl, refl)
+told_case world call out (case.filtered process errno living e) = (refl, refl)
+told_case world call out (case.killed process living e) = (refl, refl)
+told_case world call out (case.lacking process passes e) = (refl, refl)
+told_case world call out (case.misformed process passes e) = (refl, refl)
+told_case world call out (case.does process doing made passes e h) = told_effect world call.pid process (effect_of (host_of world) (caller_of world process) doing) made h
+
+pub told_stays : ToldStays
+told_stays world [] = (refl, refl)
+told_stays world (call ∷ calls) =
+    let later = told_stays (step world call).1 calls in
+    let now = told_case world call (step world call) (steps_by_cases world call) in
+    (later.0 ∙ now.0, later.1 ∙ now.1)

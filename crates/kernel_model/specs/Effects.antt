@@ -1,0 +1,211 @@
+-- What a call comes to, said of the calling process and its mount table alone: its rule, with the errors in their order.
+use Rattle.std.specs.Prelude.{ℕ, ◌+◌, ◌==◌, ◌&&◌, ◌||◌, not, nat_lt, nat_le, Bool, false, List, length, Option, Some, None, Result, Ok, Err, if◌then◌else◌}
+use Rattle.bpf_code.specs.declared.machine.Insn.{Insn}
+use Rattle.bpf_code.specs.ProgramOf.{program_of}
+use Rattle.bpf_code.specs.Stack.{room_of}
+use Rattle.cap_sets.specs.Sets.{has}
+use Rattle.abs_path.specs.Paths.{Path}
+use Rattle.linux_numbers.specs.Errnos.{eperm, ebadf, eacces, einval, enospc, enomem, eafnosupport}
+use Rattle.linux_numbers.specs.Capabilities.{cap_sys_admin, cap_last_cap}
+use Rattle.linux_numbers.specs.Limits.{max_insns_per_path}
+use Rattle.call_table.specs.declared.listed.CallLine.{CallLine}
+use Rattle.call_table.specs.Lookups.{numbered}
+use Rattle.site_table.specs.declared.row.Row.{Row}
+use Rattle.kern_creds.specs.declared.creds.Creds.{Creds}
+use Rattle.kern_creds.specs.Setuid.{after_setuid, after_setgid}
+use Rattle.kern_creds.specs.Setresuid.{after_setresuid, after_setresgid}
+use Rattle.kern_creds.specs.Setgroups.{after_setgroups}
+use Rattle.kern_creds.specs.Capset.{after_capset}
+use Rattle.kern_creds.specs.Prctl.{after_drop_bounding, after_raise, after_lower, after_clear_ambient, after_set_keepcaps, after_set_no_new_privs}
+use Rattle.kern_mounts.specs.Finds.{finds}
+use Rattle.kern_mounts.specs.Split.{Table}
+use Rattle.kern_files.specs.Bits.{has_some}
+use Rattle.kern_files.specs.Looking.{flags_at, see_answer, write_answer, open_answer}
+use Rattle.kern_files.specs.Executing.{exec_answer}
+use Rattle.kern_files.specs.MountCall.{after_mount}
+use Rattle.kern_files.specs.UmountCall.{umount_answer}
+use Rattle.kernel_calls.specs.Doing.{Doing, See, Open, Create, Truncate, Execve, SetMode, Map, Protect, Attach, Schedule, Personality, Socket, Enter, Fork, Clone, Unshare, Exit, Mount, Umount, Setuid, Setgid, Setresuid, Setresgid, Setgroups, Capset, Prctl, Seccomp, Plain}
+
+pub data Effect : Type 0 where
+  -- an errno, and nothing changes
+  Refuse : ℕ → Effect
+  -- a value, and nothing changes
+  Answer : ℕ → Effect
+  -- 0, and the caller has these credentials
+  SetCreds : Creds → Effect
+  -- 0, and the table of the caller's namespace is this
+  SetTable : Table → Effect
+  -- 0, and the caller has this program above its others
+  Push : List Insn → Effect
+  -- a copy of the caller, if there is room for a process; in a namespace of its own where true
+  Child : Bool → Effect
+  -- 0, and the caller is in a namespace of its own, if there is room for one
+  OwnTable : Effect
+  -- 0, and the caller ends
+  End : Effect
+
+-- what the caller and its namespace are; programs stand with the oldest first
+pub record Caller : Type 0 where
+  pub creds : Creds
+  pub stack : List (List Insn)
+  pub table : Table
+
+-- what a kernel is told: the rows of the host, and the families of sockets
+pub record Host : Type 0 where
+  pub rows : Path → Option Row
+  pub families : List CallLine
+
+-- the effect of a rule that changes nothing
+abbrev pub looks : Result ℕ ℕ → Effect
+looks (Ok value) = Answer value
+looks (Err errno) = Refuse errno
+
+-- the effect of a rule on credentials, credentials(7)
+abbrev pub creds_effect : Result Creds ℕ → Effect
+creds_effect (Ok creds) = SetCreds creds
+creds_effect (Err errno) = Refuse errno
+
+-- the effect of a rule on a mount table, mount_namespaces(7)
+abbrev pub table_effect : Result Table ℕ → Effect
+table_effect (Ok table) = SetTable table
+table_effect (Err errno) = Refuse errno
+
+-- EPERM where the capability is not effective, capabilities(7); else the rule's effect
+abbrev pub with_cap : ℕ → Creds → Effect → Effect
+with_cap cap creds effect = if has creds.effective cap then effect else Refuse eperm
+
+abbrev pub with_cap_of : Option ℕ → Creds → Effect → Effect
+with_cap_of None creds effect = effect
+with_cap_of (Some cap) creds effect = with_cap cap creds effect
+
+-- CAP_SYS_ADMIN is asked for
+abbrev pub with_admin : Creds → Effect → Effect
+with_admin creds effect = with_cap cap_sys_admin creds effect
+
+-- sched(7): SCHED_OTHER, SCHED_FIFO, SCHED_RR, SCHED_BATCH and SCHED_IDLE, which are 0 to 3 and 5
+abbrev pub is_policy : ℕ → Bool
+is_policy policy = nat_lt policy 4 || policy == 5
+
+-- sched_setscheduler(2): EINVAL of another policy
+abbrev pub schedule_answer : ℕ → Result ℕ ℕ
+schedule_answer policy = if is_policy policy then Ok 0 else Err einval
+
+-- socket(2): EAFNOSUPPORT of a family that the table lacks; else the family's capability is asked for, and the value is 3, the
+-- first descriptor behind the three standard ones
+abbrev pub socket_effect : Creds → Option CallLine → Effect
+socket_effect creds None = Refuse eafnosupport
+socket_effect creds (Some line) = with_cap_of line.cap creds (Answer 3)
+
+-- CLONE_THREAD: the child is a thread of the caller
+abbrev pub thread_flag : ℕ
+thread_flag = 0x1_0000
+
+-- CLONE_NEWNS: a mount namespace of its own
+abbrev pub newns : ℕ
+newns = 0x2_0000
+
+-- CLONE_NEWUSER: a user namespace of its own
+abbrev pub newuser : ℕ
+newuser = 0x1000_0000
+
+-- the six other namespaces of namespaces(7): CLONE_NEWNS, CLONE_NEWCGROUP, CLONE_NEWUTS, CLONE_NEWIPC, CLONE_NEWPID and
+-- CLONE_NEWNET
+abbrev pub other_spaces : ℕ
+other_spaces = 0x6e02_0000
+
+-- the 25 bits of no namespace
+abbrev pub no_spaces : ℕ
+no_spaces = 0x81fd_ffff
+
+-- clone(2): threads are not modelled (EINVAL), nor are user namespaces (ENOSPC); every other namespace asks for CAP_SYS_ADMIN
+abbrev pub clone_effect : Creds → ℕ → Effect
+clone_effect creds flags =
+    if has_some thread_flag flags then Refuse einval
+    else if has_some newuser flags then Refuse enospc
+    else if has_some other_spaces flags then with_admin creds (Child (has_some newns flags))
+    else Child false
+
+-- unshare(2), of namespaces alone: EINVAL of another flag; then as clone
+abbrev pub unshare_effect : Creds → ℕ → Effect
+unshare_effect creds flags =
+    if has_some no_spaces flags then Refuse einval
+    else if has_some newuser flags then Refuse enospc
+    else if has_some other_spaces flags then with_admin creds (if has_some newns flags then OwnTable else Answer 0)
+    else Answer 0
+
+-- PR_CAP_AMBIENT_IS_SET: EINVAL above the last capability; else whether the capability is ambient
+abbrev pub is_set_effect : Creds → ℕ → Effect
+is_set_effect creds cap = if nat_lt cap_last_cap cap then Refuse einval else Answer (if has creds.ambient cap then 1 else 0)
+
+-- PR_CAP_AMBIENT, whose operations are PR_CAP_AMBIENT_IS_SET 1, PR_CAP_AMBIENT_RAISE 2, PR_CAP_AMBIENT_LOWER 3 and
+-- PR_CAP_AMBIENT_CLEAR_ALL 4
+abbrev pub ambient_effect : Creds → ℕ → ℕ → Effect
+ambient_effect creds operation cap =
+    if operation == 1 then is_set_effect creds cap
+    else if operation == 2 then creds_effect (after_raise creds cap)
+    else if operation == 3 then creds_effect (after_lower creds cap)
+    else if operation == 4 then SetCreds (after_clear_ambient creds)
+    else Refuse einval
+
+-- PR_SET_NO_NEW_PRIVS: EINVAL of another value than 1
+abbrev pub no_new_privs_effect : Creds → ℕ → Effect
+no_new_privs_effect creds value = if value == 1 then SetCreds (after_set_no_new_privs creds) else Refuse einval
+
+-- PR_SET_KEEPCAPS: EINVAL of another value than 0 and 1
+abbrev pub keepcaps_effect : Creds → ℕ → Effect
+keepcaps_effect creds value = if nat_lt value 2 then SetCreds (after_set_keepcaps creds (value == 1)) else Refuse einval
+
+-- prctl(2): PR_SET_NO_NEW_PRIVS 38, PR_GET_NO_NEW_PRIVS 39, PR_SET_KEEPCAPS 8, PR_CAPBSET_DROP 24 and PR_CAP_AMBIENT 47; EINVAL of
+-- another option
+abbrev pub prctl_effect : Creds → ℕ → ℕ → ℕ → Effect
+prctl_effect creds option value third =
+    if option == 38 then no_new_privs_effect creds value
+    else if option == 39 then Answer (if creds.no_new_privs then 1 else 0)
+    else if option == 8 then keepcaps_effect creds value
+    else if option == 24 then creds_effect (after_drop_bounding creds value)
+    else if option == 47 then ambient_effect creds value third
+    else Refuse einval
+
+-- EINVAL where the bytes are no program; ENOMEM where the programs would be too long together, each but the newest counted with
+-- 4 instructions more
+abbrev pub push_effect : List (List Insn) → Option (List Insn) → Effect
+push_effect stack None = Refuse einval
+push_effect stack (Some program) = if nat_le (room_of stack + length program) max_insns_per_path then Push program else Refuse enomem
+
+-- seccomp(2): SECCOMP_SET_MODE_FILTER, which is 1, without flags (else EINVAL), with no_new_privs or CAP_SYS_ADMIN (else EACCES)
+abbrev pub seccomp_effect : Creds → List (List Insn) → ℕ → ℕ → List ℕ → Effect
+seccomp_effect creds stack operation flags bytes =
+    if not (operation == 1 && flags == 0) then Refuse einval
+    else if not (creds.no_new_privs || has creds.effective cap_sys_admin) then Refuse eacces
+    else push_effect stack (program_of bytes)
+
+-- what a call that the caller's programs let through comes to, by what it asks for
+abbrev pub effect_of : Host → Caller → Doing → Effect
+effect_of host caller (See path) = looks (see_answer 0 (finds host.rows caller.table path))
+effect_of host caller (Open flags path) = looks (open_answer flags (flags_at caller.table path) (finds host.rows caller.table path))
+effect_of host caller (Create path) = looks (write_answer 3 (flags_at caller.table path) (finds host.rows caller.table path))
+effect_of host caller (Truncate path) = looks (write_answer 0 (flags_at caller.table path) (finds host.rows caller.table path))
+effect_of host caller (Execve path) = creds_effect (exec_answer caller.creds (flags_at caller.table path) (finds host.rows caller.table path))
+effect_of host caller (SetMode mode) = Answer 0
+effect_of host caller (Map protection) = Answer 0
+effect_of host caller (Protect protection) = Answer 0
+effect_of host caller (Attach flags) = Answer 0
+effect_of host caller (Schedule policy) = looks (schedule_answer policy)
+effect_of host caller (Personality persona) = Answer 0
+effect_of host caller (Socket family) = socket_effect caller.creds (numbered family host.families)
+effect_of host caller Enter = Refuse ebadf
+effect_of host caller Fork = Child false
+effect_of host caller (Clone flags) = clone_effect caller.creds flags
+effect_of host caller (Unshare flags) = unshare_effect caller.creds flags
+effect_of host caller Exit = End
+effect_of host caller (Mount source target flags) = with_admin caller.creds (table_effect (after_mount host.rows caller.table source target flags))
+effect_of host caller (Umount path flags) = with_admin caller.creds (table_effect (umount_answer caller.table path flags))
+effect_of host caller (Setuid id) = creds_effect (after_setuid caller.creds id)
+effect_of host caller (Setgid id) = creds_effect (after_setgid caller.creds id)
+effect_of host caller (Setresuid real effective saved) = creds_effect (after_setresuid caller.creds real effective saved)
+effect_of host caller (Setresgid real effective saved) = creds_effect (after_setresgid caller.creds real effective saved)
+effect_of host caller (Setgroups ids) = creds_effect (after_setgroups caller.creds ids)
+effect_of host caller (Capset permitted effective inheritable) = creds_effect (after_capset caller.creds permitted effective inheritable)
+effect_of host caller (Prctl option value third) = prctl_effect caller.creds option value third
+effect_of host caller (Seccomp operation flags bytes) = seccomp_effect caller.creds caller.stack operation flags bytes
+effect_of host caller (Plain cap) = with_cap_of cap caller.creds (Answer 0)

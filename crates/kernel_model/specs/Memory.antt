@@ -1,0 +1,78 @@
+-- Which calls may need memory: those that make a process, a namespace, a mount, a program or a list of groups. A seccomp call,
+-- a setgroups call and a mount call that is no remount count among them also where their rules refuse them.
+use Rattle.std.specs.Prelude.{ℕ, ◌&&◌, ◌||◌, not, nat_lt, Bool, true, false, length, Option, Some, None}
+use Rattle.bpf_code.specs.declared.decision.Decision.{Decision}
+use Rattle.bpf_code.specs.declared.decision.Decision.TheVariants as decision
+use Rattle.bpf_code.specs.Stack.{decision_on}
+use Rattle.kern_files.specs.Bits.{has_all}
+use Rattle.kern_files.specs.MountCall.{ms_remount_bind}
+use Rattle.kernel_calls.specs.declared.call.Call.{Call}
+use Rattle.kernel_calls.specs.Doing.{Doing, See, Open, Create, Truncate, Execve, SetMode, Map, Protect, Attach, Schedule, Personality, Socket, Enter, Fork, Clone, Unshare, Exit, Mount, Umount, Setuid, Setgid, Setresuid, Setresgid, Setgroups, Capset, Prctl, Seccomp, Plain, Asked, Lacking, Misformed, Does, asked_of}
+use Rattle.kernel_model.specs.declared.process.Process.{Process}
+use Rattle.kernel_model.specs.Effects.{Effect, Refuse, Answer, SetCreds, SetTable, Push, Child, OwnTable, End, effect_of}
+use Rattle.kernel_model.specs.World.{World, living_of, host_of, caller_of}
+use Rattle.kernel_model.specs.Step.{most_processes, most_namespaces, data_of}
+
+-- a mount, a program or a list of groups is asked for
+abbrev pub asks_for_room : Doing → Bool
+asks_for_room (Mount source target flags) = not (has_all ms_remount_bind flags)
+asks_for_room (Setgroups ids) = true
+asks_for_room (Seccomp operation flags bytes) = true
+asks_for_room (See path) = false
+asks_for_room (Open flags path) = false
+asks_for_room (Create path) = false
+asks_for_room (Truncate path) = false
+asks_for_room (Execve path) = false
+asks_for_room (SetMode mode) = false
+asks_for_room (Map protection) = false
+asks_for_room (Protect protection) = false
+asks_for_room (Attach flags) = false
+asks_for_room (Schedule policy) = false
+asks_for_room (Personality persona) = false
+asks_for_room (Socket family) = false
+asks_for_room Enter = false
+asks_for_room Fork = false
+asks_for_room (Clone flags) = false
+asks_for_room (Unshare flags) = false
+asks_for_room Exit = false
+asks_for_room (Umount path flags) = false
+asks_for_room (Setuid id) = false
+asks_for_room (Setgid id) = false
+asks_for_room (Setresuid real effective saved) = false
+asks_for_room (Setresgid real effective saved) = false
+asks_for_room (Capset permitted effective inheritable) = false
+asks_for_room (Prctl option value third) = false
+asks_for_room (Plain cap) = false
+
+-- a process or a namespace is made: there is room for it among so many processes and namespaces
+abbrev pub makes_one : ℕ → ℕ → Effect → Bool
+makes_one processes namespaces (Child own) = nat_lt processes most_processes && (not own || nat_lt namespaces most_namespaces)
+makes_one processes namespaces OwnTable = nat_lt namespaces most_namespaces
+makes_one processes namespaces (Refuse errno) = false
+makes_one processes namespaces (Answer value) = false
+makes_one processes namespaces (SetCreds creds) = false
+makes_one processes namespaces (SetTable table) = false
+makes_one processes namespaces (Push program) = false
+makes_one processes namespaces End = false
+
+abbrev pub takes_doing : World → Process → Doing → Bool
+takes_doing world process doing = asks_for_room doing || makes_one (length world.processes) (length world.tables) (effect_of (host_of world) (caller_of world process) doing)
+
+abbrev pub takes_asked : World → Process → Asked → Bool
+takes_asked world process Lacking = false
+takes_asked world process Misformed = false
+takes_asked world process (Does doing) = takes_doing world process doing
+
+-- what the caller's programs do not let through takes none
+abbrev pub takes_decided : World → Call → Process → Decision → Bool
+takes_decided world call process decision.Pass = takes_asked world process (asked_of world.calls.calls call)
+takes_decided world call process (decision.Errno errno) = false
+takes_decided world call process decision.Kill = false
+
+abbrev pub takes_by : World → Call → Option Process → Bool
+takes_by world call None = false
+takes_by world call (Some process) = takes_decided world call process (decision_on process.stack (data_of world call))
+
+-- the call may need memory
+abbrev pub takes_memory : World → Call → Bool
+takes_memory world call = takes_by world call (living_of world call.pid)

@@ -1,0 +1,47 @@
+-- What an effect makes of the calling process and its table, and what is left to be made of the world.
+use Rattle.std.specs.Prelude.{◌≡◌, ℕ, [], ◌∷◌, ◌++◌}
+use Rattle.kern_mounts.specs.Split.{Table}
+use Rattle.kernel_model.specs.declared.process.Process.{Process}
+use Rattle.kernel_model.specs.declared.reply.Reply.TheVariants.{Done, Refused}
+use Rattle.kernel_model.specs.declared.outcome.Outcome.{Outcome}
+use Rattle.kernel_model.specs.declared.outcome.Outcome.TheVariants.{Replied, MakesChild, MakesTable}
+use Rattle.kernel_model.specs.Effects.{Effect, Refuse, Answer, SetCreds, SetTable, Push, Child, OwnTable, End, Caller}
+use Rattle.kernel_model.specs.World.{World, ended}
+use Rattle.kernel_model.specs.Step.{applied}
+
+pub record Parts : Type 0 where
+  pub process : Process
+  pub table : Table
+
+abbrev pub parts : Process → Table → Parts
+parts process table = record { process = process; table = table }
+
+abbrev pub caller_by : Process → Table → Caller
+caller_by process table = record { creds = process.creds; stack = process.stack; table = table }
+
+-- the reply, or what is to be made, and the parts then
+abbrev pub done_here : Parts → Effect → Outcome × Parts
+done_here old (Refuse errno) = (Replied (Refused errno), old)
+done_here old (Answer value) = (Replied (Done value), old)
+done_here old (SetCreds creds) = (Replied (Done 0), parts (record old.process { creds = creds }) old.table)
+done_here old (SetTable table) = (Replied (Done 0), parts old.process table)
+done_here old (Push program) = (Replied (Done 0), parts (record old.process { stack = old.process.stack ++ program ∷ [] }) old.table)
+done_here old (Child own) = (MakesChild own, old)
+done_here old OwnTable = (MakesTable, old)
+done_here old End = (Replied (Done 0), parts (ended old.process) old.table)
+
+-- the outcome of an effect that changes nothing of the caller
+abbrev pub Leaves : Outcome → Effect → Type 0
+Leaves outcome effect = (old : Parts) → (outcome, old) ≡ done_here old effect
+
+-- the world with the parts put back, once they have this outcome: the reply is that of the effect, or the effect is what is left
+abbrev pub Left : World → ℕ → Process → Outcome → World → Effect → Type 0
+Left world pid process (Replied reply) after effect = (reply, after) ≡ applied world pid process effect
+Left world pid process (MakesChild own) after effect = (effect ≡ Child own) × (after ≡ world)
+Left world pid process MakesTable after effect = (effect ≡ OwnTable) × (after ≡ world)
+
+-- what holds where a process or a namespace is still to be made
+abbrev pub UnlessReplied : Outcome → Type 0 → Type 0
+UnlessReplied (Replied reply) Fact = Unit {0}
+UnlessReplied (MakesChild own) Fact = Fact
+UnlessReplied MakesTable Fact = Fact

@@ -1,0 +1,45 @@
+-- The processes and mount tables that were made, apart from what the kernel is told.
+use Rattle.std.specs.Prelude.{◌≡◌, ℕ, ◌-◌, ◌==◌, if◌then◌else◌, List, slice_get, Option, Some, None, option_map}
+use Rattle.call_table.specs.Table as calls
+use Rattle.site_table.specs.Table.{Site, row_at}
+use Rattle.kern_mounts.specs.Split.{Table}
+use Rattle.kernel_model.specs.declared.process.Process.{Process}
+use Rattle.kernel_model.specs.declared.reply.Reply.{Reply}
+use Rattle.kernel_model.specs.declared.told.Told.{Told}
+use Rattle.kernel_calls.specs.Doing.{Doing}
+use Rattle.kernel_model.specs.Effects.{Effect, Host, effect_of}
+use Rattle.kernel_model.specs.World.{World, if_alive, host_of, caller_of}
+use Rattle.kernel_model.specs.Step.{applied}
+
+-- number n stands at the place n - 1
+pub record State : Type 0 where
+  pub processes : List Process
+  pub tables : List Table
+
+abbrev pub world_of : calls.Table → Site → State → World
+world_of calls site state = record { calls = calls; site = site; processes = state.processes; tables = state.tables }
+
+abbrev pub world_with : Told → State → World
+world_with told state = world_of told.calls.now told.site.now state
+
+abbrev pub host_by : calls.Table → Site → Host
+host_by calls site = record { rows = row_at site.rows; families = calls.families }
+
+abbrev pub host_with : Told → Host
+host_with told = host_by told.calls.now told.site.now
+
+-- the effect of what a process asks for
+abbrev pub effect_in : World → Process → Doing → Effect
+effect_in world process doing = effect_of (host_of world) (caller_of world process) doing
+
+-- where the living process with this number stands
+abbrev pub place_of : List Process → ℕ → Option ℕ
+place_of processes pid = if pid == 0 then None else option_map (λ process. pid - 1) (if_alive (slice_get processes (pid - 1)))
+
+-- the process that stands at a place makes a call, and it comes to this
+abbrev pub AtPlace : State → ℕ → (ℕ → Process → Type 0) → Type 0
+AtPlace state place Fact = (pid : ℕ) (process : Process) → place ≡ pid - 1 → slice_get state.processes place ≡ Some process → Fact pid process
+
+-- with this effect, whatever the kernel is told
+abbrev pub Applies : State → ℕ → Effect → Reply → State → Type 0
+Applies old place effect reply new = (calls : calls.Table) (site : Site) → AtPlace old place (λ pid process. (reply, world_of calls site new) ≡ applied (world_of calls site old) pid process effect)

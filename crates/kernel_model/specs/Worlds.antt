@@ -1,0 +1,23 @@
+-- What holds of every world, whatever was called.
+use Rattle.std.specs.Prelude.{◌≡◌, ℕ, ◌≤◌, false, List, [], ◌∷◌, length}
+use Rattle.std.specs.List.{AllByRecursion}
+use Rattle.abs_path.specs.Paths.{is_root}
+use Rattle.kern_mounts.specs.Split.{Table}
+use Rattle.kernel_model.specs.declared.process.Process.{Process}
+use Rattle.kernel_model.specs.Step.{most_processes, most_namespaces}
+
+-- the process is in one of so many namespaces
+pub record HasSpace (count : ℕ) (process : Process) : Type 0 where
+  pub numbered : 1 ≤ process.namespace
+  pub within : process.namespace ≤ count
+
+-- the first entry of the table is at `/`, and no other is
+abbrev pub IsRooted : Table → Type 0
+IsRooted [] = ⊥
+IsRooted (first ∷ table) = (first.place ≡ []) × AllByRecursion (λ entry. is_root entry.place ≡ false) table
+
+pub record IsKernel (processes : List Process) (tables : List Table) : Type 0 where
+  pub few_processes : length processes ≤ most_processes
+  pub few_namespaces : length tables ≤ most_namespaces
+  pub spaces : AllByRecursion (HasSpace (length tables)) processes
+  pub roots : AllByRecursion IsRooted tables

@@ -1,0 +1,70 @@
+//! What the calls of a process come to, once its programs have let them through.
+
+ghost use Rattle.std.specs.Prelude.{◌≡◌, ◌<◌, ℕ, false, length, IfOk, IsOk, OnErr};
+ghost use Rattle.std.specs.List.{AllByRecursion};
+ghost use Rattle.kernel_calls.specs.Seen.{seen};
+ghost use Rattle.kernel_model.specs.Memory.{asks_for_room, takes_doing};
+ghost use Rattle.kernel_model.specs.Parts.{Left, UnlessReplied};
+ghost use Rattle.kernel_model.specs.State.{world_with, effect_in, AtPlace};
+ghost use Rattle.kernel_model.specs.Step.{applied};
+ghost use Rattle.kernel_model.specs.Worlds.{HasSpace};
+
+use crate::outcome::Outcome;
+use crate::perform::perform;
+use crate::reply::Reply;
+use crate::state::State;
+use crate::told::Told;
+use kernel_calls::Doing;
+use std::alloc::{AllocError, Global};
+
+impl State {
+    // What the process at this place asks for, as far as it and its table change.
+    fn perform_there(
+        &mut self,
+        alloc: Global,
+        told: &Told<'_>,
+        place: usize,
+        doing: &Doing<'_>,
+    ) -> Result<Outcome, AllocError>
+        requires there { place < length self.old.processes }
+        requires spaces { AllByRecursion (HasSpace (length self.old.tables)) self.old.processes }
+        ensures performs { IfOk result (λ outcome. AtPlace self.old place (λ pid process.
+            Left (world_with told.now self.old) pid process outcome (world_with told.now self.new)
+            (effect_in (world_with told.now self.old) process (seen doing.now)))) }
+        ensures stays_where_more_is_to_be_made { IfOk result (λ outcome. UnlessReplied outcome (self.new ≡ self.old)) }
+        ensures needs_no_memory { asks_for_room (seen doing.now) ≡ false → IsOk result }
+        ensures stays { OnErr result (self.new ≡ self.old) }
+    {
+        let at = self.table_place(place);
+        perform(
+            alloc,
+            told,
+            &mut self.processes[place],
+            &mut self.tables[at],
+            doing,
+        )
+    }
+
+    /// What the process at this place asks for.
+    pub fn perform(
+        &mut self,
+        alloc: Global,
+        told: &Told<'_>,
+        place: usize,
+        doing: &Doing<'_>,
+    ) -> Result<Reply, AllocError>
+        requires there { place < length self.old.processes }
+        requires spaces { AllByRecursion (HasSpace (length self.old.tables)) self.old.processes }
+        ensures performs { IfOk result (λ reply. AtPlace self.old place (λ pid process.
+            (reply, world_with told.now self.new) ≡ applied (world_with told.now self.old) pid process
+            (effect_in (world_with told.now self.old) process (seen doing.now)))) }
+        ensures needs_no_memory { AtPlace self.old place (λ pid process. takes_doing (world_with told.now self.old) process (seen doing.now) ≡ false → IsOk result) }
+        ensures stays { OnErr result (self.new ≡ self.old) }
+    {
+        match self.perform_there(alloc, told, place, doing)? {
+            Outcome::Replied(reply) => Ok(reply),
+            Outcome::MakesChild(own) => self.make_child(place, own),
+            Outcome::MakesTable => self.make_table(place),
+        }
+    }
+}

@@ -1,0 +1,68 @@
+//! What clone(2) and unshare(2) ask for, by their flags.
+
+ghost use Rattle.std.specs.Prelude.{◌≡◌};
+ghost use Rattle.kernel_model.specs.Effects.{clone_effect, unshare_effect};
+ghost use Rattle.kernel_model.specs.Parts.{Leaves};
+
+use crate::outcome::Outcome;
+use crate::reply::Reply;
+use kern_creds::Creds;
+use linux_numbers::capabilities::CAP_SYS_ADMIN;
+use linux_numbers::errnos::{EINVAL, ENOSPC, EPERM};
+
+// CLONE_THREAD: the child is a thread of the caller.
+const CLONE_THREAD: u32 = 0x1_0000;
+
+// CLONE_NEWNS: a mount namespace of its own.
+const CLONE_NEWNS: u32 = 0x2_0000;
+
+// CLONE_NEWUSER: a user namespace of its own.
+const CLONE_NEWUSER: u32 = 0x1000_0000;
+
+// CLONE_NEWNS, CLONE_NEWCGROUP, CLONE_NEWUTS, CLONE_NEWIPC, CLONE_NEWPID and CLONE_NEWNET, namespaces(7).
+const OTHER_SPACES: u32 = 0x6e02_0000;
+
+// The bits of no namespace.
+const NO_SPACES: u32 = !(OTHER_SPACES | CLONE_NEWUSER);
+
+/// clone(2): EINVAL of a thread, ENOSPC of a user namespace, EPERM of another namespace without CAP_SYS_ADMIN.
+pub(crate) fn clone(creds: &Creds, flags: u32) -> Outcome
+    ensures { Leaves result (clone_effect creds.now flags) }
+{
+    if flags & CLONE_THREAD != 0 {
+        return Outcome::Replied(Reply::Refused(EINVAL));
+    }
+    if flags & CLONE_NEWUSER != 0 {
+        return Outcome::Replied(Reply::Refused(ENOSPC));
+    }
+    if flags & OTHER_SPACES == 0 {
+        return Outcome::MakesChild(false);
+    }
+    if !creds.effective().contains(CAP_SYS_ADMIN) {
+        return Outcome::Replied(Reply::Refused(EPERM));
+    }
+    Outcome::MakesChild(flags & CLONE_NEWNS != 0)
+}
+
+/// unshare(2): EINVAL of a flag of no namespace, ENOSPC of a user namespace, EPERM of another without CAP_SYS_ADMIN.
+pub(crate) fn unshare(creds: &Creds, flags: u32) -> Outcome
+    ensures { Leaves result (unshare_effect creds.now flags) }
+{
+    if flags & NO_SPACES != 0 {
+        return Outcome::Replied(Reply::Refused(EINVAL));
+    }
+    if flags & CLONE_NEWUSER != 0 {
+        return Outcome::Replied(Reply::Refused(ENOSPC));
+    }
+    if flags & OTHER_SPACES == 0 {
+        return Outcome::Replied(Reply::Done(0));
+    }
+    if !creds.effective().contains(CAP_SYS_ADMIN) {
+        return Outcome::Replied(Reply::Refused(EPERM));
+    }
+    if flags & CLONE_NEWNS != 0 {
+        Outcome::MakesTable
+    } else {
+        Outcome::Replied(Reply::Done(0))
+    }
+}

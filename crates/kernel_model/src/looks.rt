@@ -1,0 +1,109 @@
+//! Calls that change nothing: stat(2) and its like, open(2), creat(2), truncate(2), socket(2), sched_setscheduler(2), and
+//! those of which nothing is asked but a capability. None takes memory.
+
+ghost use Rattle.std.specs.Prelude.{◌≡◌, find, option_copied};
+ghost use Rattle.call_table.specs.Lookups.{numbered};
+ghost use Rattle.site_table.specs.Table.{row_at};
+ghost use Rattle.kern_mounts.specs.Finds.{finds};
+ghost use Rattle.kern_files.specs.Looking.{flags_at, valued, see_answer, write_answer, open_answer};
+ghost use Rattle.kernel_model.specs.Effects.{Answer, looks, is_policy, schedule_answer, socket_effect, with_cap_of};
+ghost use Rattle.kernel_model.specs.Replies.{Answers, value_reply};
+
+use crate::reply::{Reply, value_reply};
+use crate::told::Told;
+use abs_path::AbsPath;
+use call_table::{CallLine, CallTable};
+use kern_creds::Creds;
+use kern_files::{open_file, see, write_file};
+use kern_mounts::MountTable;
+use linux_numbers::errnos::{EAFNOSUPPORT, EINVAL, EPERM};
+
+// The first descriptor behind the three standard ones.
+const DESCRIPTOR: u64 = 3;
+
+// SCHED_OTHER, SCHED_FIFO, SCHED_RR, SCHED_BATCH and SCHED_IDLE, sched(7).
+const POLICIES: [u32; 5] = [0, 1, 2, 3, 5];
+
+// The reply with this value, unless the rule refuses.
+fn done(value: u64, outcome: Result<(), u32>) -> Reply
+    ensures { result ≡ value_reply (valued value outcome) }
+{
+    match outcome {
+        Ok(()) => Reply::Done(value),
+        Err(errno) => Reply::Refused(errno),
+    }
+}
+
+impl<'a> Told<'a> {
+    /// stat(2), access(2) and their like: the path is found.
+    pub fn see(&self, table: &MountTable, path: &AbsPath) -> Reply
+        ensures { result ≡ value_reply (see_answer 0 (finds (row_at self.now.site.now.rows) table.now path.now)) }
+    {
+        done(0, see(table, self.site, path))
+    }
+
+    /// open(2) and openat(2), for what the flags say.
+    pub fn open(&self, table: &MountTable, path: &AbsPath, flags: u32) -> Reply
+        ensures { result ≡ value_reply (open_answer flags (flags_at table.now path.now) (finds (row_at self.now.site.now.rows) table.now path.now)) }
+    {
+        value_reply(open_file(table, self.site, path, flags))
+    }
+
+    /// creat(2) of a file that is there: it is opened for writing.
+    pub fn create(&self, table: &MountTable, path: &AbsPath) -> Reply
+        ensures { result ≡ value_reply (write_answer 3 (flags_at table.now path.now) (finds (row_at self.now.site.now.rows) table.now path.now)) }
+    {
+        done(DESCRIPTOR, write_file(table, self.site, path))
+    }
+
+    /// truncate(2).
+    pub fn truncate(&self, table: &MountTable, path: &AbsPath) -> Reply
+        ensures { result ≡ value_reply (write_answer 0 (flags_at table.now path.now) (finds (row_at self.now.site.now.rows) table.now path.now)) }
+    {
+        done(0, write_file(table, self.site, path))
+    }
+
+    /// socket(2): EAFNOSUPPORT of a family that the table lacks, EPERM without the family's capability.
+    pub fn socket(&self, creds: &Creds, family: u32) -> Reply
+        ensures { Answers result (socket_effect creds.now (numbered family self.now.calls.now.families)) }
+    {
+        match family_of(self.calls, family) {
+            None => Reply::Refused(EAFNOSUPPORT),
+            Some(line) => with_cap_of(line.cap, creds, DESCRIPTOR),
+        }
+    }
+}
+
+fn line_numbered(lines: &[CallLine], number: u32) -> Option<&CallLine>
+    ensures { option_copied result ≡ numbered number lines.now }
+{
+    lines.iter().find(|line| line.number == number)
+}
+
+// The family of this number.
+fn family_of(calls: &CallTable, number: u32) -> Option<&CallLine>
+    ensures { option_copied result ≡ numbered number calls.now.families }
+{
+    line_numbered(calls.families(), number)
+}
+
+/// A call that asks for a capability, if for any, and has this value: EPERM where the capability is not effective.
+pub(crate) fn with_cap_of(cap: Option<u8>, creds: &Creds, value: u64) -> Reply
+    ensures { Answers result (with_cap_of cap creds.now (Answer value)) }
+{
+    match cap {
+        Some(cap) if !creds.effective().contains(cap) => Reply::Refused(EPERM),
+        _ => Reply::Done(value),
+    }
+}
+
+/// sched_setscheduler(2): EINVAL of a policy that there is not.
+pub(crate) fn schedule(policy: u32) -> Reply
+    ensures { result ≡ value_reply (schedule_answer policy) }
+{
+    if POLICIES.contains(&policy) {
+        Reply::Done(0)
+    } else {
+        Reply::Refused(EINVAL)
+    }
+}

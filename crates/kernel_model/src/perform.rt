@@ -1,0 +1,100 @@
+//! The rules of all calls, on the caller and its table alone.
+
+ghost use Rattle.std.specs.Prelude.{◌≡◌, false, IfOk, IsOk, OnErr};
+ghost use Rattle.kernel_calls.specs.Seen.{seen};
+ghost use Rattle.kernel_model.specs.Effects.{effect_of};
+ghost use Rattle.kernel_model.specs.Memory.{asks_for_room};
+ghost use Rattle.kernel_model.specs.Parts.{parts, caller_by, done_here};
+ghost use Rattle.kernel_model.specs.Replies.{zero_reply};
+ghost use Rattle.kernel_model.specs.State.{host_with};
+ghost use Rattle.kernel_model.specs.World.{ended};
+ghost use Rattle.kernel_model.specs.declared.outcome.Outcome.TheVariants.{Replied};
+ghost use Rattle.kernel_model.specs.declared.reply.Reply.TheVariants.{Done};
+
+use crate::clones::{clone, unshare};
+use crate::identity::setgroups;
+use crate::looks::{schedule, with_cap_of};
+use crate::mounts::umount;
+use crate::outcome::Outcome;
+use crate::outcome::Outcome::{MakesChild, Replied};
+use crate::prctl::prctl;
+use crate::process::Process;
+use crate::reply::{Reply, zero_reply};
+use crate::seccomp::seccomp;
+use crate::told::Told;
+use kern_mounts::MountTable;
+use kernel_calls::Doing;
+use linux_numbers::errnos::EBADF;
+use std::alloc::{AllocError, Global};
+
+// Of a call without a value of its own nothing is left.
+fn left(outcome: Result<(), u32>) -> Outcome
+    ensures { result ≡ Replied (zero_reply outcome) }
+{
+    Replied(zero_reply(outcome))
+}
+
+// exit(2) and exit_group(2): the caller ends.
+fn end(caller: &mut Process) -> Outcome
+    ensures replies { result ≡ Replied (Done 0) }
+    ensures ends { caller.new ≡ ended caller.old }
+{
+    caller.alive = false;
+    Replied(Reply::Done(0))
+}
+
+/// Does what a call asks for, as far as it is the caller and its table that change.
+#[tactic(auto, using(crate::proofs::Outcomes::looked, crate::proofs::Outcomes::answered, crate::proofs::Outcomes::changed, crate::proofs::Outcomes::became, crate::proofs::Outcomes::mounted, crate::proofs::Outcomes::pushed))]
+pub(crate) fn perform(
+    alloc: Global,
+    told: &Told<'_>,
+    caller: &mut Process,
+    table: &mut MountTable,
+    doing: &Doing<'_>,
+) -> Result<Outcome, AllocError>
+    ensures performs { IfOk result (λ outcome. (outcome, parts caller.new table.new)
+        ≡ done_here (parts caller.old table.old) (effect_of (host_with told.now) (caller_by caller.old table.old) (seen doing.now))) }
+    ensures needs_no_memory { asks_for_room (seen doing.now) ≡ false → IsOk result }
+    ensures stays_the_caller { OnErr result (caller.new ≡ caller.old) }
+    ensures stays_the_table { OnErr result (table.new ≡ table.old) }
+{
+    match *doing {
+        Doing::See(path) => Ok(Replied(told.see(table, path))),
+        Doing::Open(flags, path) => Ok(Replied(told.open(table, path, flags))),
+        Doing::Create(path) => Ok(Replied(told.create(table, path))),
+        Doing::Truncate(path) => Ok(Replied(told.truncate(table, path))),
+        Doing::Execve(path) => Ok(left(told.execute(&mut caller.creds, table, path))),
+        Doing::SetMode(_)
+        | Doing::Map(_)
+        | Doing::Protect(_)
+        | Doing::Attach(_)
+        | Doing::Personality(_) => Ok(Replied(Reply::Done(0))),
+        Doing::Schedule(policy) => Ok(Replied(schedule(policy))),
+        Doing::Socket(family) => Ok(Replied(told.socket(&caller.creds, family))),
+        Doing::Enter => Ok(Replied(Reply::Refused(EBADF))),
+        Doing::Fork => Ok(MakesChild(false)),
+        Doing::Clone(flags) => Ok(clone(&caller.creds, flags)),
+        Doing::Unshare(flags) => Ok(unshare(&caller.creds, flags)),
+        Doing::Exit => Ok(end(caller)),
+        Doing::Mount(source, target, flags) => {
+            Ok(Replied(told.mount(alloc, &caller.creds, table, source, target, flags)?))
+        }
+        Doing::Umount(path, flags) => Ok(Replied(umount(&caller.creds, table, path, flags))),
+        Doing::Setuid(id) => Ok(left(caller.creds.setuid(id))),
+        Doing::Setgid(id) => Ok(left(caller.creds.setgid(id))),
+        Doing::Setresuid(ruid, euid, suid) => Ok(left(caller.creds.setresuid(ruid, euid, suid))),
+        Doing::Setresgid(rgid, egid, sgid) => Ok(left(caller.creds.setresgid(rgid, egid, sgid))),
+        Doing::Setgroups(ids) => Ok(Replied(setgroups(&mut caller.creds, ids)?)),
+        Doing::Capset(permitted, effective, inheritable) => {
+            Ok(left(caller.creds.capset(permitted, effective, inheritable)))
+        }
+        Doing::Prctl(option, value, third) => {
+            Ok(Replied(prctl(&mut caller.creds, option, value, third)))
+        }
+        Doing::Seccomp(operation, flags, bytes) => {
+            let stack = &mut caller.stack;
+            Ok(Replied(seccomp(alloc, &caller.creds, stack, operation, flags, bytes)?))
+        }
+        Doing::Plain(cap) => Ok(Replied(with_cap_of(cap, &caller.creds, 0))),
+    }
+}

@@ -1,0 +1,92 @@
+//! prctl(2): the operations that are modelled, by their numbers.
+
+ghost use Rattle.std.specs.Prelude.{◌≡◌};
+ghost use Rattle.kernel_model.specs.Effects.{is_set_effect, ambient_effect, no_new_privs_effect, keepcaps_effect, prctl_effect};
+ghost use Rattle.kernel_model.specs.Replies.{Answers, Changes};
+
+use crate::reply::{Reply, zero_reply};
+use kern_creds::Creds;
+use linux_numbers::capabilities::CAP_LAST_CAP;
+use linux_numbers::errnos::EINVAL;
+
+// The options.
+const PR_SET_KEEPCAPS: u32 = 8;
+
+const PR_CAPBSET_DROP: u32 = 24;
+
+const PR_SET_NO_NEW_PRIVS: u32 = 38;
+
+const PR_GET_NO_NEW_PRIVS: u32 = 39;
+
+const PR_CAP_AMBIENT: u32 = 47;
+
+// The operations of PR_CAP_AMBIENT.
+const PR_CAP_AMBIENT_IS_SET: u32 = 1;
+
+const PR_CAP_AMBIENT_RAISE: u32 = 2;
+
+const PR_CAP_AMBIENT_LOWER: u32 = 3;
+
+const PR_CAP_AMBIENT_CLEAR_ALL: u32 = 4;
+
+// PR_CAP_AMBIENT_IS_SET: EINVAL above 40.
+fn is_ambient(creds: &Creds, cap: u32) -> Reply
+    ensures { Answers result (is_set_effect creds.now cap) }
+{
+    if cap > CAP_LAST_CAP as u32 {
+        return Reply::Refused(EINVAL);
+    }
+    Reply::Done(creds.ambient().contains(cap as u8).into())
+}
+
+// PR_CAP_AMBIENT: EINVAL of another operation.
+fn ambient(creds: &mut Creds, operation: u32, cap: u32) -> Reply
+    ensures { Changes creds.old result creds.new (ambient_effect creds.old operation cap) }
+{
+    match operation {
+        PR_CAP_AMBIENT_IS_SET => is_ambient(creds, cap),
+        PR_CAP_AMBIENT_RAISE => zero_reply(creds.raise(cap)),
+        PR_CAP_AMBIENT_LOWER => zero_reply(creds.lower(cap)),
+        PR_CAP_AMBIENT_CLEAR_ALL => {
+            creds.clear_ambient();
+            Reply::Done(0)
+        }
+        _ => Reply::Refused(EINVAL),
+    }
+}
+
+// PR_SET_NO_NEW_PRIVS: EINVAL of another value than 1.
+fn set_no_new_privs(creds: &mut Creds, value: u32) -> Reply
+    ensures { Changes creds.old result creds.new (no_new_privs_effect creds.old value) }
+{
+    if value != 1 {
+        return Reply::Refused(EINVAL);
+    }
+    creds.set_no_new_privs();
+    Reply::Done(0)
+}
+
+// PR_SET_KEEPCAPS: EINVAL of another value than 0 and 1.
+fn set_keepcaps(creds: &mut Creds, value: u32) -> Reply
+    ensures { Changes creds.old result creds.new (keepcaps_effect creds.old value) }
+{
+    if value > 1 {
+        return Reply::Refused(EINVAL);
+    }
+    creds.set_keepcaps(value == 1);
+    Reply::Done(0)
+}
+
+/// prctl(2), with the option and the first two arguments behind it: EINVAL of another option.
+pub(crate) fn prctl(creds: &mut Creds, option: u32, value: u32, third: u32) -> Reply
+    ensures { Changes creds.old result creds.new (prctl_effect creds.old option value third) }
+{
+    match option {
+        PR_SET_NO_NEW_PRIVS => set_no_new_privs(creds, value),
+        PR_GET_NO_NEW_PRIVS => Reply::Done(creds.no_new_privs().into()),
+        PR_SET_KEEPCAPS => set_keepcaps(creds, value),
+        PR_CAPBSET_DROP => zero_reply(creds.drop_bounding(value)),
+        PR_CAP_AMBIENT => ambient(creds, value, third),
+        _ => Reply::Refused(EINVAL),
+    }
+}

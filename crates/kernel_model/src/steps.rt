@@ -1,0 +1,85 @@
+//! Mount steps, which a launcher makes for a process before its program begins.
+
+ghost use Rattle.std.specs.Prelude.{◌≡◌, ◌<◌, true, length, IfOk, IsOk, OnOk, OnErr};
+ghost use Rattle.std.specs.List.{AllByRecursion};
+ghost use Rattle.abs_path.specs.Paths.{is_root};
+ghost use Rattle.linux_numbers.specs.Limits.{mount_max};
+ghost use Rattle.kernel_model.specs.MountStep.{with_step};
+ghost use Rattle.kernel_model.specs.State.{AtPlace};
+ghost use Rattle.kernel_model.specs.World.{of_number, put_number, table_or};
+ghost use Rattle.kernel_model.specs.Worlds.{HasSpace, IsRooted};
+
+use crate::state::State;
+use kern_mounts::{MountError, MountStep, MountTable, What};
+use std::alloc::{AllocError, Global};
+
+// An equal one.
+fn copy_of_what(alloc: Global, what: &What) -> Result<What, AllocError>
+    ensures { IfOk result (λ copy. copy ≡ what.now) }
+{
+    match what {
+        What::Host(source) => {
+            let copy = source.copy(alloc)?;
+            Ok(What::Host(copy))
+        }
+        What::Empty => Ok(What::Empty),
+        What::Hidden(directory) => Ok(What::Hidden(*directory)),
+    }
+}
+
+// An equal step.
+fn copy_of(alloc: Global, step: &MountStep) -> Result<MountStep, AllocError>
+    ensures { IfOk result (λ copy. copy ≡ step.now) }
+{
+    Ok(MountStep {
+        place: step.place.copy(alloc)?,
+        what: copy_of_what(alloc, &step.what)?,
+        flags: step.flags,
+    })
+}
+
+/// Makes a mount step on a table with room: at `/` the first entry gets its flags, everywhere else it becomes the last entry.
+pub(crate) fn mount_step(
+    alloc: Global,
+    table: &mut MountTable,
+    step: &MountStep,
+) -> Result<(), AllocError>
+    requires rooted { IsRooted table.old }
+    requires room { length table.old < mount_max }
+    ensures steps { OnOk result (table.new ≡ with_step table.old step.now) }
+    ensures needs_no_memory_at_the_root { is_root step.now.place ≡ true → IsOk result }
+    ensures stays { OnErr result (table.new ≡ table.old) }
+{
+    if step.place.is_root() {
+        match table.remount(&step.place, step.flags) {
+            Ok(()) => return Ok(()),
+            Err(_) => unreachable!(),
+        }
+    }
+    match table.push(copy_of(alloc, step)?) {
+        Ok(()) => return Ok(()),
+        Err(MountError::Errno(_)) => unreachable!(),
+        Err(MountError::Memory) => return Err(AllocError),
+    }
+}
+
+impl State {
+    /// Makes a mount step on the table of the process at this place.
+    pub fn mount_step(
+        &mut self,
+        alloc: Global,
+        place: usize,
+        step: &MountStep,
+    ) -> Result<(), AllocError>
+        requires there { place < length self.old.processes }
+        requires spaces { AllByRecursion (HasSpace (length self.old.tables)) self.old.processes }
+        requires roots { AllByRecursion IsRooted self.old.tables }
+        requires room { AtPlace self.old place (λ pid process. length (table_or (of_number self.old.tables process.namespace)) < mount_max) }
+        ensures steps { OnOk result (AtPlace self.old place (λ pid process. self.new ≡ record self.old { tables = put_number self.old.tables process.namespace (with_step (table_or (of_number self.old.tables process.namespace)) step.now) })) }
+        ensures needs_no_memory_at_the_root { is_root step.now.place ≡ true → IsOk result }
+        ensures stays { OnErr result (self.new ≡ self.old) }
+    {
+        let at = self.table_place(place);
+        mount_step(alloc, &mut self.tables[at], step)
+    }
+}

@@ -1,0 +1,282 @@
+-- A launch, part by part.
+use Rattle.std.proofs.Common.{◌≡◌, ℕ, zero, suc, Bool, true, false, cond, codes, List, [], ◌∷◌, ◌++◌, Option, Some, None, Result, Ok, Err, refl, ap, ◌∙◌, sym, subst, length, arith, eqb}
+use Rattle.std.specs.Prelude.{slice_get, not, map, filter, nat_le, ◌+◌, ◌<◌, ◌≤◌, ◌^◌, ◌%◌, ◌||◌, ◌&&◌}
+use Rattle.std.specs.List.{AllByRecursion, list_any}
+use Rattle.std.proofs.lemmas.Bool.{and_parts, not-true, not-false, eqb-true}
+use Rattle.std.proofs.lemmas.Bool.Decides.{nat_tests}
+use Rattle.abs_path.specs.Paths.{Path, is_root}
+use Rattle.bpf_code.specs.declared.machine.Insn.{Insn}
+use Rattle.bpf_code.specs.ProgramOf.{program_of}
+use Rattle.cap_sets.specs.Sets.{has, none, all, single, union, IsWithin}
+use Rattle.cap_sets.proofs.Members.{has_all, within_self, within_through, none_within, union_within, single_within, within_union_left, within_union_right, has_single}
+use Rattle.call_table.specs.Facts.{IsWhole}
+use Rattle.call_table.specs.Table as calls
+use Rattle.site_table.specs.Table.{Site, row_at}
+use Rattle.site_table.specs.declared.row.Row.{Row}
+use Rattle.kern_creds.specs.declared.creds.Creds.{Creds}
+use Rattle.linux_numbers.specs.Limits.{no_id}
+use Rattle.kern_creds.specs.Start as creds
+use Rattle.kern_creds.specs.Setresuid.{after_setresuid, after_setresgid}
+use Rattle.kern_creds.specs.Setgroups.{after_setgroups}
+use Rattle.kern_creds.specs.Capset.{after_capset}
+use Rattle.kern_creds.specs.Prctl.{after_drop_bounding, after_raise, after_set_keepcaps, after_set_no_new_privs}
+use Rattle.kern_creds.specs.Exec.{is_privileged, after_exec}
+use Rattle.kern_mounts.specs.Finds.{Found, row, empty_directory, nothing, finds}
+use Rattle.kern_mounts.specs.Table as mounts
+use Rattle.kern_mounts.specs.declared.step.Flags.{Flags}
+use Rattle.kern_mounts.specs.declared.step.What.TheVariants.{Host}
+use Rattle.kern_mounts.specs.declared.step.MountStep.{MountStep}
+use Rattle.kernel_calls.specs.declared.call.Call.{Call}
+use Rattle.kernel_calls.specs.declared.payload.Payload.{Payload}
+use Rattle.kernel_calls.specs.declared.payload.Payload.TheVariants.{Nothing, OnePath, Sets, Ids, Code}
+use Rattle.kernel_calls.specs.declared.rule.Rule.TheVariants as rule
+use Rattle.call_names.specs.declared.rule.CallRule.TheVariants as known
+use Rattle.kernel_calls.specs.Doing as d
+use Rattle.kernel_model.specs.Effects as f
+use Rattle.kernel_model.specs.Effects.{Effect, effect_of, creds_effect}
+use Rattle.kern_files.specs.Looking.{flags_at}
+use Rattle.kern_files.specs.Executing.{marks_of, program_answer, executed as executed_by, exec_answer}
+use Rattle.kern_files.specs.declared.program.Program.{Program}
+use Rattle.launcher.specs.Launch.{Wanted, LaunchStep, Launched, PrivilegedProgram, makes, first_call, prctl_step, capset_step, if_user, launch_step, launch_steps, launch_from, launch, mount_steps, with_unshare, is_privileged_row, group_steps, drop_steps, inherit_steps, user_steps, raise_steps, left_steps, privilege_steps, identity_steps, filter_steps, program_steps, call_steps, set_keepcaps, capbset_drop, set_no_new_privs, cap_ambient, ambient_raise, set_mode_filter}
+use Rattle.kernel_laws.specs.Launched.{Launch, launch_of}
+use Rattle.site_table.specs.Kinds.{is_exe}
+use Rattle.kern_mounts.specs.Split.{Table}
+use Rattle.kernel_laws.specs.Questions.{if_so, count_from}
+use Rattle.kernel_model.specs.Runs.{IsDone}
+use Rattle.kernel_model.specs.declared.reply.Reply.TheVariants as w
+use Rattle.kernel_model.specs.World.{World, start_world, host_of, caller_of, of_number, table_of}
+use Rattle.kernel_model.specs.declared.process.Process.{Process}
+use Rattle.kernel_model.specs.declared.reply.Reply.{Reply}
+use Rattle.kernel_model.specs.Step.{step, applied}
+use Rattle.launcher.specs.Launches.{HasLaunchCalls, AreRead, IsLaunchedCreds, Leaves, LaunchLeaves}
+use Rattle.mount_plan.specs.Host.{host_of as site_host}
+use Rattle.launcher.proofs.HostRoot.{BeginsAtHostRoot, begins_at_host}
+use Rattle.launcher.proofs.Leading.{Leads, Middle, launched_leads, leads_parts, leads_map, append_assoc, append_none, append_parts}
+use Rattle.launcher.proofs.MountSteps.{plan_mounted}
+use Rattle.launcher.proofs.RaisedAll.{counted_small, filter_keeps, all_raised}
+use Rattle.launcher.proofs.Solo.{At, solo, only, weaker, makes_creds, makes_push, Pushed, makes_unshare, mounts_entry, does, creds_done, own_table}
+use Rattle.launcher.proofs.LaunchCreds.{Has, starts, set_groups, set_gids, drops, set_all, keeps_caps, set_uid, Raised, raises, set_ambient, IsReady, no_new_privs, ready_root, ready_user, executed}
+use Rattle.launcher.proofs.LaunchCalls.{launch_calls}
+use Rattle.linux_numbers.specs.Errnos.{eacces}
+
+module _ (table : calls.Table) (site : Site) (calls' : HasLaunchCalls table.calls) where
+  abbrev Here : (Creds → Type 0) → List (List Insn) → Table → World → Type 0
+  Here = At table site
+
+  -- ---- the credentials
+  module _ (stack : List (List Insn)) (plan : Table) where
+    groups_set : (ids : List ℕ) (world : World) → Here (Has 0 all all none) stack plan world → IsDone (launch_step world (makes table.calls (codes "setgroups") 0 0 0 (Ids ids))).0
+        → Here (Has 0 all all none) stack plan (launch_step world (makes table.calls (codes "setgroups") 0 0 0 (Ids ids))).1
+    groups_set ids world at done =
+        makes_creds table site (Has 0 all all none) (Has 0 all all none) (codes "setgroups") 0 0 0 (Ids ids) (rule.Known known.Setgroups) (d.Setgroups ids) (λ c. after_setgroups c ids) calls'.setgroups refl (λ host caller. refl)
+        (λ c now h is. set_groups 0 all all none ids c now h is) stack plan world at done
+
+    gids_set : (gid : ℕ) (world : World) → Here (Has 0 all all none) stack plan world → IsDone (launch_step world (makes table.calls (codes "setresgid") gid gid gid Nothing)).0
+        → Here (Has 0 all all none) stack plan (launch_step world (makes table.calls (codes "setresgid") gid gid gid Nothing)).1
+    gids_set gid world at done =
+        let g : ℕ = gid % 2 ^ 32 in
+        makes_creds table site (Has 0 all all none) (Has 0 all all none) (codes "setresgid") gid gid gid Nothing (rule.Known known.Setresgid) (d.Setresgid g g g) (λ c. after_setresgid c g g g) calls'.setresgid refl (λ host caller. refl)
+        (λ c now h is. set_gids 0 all all none g c now h is) stack plan world at done
+
+    dropped : (cap : ℕ) (world : World) → Here (Has 0 all all none) stack plan world → IsDone (launch_step world (prctl_step table.calls capbset_drop cap 0)).0
+        → Here (Has 0 all all none) stack plan (launch_step world (prctl_step table.calls capbset_drop cap 0)).1
+    dropped cap world at done =
+        makes_creds table site (Has 0 all all none) (Has 0 all all none) (codes "prctl") 24 cap 0 Nothing (rule.Known known.Prctl) (d.Prctl 24 (cap % 2 ^ 32) 0) (λ c. after_drop_bounding c (cap % 2 ^ 32)) calls'.prctl refl (λ host caller. refl)
+        (λ c now h is. drops 0 all all (cap % 2 ^ 32) c now h is) stack plan world at done
+
+    all_set : (amb : ℕ) (world : World) → Here (Has 0 all all none) stack plan world → IsDone (launch_step world (capset_step table.calls all all amb)).0
+        → Here (Has 0 all all amb) stack plan (launch_step world (capset_step table.calls all all amb)).1
+    all_set amb world at done =
+        makes_creds table site (Has 0 all all none) (Has 0 all all amb) (codes "capset") 0 0 0 (Sets all all amb) (rule.Known known.Capset) (d.Capset all all amb) (λ c. after_capset c all all amb) calls'.capset refl (λ host caller. refl)
+        (λ c now h is. set_all 0 all all amb c now h is) stack plan world at done
+
+    -- the capabilities of a list are made ambient
+    raised_all : (uid p e i low : ℕ) (caps : List ℕ) (world last : World) → AllByRecursion (λ cap. cap < 2 ^ 32) caps
+        → Here (λ c. Has uid p e i c × IsWithin low c.ambient) stack plan world → Leads world (map (λ cap. prctl_step table.calls cap_ambient ambient_raise cap) caps) last
+        → Here (λ c. Has uid p e i c × IsWithin low c.ambient × AllByRecursion (λ cap. has c.ambient cap ≡ true) caps) stack plan last
+    raised_all uid p e i low [] world last small at l = subst (Here _ stack plan) l (weaker table site _ _ stack plan world (λ c h. (h.0, h.1, tt)) at)
+    raised_all uid p e i low (cap ∷ caps) world last small at l =
+        let same : cap % 2 ^ 32 ≡ cap = omega arith in
+        let own : ℕ = cap % 2 ^ 32 in
+        let next = makes_creds table site (λ c. Has uid p e i c × IsWithin low c.ambient) (λ c. Has uid p e i c × IsWithin (union low (single own)) c.ambient) (codes "prctl") 47 2 cap Nothing (rule.Known known.Prctl) (d.Prctl 47 2 own) (λ c. after_raise c own) calls'.prctl refl (λ host caller. refl)
+        (λ c now h is. by c now h (raises uid p e i own c now h.0 is)) stack plan world at l.0 in
+        weaker table site _ _ stack plan last (λ c h. (h.0, within_through low (union low (single own)) c.ambient (within_union_left low low (single own) (within_self low)) h.1, (ap (has c.ambient) (sym same) ∙ (h.1).each own (in_union own), h.2)))
+        (raised_all uid p e i (union low (single own)) caps (launch_step world (prctl_step table.calls cap_ambient ambient_raise cap)).1 last small.1 next l.1)
+      where
+        by : (c now : Creds) → Has uid p e i c × IsWithin low c.ambient → Has uid p e i now × Raised (cap % 2 ^ 32) c now → Has uid p e i now × IsWithin (union low (single (cap % 2 ^ 32))) now.ambient
+        by c now h r = (r.0, union_within low (single (cap % 2 ^ 32)) now.ambient (within_through low c.ambient now.ambient h.1 (r.1).grown) (single_within (cap % 2 ^ 32) now.ambient (r.1).own))
+
+        in_union : (own : ℕ) → has (union low (single own)) own ≡ true
+        in_union own =
+            let mine : has (single own) own ≡ true = has_single own own ∙ grind (arith, nat_tests) in
+            (within_union_right (single own) low (single own) (within_self (single own))).each own mine
+
+    -- ---- the filters
+    pub record Filtered (Q : Creds → Type 0) (programs : List (List ℕ)) (own : List (List Insn)) (world : World) : Type 0 where
+      pub codes' : List (List Insn)
+      pub read : AreRead programs codes'
+      pub at : Here Q (own ++ codes') plan world
+
+    pub filtered : (Q : Creds → Type 0) (programs : List (List ℕ)) (own : List (List Insn)) (world last : World) → Here Q own plan world
+        → Leads world (map (λ bytes. makes table.calls (codes "seccomp") set_mode_filter 0 0 (Code bytes)) programs) last → Filtered Q programs own last
+    filtered Q [] own world last at l = record { codes' = []; read = tt; at = subst (λ (s : List (List Insn)). Here Q s plan last) (sym (append_none own)) (subst (Here Q own plan) l at) }
+    filtered Q (bytes ∷ programs) own world last at l =
+        let next = makes_push table site Q bytes calls'.seccomp own plan world at l.0 in
+        let more = filtered Q programs (own ++ next.code ∷ []) (launch_step world (makes table.calls (codes "seccomp") set_mode_filter 0 0 (Code bytes))).1 last next.at l.1 in
+        record { codes' = next.code ∷ more.codes'; read = (next.read, more.read); at = subst (λ (s : List (List Insn)). Here Q s plan last) (append_assoc own (next.code ∷ []) more.codes') more.at }
+
+    nothing_new : (b : Bool) (uid i : ℕ) (own : List (List Insn)) (world last : World) → Here (IsReady uid i) own plan world → Leads world (if_so b (prctl_step table.calls set_no_new_privs 1 0)) last → Here (IsReady uid i) own plan last
+    nothing_new true uid i own world last at l =
+        subst (Here (IsReady uid i) own plan) l.1
+        (makes_creds table site (IsReady uid i) (IsReady uid i) (codes "prctl") 38 1 0 Nothing (rule.Known known.Prctl) (d.Prctl 38 1 0) (λ c. Ok (after_set_no_new_privs c)) calls'.prctl refl (λ host caller. refl)
+        (λ c now h is. no_new_privs uid i c now h is) own plan world at l.0)
+    nothing_new false uid i own world last at l = subst (Here (IsReady uid i) own plan) l at
+
+  -- ---- the program
+  record Executes (creds : Creds) (effect : Effect) : Type 0 where
+    pub file : _
+    pub nosuid : Bool
+    pub plain : is_privileged file ≡ false
+    pub is : effect ≡ creds_effect (after_exec creds file nosuid)
+
+  executes : (creds : Creds) (stack : List (List Insn)) (namespace : ℕ) (tables : List Table) (flags : Flags) (found : Found Row) → is_privileged_row found ≡ false
+      → IsDone (applied (solo table site creds stack namespace tables) 1 (only table site creds stack namespace) (creds_effect (exec_answer creds flags found))).0 → Executes creds (creds_effect (exec_answer creds flags found))
+  executes creds stack namespace tables flags (row own) unmarked done = by (is_exe own.kind) flags.no_exec unmarked done
+    where
+      by : (b c : Bool) → (b && is_privileged (marks_of own)) ≡ false
+          → IsDone (applied (solo table site creds stack namespace tables) 1 (only table site creds stack namespace) (creds_effect (executed_by creds (cond (not b) (Err eacces) (cond c (Err eacces) (Ok (record { file = marks_of own; no_suid = flags.no_suid }))))))).0
+          → Executes creds (creds_effect (executed_by creds (cond (not b) (Err eacces) (cond c (Err eacces) (Ok (record { file = marks_of own; no_suid = flags.no_suid }))))))
+      by false c unmarked done = absurd done
+      by true true unmarked done = absurd done
+      by true false unmarked done = record { file = marks_of own; nosuid = flags.no_suid; plain = unmarked; is = refl }
+  executes creds stack namespace tables flags empty_directory unmarked done = absurd done
+  executes creds stack namespace tables flags (nothing errno) unmarked done = absurd done
+
+  executed_here : (uid i : ℕ) (program : Path) (stack : List (List Insn)) (plan : Table) (world last : World) → is_privileged_row (finds (row_at site.rows) plan program) ≡ false
+      → Here (IsReady uid i) stack plan world → Leads world (makes table.calls (codes "execve") 0 0 0 (OnePath program) ∷ []) last → Here IsLaunchedCreds stack plan last
+  executed_here uid i program stack plan world last unmarked at l =
+      let own : World = solo table site at.creds stack at.namespace at.tables in
+      let call : Call = first_call table.calls (codes "execve") (0 ∷ 0 ∷ 0 ∷ 0 ∷ 0 ∷ 0 ∷ []) (OnePath program) in
+      let done : IsDone (step own call).0 = subst (λ (v : World). IsDone (step v call).0) at.is l.0 in
+      let same = own_table table site at.creds stack at.namespace at.tables plan at.own in
+      let stepped = does table site at.creds stack at.namespace at.tables call.nr call.args (OnePath program) (rule.Known known.Execve) (d.Execve program) calls'.execve refl done
+      ∙ ap (λ (t : Table). applied own 1 (only table site at.creds stack at.namespace) (creds_effect (exec_answer at.creds (flags_at t program) (finds (row_at site.rows) t program)))) same in
+      let done' = subst (λ (out : Reply × World). IsDone out.0) stepped done in
+      let e = executes at.creds stack at.namespace at.tables (flags_at plan program) (finds (row_at site.rows) plan program) unmarked done' in
+      let whole = stepped ∙ ap (λ (effect : Effect). applied own 1 (only table site at.creds stack at.namespace) effect) e.is in
+      let found = creds_done table site at.creds stack at.namespace at.tables (after_exec at.creds e.file e.nosuid) (subst (λ (out : Reply × World). IsDone out.0) whole done) in
+      record {
+        creds = found.0;
+        namespace = at.namespace;
+        tables = at.tables;
+        as_asked = executed uid i e.file e.nosuid at.creds at.as_asked e.plain found.0 found.1;
+        is = sym l.1 ∙ ap (λ (v : World). (step v call).1) at.is ∙ ap (λ (out : Reply × World). out.1) whole ∙ found.2;
+        own = at.own;
+      }
+
+  -- ---- from the first capset to the last
+  module _ (plan : Table) (uid amb : ℕ) (small : uid < no_id) where
+    stack0 : List (List Insn)
+    stack0 = []
+
+    low : uid % 2 ^ 32 ≡ uid
+    low = omega arith
+
+    caps : List ℕ
+    caps = filter (has amb) (count_from 0 41)
+
+    caps_small : AllByRecursion (λ n. n < 2 ^ 32) (filter (has amb) (count_from 0 41))
+    caps_small = filter_keeps (λ n. n < 2 ^ 32) (has amb) (count_from 0 41) (counted_small 0 41 (omega arith))
+
+    user_ready : (b : Bool) → eqb uid 0 ≡ b → (world one two last : World) → Here (Has 0 all all amb) [] plan world
+        → Leads world (cond b [] (prctl_step table.calls set_keepcaps 1 0 ∷ makes table.calls (codes "setresuid") uid uid uid Nothing ∷ [])) one
+        → Leads one (map (λ cap. prctl_step table.calls cap_ambient ambient_raise cap) (filter (has amb) (count_from 0 41))) two
+        → Leads two (cond b [] (capset_step table.calls amb amb amb ∷ [])) last
+        → Here (IsReady uid amb) [] plan last
+    user_ready true is world one two last at l m n =
+        let zero' : 0 ≡ uid = sym (eqb-true uid 0 is) in
+        let before : Here (Has 0 all all amb) [] plan one = subst (Here (Has 0 all all amb) [] plan) l at in
+        let raised = raised_all [] plan 0 all all amb none (filter (has amb) (count_from 0 41)) one two caps_small (weaker table site (Has 0 all all amb) (λ c. Has 0 all all amb c × IsWithin none c.ambient) [] plan one (λ c h. (h, none_within c.ambient)) before) m in
+        subst (Here (IsReady uid amb) [] plan) n (weaker table site (λ c. Has 0 all all amb c × IsWithin none c.ambient × AllByRecursion (λ cap. has c.ambient cap ≡ true) (filter (has amb) (count_from 0 41))) (IsReady uid amb) [] plan two (λ c h. ready_root uid amb c is (subst (λ (u : ℕ). Has u all all amb c) zero' h.0)) raised)
+    user_ready false is world one two last at l m n =
+        let other : eqb (uid % 2 ^ 32) 0 ≡ false = ap (λ u. eqb u 0) low ∙ is in
+        let taken : eqb (uid % 2 ^ 32) no_id ≡ false = grind (arith, nat_tests) in
+        let kept = makes_creds table site (Has 0 all all amb) (λ c. Has 0 all all amb c × (c.keepcaps ≡ true)) (codes "prctl") 8 1 0 Nothing (rule.Known known.Prctl) (d.Prctl 8 1 0) (λ c. Ok (after_set_keepcaps c true)) calls'.prctl refl (λ host caller. refl)
+        (λ c now h is'. keeps_caps 0 all all amb c now h is') [] plan world at l.0 in
+        let next : World = (launch_step world (prctl_step table.calls set_keepcaps 1 0)).1 in
+        let u : ℕ = uid % 2 ^ 32 in
+        let set = makes_creds table site (λ c. Has 0 all all amb c × (c.keepcaps ≡ true)) (Has u all none amb) (codes "setresuid") uid uid uid Nothing (rule.Known known.Setresuid) (d.Setresuid u u u) (λ c. after_setresuid c u u u) calls'.setresuid refl (λ host caller. refl)
+        (λ c now h is'. set_uid u all all amb taken other c now h is') [] plan next kept l.1.0 in
+        let there : World = (launch_step next (makes table.calls (codes "setresuid") uid uid uid Nothing)).1 in
+        let before : Here (Has u all none amb) [] plan one = subst (Here (Has u all none amb) [] plan) l.1.1 set in
+        let raised = raised_all [] plan u all none amb none (filter (has amb) (count_from 0 41)) one two caps_small (weaker table site (Has u all none amb) (λ c. Has u all none amb c × IsWithin none c.ambient) [] plan one (λ c h. (h, none_within c.ambient)) before) m in
+        let held = weaker table site (λ c. Has u all none amb c × IsWithin none c.ambient × AllByRecursion (λ cap. has c.ambient cap ≡ true) (filter (has amb) (count_from 0 41))) (λ c. Has u all none amb c × IsWithin amb c.ambient) [] plan two
+        (λ c h. (h.0, all_raised amb c (within_through amb c.bounding all (h.0).inheritable_bounding (h.0).bounding) h.2)) raised in
+        let done = makes_creds table site (λ c. Has u all none amb c × IsWithin amb c.ambient) (λ c. Has u amb amb amb c × IsWithin amb c.ambient) (codes "capset") 0 0 0 (Sets amb amb amb) (rule.Known known.Capset) (d.Capset amb amb amb) (λ c. after_capset c amb amb amb) calls'.capset refl (λ host caller. refl)
+        (λ c now h is'. set_ambient u all none amb c now h is') [] plan two held n.0 in
+        let end : World = (launch_step two (capset_step table.calls amb amb amb)).1 in
+        subst (Here (IsReady uid amb) [] plan) n.1 (weaker table site (λ c. Has u amb amb amb c × IsWithin amb c.ambient) (IsReady uid amb) [] plan end (λ c h. ready_user uid amb c is (subst (λ (v : ℕ). Has v amb amb amb c) low h.0, h.1)) done)
+
+  pub ready_at : (wanted : Wanted) (plan : Table) (last : World) → BeginsAtHostRoot plan → wanted.uid < no_id
+      → Leads (start_world table site) (with_unshare table.calls (mount_steps plan) ++ identity_steps table.calls wanted) last → Here (IsReady wanted.uid wanted.ambient) [] plan last
+  ready_at wanted plan last begins small l =
+      let lines = table.calls in
+      let start : Here (Has 0 all all none) [] mounts.start (start_world table site) = record { creds = creds.start; namespace = 1; tables = mounts.start ∷ []; as_asked = starts; is = refl; own = refl } in
+      let own = leads_parts (start_world table site) (with_unshare lines (mount_steps plan)) (identity_steps lines wanted) last l in
+      let privs = leads_parts own.mid (group_steps lines wanted ++ drop_steps lines wanted ++ inherit_steps lines wanted ++ user_steps lines wanted ++ raise_steps lines wanted ++ left_steps lines wanted) (privilege_steps lines wanted) last own.after in
+      let left' = leads_parts own.mid (group_steps lines wanted ++ drop_steps lines wanted ++ inherit_steps lines wanted ++ user_steps lines wanted ++ raise_steps lines wanted) (left_steps lines wanted) privs.mid privs.before in
+      let raise = leads_parts own.mid (group_steps lines wanted ++ drop_steps lines wanted ++ inherit_steps lines wanted ++ user_steps lines wanted) (raise_steps lines wanted) left'.mid left'.before in
+      let user = leads_parts own.mid (group_steps lines wanted ++ drop_steps lines wanted ++ inherit_steps lines wanted) (user_steps lines wanted) raise.mid raise.before in
+      let inherit = leads_parts own.mid (group_steps lines wanted ++ drop_steps lines wanted) (inherit_steps lines wanted) user.mid user.before in
+      let drop = leads_parts own.mid (group_steps lines wanted) (drop_steps lines wanted) inherit.mid inherit.before in
+      let planned = plan_mounted table site calls' (Has 0 all all none) [] plan (start_world table site) own.mid begins start own.before in
+      let grouped = groups_set [] plan wanted.groups own.mid planned drop.before.0 in
+      let gids = gids_set [] plan wanted.gid (launch_step own.mid (makes lines (codes "setgroups") 0 0 0 (Ids wanted.groups))).1 grouped drop.before.1.0 in
+      let done_groups : Here (Has 0 all all none) [] plan drop.mid = subst (Here (Has 0 all all none) [] plan) drop.before.1.1 gids in
+      let dropped' = leads_map (Here (Has 0 all all none) [] plan) (λ cap. prctl_step lines capbset_drop cap 0) (filter (λ cap. not (has wanted.bounding cap)) (count_from 0 41)) drop.mid inherit.mid (λ cap' world at done. dropped [] plan cap' world at done) done_groups drop.after in
+      let set = all_set [] plan wanted.ambient inherit.mid dropped' inherit.after.0 in
+      let done_set : Here (Has 0 all all wanted.ambient) [] plan user.mid = subst (Here (Has 0 all all wanted.ambient) [] plan) inherit.after.1 set in
+      let ready = user_ready plan wanted.uid wanted.ambient small (eqb wanted.uid 0) refl user.mid raise.mid left'.mid privs.mid done_set user.after raise.after left'.after in
+      nothing_new [] plan wanted.no_new_privs wanted.uid wanted.ambient [] privs.mid last ready privs.after
+
+  launched_at : (wanted : Wanted) (plan : Table) (last : World) → BeginsAtHostRoot plan → wanted.uid < no_id → is_privileged_row (finds (row_at site.rows) plan wanted.program) ≡ false
+      → Leads (start_world table site) (launch_steps table.calls wanted plan) last → Filtered [] plan IsLaunchedCreds wanted.programs [] last
+  launched_at wanted plan last begins small unmarked l =
+      let lines = table.calls in
+      let mounting = with_unshare lines (mount_steps plan) in
+      let joined : launch_steps lines wanted plan ≡ ((mounting ++ identity_steps lines wanted) ++ filter_steps lines wanted.programs) ++ program_steps lines wanted.program =
+      sym (append_parts mounting (identity_steps lines wanted) (filter_steps lines wanted.programs) (program_steps lines wanted.program)) in
+      let l' = subst (λ (steps : List LaunchStep). Leads (start_world table site) steps last) joined l in
+      let exec = leads_parts (start_world table site) ((mounting ++ identity_steps lines wanted) ++ filter_steps lines wanted.programs) (program_steps lines wanted.program) last l' in
+      let push = leads_parts (start_world table site) (mounting ++ identity_steps lines wanted) (filter_steps lines wanted.programs) exec.mid exec.before in
+      let ready = ready_at wanted plan push.mid begins small push.before in
+      let filters = filtered [] plan (IsReady wanted.uid wanted.ambient) wanted.programs [] push.mid exec.mid ready push.after in
+      let at = executed_here wanted.uid wanted.ambient wanted.program filters.codes' plan exec.mid last unmarked filters.at exec.after in
+      record { codes' = filters.codes'; read = filters.read; at = at }
+
+leaves : (table : calls.Table) (site : Site) (calls' : HasLaunchCalls table.calls) (wanted : Wanted) (plan : Table) (last : World) → Filtered table site calls' [] plan IsLaunchedCreds wanted.programs [] last → Leaves table site wanted plan last
+leaves table site calls' wanted plan last f =
+    let at = f.at in
+    let same = own_table table site at.creds f.codes' at.namespace at.tables plan at.own in
+    record {
+      creds = at.creds;
+      stack = f.codes';
+      namespace = at.namespace;
+      is = ap launch_of at.is ∙ ap (λ (t : Table). record { calls = table; site = site; creds = at.creds; stack = f.codes'; table = t }) same;
+      alone = ap (λ (v : World). v.processes) at.is;
+      own = ap (λ (v : World). of_number v.tables at.namespace) at.is ∙ at.own;
+      as_launched = at.as_asked;
+      read = f.read;
+    }
+
+pub launch_leaves : LaunchLeaves
+launch_leaves table site wanted plan last steps whole can small e = by (is_privileged_row (finds (row_at site.rows) plan wanted.program)) refl e
+  where
+    by : (b : Bool) → is_privileged_row (finds (row_at site.rows) plan wanted.program) ≡ b
+        → cond b (PrivilegedProgram wanted.program) (launch_from (start_world table site) (launch_steps table.calls wanted plan) 0) ≡ Launched last steps
+        → Leaves table site wanted plan last × (steps ≡ length (launch_steps table.calls wanted plan))
+    by true is e = cc
+    by false is e =
+        let calls' = launch_calls table whole in
+        let l = launched_leads (start_world table site) (launch_steps table.calls wanted plan) 0 last steps e in
+        (leaves table site calls' wanted plan last (launched_at table site calls' wanted plan last (begins_at_host (site_host site) plan can) small is l.0), l.1 ∙ omega arith)

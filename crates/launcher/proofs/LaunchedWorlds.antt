@@ -1,0 +1,202 @@
+-- A launch by the programs of settings leaves what the judge stands on.
+use Rattle.std.proofs.Common.{◌≡◌, ℕ, zero, suc, Bool, true, false, cond, List, [], ◌∷◌, ◌++◌, Option, Some, None, ◌⊎◌, inl, inr, refl, ap, ◌∙◌, sym, subst, arith}
+use Rattle.std.specs.Prelude.{◌==◌, ◌≤◌, ◌<◌, ◌^◌, find, reverse, option_and_then, unwrap_or, IfSome, is_some}
+use mathlib.Core.List.{reverse_aux}
+use Rattle.std.specs.List.{AllByRecursion}
+use Rattle.std.specs.Option.{option_map_or}
+use Rattle.std.proofs.lemmas.Int.{ints}
+use Rattle.bpf_code.specs.declared.machine.Insn.{Insn}
+use Rattle.bpf_code.specs.declared.machine.CallData.{CallData}
+use Rattle.bpf_code.specs.Meaning.{IsCallData}
+use Rattle.bpf_code.specs.Refusing.{IsPlain, ArePlain}
+use Rattle.bpf_code.specs.Stack.{answer_of, answers_of}
+use Rattle.call_table.specs.declared.listed.CallLine.{CallLine}
+use Rattle.call_table.specs.Facts.{IsWhole}
+use Rattle.call_table.specs.Lookups.{numbered}
+use Rattle.call_table.specs.Table as calls
+use Rattle.call_rules.specs.Action.{word_of}
+use Rattle.call_rules.specs.declared.actions.Action.{Action}
+use Rattle.call_rules.specs.declared.actions.Action.TheVariants as action
+use Rattle.linux_numbers.specs.Limits.{max_errno}
+use Rattle.filter_rules.specs.Actions.{unless_refused}
+use Rattle.filter_rules.specs.Refusing.{IsRefusing, HasRefusal, HasRefusals, AreRefusing}
+use Rattle.std.proofs.lemmas.List.Elements.{recursion_from_All}
+use Rattle.filter_rules.specs.Calls.{call_action, rest_action, list_action, listed_by, last_mention, if_adds, listed_action, unlisted_action}
+use Rattle.filter_rules.specs.Covers.{covers}
+use Rattle.filter_rules.specs.declared.mentions.CallList.{CallList}
+use Rattle.filter_rules.specs.declared.mentions.Mention.{Mention}
+use Rattle.filter_rules.specs.declared.mentions.Mode.{Mode}
+use Rattle.filter_rules.specs.declared.mentions.Mode.TheVariants.{Allow, Deny}
+use Rattle.filter_rules.specs.declared.names.FilterName.{FilterName}
+use Rattle.filter_rules.specs.declared.names.FilterName.TheVariants.{Families, MemoryDenyWriteExecute, Realtime, Suid, Namespaces, Hostname, Modules, Logs, Clock, Devices, Personality, Calls}
+use Rattle.filter_rules.specs.declared.settings.FilterSettings.{FilterSettings}
+use Rattle.filter_rules.specs.Wanted.{named_action, unnamed_action, wanted_action}
+use Rattle.kernel_laws.specs.FirstChoice.{Means}
+use Rattle.launcher.specs.Launch.{Wanted, Launched, launch}
+use Rattle.kernel_laws.specs.Launched.{Launch, IsLaunched, IsLaunchedWorld, launch_of, first_of, process_or}
+use Rattle.kern_mounts.specs.Split.{Table}
+use Rattle.kernel_model.specs.World.{World, of_number}
+use Rattle.kernel_model.specs.declared.process.Process.{Process}
+use Rattle.kernel_laws.proofs.SettingsChoose.{settings_choose}
+use Rattle.launcher.specs.Launches.{AreRead, Leaves}
+use Rattle.launcher.specs.LaunchedWorlds.{IsMeant, LaunchedIsWorld}
+use Rattle.kern_mounts.specs.Launch.{CanBeMounted, BeginsAtRoot}
+use Rattle.launcher.proofs.LaunchWorld.{launch_leaves}
+use Rattle.site_table.specs.Table.{Site}
+use Rattle.kern_mounts.specs.Table.{StartsAtRoot}
+
+allow_plain : IsPlain (word_of action.Allow)
+allow_plain = inl refl
+
+kill_plain : IsPlain (word_of action.KillProcess)
+kill_plain = inr (omega (arith, ints))
+
+errno_plain : (number : ℕ) → number ≤ max_errno → IsPlain (word_of (action.Errno number))
+errno_plain number small = inr (omega (arith, ints))
+
+refusing_plain : (done : Action) → IsRefusing done → IsPlain (word_of done)
+refusing_plain action.KillProcess refuses = kill_plain
+refusing_plain (action.Errno number) refuses = errno_plain number refuses
+refusing_plain action.Allow refuses = absurd refuses
+
+unless_plain : (number : ℕ) (b : Bool) → number ≤ max_errno → IsPlain (word_of (unless_refused number b))
+unless_plain number true small = errno_plain number small
+unless_plain number false small = allow_plain
+
+-- what is found in a list has what all have
+found_has : {X : Type 0} (P : X → Type 0) (p : X → Bool) (xs : List X) → AllByRecursion P xs → IfSome (find p xs) P
+found_has P p [] all' = tt
+found_has P p (x ∷ xs) all' = by (p x) (found_has P p xs all'.1)
+  where
+    by : (b : Bool) → IfSome (find p xs) P → IfSome (cond b (Some x) (find p xs)) P
+    by true more = all'.0
+    by false more = more
+
+all_onto : {X : Type 0} (P : X → Type 0) (xs ys : List X) → AllByRecursion P xs → AllByRecursion P ys → AllByRecursion P (reverse_aux xs ys)
+all_onto P [] ys all' own = own
+all_onto P (x ∷ xs) ys all' own = all_onto P xs (x ∷ ys) all'.1 (all'.0, own)
+
+all_reverse : {X : Type 0} (P : X → Type 0) (xs : List X) → AllByRecursion P xs → AllByRecursion P (reverse xs)
+all_reverse P xs all' = all_onto P xs [] all' tt
+
+listed_plain : (default : Action) (mode : Mode) (listed : Option Mention) → IsRefusing default → IfSome listed HasRefusal → IsPlain (word_of (option_map_or (listed_action mode default) listed (unlisted_action mode default)))
+listed_plain default Allow None d m = refusing_plain default d
+listed_plain default Deny None d m = allow_plain
+listed_plain default Allow (Some mention) d m = allow_plain
+listed_plain default Deny (Some mention) d m = by mention.action m
+  where
+    by : (o : Option Action) → IfSome o IsRefusing → IsPlain (word_of (unwrap_or o default))
+    by None h = refusing_plain default d
+    by (Some action) h = refusing_plain action h
+
+adding : (o : Option Mention) → IfSome o HasRefusal → IfSome (option_and_then if_adds o) HasRefusal
+adding None h = tt
+adding (Some mention) h = by mention.adds
+  where
+    by : (b : Bool) → IfSome (cond b (Some mention) None) HasRefusal
+    by true = h
+    by false = tt
+
+calls_plain : (table : calls.Table) (list : Option CallList) (default : Action) (name : List ℕ) → IsRefusing default → HasRefusals list → IsPlain (word_of (call_action table list default name))
+calls_plain table None default name d m = allow_plain
+calls_plain table (Some list) default name d m =
+    listed_plain default list.mode (listed_by table list.mentions name) d
+    (adding (last_mention table list.mentions name) (found_has HasRefusal (λ mention. covers table mention.name name) (reverse list.mentions) (all_reverse HasRefusal list.mentions (recursion_from_All HasRefusal list.mentions m))))
+
+rest_plain : (list : Option CallList) (default : Action) → IsRefusing default → IsPlain (word_of (rest_action list default))
+rest_plain None default d = allow_plain
+rest_plain (Some list) default d = by list.mode
+  where
+    by : (mode : Mode) → IsPlain (word_of (unlisted_action mode default))
+    by Allow = refusing_plain default d
+    by Deny = allow_plain
+
+module _ (settings : FilterSettings) (table : calls.Table) (a : AreRefusing settings) where
+  named_plain : (filter : FilterName) (name : List ℕ) (input : CallData) → IsPlain (word_of (named_action filter settings table name input))
+  named_plain Families name input = unless_plain 97 _ (omega arith)
+  named_plain MemoryDenyWriteExecute name input = unless_plain 1 _ (omega arith)
+  named_plain Realtime name input = unless_plain 1 _ (omega arith)
+  named_plain Suid name input = unless_plain 1 _ (omega arith)
+  named_plain Namespaces name input = unless_plain 1 _ (omega arith)
+  named_plain Hostname name input = unless_plain 1 _ (omega arith)
+  named_plain Modules name input = unless_plain 1 _ (omega arith)
+  named_plain Logs name input = unless_plain 1 _ (omega arith)
+  named_plain Clock name input = unless_plain 1 _ (omega arith)
+  named_plain Devices name input = unless_plain 1 _ (omega arith)
+  named_plain Personality name input = unless_plain 1 _ (omega arith)
+  named_plain Calls name input = calls_plain table settings.calls settings.default_action name a.default a.suffixes
+
+  unnamed_plain : (filter : FilterName) → IsPlain (word_of (unnamed_action filter settings))
+  unnamed_plain Families = allow_plain
+  unnamed_plain MemoryDenyWriteExecute = allow_plain
+  unnamed_plain Realtime = allow_plain
+  unnamed_plain Suid = allow_plain
+  unnamed_plain Namespaces = allow_plain
+  unnamed_plain Hostname = allow_plain
+  unnamed_plain Modules = allow_plain
+  unnamed_plain Logs = allow_plain
+  unnamed_plain Clock = allow_plain
+  unnamed_plain Devices = allow_plain
+  unnamed_plain Personality = allow_plain
+  unnamed_plain Calls = rest_plain settings.calls settings.default_action a.default
+
+  wanted_plain : (filter : FilterName) (input : CallData) → IsPlain (word_of (wanted_action filter settings table input))
+  wanted_plain filter input = by (input.arch == table.arch) (numbered input.nr table.calls)
+    where
+      by : (b : Bool) (o : Option CallLine) → IsPlain (word_of (cond b (option_map_or (λ call. named_action filter settings table call.name input) o (unnamed_action filter settings)) action.KillProcess))
+      by false o = kill_plain
+      by true None = unnamed_plain filter
+      by true (Some line) = named_plain filter line.name input
+
+  meant_plain : (stack : List (List Insn)) → AllByRecursion (Means settings table) stack → (input : CallData) → IsCallData input → ArePlain (answers_of stack input)
+  meant_plain [] each input fit = tt
+  meant_plain (code ∷ stack) each input fit =
+      let m : Means settings table code = each.0 in
+      (subst IsPlain (sym (m.answers input fit)) (wanted_plain m.filter input), meant_plain stack each.1 input fit)
+
+  read_means : (programs : List (List ℕ)) (stack : List (List Insn)) → AreRead programs stack → AllByRecursion (IsMeant settings table) programs → AllByRecursion (Means settings table) stack
+  read_means [] [] read each = tt
+  read_means [] (code ∷ stack) read each = absurd read
+  read_means (bytes ∷ programs) [] read each = absurd read
+  read_means (bytes ∷ programs) (code ∷ stack) read each = (each.0 code read.0, read_means programs stack read.1 each.1)
+
+first_of_alone : (table : calls.Table) (site : Site) (wanted : Wanted) (plan : Table) (last : World) (l : Leaves table site wanted plan last) → first_of last ≡ record { creds = l.creds; stack = l.stack; namespace = l.namespace; alive = true }
+first_of_alone table site wanted plan last l = ap (λ (ps : List Process). process_or (of_number ps 1)) l.alone
+
+begins : (plan : Table) → BeginsAtRoot plan → StartsAtRoot plan
+begins [] b = absurd b
+begins (first ∷ rest) b = b.0
+
+pub launched_is_world : LaunchedIsWorld
+launched_is_world settings table site wanted plan last steps whole arch refusing can small meant e =
+    let l : Leaves table site wanted plan last = (launch_leaves table site wanted plan last steps whole can small e).0 in
+    let launch' : Launch = record { calls = table; site = site; creds = l.creds; stack = l.stack; table = plan } in
+    let means = read_means settings table refusing wanted.programs l.stack l.read meant in
+    let plain = meant_plain settings table refusing l.stack means in
+    let is : IsLaunched launch' = record {
+      calls_once = whole.sound.calls.once.by_number;
+      families_once = whole.sound.families.once.by_number;
+      calls_in_range = whole.sound.calls.in_range;
+      arch = arch;
+      real = l.as_launched.real;
+      saved = l.as_launched.saved;
+      real_gid = l.as_launched.real_gid;
+      saved_gid = l.as_launched.saved_gid;
+      full = l.as_launched.full;
+      ambient_inheritable = l.as_launched.ambient_inheritable;
+      ambient_permitted = l.as_launched.ambient_permitted;
+      inheritable_bounding = l.as_launched.inheritable_bounding;
+      inheritable_effective = l.as_launched.inheritable_effective;
+      root = l.as_launched.root;
+      rooted = begins plan can.begins_at_root;
+      honours = can.none_is_no_suid;
+      plain = plain;
+      chosen = settings_choose launch' settings arch means plain;
+    } in
+    let first_is : first_of last ≡ record { creds = l.creds; stack = l.stack; namespace = l.namespace; alive = true } = first_of_alone table site wanted plan last l in
+    record {
+      alone = l.alone ∙ ap (λ p. p ∷ []) (sym first_is);
+      lives = ap (λ p. p.alive) first_is;
+      own = ap (λ p. of_number last.tables p.namespace) first_is ∙ l.own ∙ ap (λ (t : Table). Some t) (sym (ap (λ (launch : Launch). launch.table) l.is));
+      launched = subst IsLaunched (sym l.is) is;
+    }

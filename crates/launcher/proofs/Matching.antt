@@ -1,0 +1,50 @@
+-- Programs that match the filters of settings, one for each.
+use Rattle.std.proofs.Common.{◌≡◌, ℕ, List, [], ◌∷◌, refl, ap, ◌∙◌, sym, length, arith}
+use Rattle.std.specs.Prelude.{◌≤◌, ◌+◌}
+use Rattle.std.specs.List.{AllByRecursion}
+use Rattle.std.proofs.lemmas.List.Sums.{sum_by-cons}
+use Rattle.bpf_code.specs.declared.machine.Insn.{Insn}
+use Rattle.bpf_code.specs.declared.machine.CallData.{CallData}
+use Rattle.bpf_code.specs.Stack.{room_of}
+use Rattle.bpf_code.proofs.Stacks.{answer_is}
+use Rattle.call_rules.specs.Action.{case_action, word_of}
+use Rattle.call_rules.specs.Sizes.{most_insns}
+use Rattle.call_table.specs.Table as calls
+use Rattle.filter_rules.specs.Costs.{most_room}
+use Rattle.exec_settings.specs.AreSettings.{HasWantedRules}
+use Rattle.filter_rules.specs.declared.installed.Filter.{Filter}
+use Rattle.filter_rules.specs.declared.settings.FilterSettings.{FilterSettings}
+use Rattle.kernel_laws.specs.FirstChoice.{Means}
+use Rattle.launcher.specs.Alike.{AnswerAlike}
+use Rattle.launcher.specs.Matching.{IsMatch, AreMatching, MatchingLaws}
+
+pub means : (settings : FilterSettings) (table : calls.Table) (filters : List Filter) (stack : List (List Insn))
+    → AllByRecursion (HasWantedRules settings table) filters → AreMatching filters stack → AllByRecursion (Means settings table) stack
+means settings table [] [] wanted m = tt
+means settings table [] (code ∷ stack) wanted m = absurd m
+means settings table (one ∷ filters) [] wanted m = tt
+means settings table (one ∷ filters) (code ∷ stack) wanted m =
+    (record { filter = one.name; answers = λ input fit. answer_is code input (word_of (case_action one.rules input)) ((m.0).decides input fit) ∙ ap word_of (wanted.0 input) }, means settings table filters stack wanted.1 m.1)
+
+pub room : (filters : List Filter) (stack : List (List Insn)) → AreMatching filters stack → room_of stack ≤ most_room filters
+room [] [] m = omega arith
+room [] (code ∷ stack) m = absurd m
+room (one ∷ filters) [] m = absurd m
+room (one ∷ filters) (code ∷ stack) m =
+    let a = sum_by-cons (λ (c : List Insn). length c + 4) code stack in
+    let b = sum_by-cons (λ (made : Filter). most_insns made.rules + 4) one filters in
+    let more = room filters stack m.1 in
+    let short = (m.0).short in
+    omega arith
+
+pub alike : (filters : List Filter) (one other : List (List Insn)) → AreMatching filters one → AreMatching filters other → AnswerAlike one other
+alike [] [] [] m n = tt
+alike [] [] (own ∷ other) m n = absurd n
+alike [] (code ∷ one) other m n = absurd m
+alike (f ∷ filters) [] other m n = absurd m
+alike (f ∷ filters) (code ∷ one) [] m n = absurd n
+alike (f ∷ filters) (code ∷ one) (own ∷ other) m n =
+    ((λ input fit. answer_is code input (word_of (case_action f.rules input)) ((m.0).decides input fit) ∙ sym (answer_is own input (word_of (case_action f.rules input)) ((n.0).decides input fit))), alike filters one other m.1 n.1)
+
+pub matching_laws : MatchingLaws
+matching_laws = record { means = means; room = room; alike = alike }

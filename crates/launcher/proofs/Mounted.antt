@@ -1,0 +1,152 @@
+-- The mounts of a launch, one after another.
+use Rattle.std.proofs.Common.{◌≡◌, ℕ, zero, suc, Bool, true, false, cond, codes, List, [], ◌∷◌, ◌++◌, Option, Some, None, Result, Ok, Err, ◌⊎◌, inl, inr, refl, ap, ◌∙◌, sym, subst, length, drop, get_or, drop-cons, add-one, ◌<◌, ◌≤◌, arith, eqb}
+use Rattle.std.specs.Prelude.{map, slice_get, slice_set, ◌+◌, ◌-◌}
+use Rattle.std.proofs.lemmas.List.{drop_all, length-append}
+use Rattle.abs_path.specs.Paths.{is_root}
+use Rattle.call_table.specs.declared.listed.CallLine.{CallLine}
+use Rattle.call_table.specs.Facts.{IsWhole}
+use Rattle.kern_creds.specs.declared.creds.Creds.{Creds}
+use Rattle.kern_creds.specs.Start as creds
+use Rattle.kern_mounts.specs.Table as mounts
+use Rattle.kern_mounts.specs.Split.{Table}
+use Rattle.kern_mounts.specs.declared.step.Flags.{Flags}
+use Rattle.kern_mounts.specs.declared.step.MountStep.{MountStep}
+use Rattle.kernel_calls.specs.declared.payload.Payload.TheVariants.{Nothing}
+use Rattle.kernel_model.specs.declared.process.Process.{Process}
+use Rattle.kernel_model.specs.MountStep.{CanStep, HasRoom, after_mount_step, stepped_by, with_step, with_first_flags}
+use Rattle.kernel_model.specs.World.{World, living_of, of_number, put_number, table_of, table_or}
+use Rattle.launcher.specs.declared.error.LaunchError.{LaunchError}
+use Rattle.launcher.specs.declared.error.LaunchError.TheVariants as error
+use Rattle.launcher.specs.Ends.{Begins, Ends, StepsTo, IsStart, HasRoomBy, HasRoomFor, with_mounts}
+use Rattle.launcher.specs.Launch.{LaunchStep, Mounts, Ending, launch_step, launch_from, makes, mount_steps, with_unshare, new_mounts}
+use Rattle.launcher.proofs.LaunchCalls.{launch_calls}
+use Rattle.launcher.proofs.CallsMade.{step_done, step_ends}
+use Rattle.launcher.proofs.Solo.{At, solo, makes_unshare, own_table}
+
+-- ---- there is room for each
+flags_length : (flags : Flags) (table : Table) → length (with_first_flags flags table) ≡ length table
+flags_length flags [] = refl
+flags_length flags (first ∷ table) = refl
+
+step_length : (table : Table) (step : MountStep) → length (with_step table step) ≤ length table + 1
+step_length table step = by (is_root step.place)
+  where
+    by : (b : Bool) → length (cond b (with_first_flags step.flags table) (table ++ step ∷ [])) ≤ length table + 1
+    by true = let e = flags_length step.flags table in omega (arith, e)
+    by false = let e = length-append table (step ∷ []) in omega (arith, e)
+
+set_length : (tables : List Table) (i : ℕ) (table : Table) → length (table_or (slice_get (slice_set tables i table) i)) ≤ length table
+set_length [] i table = omega arith
+set_length (own ∷ tables) zero table = omega arith
+set_length (own ∷ tables) (suc i) table = set_length tables i table
+
+put_length : (tables : List Table) (number : ℕ) (table : Table) → length (table_or (of_number (put_number tables number table) number)) ≤ length table
+put_length tables number table = by (eqb number 0)
+  where
+    by : (b : Bool) → length (table_or (cond b None (slice_get (slice_set tables (number - 1) table) (number - 1)))) ≤ length table
+    by true = omega arith
+    by false = set_length tables (number - 1) table
+
+pub room_less : (count : ℕ) (world : World) (entry : MountStep) → HasRoomFor (suc count) world → HasRoomFor count (after_mount_step world 1 entry)
+room_less count world entry room = by (living_of world 1) refl room
+  where
+    by : (o : Option Process) → living_of world 1 ≡ o → HasRoomBy world (suc count) o → HasRoomBy (stepped_by world entry o) count (living_of (stepped_by world entry o) 1)
+    by None is h = absurd h
+    by (Some process) is h =
+        let own : Table = table_of world process.namespace in
+        let next = stepped_by world entry (Some process) in
+        let put = put_length world.tables process.namespace (with_step own entry) in
+        let one = step_length own entry in
+        let fits : length (table_of next process.namespace) + count ≤ 4096 = omega (arith, put, one, h) in
+        subst (λ (o : Option Process). HasRoomBy next count o) (sym is) fits
+
+pub room_steps : (count : ℕ) (world : World) → HasRoomFor (suc count) world → CanStep world 1
+room_steps count world room = by (living_of world 1) room
+  where
+    by : (o : Option Process) → HasRoomBy world (suc count) o → HasRoom world o
+    by None h = absurd h
+    by (Some process) h = omega (arith, h)
+
+front : (entries : List MountStep) (i : ℕ) (entry : MountStep) → i < length entries → entry ≡ get_or entries i entry → drop i entries ≡ entry ∷ drop (i + 1) entries
+front entries i entry lt is = drop-cons entries i entry lt ∙ ap (λ (e : MountStep). e ∷ drop (suc i) entries) (sym is) ∙ ap (λ n. entry ∷ drop n entries) (sym (add-one i))
+
+-- so many entries of a list are mounted
+pub record Mounting (start now : World) (entries : List MountStep) (i : ℕ) : Type 0 where
+  pub room : HasRoomFor (length (drop i entries)) now
+  pub rest : with_mounts now (drop i entries) ≡ with_mounts start entries
+
+pub can_mount : (start now : World) (entries : List MountStep) (i : ℕ) (entry : MountStep) → i < length entries → entry ≡ get_or entries i entry → Mounting start now entries i → CanStep now 1
+can_mount start now entries i entry lt is m =
+    let own : HasRoomFor (suc (length (drop (i + 1) entries))) now = subst (λ (es : List MountStep). HasRoomFor (length es) now) (front entries i entry lt is) m.room in
+    room_steps (length (drop (i + 1) entries)) now own
+
+pub mounted_more : (start now after : World) (entries : List MountStep) (i : ℕ) (entry : MountStep) → i < length entries → entry ≡ get_or entries i entry → Mounting start now entries i
+    → after ≡ after_mount_step now 1 entry → Mounting start after entries (i + 1)
+mounted_more start now after entries i entry lt is m stepped =
+    let own : HasRoomFor (suc (length (drop (i + 1) entries))) now = subst (λ (es : List MountStep). HasRoomFor (length es) now) (front entries i entry lt is) m.room in
+    record {
+      room = subst (HasRoomFor (length (drop (i + 1) entries))) (sym stepped) (room_less (length (drop (i + 1) entries)) now entry own);
+      rest = ap (λ (w : World). with_mounts w (drop (i + 1) entries)) stepped ∙ ap (with_mounts now) (sym (front entries i entry lt is)) ∙ m.rest;
+    }
+
+pub mounted_all : (start now : World) (entries : List MountStep) (i : ℕ) → length entries ≤ i → Mounting start now entries i → now ≡ with_mounts start entries
+mounted_all start now entries i le m = ap (with_mounts now) (sym (drop_all i entries le)) ∙ m.rest
+
+-- ---- the launch goes on behind them
+mounts_go : (world : World) (entries : List MountStep) (rest : List LaunchStep) (count : ℕ) → launch_from world (map Mounts entries ++ rest) count ≡ launch_from (with_mounts world entries) rest (count + length entries)
+mounts_go world [] rest count = let same : count ≡ count + 0 = omega arith in ap (launch_from world rest) same
+mounts_go world (entry ∷ entries) rest count =
+    let same : count + 1 + length entries ≡ count + suc (length entries) = omega arith in
+    mounts_go (after_mount_step world 1 entry) entries rest (count + 1) ∙ ap (launch_from (with_mounts (after_mount_step world 1 entry) entries) rest) same
+
+abbrev unshare_of : List CallLine → LaunchStep
+unshare_of lines = makes lines (codes "unshare") new_mounts 0 0 Nothing
+
+-- nothing is mounted
+pub begins_without : (world : World) (lines : List CallLine) (plan entries : Table) → map Mounts entries ≡ mount_steps plan → entries ≡ [] → Begins world (with_unshare lines (mount_steps plan)) (Ok 0) world
+begins_without world lines plan entries are none rest =
+    ap (λ (steps : List LaunchStep). launch_from world (with_unshare lines steps ++ rest) 0) (sym are)
+    ∙ ap (λ (es : Table). launch_from world (with_unshare lines (map Mounts es) ++ rest) 0) none
+
+-- all entries are mounted behind unshare(2)
+begins_behind : (world own after : World) (lines : List CallLine) (entry : MountStep) (entries : Table) → StepsTo world (unshare_of lines) 1 (Ok tt) own → after ≡ with_mounts own (entry ∷ entries)
+    → Begins world (with_unshare lines (map Mounts (entry ∷ entries))) (Ok (1 + length (entry ∷ entries))) after
+begins_behind world own after lines entry entries done mounted rest =
+    step_done world own (unshare_of lines) (map Mounts (entry ∷ entries) ++ rest) 0 1 done
+    ∙ mounts_go own (entry ∷ entries) rest 1
+    ∙ ap (λ (w : World). launch_from w rest (1 + length (entry ∷ entries))) (sym mounted)
+
+pub begins_mounted : (world own after : World) (lines : List CallLine) (plan entries : Table) (count : ℕ) → map Mounts entries ≡ mount_steps plan → 0 < length entries → count ≡ 1 + length entries
+    → StepsTo world (unshare_of lines) 1 (Ok tt) own → after ≡ with_mounts own entries → Begins world (with_unshare lines (mount_steps plan)) (Ok count) after
+begins_mounted world own after lines plan [] count are some counted done mounted = absurd (omega (arith, some))
+begins_mounted world own after lines plan (entry ∷ entries) count are some counted done mounted =
+    subst (λ (steps : List LaunchStep). Begins world (with_unshare lines steps) (Ok count) after) are
+    (subst (λ n. Begins world (with_unshare lines (map Mounts (entry ∷ entries))) (Ok n) after) (sym counted) (begins_behind world own after lines entry entries done mounted))
+
+-- or unshare(2) ends the launch
+stops_behind : (world own left : World) (lines : List CallLine) (steps : List LaunchStep) (e : LaunchError) → StepsTo world (unshare_of lines) 1 (Err e) own → Begins world (unshare_of lines ∷ steps) (Err e) left
+stops_behind world own left lines steps (error.Refused at errno) stops = λ rest. step_ends world own left (unshare_of lines) (steps ++ rest) 0 1 (error.Refused at errno) refl stops
+stops_behind world own left lines steps (error.Killed at) stops = λ rest. step_ends world own left (unshare_of lines) (steps ++ rest) 0 1 (error.Killed at) refl stops
+stops_behind world own left lines steps (error.PrivilegedProgram path) stops = stops
+stops_behind world own left lines steps error.Memory stops = tt
+
+pub begins_stopped : (world own left : World) (lines : List CallLine) (plan entries : Table) (e : LaunchError) → map Mounts entries ≡ mount_steps plan → 0 < length entries
+    → StepsTo world (unshare_of lines) 1 (Err e) own → Begins world (with_unshare lines (mount_steps plan)) (Err e) left
+begins_stopped world own left lines plan [] e are some stops = absurd (omega (arith, some))
+begins_stopped world own left lines plan (entry ∷ entries) e are some stops =
+    subst (λ (steps : List LaunchStep). Begins world (with_unshare lines steps) (Err e) left) are (stops_behind world own left lines (map Mounts (entry ∷ entries)) e stops)
+
+-- ---- the own namespace has room
+abbrev Any : Creds → Type 0
+Any creds = Unit {0}
+
+pub room_of_own : (world own : World) (count : ℕ) → IsStart world → IsWhole world.calls → count ≤ 161 → StepsTo world (unshare_of world.calls.calls) 1 (Ok tt) own → HasRoomFor count own
+room_of_own world own count starts whole few done =
+    let calls' = launch_calls world.calls whole in
+    let first : At world.calls world.site Any [] mounts.start world = record { creds = creds.start; namespace = 1; tables = mounts.start ∷ []; as_asked = tt; is = starts; own = refl } in
+    let at = makes_unshare world.calls world.site Any calls'.unshare [] mounts.start world first done.0 in
+    let same = own_table world.calls world.site at.creds [] at.namespace at.tables mounts.start at.own in
+    let there : World = solo world.calls world.site at.creds [] at.namespace at.tables in
+    let fits : length (table_of there at.namespace) + count ≤ 4096 = subst (λ (t : Table). length t + count ≤ 4096) (sym same) (omega (arith, few)) in
+    let room : HasRoomFor count there = fits in
+    subst (HasRoomFor count) (sym (done.1 ∙ at.is)) room

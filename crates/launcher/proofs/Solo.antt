@@ -1,0 +1,231 @@
+-- A world with one process, and what a call of it that is done leaves.
+use Rattle.std.proofs.Common.{◌≡◌, ℕ, zero, suc, Bool, true, false, cond, codes, List, [], ◌∷◌, ◌++◌, Option, Some, None, Result, Ok, Err, refl, ap, ◌∙◌, sym, subst, length, arith, eqb}
+use Rattle.std.specs.Prelude.{slice_get, slice_set, nat_lt, nat_le, ◌-◌, ◌+◌, ◌||◌, not, map}
+use Rattle.bpf_code.specs.declared.machine.Insn.{Insn}
+use Rattle.bpf_code.specs.declared.decision.Decision.{Decision}
+use Rattle.bpf_code.specs.declared.decision.Decision.TheVariants as decision
+use Rattle.bpf_code.specs.Stack.{decision_on, room_of}
+use Rattle.bpf_code.specs.ProgramOf.{program_of}
+use Rattle.cap_sets.specs.Sets.{has}
+use Rattle.call_table.specs.declared.listed.CallLine.{CallLine}
+use Rattle.call_table.specs.Table as calls
+use Rattle.site_table.specs.Table.{Site}
+use Rattle.kern_creds.specs.declared.creds.Creds.{Creds}
+use Rattle.kern_mounts.specs.declared.step.MountStep.{MountStep}
+use Rattle.kernel_calls.specs.declared.call.Call.{Call}
+use Rattle.kernel_calls.specs.declared.payload.Payload.{Payload}
+use Rattle.kernel_calls.specs.declared.payload.Payload.TheVariants.{Nothing, Code}
+use Rattle.kernel_calls.specs.declared.rule.Rule.{Rule}
+use Rattle.kernel_calls.specs.Rules.{rule_at}
+use Rattle.kernel_calls.specs.declared.rule.Rule.TheVariants as rule
+use Rattle.call_names.specs.declared.rule.CallRule.TheVariants as known
+use Rattle.kernel_calls.specs.Doing as d
+use Rattle.kernel_calls.specs.Doing.{Doing, Asked, doing_by, asked_by, asked_if, asked_of}
+use Rattle.kernel_model.specs.Effects as f
+use Rattle.kernel_model.specs.Effects.{Effect, Host, Caller, effect_of, creds_effect, push_effect, seccomp_effect}
+use Rattle.launcher.specs.Launch.{LaunchStep, Makes, Mounts, number_of, first_call, makes, launch_step, new_mounts}
+use Rattle.kernel_model.specs.MountStep.{with_step}
+use Rattle.kern_mounts.specs.Split.{Table}
+use Rattle.kernel_model.specs.Runs.{IsDone}
+use Rattle.kernel_model.specs.declared.reply.Reply.TheVariants as w
+use Rattle.kernel_model.specs.World.{World, of_number, table_of, table_or, host_of, caller_of}
+use Rattle.kernel_model.specs.declared.process.Process.{Process}
+use Rattle.kernel_model.specs.declared.reply.Reply.{Reply}
+use Rattle.kernel_model.specs.Step.{step, applied, answered, decided, data_of}
+use Rattle.launcher.proofs.Numbered.{number_get, push_last, not_first}
+use Rattle.linux_numbers.specs.Errnos.{eacces, enomem, enospc, eperm}
+use Rattle.linux_numbers.specs.Limits.{max_insns_per_path}
+use Rattle.linux_numbers.specs.Capabilities.{cap_sys_admin}
+
+module _ (table : calls.Table) (site : Site) where
+  abbrev pub only : Creds → List (List Insn) → ℕ → Process
+  only creds stack namespace = record { creds = creds; stack = stack; namespace = namespace; alive = true }
+
+  abbrev pub solo : Creds → List (List Insn) → ℕ → List Table → World
+  solo creds stack namespace tables = record { calls = table; site = site; processes = only creds stack namespace ∷ []; tables = tables }
+
+  -- process 1 lives alone, with such credentials, these programs and this mount table
+  pub record At (Q : Creds → Type 0) (stack : List (List Insn)) (mounts : Table) (world : World) : Type 0 where
+    pub creds : Creds
+    pub namespace : ℕ
+    pub tables : List Table
+    pub as_asked : Q creds
+    pub is : world ≡ solo creds stack namespace tables
+    pub own : of_number tables namespace ≡ Some mounts
+
+  pub weaker : (Q R : Creds → Type 0) (stack : List (List Insn)) (mounts : Table) (world : World) → ((creds : Creds) → Q creds → R creds) → At Q stack mounts world → At R stack mounts world
+  weaker Q R stack mounts world to at = record { creds = at.creds; namespace = at.namespace; tables = at.tables; as_asked = to at.creds at.as_asked; is = at.is; own = at.own }
+
+  -- a call that is done was let through
+  let_through : (world : World) (call : Call) (process : Process) (decision' : Decision) → IsDone (decided world call process decision').0 → decided world call process decision' ≡ answered world call.pid process (asked_of world.calls.calls call)
+  let_through world call process decision.Pass done = refl
+  let_through world call process (decision.Errno errno) done = absurd done
+  let_through world call process decision.Kill done = absurd done
+
+  abbrev W : Creds → List (List Insn) → ℕ → List Table → World
+  W = solo
+
+  module _ (creds : Creds) (stack : List (List Insn)) (namespace : ℕ) (tables : List Table) where
+    abbrev world : World
+    world = solo creds stack namespace tables
+
+    abbrev process : Process
+    process = only creds stack namespace
+
+    pub does : (nr : ℕ) (args : List ℕ) (payload : Payload) (rule' : Rule) (doing : Doing) → rule_at table.calls nr ≡ Some rule' → doing_by rule' args payload ≡ Some doing
+        → IsDone (step world (record { pid = 1; nr = nr; args = args; payload = payload })).0
+        → step world (record { pid = 1; nr = nr; args = args; payload = payload }) ≡ applied world 1 process (effect_of (host_of world) (caller_of world process) doing)
+    does nr args payload rule' doing by_rule is done =
+        let call : Call = record { pid = 1; nr = nr; args = args; payload = payload } in
+        let_through world call process (decision_on stack (data_of world call)) done
+        ∙ ap (λ (o : Option Rule). answered world 1 process (asked_by o call)) by_rule
+        ∙ ap (λ (o : Option Doing). answered world 1 process (asked_if o)) is
+
+    pub creds_done : (answer : Result Creds ℕ) → IsDone (applied world 1 process (creds_effect answer)).0
+        → (now : Creds) × (answer ≡ Ok now) × ((applied world 1 process (creds_effect answer)).1 ≡ solo now stack namespace tables)
+    creds_done (Ok now) done = (now, refl, refl)
+    creds_done (Err errno) done = absurd done
+
+    pub own_table : (mounts : Table) → of_number tables namespace ≡ Some mounts → table_of world namespace ≡ mounts
+    own_table mounts own = ap table_or own
+
+  -- a call of the launch that changes credentials
+  pub makes_creds : (Q R : Creds → Type 0) (name : List ℕ) (one two three : ℕ) (payload : Payload) (rule' : Rule) (doing : Doing) (answer : Creds → Result Creds ℕ)
+      → rule_at table.calls (number_of table.calls name) ≡ Some rule' → doing_by rule' (one ∷ two ∷ three ∷ 0 ∷ 0 ∷ 0 ∷ []) payload ≡ Some doing
+      → ((host : Host) (caller : Caller) → effect_of host caller doing ≡ creds_effect (answer caller.creds))
+      → ((creds now : Creds) → Q creds → answer creds ≡ Ok now → R now)
+      → (stack : List (List Insn)) (mounts : Table) (world' : World) → At Q stack mounts world' → IsDone (launch_step world' (makes table.calls name one two three payload)).0
+      → At R stack mounts (launch_step world' (makes table.calls name one two three payload)).1
+  makes_creds Q R name one two three payload rule' doing answer by_rule is effect to stack mounts world' at done =
+      let own : World = solo at.creds stack at.namespace at.tables in
+      let call : Call = first_call table.calls name (one ∷ two ∷ three ∷ 0 ∷ 0 ∷ 0 ∷ []) payload in
+      let done' : IsDone (step own call).0 = subst (λ (v : World). IsDone (step v call).0) at.is done in
+      let stepped = does at.creds stack at.namespace at.tables call.nr call.args payload rule' doing by_rule is done'
+      ∙ ap (λ (e : Effect). applied own 1 (only at.creds stack at.namespace) e) (effect (host_of own) (caller_of own (only at.creds stack at.namespace))) in
+      let found = creds_done at.creds stack at.namespace at.tables (answer at.creds) (subst (λ (out : Reply × World). IsDone out.0) stepped done') in
+      record {
+        creds = found.0;
+        namespace = at.namespace;
+        tables = at.tables;
+        as_asked = to at.creds found.0 at.as_asked found.1;
+        is = ap (λ (v : World). (step v call).1) at.is ∙ ap (λ (out : Reply × World). out.1) stepped ∙ found.2;
+        own = at.own;
+      }
+
+  -- a program that is pushed
+  push_done : (creds : Creds) (stack : List (List Insn)) (namespace : ℕ) (tables : List Table) (read : Option (List Insn))
+      → IsDone (applied (solo creds stack namespace tables) 1 (only creds stack namespace) (push_effect stack read)).0
+      → (code : List Insn) × (read ≡ Some code) × ((applied (solo creds stack namespace tables) 1 (only creds stack namespace) (push_effect stack read)).1 ≡ solo creds (stack ++ code ∷ []) namespace tables)
+  push_done creds stack namespace tables None done = absurd done
+  push_done creds stack namespace tables (Some code) done = by (nat_le (room_of stack + length code) max_insns_per_path) done
+    where
+      by : (b : Bool) → IsDone (applied (solo creds stack namespace tables) 1 (only creds stack namespace) (cond b (f.Push code) (f.Refuse enomem))).0
+          → (c : List Insn) × (Some code ≡ Some c) × ((applied (solo creds stack namespace tables) 1 (only creds stack namespace) (cond b (f.Push code) (f.Refuse enomem))).1 ≡ solo creds (stack ++ c ∷ []) namespace tables)
+      by true done = (code, refl, refl)
+      by false done = absurd done
+
+  seccomp_done : (creds : Creds) (stack : List (List Insn)) (namespace : ℕ) (tables : List Table) (bytes : List ℕ)
+      → IsDone (applied (solo creds stack namespace tables) 1 (only creds stack namespace) (seccomp_effect creds stack 1 0 bytes)).0
+      → (code : List Insn) × (program_of bytes ≡ Some code) × ((applied (solo creds stack namespace tables) 1 (only creds stack namespace) (seccomp_effect creds stack 1 0 bytes)).1 ≡ solo creds (stack ++ code ∷ []) namespace tables)
+  seccomp_done creds stack namespace tables bytes done = by (creds.no_new_privs || has creds.effective cap_sys_admin) done
+    where
+      by : (b : Bool) → IsDone (applied (solo creds stack namespace tables) 1 (only creds stack namespace) (cond (not b) (f.Refuse eacces) (push_effect stack (program_of bytes)))).0
+          → (code : List Insn) × (program_of bytes ≡ Some code) × ((applied (solo creds stack namespace tables) 1 (only creds stack namespace) (cond (not b) (f.Refuse eacces) (push_effect stack (program_of bytes)))).1 ≡ solo creds (stack ++ code ∷ []) namespace tables)
+      by true done = push_done creds stack namespace tables (program_of bytes) done
+      by false done = absurd done
+
+  pub record Pushed (Q : Creds → Type 0) (stack : List (List Insn)) (mounts : Table) (bytes : List ℕ) (world : World) : Type 0 where
+    pub code : List Insn
+    pub read : program_of bytes ≡ Some code
+    pub at : At Q (stack ++ code ∷ []) mounts world
+
+  abbrev pub seccomp_call : List ℕ → LaunchStep
+  seccomp_call bytes = makes table.calls (codes "seccomp") 1 0 0 (Code bytes)
+
+  pub makes_push : (Q : Creds → Type 0) (bytes : List ℕ) → rule_at table.calls (number_of table.calls (codes "seccomp")) ≡ Some (rule.Known known.Seccomp)
+      → (stack : List (List Insn)) (mounts : Table) (world' : World) → At Q stack mounts world' → IsDone (launch_step world' (seccomp_call bytes)).0
+      → Pushed Q stack mounts bytes (launch_step world' (seccomp_call bytes)).1
+  makes_push Q bytes by_rule stack mounts world' at done =
+      let own : World = solo at.creds stack at.namespace at.tables in
+      let call : Call = first_call table.calls (codes "seccomp") (1 ∷ 0 ∷ 0 ∷ 0 ∷ 0 ∷ 0 ∷ []) (Code bytes) in
+      let done' : IsDone (step own call).0 = subst (λ (v : World). IsDone (step v call).0) at.is done in
+      let stepped = does at.creds stack at.namespace at.tables call.nr call.args (Code bytes) (rule.Known known.Seccomp) (d.Seccomp 1 0 bytes) by_rule refl done' in
+      let found = seccomp_done at.creds stack at.namespace at.tables bytes (subst (λ (out : Reply × World). IsDone out.0) stepped done') in
+      record {
+        code = found.0;
+        read = found.1;
+        at = record {
+          creds = at.creds;
+          namespace = at.namespace;
+          tables = at.tables;
+          as_asked = at.as_asked;
+          is = ap (λ (v : World). (step v call).1) at.is ∙ ap (λ (out : Reply × World). out.1) stepped ∙ found.2;
+          own = at.own;
+        };
+      }
+
+  -- an entry that the launcher mounts
+  get_set : {X : Type 0} (xs : List X) (i : ℕ) (y z : X) → slice_get xs i ≡ Some z → slice_get (slice_set xs i y) i ≡ Some y
+  get_set [] i y z e = cc
+  get_set (x ∷ xs) zero y z e = refl
+  get_set (x ∷ xs) (suc i) y z e = get_set xs i y z e
+
+  pub mounts_entry : (Q : Creds → Type 0) (entry : MountStep) (stack : List (List Insn)) (mounts : Table) (world' : World) → At Q stack mounts world'
+      → At Q stack (with_step mounts entry) (launch_step world' (Mounts entry)).1
+  mounts_entry Q entry stack mounts world' at =
+      let made = number_get at.tables at.namespace mounts at.own in
+      let next = with_step mounts entry in
+      record {
+        creds = at.creds;
+        namespace = at.namespace;
+        tables = slice_set at.tables (at.namespace - 1) next;
+        as_asked = at.as_asked;
+        is = ap (λ (v : World). (launch_step v (Mounts entry)).1) at.is
+            ∙ ap (λ (t : Table). solo at.creds stack at.namespace (slice_set at.tables (at.namespace - 1) (with_step t entry))) (own_table at.creds stack at.namespace at.tables mounts at.own);
+        own = ap (λ (b : Bool). cond b None (slice_get (slice_set at.tables (at.namespace - 1) next) (at.namespace - 1))) made.0 ∙ get_set at.tables (at.namespace - 1) next mounts made.1;
+      }
+
+  -- a namespace of its own
+  abbrev unshared : Creds → List (List Insn) → ℕ → List Table → Effect → Type 0
+  unshared creds stack namespace tables effect =
+      IsDone (applied (solo creds stack namespace tables) 1 (only creds stack namespace) effect).0
+      → (applied (solo creds stack namespace tables) 1 (only creds stack namespace) effect).1 ≡ solo creds stack (length tables + 1) (tables ++ table_of (solo creds stack namespace tables) namespace ∷ [])
+
+  own_done : (creds : Creds) (stack : List (List Insn)) (namespace : ℕ) (tables : List Table) → unshared creds stack namespace tables f.OwnTable
+  own_done creds stack namespace tables done = by (nat_lt (length tables) 64) done
+    where
+      here : World
+      here = solo creds stack namespace tables
+
+      after : World
+      after = solo creds stack (length tables + 1) (tables ++ table_of (solo creds stack namespace tables) namespace ∷ [])
+
+      by : (b : Bool) → IsDone (cond {A = Reply × World} b (w.Done 0, after) (w.Refused enospc, here)).0 → (cond {A = Reply × World} b (w.Done 0, after) (w.Refused enospc, here)).1 ≡ after
+      by true done = refl
+      by false done = absurd done
+
+  admin_done : (creds : Creds) (stack : List (List Insn)) (namespace : ℕ) (tables : List Table) (b : Bool) → unshared creds stack namespace tables (cond b f.OwnTable (f.Refuse eperm))
+  admin_done creds stack namespace tables true done = own_done creds stack namespace tables done
+  admin_done creds stack namespace tables false done = absurd done
+
+  abbrev pub unshare_call : LaunchStep
+  unshare_call = makes table.calls (codes "unshare") new_mounts 0 0 Nothing
+
+  pub makes_unshare : (Q : Creds → Type 0) → rule_at table.calls (number_of table.calls (codes "unshare")) ≡ Some (rule.Known known.Unshare)
+      → (stack : List (List Insn)) (mounts : Table) (world' : World) → At Q stack mounts world' → IsDone (launch_step world' unshare_call).0
+      → At Q stack mounts (launch_step world' unshare_call).1
+  makes_unshare Q by_rule stack mounts world' at done =
+      let own : World = solo at.creds stack at.namespace at.tables in
+      let call : Call = first_call table.calls (codes "unshare") (new_mounts ∷ 0 ∷ 0 ∷ 0 ∷ 0 ∷ 0 ∷ []) Nothing in
+      let done' : IsDone (step own call).0 = subst (λ (v : World). IsDone (step v call).0) at.is done in
+      let stepped = does at.creds stack at.namespace at.tables call.nr call.args Nothing (rule.Known known.Unshare) (d.Unshare new_mounts) by_rule refl done' in
+      let after = admin_done at.creds stack at.namespace at.tables (has at.creds.effective cap_sys_admin) (subst (λ (out : Reply × World). IsDone out.0) stepped done') in
+      record {
+        creds = at.creds;
+        namespace = length at.tables + 1;
+        tables = at.tables ++ mounts ∷ [];
+        as_asked = at.as_asked;
+        is = ap (λ (v : World). (step v call).1) at.is ∙ ap (λ (out : Reply × World). out.1) stepped ∙ after
+            ∙ ap (λ (t : Table). solo at.creds stack (length at.tables + 1) (at.tables ++ t ∷ [])) (own_table at.creds stack at.namespace at.tables mounts at.own);
+        own = ap (λ (b : Bool). cond b None (slice_get (at.tables ++ mounts ∷ []) (length at.tables + 1 - 1))) (not_first (length at.tables)) ∙ push_last at.tables mounts;
+      }

@@ -1,0 +1,11 @@
+use Rattle.std.proofs.Common.{arith, ◌∙◌}
+use Rattle.cap_sets.specs.Sets.{has}
+use Rattle.launcher.specs.Launch.{prctl_step, cap_ambient, ambient_raise}
+use Rattle.launcher.proofs.Appending.{step_more}
+use Rattle.launcher.proofs.identity.raise_steps.Goals as goal
+
+pub loop-cap-preserved : goal.loop-cap-preserved
+loop-cap-preserved c =
+    step_more (λ cap. prctl_step c.args.table.now.calls cap_ambient ambient_raise cap) (has c.args.settings.now.ambient) c.loop-cap.steps c.push_if.new.self c.loop-cap.cap c.from.result c.contains.result _
+    (omega (arith, c.loop-cap-test.true)) c.from.ensures c.contains.ensures.has c.prctl-call.ensures c.in_ok-push_if.ensures
+    ∙ c.loop-cap.invariant

@@ -1,0 +1,81 @@
+-- Worlds that differ in the programs of the launch alone.
+use Rattle.std.specs.Prelude.{◌≡◌, ℕ, ◌+◌, ◌<◌, ◌≤◌, ◌^◌, ◌⊎◌, ◌||◌, true, List, [], ◌∷◌, ◌++◌, map, length, Some}
+use Rattle.bpf_code.specs.declared.machine.Insn.{Insn}
+use Rattle.bpf_code.specs.declared.machine.CallData.{CallData}
+use Rattle.bpf_code.specs.declared.decision.Decision.TheVariants as decision
+use Rattle.bpf_code.specs.Meaning.{IsCallData}
+use Rattle.bpf_code.specs.ProgramOf.{program_of}
+use Rattle.bpf_code.specs.Stack.{answer_of, decision_on, room_of}
+use Rattle.cap_sets.specs.Sets.{has}
+use Rattle.linux_numbers.specs.Capabilities.{cap_sys_admin}
+use Rattle.linux_numbers.specs.Errnos.{enomem}
+use Rattle.linux_numbers.specs.Limits.{max_insns_per_path}
+use Rattle.kernel_calls.specs.declared.call.Call.{Call}
+use Rattle.kernel_calls.specs.Calls.{AreCalls}
+use Rattle.kernel_calls.specs.Doing.{Does, Seccomp, asked_of}
+use Rattle.kernel_model.specs.World.{World, living_of}
+use Rattle.kernel_model.specs.declared.process.Process.{Process}
+use Rattle.kernel_model.specs.declared.reply.Reply.{Reply}
+use Rattle.kernel_model.specs.declared.reply.Reply.TheVariants.{Done, Refused}
+use Rattle.kernel_model.specs.Step.{step, data_of}
+
+-- the programs of the one list answer as those of the other, one by one
+abbrev pub AnswerAlike : List (List Insn) → List (List Insn) → Type 0
+AnswerAlike [] [] = Unit {0}
+AnswerAlike (code ∷ one) (own ∷ other) = ((input : CallData) → IsCallData input → answer_of code input ≡ answer_of own input) × AnswerAlike one other
+AnswerAlike one other = ⊥
+
+-- a process with these programs below its own
+abbrev pub over : List (List Insn) → Process → Process
+over programs process = record process { stack = programs ++ process.stack }
+
+-- each process of the world has these programs below its own
+abbrev pub above : List (List Insn) → World → World
+above programs world = record world { processes = map (over programs) world.processes }
+
+-- seccomp(2), ENOMEM: a call of it answers that there is no room in the one world alone
+pub record IsFullInOne (one other : World) (call : Call) : Type 0 where
+  pub operation : ℕ
+  pub flags : ℕ
+  pub bytes : List ℕ
+  pub asks : asked_of one.calls.calls call ≡ Does (Seccomp operation flags bytes)
+  pub replies : (((step one call).0 ≡ Refused enomem) × ((step other call).0 ≡ Done 0)) ⊎ (((step one call).0 ≡ Done 0) × ((step other call).0 ≡ Refused enomem))
+
+-- the replies are the same, up to such a call
+abbrev pub SameReplies : World → World → List Call → Type 0
+SameReplies one other [] = Unit {0}
+SameReplies one other (call ∷ calls) =
+    (((step one call).0 ≡ (step other call).0) × SameReplies (step one call).1 (step other call).1 calls) ⊎ IsFullInOne one other call
+
+abbrev pub AlikeReplies : Type 0
+AlikeReplies = (one other : List (List Insn)) (world : World) (calls : List Call) → AnswerAlike one other → world.calls.arch < 2 ^ 32 → AreCalls calls → SameReplies (above one world) (above other world) calls
+
+-- a living process asks to push a program above its own programs and those of the launch, and may
+pub record Pushes (programs : List (List Insn)) (world : World) (call : Call) (process : Process) (code : List Insn) : Type 0 where
+  pub lives : living_of world call.pid ≡ Some process
+  pub passes : decision_on (programs ++ process.stack) (data_of world call) ≡ decision.Pass
+  pub bytes : List ℕ
+  pub asks : asked_of world.calls.calls call ≡ Does (Seccomp 1 0 bytes)
+  pub may : (process.creds.no_new_privs || has process.creds.effective cap_sys_admin) ≡ true
+  pub read : program_of bytes ≡ Some code
+
+-- where its own programs alone have no room, there is none
+abbrev pub FullByOwn : Type 0
+FullByOwn = (programs : List (List Insn)) (world : World) (call : Call) (process : Process) (code : List Insn) → Pushes programs world call process code
+    → max_insns_per_path < room_of process.stack + length code → (step (above programs world) call).0 ≡ Refused enomem
+
+-- where there is room with the most that the programs of the launch may take, there is room
+abbrev pub RoomByBounds : Type 0
+RoomByBounds = (programs : List (List Insn)) (most : ℕ) (world : World) (call : Call) (process : Process) (code : List Insn) → Pushes programs world call process code
+    → room_of programs ≤ most → most + room_of process.stack + length code ≤ max_insns_per_path → (step (above programs world) call).0 ≡ Done 0
+
+-- the same said of the worlds: after each reply they differ in the programs of the launch alone, so what the service itself
+-- pushed is one list in both
+abbrev pub AlikeRun : List (List Insn) → List (List Insn) → World → List Call → Type 0
+AlikeRun one other base [] = Unit {0}
+AlikeRun one other base (call ∷ calls) =
+    ((reply : Reply) × (next : World) × (step (above one base) call ≡ (reply, above one next)) × (step (above other base) call ≡ (reply, above other next)) × AlikeRun one other next calls)
+    ⊎ IsFullInOne (above one base) (above other base) call
+
+abbrev pub AlikeRuns : Type 0
+AlikeRuns = (one other : List (List Insn)) (base : World) (calls : List Call) → AnswerAlike one other → base.calls.arch < 2 ^ 32 → AreCalls calls → AlikeRun one other base calls

@@ -1,0 +1,22 @@
+-- What a launch asks of settings: each rule set can be made a program, all programs have room in one stack (seccomp(2)), and
+-- the ids are none that stands for no id (setresuid(2)).
+use Rattle.std.specs.Prelude.{ℕ, ◌<◌, ◌≤◌}
+use Rattle.std.specs.List.{All}
+use Rattle.call_rules.specs.Sizes.{CanCompile}
+use Rattle.call_table.specs.Table.{Table}
+use Rattle.dropin_merge.specs.declared.resolved.Resolved.{Resolved}
+use Rattle.exec_settings.specs.AreSettings.{AreSettings}
+use Rattle.exec_settings.specs.declared.service.Settings.{Settings}
+use Rattle.filter_rules.specs.Costs.{most_room}
+use Rattle.linux_numbers.specs.Limits.{max_insns_per_path, no_id}
+use Rattle.site_table.specs.Table.{Site, IsSite}
+
+pub record CanBeLaunched (settings : Settings) : Type 0 where
+  pub can_be_compiled : All (λ one. CanCompile one.rules) settings.filters.items
+  pub fit_into_a_stack : most_room settings.filters.items ≤ max_insns_per_path
+  pub uid : settings.uid < no_id
+  pub gid : settings.gid < no_id
+
+-- each answer of `settings` can be launched
+abbrev pub SettingsCanBeLaunched : Type 0
+SettingsCanBeLaunched = (unit : Resolved) (table : Table) (site : Site) (made : Settings) → IsSite site → AreSettings unit table site made → CanBeLaunched made

@@ -1,0 +1,63 @@
+-- What the steps of a launch come to, as its parts say it.
+use Rattle.std.specs.Prelude.{◌≡◌, ⊤, ℕ, ◌+◌, ◌≤◌, List, [], ◌∷◌, ◌++◌, length, Option, Some, None, Result, Ok, Err}
+use Rattle.kern_mounts.specs.declared.step.MountStep.{MountStep}
+use Rattle.kern_mounts.specs.Split.{Table}
+use Rattle.kernel_model.specs.declared.process.Process.{Process}
+use Rattle.kernel_model.specs.declared.reply.Reply.{Reply}
+use Rattle.kernel_model.specs.declared.reply.Reply.TheVariants.{Refused, Killed}
+use Rattle.kernel_model.specs.MountStep.{after_mount_step}
+use Rattle.kernel_model.specs.Runs.{IsDone}
+use Rattle.kernel_model.specs.World.{World, living_of, table_of, start_world}
+use Rattle.linux_numbers.specs.Limits.{mount_max}
+use Rattle.launcher.specs.declared.error.LaunchError.{LaunchError}
+use Rattle.launcher.specs.declared.error.LaunchError.TheVariants as error
+use Rattle.launcher.specs.Launch.{LaunchStep, Ending, Launched, StepRefused, StepKilled, launch_step, launch_from}
+
+-- the answer says how the launch ends, and the world is the launched one
+abbrev pub Ends : Ending → Result ℕ LaunchError → World → Type 0
+Ends ending (Ok count) after = ending ≡ Launched after count
+Ends ending (Err (error.Refused step errno)) after = ending ≡ StepRefused step errno
+Ends ending (Err (error.Killed step)) after = ending ≡ StepKilled step
+Ends ending (Err (error.PrivilegedProgram path)) after = ⊥
+Ends ending (Err error.Memory) after = ⊤
+
+-- the answer to a step of this number
+abbrev pub StepsTo : World → LaunchStep → ℕ → Result (Unit {0}) LaunchError → World → Type 0
+StepsTo world step number (Ok done) after = IsDone (launch_step world step).0 × (after ≡ (launch_step world step).1)
+StepsTo world step number (Err (error.Refused at errno)) after = (at ≡ number) × ((launch_step world step).0 ≡ Refused errno)
+StepsTo world step number (Err (error.Killed at)) after = (at ≡ number) × ((launch_step world step).0 ≡ Killed)
+StepsTo world step number (Err (error.PrivilegedProgram path)) after = ⊥
+StepsTo world step number (Err error.Memory) after = ⊤
+
+-- the answer to a reply at this step
+abbrev pub RepliesTo : Reply → ℕ → Result (Unit {0}) LaunchError → Type 0
+RepliesTo reply number (Ok done) = IsDone reply
+RepliesTo reply number (Err (error.Refused at errno)) = (at ≡ number) × (reply ≡ Refused errno)
+RepliesTo reply number (Err (error.Killed at)) = (at ≡ number) × (reply ≡ Killed)
+RepliesTo reply number (Err (error.PrivilegedProgram path)) = ⊥
+RepliesTo reply number (Err error.Memory) = ⊥
+
+-- whatever steps follow these, the launch goes on with them in this world, or has ended before them
+abbrev pub Begins : World → List LaunchStep → Result ℕ LaunchError → World → Type 0
+Begins world first (Ok count) after = (rest : List LaunchStep) → launch_from world (first ++ rest) 0 ≡ launch_from after rest count
+Begins world first (Err (error.Refused step errno)) after = (rest : List LaunchStep) → launch_from world (first ++ rest) 0 ≡ StepRefused step errno
+Begins world first (Err (error.Killed step)) after = (rest : List LaunchStep) → launch_from world (first ++ rest) 0 ≡ StepKilled step
+Begins world first (Err (error.PrivilegedProgram path)) after = ⊥
+Begins world first (Err error.Memory) after = ⊤
+
+-- a world as its kernel starts it
+abbrev pub IsStart : World → Type 0
+IsStart world = world ≡ start_world world.calls world.site
+
+-- the world with these entries in the table of process 1, in their order
+abbrev pub with_mounts : World → List MountStep → World
+with_mounts world [] = world
+with_mounts world (entry ∷ entries) = with_mounts (after_mount_step world 1 entry) entries
+
+abbrev pub HasRoomBy : World → ℕ → Option Process → Type 0
+HasRoomBy world count None = ⊥
+HasRoomBy world count (Some process) = length (table_of world process.namespace) + count ≤ mount_max
+
+-- process 1 lives, and its table has room for so many entries
+abbrev pub HasRoomFor : ℕ → World → Type 0
+HasRoomFor count world = HasRoomBy world count (living_of world 1)

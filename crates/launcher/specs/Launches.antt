@@ -1,0 +1,71 @@
+-- What a launch that ends well leaves.
+use Rattle.std.specs.Prelude.{◌≡◌, ℕ, ◌<◌, codes, true, false, List, [], ◌∷◌, length, Some}
+use Rattle.abs_path.specs.Paths.{Path}
+use Rattle.bpf_code.specs.declared.machine.Insn.{Insn}
+use Rattle.bpf_code.specs.ProgramOf.{program_of}
+use Rattle.call_names.specs.declared.rule.CallRule.TheVariants.{Unshare, Setgroups, Setresgid, Prctl, Capset, Setresuid, Seccomp, Execve}
+use Rattle.call_table.specs.declared.listed.CallLine.{CallLine}
+use Rattle.call_table.specs.Facts.{IsWhole}
+use Rattle.call_table.specs.Table as calls
+use Rattle.cap_sets.specs.Sets.{IsWithin}
+use Rattle.kern_creds.specs.declared.creds.Creds.{Creds}
+use Rattle.kern_mounts.specs.Launch.{CanBeMounted}
+use Rattle.kern_mounts.specs.Split.{Table}
+use Rattle.kernel_calls.specs.declared.rule.Rule.TheVariants.{Known}
+use Rattle.kernel_calls.specs.Rules.{rule_at}
+use Rattle.kernel_laws.specs.Launched.{launch_of}
+use Rattle.kernel_model.specs.World.{World, of_number}
+use Rattle.linux_numbers.specs.Limits.{no_id}
+use Rattle.mount_plan.specs.Host.{host_of}
+use Rattle.site_table.specs.Table.{Site}
+use Rattle.launcher.specs.Launch.{Wanted, Launched, number_of, launch, launch_steps}
+
+-- the number of the name follows the rule of the name
+pub record HasLaunchCalls (lines : List CallLine) : Type 0 where
+  pub unshare : rule_at lines (number_of lines (codes "unshare")) ≡ Some (Known Unshare)
+  pub setgroups : rule_at lines (number_of lines (codes "setgroups")) ≡ Some (Known Setgroups)
+  pub setresgid : rule_at lines (number_of lines (codes "setresgid")) ≡ Some (Known Setresgid)
+  pub prctl : rule_at lines (number_of lines (codes "prctl")) ≡ Some (Known Prctl)
+  pub capset : rule_at lines (number_of lines (codes "capset")) ≡ Some (Known Capset)
+  pub setresuid : rule_at lines (number_of lines (codes "setresuid")) ≡ Some (Known Setresuid)
+  pub seccomp : rule_at lines (number_of lines (codes "seccomp")) ≡ Some (Known Seccomp)
+  pub execve : rule_at lines (number_of lines (codes "execve")) ≡ Some (Known Execve)
+
+-- the codes are those of the bytes, one by one
+abbrev pub AreRead : List (List ℕ) → List (List Insn) → Type 0
+AreRead [] [] = Unit {0}
+AreRead (bytes ∷ programs) (code ∷ stack) = (program_of bytes ≡ Some code) × AreRead programs stack
+AreRead programs stack = ⊥
+
+-- what the launched program has (credentials(7), capabilities(7)): the three uids are one, and the three gids; all that is
+-- permitted is effective; the ambient set is within the inheritable and the permitted one, and the inheritable one within the
+-- bounding and the effective one; the superuser has all that is not taken from the bounding set
+pub record IsLaunchedCreds (creds : Creds) : Type 0 where
+  pub real : creds.uids.real ≡ creds.uids.effective
+  pub saved : creds.uids.saved ≡ creds.uids.effective
+  pub real_gid : creds.gids.real ≡ creds.gids.effective
+  pub saved_gid : creds.gids.saved ≡ creds.gids.effective
+  pub full : creds.effective ≡ creds.permitted
+  pub ambient_inheritable : IsWithin creds.ambient creds.inheritable
+  pub ambient_permitted : IsWithin creds.ambient creds.permitted
+  pub inheritable_bounding : IsWithin creds.inheritable creds.bounding
+  pub inheritable_effective : IsWithin creds.inheritable creds.effective
+  pub root : creds.uids.effective ≡ 0 → IsWithin creds.bounding creds.effective
+
+-- what a launch that ends well leaves: one process, which lives alone in a namespace of its own, with the programs in their
+-- order and the plan as its table
+pub record Leaves (table : calls.Table) (site : Site) (wanted : Wanted) (plan : Table) (last : World) : Type 0 where
+  pub creds : Creds
+  pub stack : List (List Insn)
+  pub namespace : ℕ
+  pub is : launch_of last ≡ record { calls = table; site = site; creds = creds; stack = stack; table = plan }
+  pub alone : last.processes ≡ record { creds = creds; stack = stack; namespace = namespace; alive = true } ∷ []
+  pub own : of_number last.tables namespace ≡ Some plan
+  pub as_launched : IsLaunchedCreds creds
+  pub read : AreRead wanted.programs stack
+
+-- a launch that ends well makes every step, and leaves this
+abbrev pub LaunchLeaves : Type 0
+LaunchLeaves = (table : calls.Table) (site : Site) (wanted : Wanted) (plan : Table) (last : World) (steps : ℕ)
+    → IsWhole table → CanBeMounted (host_of site) plan → wanted.uid < no_id
+    → launch table site wanted plan ≡ Launched last steps → Leaves table site wanted plan last × (steps ≡ length (launch_steps table.calls wanted plan))

@@ -1,0 +1,35 @@
+-- How a launch ends does not rest on which programs the filters are.
+use Rattle.std.specs.Prelude.{◌≡◌, ℕ, ◌<◌, ◌≤◌, ◌^◌, List}
+use Rattle.bpf_code.specs.declared.machine.Insn.{Insn}
+use Rattle.bpf_code.specs.Stack.{room_of}
+use Rattle.call_table.specs.Facts.{IsWhole}
+use Rattle.call_table.specs.Table as calls
+use Rattle.kern_mounts.specs.Launch.{CanBeMounted}
+use Rattle.kern_mounts.specs.Split.{Table}
+use Rattle.kernel_model.specs.World.{World}
+use Rattle.linux_numbers.specs.Limits.{max_insns_per_path, no_id}
+use Rattle.mount_plan.specs.Host.{host_of}
+use Rattle.site_table.specs.Table.{Site}
+use Rattle.launcher.specs.Alike.{AnswerAlike, above}
+use Rattle.launcher.specs.Launch.{Wanted, Ending, Launched, StepRefused, StepKilled, PrivilegedProgram, launch}
+use Rattle.launcher.specs.Launches.{AreRead}
+
+-- both launch after as many steps, and the worlds differ in the programs alone; or both are refused alike
+abbrev pub EndAlike : List (List Insn) → List (List Insn) → Ending → Ending → Type 0
+EndAlike one other (Launched world count) (Launched world' count') = (count ≡ count') × (base : World) × (world ≡ above one base) × (world' ≡ above other base)
+EndAlike one other (StepRefused count errno) (StepRefused count' errno') = (count ≡ count') × (errno ≡ errno')
+EndAlike one other (StepKilled count) (StepKilled count') = count ≡ count'
+EndAlike one other (PrivilegedProgram path) (PrivilegedProgram path') = path ≡ path'
+EndAlike one other _ _ = ⊥
+
+-- the codes are those of the bytes, and all of them have room in one stack
+pub record AreInstalled (programs : List (List ℕ)) (stack : List (List Insn)) : Type 0 where
+  pub read : AreRead programs stack
+  pub room : room_of stack ≤ max_insns_per_path
+
+-- launches by programs that answer alike end alike
+abbrev pub LaunchesAlike : Type 0
+LaunchesAlike = (table : calls.Table) (site : Site) (wanted : Wanted) (plan : Table) (programs : List (List ℕ)) (one other : List (List Insn))
+    → IsWhole table → table.arch < 2 ^ 32 → CanBeMounted (host_of site) plan → wanted.uid < no_id
+    → AreInstalled wanted.programs one → AreInstalled programs other → AnswerAlike one other
+    → EndAlike one other (launch table site wanted plan) (launch table site (record wanted { programs = programs }) plan)

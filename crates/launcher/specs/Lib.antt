@@ -1,0 +1,9 @@
+pub mod Launch
+pub mod Launches
+pub mod LaunchedWorlds
+pub mod Alike
+pub mod LaunchesAlike
+pub mod Matching
+pub mod Conditions
+pub mod Ends
+pub mod Answers

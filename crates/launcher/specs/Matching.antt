@@ -1,0 +1,34 @@
+-- Programs that match the filters of settings, one for each.
+use Rattle.std.specs.Prelude.{◌≡◌, ◌≤◌, List, [], ◌∷◌, length}
+use Rattle.std.specs.List.{AllByRecursion}
+use Rattle.bpf_code.specs.declared.machine.Insn.{Insn}
+use Rattle.bpf_code.specs.declared.machine.CallData.{CallData}
+use Rattle.bpf_code.specs.Meaning.{Answers, IsCallData}
+use Rattle.bpf_code.specs.Stack.{room_of}
+use Rattle.call_rules.specs.Action.{case_action, word_of}
+use Rattle.call_rules.specs.Sizes.{most_insns}
+use Rattle.call_table.specs.Table as calls
+use Rattle.exec_settings.specs.AreSettings.{HasWantedRules}
+use Rattle.filter_rules.specs.Costs.{most_room}
+use Rattle.filter_rules.specs.declared.installed.Filter.{Filter}
+use Rattle.filter_rules.specs.declared.settings.FilterSettings.{FilterSettings}
+use Rattle.kernel_laws.specs.FirstChoice.{Means}
+use Rattle.launcher.specs.Alike.{AnswerAlike}
+
+-- the program decides every call as the rules of the filter, and is not longer than one of them may be
+pub record IsMatch (one : Filter) (code : List Insn) : Type 0 where
+  pub decides : (input : CallData) → IsCallData input → Answers code input (word_of (case_action one.rules input))
+  pub short : length code ≤ most_insns one.rules
+
+-- one program for each filter, in their order
+abbrev pub AreMatching : List Filter → List (List Insn) → Type 0
+AreMatching [] [] = Unit {0}
+AreMatching (one ∷ filters) (code ∷ stack) = IsMatch one code × AreMatching filters stack
+AreMatching filters stack = ⊥
+
+-- what matches means what the settings say, takes no more room than it may, and all lists that match answer alike
+pub record MatchingLaws : Type 0 where
+  pub means : (settings : FilterSettings) (table : calls.Table) (filters : List Filter) (stack : List (List Insn))
+      → AllByRecursion (HasWantedRules settings table) filters → AreMatching filters stack → AllByRecursion (Means settings table) stack
+  pub room : (filters : List Filter) (stack : List (List Insn)) → AreMatching filters stack → room_of stack ≤ most_room filters
+  pub alike : (filters : List Filter) (one other : List (List Insn)) → AreMatching filters one → AreMatching filters other → AnswerAlike one other

@@ -1,0 +1,103 @@
+//! The calls of a launch: process 1 makes them, with the numbers of a table, and contracts see them as steps.
+
+ghost use Rattle.std.specs.Prelude.{◌≡◌, ◌∷◌, [], ◌++◌, map, IfOk, OnOk};
+ghost use Rattle.kernel_laws.specs.Questions.{if_so};
+ghost use Rattle.launcher.specs.Launch.{Makes, number_of, first_call, makes, capset_step, prctl_step};
+
+use call_table::CallTable;
+use cap_sets::CapSet;
+use kernel_calls::{Call, Payload};
+use std::alloc::{AllocError, Global};
+use std::marker::Model;
+
+// The number that the table has for a name.
+fn number_of(table: &CallTable, name: &str) -> u32
+    ensures { result ≡ number_of table.now.calls name.now }
+{
+    table.number(name).unwrap_or(0)
+}
+
+/// A call of process 1 by its name with three words; the others are 0.
+pub fn first_call(
+    table: &CallTable,
+    name: &str,
+    one: u64,
+    two: u64,
+    three: u64,
+    payload: Payload,
+) -> Call
+    ensures { result ≡ first_call table.now.calls name.now (one ∷ two ∷ three ∷ 0 ∷ 0 ∷ 0 ∷ []) payload }
+{
+    Call {
+        pid: 1,
+        nr: number_of(table, name),
+        args: [one, two, three, 0, 0, 0],
+        payload,
+    }
+}
+
+/// The call of prctl(2) of this option.
+pub fn prctl(table: &CallTable, option: u64, value: u64, third: u64) -> Call
+    ensures { Makes result ≡ prctl_step table.now.calls option value third }
+{
+    first_call(table, "prctl", option, value, third, Payload::Nothing)
+}
+
+/// The call of capset(2) of these sets.
+pub fn capset(table: &CallTable, permitted: CapSet, effective: CapSet, inheritable: CapSet) -> Call
+    ensures { Makes result ≡ capset_step table.now.calls permitted effective inheritable }
+{
+    let sets = Payload::Sets(permitted, effective, inheritable);
+    first_call(table, "capset", 0, 0, 0, sets)
+}
+
+/// Calls of a launch in their order.
+#[derive(Drop)]
+pub struct CallSteps {
+    calls: Vec<Call>,
+}
+
+impl Model for CallSteps {
+    ghost use Rattle.std.specs.Prelude.{List, map};
+    ghost use Rattle.launcher.specs.Launch.{LaunchStep, Makes};
+
+    ghost Value = { List LaunchStep };
+
+    ghost view = { λ steps. map Makes steps.calls.items };
+}
+
+impl CallSteps {
+    /// No calls.
+    pub fn new(alloc: Global) -> CallSteps
+        ensures { result ≡ [] }
+    {
+        CallSteps {
+            calls: Vec::new(alloc),
+        }
+    }
+
+    /// Puts a call behind the others.
+    pub fn push(&mut self, call: Call) -> Result<(), AllocError>
+        ensures { OnOk result (self.new ≡ self.old ++ Makes call ∷ []) }
+    {
+        self.calls.push(call)?;
+        Ok(())
+    }
+
+    /// Puts a call behind the others, where it is wanted.
+    pub fn push_if(&mut self, wanted: bool, call: Call) -> Result<(), AllocError>
+        ensures { OnOk result (self.new ≡ self.old ++ if_so wanted (Makes call)) }
+    {
+        if wanted {
+            self.push(call)?;
+        }
+        Ok(())
+    }
+
+    /// The calls in their order.
+    pub fn list(&self) -> &[Call]
+        ensures { map Makes result.now ≡ self.now }
+    {
+        &self.calls
+    }
+}

@@ -1,0 +1,73 @@
+//! The programs of filters, which contracts see as a list.
+
+ghost use Rattle.std.specs.Prelude.{◌≡◌, IfOk};
+ghost use Rattle.std.specs.List.{All};
+ghost use Rattle.call_rules.specs.Sizes.{CanCompile};
+ghost use Rattle.launcher.specs.Answers.{AreProgramsOf, IsProgramOf};
+
+use bpf_code::Program;
+use filter_rules::{Filter, FilterName};
+use seccomp_compile::compile;
+use std::alloc::{AllocError, Global};
+use std::marker::Model;
+
+/// A filter and its program.
+#[derive(Drop)]
+pub struct FilterProgram {
+    pub name: FilterName,
+    pub program: Program,
+}
+
+/// The programs of a service, in the order in which they are installed.
+#[derive(Drop)]
+pub struct FilterPrograms {
+    items: Vec<FilterProgram>,
+}
+
+impl Model for FilterPrograms {
+    ghost use Rattle.std.specs.Prelude.{List};
+    ghost use Rattle.launcher.specs.declared.filters.FilterProgram.{FilterProgram};
+
+    ghost Value = { List FilterProgram };
+
+    ghost view = { λ programs. programs.items.items };
+}
+
+impl FilterPrograms {
+    // These programs.
+    fn new(items: Vec<FilterProgram>) -> FilterPrograms
+        ensures { result ≡ items.items }
+    {
+        FilterPrograms { items }
+    }
+
+    /// The programs in their order.
+    pub fn list(&self) -> &[FilterProgram]
+        ensures lends_the_programs { result.now ≡ self.now }
+    {
+        &self.items
+    }
+}
+
+// The program of a filter.
+fn compile_one(alloc: Global, filter: &Filter) -> Result<FilterProgram, AllocError>
+    requires { CanCompile filter.now.rules }
+    ensures { IfOk result (IsProgramOf filter.now) }
+{
+    Ok(FilterProgram {
+        name: filter.name,
+        program: compile(alloc, &filter.rules)?,
+    })
+}
+
+/// The programs of these filters, one for each, which match them.
+pub fn compile_all(alloc: Global, filters: &[Filter]) -> Result<FilterPrograms, AllocError>
+    requires can_be_compiled { All (λ one. CanCompile one.rules) filters.now }
+    ensures { IfOk result (AreProgramsOf filters.now) }
+{
+    let mut made = Vec::new(alloc);
+    'filters: for filter in filters {
+        made.push(compile_one(alloc, filter)?)?;
+    }
+    Ok(FilterPrograms::new(made))
+}

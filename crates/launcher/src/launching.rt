@@ -1,0 +1,95 @@
+//! The launch of a service.
+
+ghost use Rattle.std.specs.Prelude.{◌≡◌, ◌+◌, ◌<◌, ◌≤◌, ◌^◌, ◌++◌, length, IfOk};
+ghost use Rattle.call_table.specs.Facts.{IsWhole};
+ghost use Rattle.kern_mounts.specs.Launch.{CanBeMounted};
+ghost use Rattle.mount_plan.specs.Host.{host_of};
+ghost use Rattle.dropin_merge.specs.declared.resolved.Resolved.{Resolved};
+ghost use Rattle.exec_settings.specs.AreSettings.{AreSettings};
+ghost use Rattle.kernel_laws.specs.Launched.{IsLaunchedWorld};
+ghost use Rattle.launcher.specs.Answers.{EndsAs, LeavesService};
+ghost use Rattle.launcher.specs.Conditions.{CanBeLaunched};
+ghost use Rattle.launcher.specs.Ends.{Ends, IsStart};
+ghost use Rattle.launcher.specs.Launch.{launch_from, mount_steps, with_unshare};
+
+use crate::calls::CallSteps;
+use crate::error::LaunchError;
+use crate::filters::compile_all;
+use crate::launched::Launched;
+use crate::mounting::mount_plan;
+use crate::privileged::is_privileged;
+use crate::running::make_calls;
+use crate::steps::call_steps;
+use call_table::CallTable;
+use exec_settings::Settings;
+use kern_mounts::MountStep;
+use kernel_model::World;
+use site_table::SiteTable;
+use std::alloc::Global;
+
+// The facts of every table, which its lists are lent with.
+fn look_at(table: &CallTable)
+    ensures whole { IsWhole table.now }
+    ensures arch { table.now.arch < 2 ^ 32 }
+{
+    let _arch = table.arch();
+    let _calls = table.calls();
+    let _families = table.families();
+    let _groups = table.groups();
+}
+
+// Makes the steps of a launch in the world that a kernel starts with, and counts them.
+fn make_steps(
+    alloc: Global,
+    world: &mut World,
+    plan: &[MountStep],
+    calls: &CallSteps,
+) -> Result<u32, LaunchError>
+    requires starts { IsStart world.old }
+    requires has_the_calls { IsWhole world.old.calls }
+    requires few_mounts { length plan.now ≤ 161 }
+    requires few_calls { length calls.now ≤ 40000 }
+    ensures { Ends (launch_from world.old (with_unshare world.old.calls.calls (mount_steps plan.now) ++ calls.now) 0) result world.new }
+{
+    let mounted = mount_plan(alloc, world, plan)?;
+    make_calls(alloc, world, calls.list(), mounted)
+}
+
+/// Starts a service in the modelled kernel, step by step: with its mounts in a namespace of their own, then its groups, its
+/// uids and its capabilities, no_new_privs, its filters as programs, and its program (systemd.exec(5)).
+///
+/// Each call goes by the kernel's step, with the table's number. PrivilegedProgram comes before all steps, exactly where the
+/// program finds an executable file with a set-id bit or capabilities on the plan. Refused and Killed come exactly where a
+/// step is the first that is not done, whatever programs match the filters. Memory may come at any settings.
+pub fn launch<'a>(
+    alloc: Global,
+    settings: &Settings,
+    plan: &[MountStep],
+    calls: &'a CallTable,
+    site: &'a SiteTable,
+) -> Result<Launched<'a>, LaunchError>
+    // Each answer of `plan` on short mentions can be mounted, and each answer of `settings` can be launched.
+    requires plan { CanBeMounted (host_of site.now) plan.now }
+    requires settings { CanBeLaunched settings.now }
+    ensures ends_as_its_steps_do { EndsAs calls.now site.now settings.now plan.now result }
+    ensures leaves_one_process { IfOk result (LeavesService calls.now site.now settings.now plan.now) }
+
+    // What a judgement of the service stands on, where the settings are those of a unit.
+    ensures is_a_launched_world { (unit : Resolved) → AreSettings unit calls.now site.now settings.now
+        → IfOk result (λ launched. IsLaunchedWorld launched.world) }
+{
+    look_at(calls);
+    if is_privileged(plan, site, &settings.program) {
+        return Err(LaunchError::PrivilegedProgram(settings.program.copy(alloc)?));
+    }
+    let filters = compile_all(alloc, &settings.filters)?;
+    let list = call_steps(alloc, calls, settings, &filters)?;
+    let mut world = World::start(alloc, calls, site)?;
+    let steps = make_steps(alloc, &mut world, plan, &list)?;
+    Ok(Launched {
+        world,
+        program: settings.program.copy(alloc)?,
+        filters,
+        steps,
+    })
+}

@@ -1,0 +1,109 @@
+//! Whether a program has a set-id bit or capabilities, by what its path finds on a plan (execve(2), capabilities(7)).
+
+ghost use Rattle.std.specs.Prelude.{◌≡◌, ◌++◌, option_map, option_copied, true, if◌then◌else◌};
+ghost use Rattle.abs_path.specs.Paths.{parts_of};
+ghost use Rattle.abs_path.specs.Prefix.{IsRest, is_prefix, rest_of};
+ghost use Rattle.site_table.specs.Table.{row_at};
+ghost use Rattle.kern_files.specs.Executing.{marks_of};
+ghost use Rattle.kern_creds.specs.Exec.{is_privileged};
+ghost use Rattle.kern_mounts.specs.Entry.{entry_of, leads_to};
+ghost use Rattle.kern_mounts.specs.Finds.{row, found_by, finds, row_or_nothing};
+ghost use Rattle.launcher.specs.Launch.{is_privileged_row};
+
+use abs_path::AbsPath;
+use cap_sets::CapSet;
+use kern_mounts::{MountStep, What};
+use site_table::{Row, RowKind, SiteTable};
+
+// Whether the row is an executable file with a set-id bit or capabilities.
+fn is_marked(file: &Row) -> bool
+    ensures { result ≡ is_privileged_row (row file.now) }
+{
+    let is_set_id = file.setuid.is_some() || file.setgid.is_some();
+    matches!(file.kind, RowKind::Exe) && (is_set_id || file.caps != CapSet::empty())
+}
+
+// Whether the row, if there is one, is such a file.
+fn is_some_marked(file: Option<&Row>) -> bool
+    ensures { result ≡ is_privileged_row (row_or_nothing (option_map (λ row. row.now) file.entry)) }
+{
+    match file {
+        None => false,
+        Some(file) => is_marked(file),
+    }
+}
+
+// The row at the front with the rest behind it.
+fn row_behind<'a>(site: &'a SiteTable, front: &AbsPath, rest: &str) -> Option<&'a Row>
+    requires { IsRest rest.now }
+    ensures { option_map (λ row. row.now) result ≡ row_at site.now.rows (front.now ++ parts_of rest.now) }
+{
+    match site.find(front, rest) {
+        None => None,
+        Some(at) => Some(site.row(at)),
+    }
+}
+
+// The row at the source with what the path has behind the place.
+fn row_through<'a>(
+    site: &'a SiteTable,
+    source: &AbsPath,
+    place: &AbsPath,
+    path: &AbsPath,
+) -> Option<&'a Row>
+    requires { is_prefix place.now path.now ≡ true }
+    ensures { option_map (λ row. row.now) result ≡ row_at site.now.rows (source.now ++ rest_of place.now path.now) }
+{
+    match place.rest(path) {
+        None => None,
+        Some(rest) => row_behind(site, source, rest),
+    }
+}
+
+// The entry, where its place leads to the path, or else the one that was found before.
+fn nearer<'p>(
+    found: Option<&'p MountStep>,
+    entry: &'p MountStep,
+    path: &AbsPath,
+) -> Option<&'p MountStep>
+    ensures { option_copied result ≡ (if leads_to path.now entry.now then Some entry.now else option_copied found.entry) }
+{
+    if entry.place.is_prefix(path) {
+        Some(entry)
+    } else {
+        found
+    }
+}
+
+// The entry that the path belongs to: the last whose place leads to it.
+fn entry_of<'p>(plan: &'p [MountStep], path: &AbsPath) -> Option<&'p MountStep>
+    ensures { option_copied result ≡ entry_of plan.now path.now }
+{
+    let mut found = None;
+    for entry in plan {
+        found = nearer(found, entry, path);
+    }
+    found
+}
+
+// Whether what the entry shows at a path that its place leads to is such a file.
+fn shows_marked(site: &SiteTable, entry: &MountStep, path: &AbsPath) -> bool
+    requires { is_prefix entry.now.place path.now ≡ true }
+    ensures { result ≡ is_privileged_row (found_by (row_at site.now.rows) entry.now.what entry.now.place path.now) }
+{
+    match &entry.what {
+        What::Host(source) => is_some_marked(row_through(site, source, &entry.place, path)),
+        What::Empty => false,
+        What::Hidden(_) => false,
+    }
+}
+
+/// Whether the program finds an executable file with a set-id bit or capabilities on the plan.
+pub fn is_privileged(plan: &[MountStep], site: &SiteTable, program: &AbsPath) -> bool
+    ensures { result ≡ is_privileged_row (finds (row_at site.now.rows) plan.now program.now) }
+{
+    match entry_of(plan, program) {
+        None => false,
+        Some(entry) => shows_marked(site, entry, program),
+    }
+}

@@ -1,0 +1,52 @@
+//! Calls of a launch, made in turn up to the first that is not done.
+
+ghost use Rattle.std.specs.Prelude.{◌≡◌, ◌+◌, ◌<◌, ◌^◌, map, length};
+ghost use Rattle.launcher.specs.Ends.{Ends, StepsTo, RepliesTo};
+ghost use Rattle.launcher.specs.Launch.{Makes, launch_from};
+
+use crate::error::LaunchError;
+use kernel_calls::Call;
+use kernel_model::{Reply, World};
+use std::alloc::Global;
+
+// What a reply says of the step of this number.
+fn done(reply: Reply, step: u32) -> Result<(), LaunchError>
+    ensures { RepliesTo reply step result }
+{
+    match reply {
+        Reply::Done(_) => return Ok(()),
+        Reply::Refused(errno) => return Err(LaunchError::Refused { step, errno }),
+        Reply::Killed => return Err(LaunchError::Killed { step }),
+    }
+}
+
+/// Makes a call, which is the step of this number.
+pub fn make_call(
+    alloc: Global,
+    world: &mut World,
+    call: &Call,
+    step: u32,
+) -> Result<(), LaunchError>
+    ensures { StepsTo world.old (Makes call.now) step result world.new }
+{
+    let reply = world.step(alloc, call)?;
+    done(reply, step)
+}
+
+/// Makes the calls in turn, after so many steps, and counts the steps.
+pub fn make_calls(
+    alloc: Global,
+    world: &mut World,
+    calls: &[Call],
+    before: u32,
+) -> Result<u32, LaunchError>
+    requires few { before + length calls.now < 2 ^ 32 }
+    ensures { Ends (launch_from world.old (map Makes calls.now) before) result world.new }
+{
+    let mut steps = before;
+    for call in calls {
+        steps += 1;
+        make_call(alloc, world, call, steps)?;
+    }
+    Ok(steps)
+}

@@ -1,0 +1,48 @@
+//! All calls of a launch in their order: what the service is made, its filters, and its program.
+
+ghost use Rattle.std.specs.Prelude.{◌≡◌, ◌++◌, IfOk, OnOk};
+ghost use Rattle.launcher.specs.Answers.{given_bytes, wanted_of};
+ghost use Rattle.launcher.specs.Launch.{call_steps, filter_steps};
+
+use crate::calls::{CallSteps, first_call};
+use crate::filters::{FilterProgram, FilterPrograms};
+use crate::identity::identity_steps;
+use call_table::CallTable;
+use exec_settings::Settings;
+use kernel_calls::{Bytes, Payload};
+use std::alloc::{AllocError, Global};
+
+/// SECCOMP_SET_MODE_FILTER, seccomp(2).
+const SET_MODE_FILTER: u64 = 1;
+
+// Each program is installed, in their order.
+fn filter_steps(
+    alloc: Global,
+    steps: &mut CallSteps,
+    table: &CallTable,
+    filters: &[FilterProgram],
+) -> Result<(), AllocError>
+    ensures { OnOk result (steps.new ≡ steps.old ++ filter_steps table.now.calls (given_bytes filters.now)) }
+{
+    for filter in filters {
+        let code = Payload::Code(Bytes::new(filter.program.bytes(alloc)?));
+        steps.push(first_call(table, "seccomp", SET_MODE_FILTER, 0, 0, code))?;
+    }
+    Ok(())
+}
+
+/// The calls of a launch by these programs.
+pub fn call_steps(
+    alloc: Global,
+    table: &CallTable,
+    settings: &Settings,
+    filters: &FilterPrograms,
+) -> Result<CallSteps, AllocError>
+    ensures { IfOk result (λ steps. steps ≡ call_steps table.now.calls (wanted_of settings.now (given_bytes filters.now))) }
+{
+    let mut steps = identity_steps(alloc, table, settings)?;
+    filter_steps(alloc, &mut steps, table, filters.list())?;
+    let program = Payload::OnePath(settings.program.copy(alloc)?);
+    steps.push(first_call(table, "execve", 0, 0, 0, program))?;
+    Ok(steps)
+}
