@@ -3,14 +3,15 @@ ghost use Rattle.filter_rules.specs.Known.{HasKnownFamilies};
 
 use crate::described;
 use crate::inputs::Inputs;
-use bpf_code::CallData;
-use call_rules::action;
+use bpf_code::{CallData, run};
+use call_rules::{RuleSet, action};
 use call_table::CallTable;
 use filter_rules::{
     CallList, Filter, FilterSettings, Mention, allows_call, filters, permits_family,
 };
 use filter_settings::filter_settings;
 use row_text::{said, yes_or_no};
+use seccomp_compile::{can_compile, compile};
 use std::alloc::{AllocError, Global};
 use text_forms::read_u64;
 use unit_grammar::Text;
@@ -60,6 +61,9 @@ fn of_filters(
 ) -> Result<String, AllocError> {
     match words {
         ["names"] => names(alloc, filters),
+        ["decide", filter, call, args @ ..] => {
+            decided(alloc, filters, filter, &call_of(table, call, args))
+        }
         [filter, call, args @ ..] => done(alloc, filters, filter, &call_of(table, call, args)),
         _ => said(alloc, "no row"),
     }
@@ -113,5 +117,28 @@ fn done(
     match filters.iter().find(|filter| filter.name.text() == name) {
         Some(filter) => described::action(alloc, action(&filter.rules, call)),
         None => said(alloc, "off"),
+    }
+}
+
+// What the program of the filter of a name answers to a call.
+fn decided(
+    alloc: Global,
+    filters: &[Filter],
+    name: &str,
+    call: &CallData,
+) -> Result<String, AllocError> {
+    match filters.iter().find(|filter| filter.name.text() == name) {
+        Some(filter) => answered(alloc, &filter.rules, call),
+        None => said(alloc, "off"),
+    }
+}
+
+// What the program of these rules answers to a call, in hex.
+fn answered(alloc: Global, rules: &RuleSet, call: &CallData) -> Result<String, AllocError> {
+    if can_compile(rules) {
+        let program = compile(alloc, rules)?;
+        format!(in alloc; "{:08x}", run(&program, call))
+    } else {
+        said(alloc, "cannot be compiled")
     }
 }
