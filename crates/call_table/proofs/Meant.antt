@@ -9,14 +9,14 @@ use Rattle.call_table.specs.declared.causes.CallsCause.{CallsCause}
 use Rattle.call_table.specs.declared.causes.CallsError.{CallsError}
 use Rattle.call_table.specs.declared.causes.CallsError.TheVariants.{NotText}
 use Rattle.call_table.specs.Before.{with_before}
-use Rattle.call_table.specs.Lines.{Line, lines_of}
+use Rattle.line_text.specs.Lines.{Line, is_text, lines_of}
 use Rattle.call_table.specs.Kinds.{Kind, abi, call, family, group, malformed}
 use Rattle.call_table.specs.Numbers.{arch_of}
 use Rattle.call_table.specs.Lookups.{has_name}
 use Rattle.call_table.specs.Members.{members_of}
 use Rattle.call_table.specs.Faults.{cause_of}
 use Rattle.call_table.specs.Table.{Table}
-use Rattle.call_table.specs.Reading.{line_kind, group_of, calls_of, with_group, groups_behind, table_behind, at_line, fault_at, fault_of, launch_calls, lacks, missing_call, unless_missing, unless_fault, with_arch, abi_digits, with_abi, table_of_lines, is_text, table_of}
+use Rattle.call_table.specs.Reading.{line_kind, group_of, calls_of, with_group, groups_behind, table_behind, at_line, fault_at, fault_of, launch_calls, lacks, missing_call, unless_missing, unless_fault, with_arch, abi_digits, with_abi, table_of_lines, table_of}
 use Rattle.call_table.specs.Meaning.{ReadsGroups, no_line, other_line, group_line, ReadsTable}
 use Rattle.call_table.proofs.Befores.{given-append}
 use Rattle.call_table.proofs.Places.{missing_any, fails}

@@ -4,7 +4,6 @@ pub mod Causes
 pub mod Facts
 pub mod Faults
 pub mod Kinds
-pub mod Lines
 pub mod Lookups
 pub mod Marks
 pub mod Meaning

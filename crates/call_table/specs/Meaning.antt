@@ -2,13 +2,13 @@
 use Rattle.std.specs.Prelude.{◌≡◌, ◌⊎◌, ℕ, true, Some, None, List, [], ◌∷◌, ◌++◌, slice_get}
 use Rattle.std.specs.List.{Contains, list_any}
 use Rattle.std.specs.List.Sorted.{IsStrictlyIncreasing}
-use Rattle.call_table.specs.Lines.{Line, lines_of}
+use Rattle.line_text.specs.Lines.{Line, is_text, lines_of}
 use Rattle.call_table.specs.Kinds.{abi, group}
 use Rattle.call_table.specs.Numbers.{arch_of}
 use Rattle.call_table.specs.Names.{behind_at}
 use Rattle.call_table.specs.Lookups.{has_name, group_named}
 use Rattle.call_table.specs.Faults.{cause_of}
-use Rattle.call_table.specs.Reading.{line_kind, calls_of, families_of, table_behind, launch_calls, is_text}
+use Rattle.call_table.specs.Reading.{line_kind, calls_of, families_of, table_behind, launch_calls}
 use Rattle.call_table.specs.Table.{Table}
 use Rattle.call_table.specs.declared.listed.CallLine.{CallLine}
 use Rattle.call_table.specs.declared.listed.GroupLine.{GroupLine}

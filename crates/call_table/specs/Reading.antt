@@ -1,10 +1,9 @@
 -- The table of calls.txt, or the first refusal: by cases on each line and the lines before it.
-use Rattle.std.specs.Prelude.{ℕ, ◌==◌, ◌&&◌, not, Bool, cond, Option, Some, None, option_and_then, Result, Ok, Err, List, [], ◌∷◌, ◌++◌, codes, slice_get, find}
+use Rattle.std.specs.Prelude.{ℕ, not, Bool, cond, Option, Some, None, option_and_then, Result, Ok, Err, List, [], ◌∷◌, ◌++◌, codes, slice_get, find}
 use Rattle.std.specs.List.{filter_map, list_any, cons_option}
 use Rattle.std.specs.Option.{option_map}
-use Rattle.std.specs.Str.{is_utf8}
 use Rattle.call_table.specs.Before.{with_before}
-use Rattle.call_table.specs.Lines.{Line, lines_of, words_of}
+use Rattle.line_text.specs.Lines.{Line, is_text, lines_of, words_of}
 use Rattle.call_table.specs.Kinds.{Entry, Kind, abi, call, family, group, malformed, kind_of}
 use Rattle.call_table.specs.Numbers.{arch_of, number_of, cap_of}
 use Rattle.call_table.specs.Lookups.{has_name}
@@ -125,10 +124,6 @@ with_abi line lines (Some digits) = with_arch line lines (arch_of digits)
 abbrev pub table_of_lines : List Line → Result Table CallsError
 table_of_lines [] = Err NoAbi
 table_of_lines (line ∷ lines) = with_abi line lines (abi_digits (line_kind line))
-
--- UTF-8 without NUL
-abbrev pub is_text : List ℕ → Bool
-is_text bytes = is_utf8 bytes && not (list_any (λ byte. byte == 0) bytes)
 
 -- what calls.txt gives: it is text, or refused as none before anything else
 unfoldable pub table_of : List ℕ → Result Table CallsError

@@ -2,8 +2,8 @@
 //!
 //! Its lines say which ABI it is for (syscalls(2)), the calls with their numbers and the capabilities
 //! that they ask for, groups of calls, and families of sockets. A `CallTable` answers by name and by
-//! number. It rests on `text_forms` for numbers, on `cap_sets` for names of capabilities, and on
-//! `call_names` for the calls that take none.
+//! number. It rests on `line_text` for lines and words, on `text_forms` for numbers, on `cap_sets` for
+//! names of capabilities, and on `call_names` for the calls that take none.
 //!
 //! Where a file has the line `call read 0`, `read_calls(alloc, bytes)?.number("read")` is `Some(0)`.
 #![tactic(auto)]
@@ -19,7 +19,6 @@ mod names;
 mod numbers;
 mod reader;
 mod table;
-mod words;
 
 pub use by_number::Numbered;
 pub use causes::{CallsCause, CallsError};

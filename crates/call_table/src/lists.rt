@@ -2,7 +2,8 @@
 ghost use Rattle.std.specs.Prelude.{◌≡◌, ◌≤◌, ◌++◌, ◌∷◌, [], false, OnOk, map, length};
 ghost use Rattle.std.specs.List.{cons_option};
 ghost use Rattle.std.specs.Option.{option_map};
-ghost use Rattle.call_table.specs.Views.{line_view, made};
+ghost use Rattle.line_text.specs.Views.{line_view};
+ghost use Rattle.call_table.specs.Views.{made};
 ghost use Rattle.call_table.specs.Kinds.{seen, seen_entry};
 ghost use Rattle.call_table.specs.Lookups.{AreOnce};
 ghost use Rattle.call_table.specs.Facts.{AreLines, AreGroups, IsTable};
@@ -18,8 +19,8 @@ use crate::lookups::{has_group, has_name, has_number};
 use crate::members::find_members;
 use crate::names::Name;
 use crate::numbers::{read_cap, read_number};
-use crate::words::{Line, words};
 use call_names::is_known;
+use line_text::{Line, words};
 use std::alloc::Global;
 
 /// The most calls of a table.

@@ -1,10 +1,10 @@
 // The table, line by line.
 //
-// The lines come from `words`, what each is from `kinds`; `lists` judges a line by those before it.
+// The lines come from `line_text`, what each is from `kinds`; `lists` judges a line by those before it.
 ghost use Rattle.std.specs.Prelude.{◌≡◌, ◌≢◌, map, IfOk, IfErr, Ok, Err};
 ghost use Rattle.call_table.specs.declared.causes.CallsError.TheVariants.{Memory};
 ghost use Rattle.std.specs.Option.{option_map};
-ghost use Rattle.call_table.specs.Views.{line_view};
+ghost use Rattle.line_text.specs.Views.{line_view};
 ghost use Rattle.call_table.specs.Kinds.{kind_of};
 ghost use Rattle.call_table.specs.Table.{Table};
 ghost use Rattle.call_table.specs.Reading.{abi_digits, table_of_lines, table_of};
@@ -16,9 +16,8 @@ use crate::kinds::{Kind, kind_of_words};
 use crate::lists::Lists;
 use crate::numbers::read_arch;
 use crate::table::CallTable;
-use crate::words::{Line, read_lines, words};
+use line_text::{Line, read_lines, read_text, words};
 use std::alloc::Global;
-use std::str;
 
 // The digits of ARCH, where the words are those of an abi line.
 fn abi_digits<'a>(words: &[&'a str]) -> Option<&'a str>
@@ -72,12 +71,9 @@ fn read_table(alloc: Global, lines: &[Line]) -> Result<CallTable, CallsError>
 fn read_bytes(alloc: Global, bytes: &[u8]) -> Result<CallTable, CallsError>
     ensures { IsUnlessMemory result (table_of bytes.now) }
 {
-    let Ok(text) = str::from_utf8(bytes) else {
+    let Some(text) = read_text(bytes) else {
         return Err(CallsError::NotText);
     };
-    if bytes.contains(&0) {
-        return Err(CallsError::NotText);
-    }
     let lines = read_lines(alloc, text)?;
     read_table(alloc, lines.as_slice())
 }

@@ -1,8 +1,9 @@
 use Rattle.std.proofs.Common.{[], take, drop, suc, map, sym, subst, get_or, List}
 use Rattle.std.proofs.lemmas.Result.{err_from_is_err_and}
-use Rattle.call_table.specs.declared.words.Line.{Line as ReadLine}
-use Rattle.call_table.specs.Lines.{Line}
-use Rattle.call_table.specs.Views.{line_view, made}
+use Rattle.line_text.specs.declared.lines.Line.{Line as ReadLine}
+use Rattle.line_text.specs.Lines.{Line}
+use Rattle.line_text.specs.Views.{line_view}
+use Rattle.call_table.specs.Views.{made}
 use Rattle.call_table.specs.Progress.{HasRead, with_kind}
 use Rattle.call_table.specs.Reading.{line_kind}
 use Rattle.call_table.proofs.Adding.{begins}

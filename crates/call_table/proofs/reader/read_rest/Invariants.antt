@@ -1,5 +1,6 @@
 use Rattle.std.proofs.Common.{take, map}
-use Rattle.call_table.specs.Views.{line_view, made}
+use Rattle.line_text.specs.Views.{line_view}
+use Rattle.call_table.specs.Views.{made}
 use Rattle.call_table.specs.Progress.{HasRead}
 use Rattle.call_table.proofs.reader.read_rest.Given as goal
 

@@ -1,7 +1,7 @@
 use Rattle.std.proofs.Common.{◌≡◌, ◌+◌, ◌++◌, map, drop}
-use Rattle.call_table.specs.Lines.{counted_from}
-use Rattle.call_table.specs.Views.{line_view}
-use Rattle.call_table.proofs.words.counted_lines.Given as goal
+use Rattle.line_text.specs.Lines.{counted_from}
+use Rattle.line_text.specs.Views.{line_view}
+use Rattle.line_text.proofs.lines.counted_lines.Given as goal
 
 abbrev pub invariant-loop-at : goal.invariant-loop-at
 invariant-loop-at l =

@@ -1,16 +1,18 @@
-// The lines that count, and their words.
+//! The lines that count, and their words.
+
 ghost use Rattle.std.specs.Prelude.{◌≡◌, ◌==◌, IfOk, map};
 ghost use Rattle.std.specs.List.{slice_split};
-ghost use Rattle.call_table.specs.Lines.{is_skipped, counted_from, lines_of, words_of};
-ghost use Rattle.call_table.specs.Views.{line_view};
+ghost use Rattle.line_text.specs.Lines.{is_skipped, counted_from, lines_of, words_of};
+ghost use Rattle.line_text.specs.Views.{line_view};
 
 use std::alloc::{AllocError, Global};
 
-/// A line of the file that is not passed over.
+/// A line of a text that is not passed over.
 #[derive(Clone, Copy)]
 pub struct Line<'a> {
     /// The number of the line, from 1.
     pub number: u64,
+    /// The line without its LF.
     pub text: &'a str,
 }
 
@@ -44,9 +46,9 @@ fn counted_lines<'a>(alloc: Global, texts: &[&'a str]) -> Result<Vec<Line<'a>>, 
     Ok(lines)
 }
 
-/// The lines of a file that are not passed over.
+/// The lines of a text that are not passed over: those that are not empty and do not begin with `#`.
 pub fn read_lines(alloc: Global, text: &str) -> Result<Vec<Line<'_>>, AllocError>
-    ensures { IfOk result (λ lines. map line_view lines.items ≡ lines_of text.now) }
+    ensures counted { IfOk result (λ lines. map line_view lines.items ≡ lines_of text.now) }
 {
     let texts = all_lines(alloc, text)?;
     counted_lines(alloc, texts.as_slice())
@@ -54,7 +56,7 @@ pub fn read_lines(alloc: Global, text: &str) -> Result<Vec<Line<'_>>, AllocError
 
 /// The words of a line, which stand between spaces.
 pub fn words(alloc: Global, line: &str) -> Result<Vec<&str>, AllocError>
-    ensures { IfOk result (λ words. map (λ word. word.now) words.items ≡ words_of line.now) }
+    ensures between_spaces { IfOk result (λ words. map (λ word. word.now) words.items ≡ words_of line.now) }
 {
     line.split(' ')
         .filter(|word| !word.is_empty())

@@ -1,8 +1,17 @@
--- The lines of calls.txt that count, and their words.
-use Rattle.std.specs.Prelude.{ℕ, ◌==◌, not, Bool, true, List, [], ◌∷◌, length, map, filter}
-use Rattle.std.specs.List.{slice_split, enumerate_from}
+-- Which bytes are text, which of its lines count, and their words.
+use Rattle.std.specs.Prelude.{ℕ, ◌==◌, ◌&&◌, not, cond, Bool, true, Option, Some, None, List, [], ◌∷◌, length, map, filter}
+use Rattle.std.specs.List.{slice_split, enumerate_from, list_any}
+use Rattle.std.specs.Str.{is_utf8}
 
--- a line of the file, with its number
+-- UTF-8 without NUL
+abbrev pub is_text : List ℕ → Bool
+is_text bytes = is_utf8 bytes && not (list_any (λ byte. byte == 0) bytes)
+
+-- the bytes where they are text
+unfoldable pub text_of : List ℕ → Option (List ℕ)
+text_of bytes = cond (is_text bytes) (Some bytes) None
+
+-- a line of a text, with its number
 pub record Line : Type 0 where
   pub number : ℕ
   pub text : List ℕ
@@ -19,7 +28,7 @@ is_skipped (byte ∷ text) = byte == 35
 abbrev pub counted_from : ℕ → List (List ℕ) → List Line
 counted_from number texts = filter (λ line. not (is_skipped line.text)) (map line_of (enumerate_from number texts))
 
--- the lines of a file, which is cut at each LF, from number 1 on
+-- the lines of a text, which is cut at each LF, from number 1 on
 abbrev pub lines_of : List ℕ → List Line
 lines_of text = counted_from 1 (slice_split (λ byte. byte == 10) text)
 
