@@ -1,0 +1,14 @@
+pub mod AllRead
+pub mod Bytes
+pub mod FirstFault
+pub mod Joined
+pub mod MarksFound
+pub mod PrintedNumbers
+pub mod PrintedPayloads
+pub mod PrintedRead
+pub mod Spaced
+pub mod TablesNamed
+pub mod Texts
+pub mod WordsRead
+pub mod Written
+pub mod Zeros

@@ -1,0 +1,7 @@
+use Rattle.std.proofs.Common.{◌≡◌, ◌++◌, take}
+use Rattle.std.specs.Prelude.{codes}
+use Rattle.script_text.specs.Printed.{each_number}
+use Rattle.script_text.proofs.printing.push_others.Given as goal
+
+abbrev pub invariant-ids : goal.invariant-ids
+invariant-ids l = l.out.items ≡ l.initial.out.items ++ each_number (codes ",") (take l.id-index l.ids)

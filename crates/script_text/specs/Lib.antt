@@ -1,0 +1,11 @@
+pub mod Causes
+pub mod Escapes
+pub mod Marks
+pub mod Numbers
+pub mod Payloads
+pub mod Printed
+pub mod PrintedAgain
+pub mod Progress
+pub mod Reading
+pub mod Scripts
+pub mod Views

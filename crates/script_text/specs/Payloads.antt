@@ -1,0 +1,69 @@
+-- What a script writes for the pointers among a call's words.
+use Rattle.std.specs.Prelude.{ℕ, ◌==◌, ◌&&◌, ◌%◌, ◌^◌, not, nat_lt, cond, if◌then◌else◌, Bool, Option, Some, None, option_and_then, is_none, List, [], ◌∷◌, length, codes}
+use Rattle.std.specs.Option.{option_map}
+use Rattle.std.specs.Result.{result_ok}
+use Rattle.std.specs.List.{list_all}
+use Rattle.std.specs.Str.{bytes_eq}
+use Rattle.abs_path.specs.Paths.{Path, parts_of}
+use Rattle.abs_path.specs.Read.{fault_of as path_fault}
+use Rattle.call_names.specs.declared.payload.PayloadForm.{PayloadForm}
+use Rattle.call_names.specs.declared.payload.PayloadForm.TheVariants as form
+use Rattle.call_table.specs.Numbers.{is_lower_hex, number_of}
+use Rattle.hex.specs.Hex.{decode_of}
+use Rattle.kernel_calls.specs.declared.payload.Payload.{Payload}
+use Rattle.kernel_calls.specs.declared.payload.Payload.TheVariants.{Nothing, OnePath, TwoPaths, Sets, Ids, Code}
+use Rattle.text_forms.specs.Numbers.{number_value}
+use Rattle.script_text.specs.Escapes.{escaped_text}
+use Rattle.script_text.specs.Marks.{between_brackets, between_commas}
+use Rattle.script_text.specs.Numbers.{all_read}
+
+abbrev pub faultless_path : List ℕ → Option Path
+faultless_path text = cond (is_none (path_fault text)) (Some (parts_of text)) None
+
+-- a path, as an escaped word
+unfoldable pub path_of : List ℕ → Option Path
+path_of word = option_and_then faultless_path (escaped_text word)
+
+abbrev pub below_capabilities : ℕ → Option ℕ
+below_capabilities number = if nat_lt number (2 ^ 41) then Some number else None
+
+-- a set of capabilities, as the number of its bits (capabilities(7))
+unfoldable pub set_of : List ℕ → Option ℕ
+set_of word = option_and_then below_capabilities (number_value word)
+
+-- ids of groups in brackets, with commas between them: each decimal and below 2^32 (setgroups(2))
+unfoldable pub ids_of : List ℕ → Option (List ℕ)
+ids_of word = option_and_then (λ text. all_read number_of (between_commas text)) (between_brackets word)
+
+-- sixteen digits an instruction, and one instruction at least, in lower case
+abbrev pub is_code : List ℕ → Bool
+is_code word = not (length word == 0) && (length word % 16 == 0 && list_all is_lower_hex word)
+
+-- the bytes of a program in hexadecimal; `-` has none (seccomp(2))
+unfoldable pub code_of : List ℕ → Option (List ℕ)
+code_of word = cond (bytes_eq word (codes "-")) (Some []) (cond (is_code word) (result_ok (decode_of word)) None)
+
+-- what a payload is read as, and the words behind it
+abbrev pub Taken : Type 0
+Taken = Payload × List (List ℕ)
+
+abbrev pub with_words : List (List ℕ) → Payload → Taken
+with_words words payload = (payload, words)
+
+abbrev pub two_paths : List ℕ → List ℕ → Option Payload
+two_paths source target = option_and_then (λ from. option_map (λ to. TwoPaths from to) (path_of target)) (path_of source)
+
+abbrev pub three_sets : List ℕ → List ℕ → List ℕ → Option Payload
+three_sets permitted effective inheritable =
+    option_and_then (λ p. option_and_then (λ e. option_map (λ i. Sets p e i) (set_of inheritable)) (set_of effective)) (set_of permitted)
+
+-- the payload of a form at the front of the words of a line, and the words behind it; nothing where it is missing or not of
+-- its form
+abbrev pub payload_of : PayloadForm → List (List ℕ) → Option Taken
+payload_of form.Nothing words = Some (Nothing, words)
+payload_of form.OnePath (word ∷ words) = option_map (λ path. (OnePath path, words)) (path_of word)
+payload_of form.TwoPaths (source ∷ target ∷ words) = option_map (with_words words) (two_paths source target)
+payload_of form.Sets (permitted ∷ effective ∷ inheritable ∷ words) = option_map (with_words words) (three_sets permitted effective inheritable)
+payload_of form.Ids (word ∷ words) = option_map (λ ids. (Ids ids, words)) (ids_of word)
+payload_of form.Program (word ∷ words) = option_map (λ bytes. (Code bytes, words)) (code_of word)
+payload_of _ _ = None

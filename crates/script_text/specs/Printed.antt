@@ -1,0 +1,76 @@
+-- A call as it is printed, in the form of a line of a script.
+use Rattle.std.specs.Prelude.{ℕ, ◌==◌, ◌%◌, cond, Bool, true, false, Option, Some, None, List, [], ◌∷◌, ◌++◌, length, map, codes}
+use Rattle.std.specs.List.{flat_map}
+use Rattle.std.specs.Fmt.{decimal}
+use Rattle.abs_path.specs.Paths.{text_of}
+use Rattle.call_names.specs.declared.payload.PayloadForm.{PayloadForm}
+use Rattle.call_names.specs.declared.payload.PayloadForm.TheVariants as form
+use Rattle.call_table.specs.Lookups.{numbered}
+use Rattle.call_table.specs.declared.listed.CallLine.{CallLine}
+use Rattle.hex.specs.Hex.{encode_lower}
+use Rattle.kernel_calls.specs.declared.call.Call.{Call}
+use Rattle.kernel_calls.specs.declared.payload.Payload.{Payload}
+use Rattle.kernel_calls.specs.declared.payload.Payload.TheVariants.{Nothing, OnePath, TwoPaths, Sets, Ids, Code}
+use Rattle.text_forms.specs.Escaped.{escaped_word}
+use Rattle.script_text.specs.Numbers.{without_last_zeros}
+use Rattle.script_text.specs.Reading.{form_of_name}
+
+-- the payload is of the form; a program is whole instructions, of eight bytes each
+abbrev pub has_form : PayloadForm → Payload → Bool
+has_form form.Nothing Nothing = true
+has_form form.OnePath (OnePath path) = true
+has_form form.TwoPaths (TwoPaths source target) = true
+has_form form.Sets (Sets permitted effective inheritable) = true
+has_form form.Ids (Ids ids) = true
+has_form form.Program (Code bytes) = length bytes % 8 == 0
+has_form _ _ = false
+
+-- words, each behind a separator
+abbrev pub each_behind : List ℕ → List (List ℕ) → List ℕ
+each_behind separator words = flat_map (λ word. separator ++ word) words
+
+-- numbers in decimal, each behind a separator
+abbrev pub each_number : List ℕ → List ℕ → List ℕ
+each_number separator numbers = flat_map (λ number. separator ++ decimal number) numbers
+
+-- ids in decimal with commas between them
+abbrev pub with_commas : List ℕ → List ℕ
+with_commas [] = []
+with_commas (id ∷ ids) = decimal id ++ each_number (codes ",") ids
+
+abbrev pub ids_word : List ℕ → List ℕ
+ids_word ids = codes "[" ++ with_commas ids ++ codes "]"
+
+-- the bytes of a program in hexadecimal; `-` where there are none
+abbrev pub code_word : List ℕ → List ℕ
+code_word [] = codes "-"
+code_word (byte ∷ bytes) = encode_lower (byte ∷ bytes)
+
+-- the words of a payload
+abbrev pub payload_words : Payload → List (List ℕ)
+payload_words Nothing = []
+payload_words (OnePath path) = escaped_word (text_of path) ∷ []
+payload_words (TwoPaths source target) = escaped_word (text_of source) ∷ escaped_word (text_of target) ∷ []
+payload_words (Sets permitted effective inheritable) = decimal permitted ∷ decimal effective ∷ decimal inheritable ∷ []
+payload_words (Ids ids) = ids_word ids ∷ []
+payload_words (Code bytes) = code_word bytes ∷ []
+
+abbrev pub hash_word : ℕ → List ℕ
+hash_word nr = codes "#" ++ decimal nr
+
+-- a call of the table whose payload is of its form goes by its name and has its payload; any other goes by its number
+abbrev pub named_words : Call → Option CallLine → List (List ℕ)
+named_words call None = hash_word call.nr ∷ []
+named_words call (Some line) = cond (has_form (form_of_name line.name) call.payload) (line.name ∷ payload_words call.payload) (hash_word call.nr ∷ [])
+
+-- the words of the call's words, in decimal, without the zeros at the end
+abbrev pub argument_words : List ℕ → List (List ℕ)
+argument_words args = map decimal (without_last_zeros args)
+
+-- the words behind the number of the process
+abbrev pub words_behind_pid : List CallLine → Call → List (List ℕ)
+words_behind_pid calls call = named_words call (numbered call.nr calls) ++ argument_words call.args
+
+-- the text of a call, one space between words
+abbrev pub call_text : List CallLine → Call → List ℕ
+call_text calls call = decimal call.pid ++ each_behind (codes " ") (words_behind_pid calls call)

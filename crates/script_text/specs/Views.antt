@@ -1,0 +1,6 @@
+-- What the values of the code stand for.
+use Rattle.script_text.specs.Reading.{Named}
+use Rattle.script_text.specs.declared.names.NamedCall.{NamedCall}
+
+abbrev pub view_named : NamedCall → Named
+view_named call = record { nr = call.nr; form = call.form }

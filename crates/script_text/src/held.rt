@@ -1,0 +1,50 @@
+//! What every call that a program holds keeps: its numbers are those of their types, and its paths are texts.
+
+ghost use Rattle.std.specs.Prelude.{◌<◌};
+ghost use Rattle.std.specs.List.{All};
+ghost use Rattle.abs_path.specs.Paths.{text_of};
+ghost use Rattle.script_text.specs.PrintedAgain.{HasTexts, IsHeld, IsText};
+
+use abs_path::AbsPath;
+use kernel_calls::{Call, Payload, fits};
+
+fn bytes_fit(bytes: &[u8])
+    ensures { All (λ byte. byte < 256) bytes.now }
+{
+    for byte in bytes {
+        let _byte = *byte;
+    }
+}
+
+fn is_text(text: &str)
+    ensures { IsText text.now }
+{
+    bytes_fit(text.as_bytes());
+}
+
+fn path_is_text(path: &AbsPath)
+    ensures { IsText (text_of path.now) }
+{
+    is_text(path.text());
+}
+
+fn payload_is_text(payload: &Payload)
+    ensures { HasTexts payload.now }
+{
+    match payload {
+        Payload::OnePath(path) => path_is_text(path),
+        Payload::TwoPaths(source, target) => {
+            path_is_text(source);
+            path_is_text(target);
+        }
+        Payload::Nothing | Payload::Sets(_, _, _) | Payload::Ids(_) | Payload::Code(_) => {}
+    }
+}
+
+/// Every call that a program holds is one that can be read again. It looks at the call and changes nothing.
+pub(crate) fn is_held(call: &Call)
+    ensures { IsHeld call.now }
+{
+    fits(call);
+    payload_is_text(&call.payload);
+}

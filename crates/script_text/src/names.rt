@@ -1,0 +1,60 @@
+//! The call that a line names.
+
+ghost use Rattle.std.specs.Prelude.{◌≡◌, option_map};
+ghost use Rattle.call_table.specs.Numbers.{number_of};
+ghost use Rattle.script_text.specs.Reading.{form_of_name, named_call};
+ghost use Rattle.script_text.specs.Marks.{behind_hash};
+ghost use Rattle.script_text.specs.Views.{view_named};
+
+use call_names::{KnownCall, PayloadForm, form_of, known_call};
+use call_table::CallTable;
+use text_forms::read_decimal;
+
+/// A call, and what it carries beside its words.
+#[derive(Clone, Copy)]
+pub(crate) struct NamedCall {
+    /// The number of the call.
+    pub nr: u32,
+    /// What it carries.
+    pub form: PayloadForm,
+}
+
+/// What calls of this name carry beside their words.
+pub(crate) fn form_of_name(name: &str) -> PayloadForm
+    ensures { result ≡ form_of_name name.now }
+{
+    match known_call(name) {
+        Some(KnownCall::Modelled(rule)) => form_of(rule),
+        Some(KnownCall::Absent) | None => PayloadForm::Nothing,
+    }
+}
+
+fn behind_hash(word: &str) -> Option<&str>
+    ensures { option_map (λ digits. digits.now) result ≡ behind_hash word.now }
+{
+    word.strip_prefix('#')
+}
+
+/// The number of a decimal text, below 2^32.
+pub(crate) fn read_number(digits: &str) -> Option<u32>
+    ensures { result ≡ number_of digits.now }
+{
+    u32::try_from(read_decimal(digits)?).ok()
+}
+
+/// The call that a word names: one of the table, or behind `#` the call of a decimal number, which carries nothing.
+#[tactic(auto, unfolding(crate::specs::Reading::named_call))]
+pub(crate) fn find_call(calls: &CallTable, word: &str) -> Option<NamedCall>
+    ensures { option_map view_named result ≡ named_call calls.now.calls word.now }
+{
+    match behind_hash(word) {
+        Some(digits) => Some(NamedCall {
+            nr: read_number(digits)?,
+            form: PayloadForm::Nothing,
+        }),
+        None => Some(NamedCall {
+            nr: calls.number(word)?,
+            form: form_of_name(word),
+        }),
+    }
+}

@@ -1,0 +1,193 @@
+//! Calls as they are printed, in the form of lines of a script.
+
+ghost use Rattle.std.specs.Prelude.{◌≡◌, ◌++◌, ◌∷◌, OnOk, IfOk, codes, decimal};
+ghost use Rattle.abs_path.specs.Paths.{text_of};
+ghost use Rattle.text_forms.specs.Escaped.{escaped_word};
+ghost use Rattle.script_text.specs.Numbers.{without_last_zeros};
+ghost use Rattle.script_text.specs.Printed.{argument_words, call_text, code_word, each_behind, each_number, has_form, hash_word, ids_word, named_words, payload_words, with_commas};
+ghost use Rattle.script_text.specs.PrintedAgain.{IsReadAs};
+ghost use Rattle.call_table.specs.Lookups.{numbered};
+
+use crate::held::is_held;
+use crate::names::form_of_name;
+use abs_path::AbsPath;
+use call_names::PayloadForm;
+use call_table::CallTable;
+use hex::encode;
+use kernel_calls::{Call, Payload};
+use std::alloc::{AllocError, Global};
+use text_forms::{push_u64, push_word};
+
+// whether the payload is of the form; a program is whole instructions, of eight bytes each
+fn has_form(form: PayloadForm, payload: &Payload) -> bool
+    ensures { result ≡ has_form form payload.now }
+{
+    match (form, payload) {
+        (PayloadForm::Nothing, Payload::Nothing)
+        | (PayloadForm::OnePath, Payload::OnePath(_))
+        | (PayloadForm::TwoPaths, Payload::TwoPaths(_, _))
+        | (PayloadForm::Sets, Payload::Sets(_, _, _))
+        | (PayloadForm::Ids, Payload::Ids(_)) => true,
+        (PayloadForm::Program, Payload::Code(code)) => code.bytes().len() % 8 == 0,
+        _ => false,
+    }
+}
+
+fn push_space(out: &mut Vec<u8>) -> Result<(), AllocError>
+    ensures { OnOk result (out.new.items ≡ out.old.items ++ codes " ") }
+{
+    out.extend_from_slice(b" ")
+}
+
+// a space and a number
+fn push_number(out: &mut Vec<u8>, number: u64) -> Result<(), AllocError>
+    ensures { OnOk result (out.new.items ≡ out.old.items ++ (codes " " ++ decimal number)) }
+{
+    push_space(out)?;
+    push_u64(out, number)
+}
+
+// a space and a path
+fn push_path(out: &mut Vec<u8>, path: &AbsPath) -> Result<(), AllocError>
+    ensures { OnOk result (out.new.items ≡ out.old.items ++ (codes " " ++ escaped_word (text_of path.now))) }
+{
+    push_space(out)?;
+    push_word(out, path.text())
+}
+
+// the ids, each behind a comma
+fn push_others(out: &mut Vec<u8>, ids: &[u32]) -> Result<(), AllocError>
+    ensures { OnOk result (out.new.items ≡ out.old.items ++ each_number (codes ",") ids.now) }
+{
+    'ids: for id in ids {
+        out.extend_from_slice(b",")?;
+        push_u64(out, u64::from(*id))?;
+    }
+    Ok(())
+}
+
+// the ids with commas between them
+fn push_ids(out: &mut Vec<u8>, ids: &[u32]) -> Result<(), AllocError>
+    ensures { OnOk result (out.new.items ≡ out.old.items ++ with_commas ids.now) }
+{
+    let Some((first, others)) = ids.split_first() else {
+        return Ok(());
+    };
+    push_u64(out, u64::from(*first))?;
+    push_others(out, others)
+}
+
+// a space and ids in brackets
+fn push_list(out: &mut Vec<u8>, ids: &[u32]) -> Result<(), AllocError>
+    ensures { OnOk result (out.new.items ≡ out.old.items ++ (codes " " ++ ids_word ids.now)) }
+{
+    out.extend_from_slice(b" [")?;
+    push_ids(out, ids)?;
+    out.extend_from_slice(b"]")
+}
+
+// a space and the bytes of a program in hexadecimal
+fn push_code(alloc: Global, out: &mut Vec<u8>, bytes: &[u8]) -> Result<(), AllocError>
+    ensures { OnOk result (out.new.items ≡ out.old.items ++ (codes " " ++ code_word bytes.now)) }
+{
+    push_space(out)?;
+    if bytes.is_empty() {
+        return out.extend_from_slice(b"-");
+    }
+    out.extend_from_slice(encode(alloc, bytes)?.as_bytes())
+}
+
+// the words of a payload, each behind a space
+fn push_payload(alloc: Global, out: &mut Vec<u8>, payload: &Payload) -> Result<(), AllocError>
+    ensures { OnOk result (out.new.items ≡ out.old.items ++ each_behind (codes " ") (payload_words payload.now)) }
+{
+    match payload {
+        Payload::Nothing => Ok(()),
+        Payload::OnePath(path) => push_path(out, path),
+        Payload::TwoPaths(source, target) => {
+            push_path(out, source)?;
+            push_path(out, target)
+        }
+        Payload::Sets(permitted, effective, inheritable) => {
+            push_number(out, permitted.bits())?;
+            push_number(out, effective.bits())?;
+            push_number(out, inheritable.bits())
+        }
+        Payload::Ids(ids) => push_list(out, ids.ids()),
+        Payload::Code(code) => push_code(alloc, out, code.bytes()),
+    }
+}
+
+// a space and the call by its number
+fn push_hash(out: &mut Vec<u8>, nr: u32) -> Result<(), AllocError>
+    ensures { OnOk result (out.new.items ≡ out.old.items ++ (codes " " ++ hash_word nr)) }
+{
+    out.extend_from_slice(b" #")?;
+    push_u64(out, u64::from(nr))
+}
+
+// the call by its name with its payload, where the table has it and the payload is of its form; else by its number
+fn push_named(
+    alloc: Global,
+    out: &mut Vec<u8>,
+    call: &Call,
+    calls: &CallTable,
+) -> Result<(), AllocError>
+    ensures { OnOk result (out.new.items ≡ out.old.items ++ each_behind (codes " ") (named_words call.now (numbered call.now.nr calls.now.calls))) }
+{
+    let Some(name) = calls.name(call.nr) else {
+        return push_hash(out, call.nr);
+    };
+    if !has_form(form_of_name(name), &call.payload) {
+        return push_hash(out, call.nr);
+    }
+    push_space(out)?;
+    out.extend_from_slice(name.as_bytes())?;
+    push_payload(alloc, out, &call.payload)
+}
+
+// the words but for the zeros at their end
+fn without_last_zeros(args: &[u64]) -> &[u64]
+    ensures { result.now ≡ without_last_zeros args.now }
+{
+    let mut left = args;
+    while let Some((last, front)) = left.split_last() {
+        if *last != 0 {
+            return left;
+        }
+        left = front;
+    }
+    left
+}
+
+// numbers, each behind a space
+fn push_numbers(out: &mut Vec<u8>, numbers: &[u64]) -> Result<(), AllocError>
+    ensures { OnOk result (out.new.items ≡ out.old.items ++ each_number (codes " ") numbers.now) }
+{
+    'numbers: for number in numbers {
+        push_number(out, *number)?;
+    }
+    Ok(())
+}
+
+/// The text of a call, as a line of a script has it: `PID NAME [PAYLOAD] [WORD ..]`, without a line feed.
+///
+/// The call goes by its name where the table has its number and its payload is of the form of that name (a program is
+/// whole instructions of eight bytes); else it goes by `#` and its number, and its payload is not written. Numbers are
+/// decimal, and words that are zero are dropped at the end.
+///
+/// Where the table was read and the call has a process from 1 on, and carries nothing or what its name carries, the text has
+/// one reading as a line, the call itself.
+pub fn print_call(alloc: Global, call: &Call, calls: &CallTable) -> Result<Vec<u8>, AllocError>
+    ensures text { IfOk result (λ text. text.items ≡ call_text calls.now.calls call.now) }
+    ensures reads_back { IfOk result (λ text. IsReadAs calls.now.calls call.now text.items) }
+{
+    // What holds of each call and of each table.
+    is_held(call);
+    let _calls = calls.calls();
+    let mut text = Vec::new(alloc);
+    push_u64(&mut text, u64::from(call.pid))?;
+    push_named(alloc, &mut text, call, calls)?;
+    push_numbers(&mut text, without_last_zeros(&call.args))?;
+    Ok(text)
+}
