@@ -25,9 +25,10 @@ pub fn finish<R: Ready, K: Sink>(alloc: Global, prepared: Result<R, Stop>, out: 
     ensures finishes { Finishes R.ending R.text prepared result (record { faults_before = K.faults out.old; faults_after = K.faults out.new; taken_before = K.taken out.old; taken_after = K.taken out.new }) }
 {
     match prepared {
-        Ok(ready) => {
+        Ok(mut ready) => {
+            let ending = ready.ending();
             let put = ready.print(alloc, out);
-            ending_after(put, ready.ending())
+            ending_after(put, ending)
         }
         Err(Stop::Refused(line)) => {
             let put = put_line(out, Ok(line));

@@ -19,8 +19,9 @@ pub trait Ready: Drop {
     fn ending(&self) -> Ending
         ensures ends_so { result ≡ ending self.now };
 
-    /// Prints the text, line by line. At an error a prefix of it was taken.
-    fn print<K: Sink>(&self, alloc: Global, out: &mut K) -> Result<(), SinkError>
-        ensures takes_the_text { TakesText (K.taken out.old) (K.taken out.new) (text self.now) result }
+    /// Prints the text, line by line. At an error a prefix of it was taken. What is ready may be used up by it: a text whose
+    /// lines come of steps that are made while it is printed is printed once.
+    fn print<K: Sink>(&mut self, alloc: Global, out: &mut K) -> Result<(), SinkError>
+        ensures takes_the_text { TakesText (K.taken out.old) (K.taken out.new) (text self.old) result }
         ensures fault_rose { HasWriteCause (K.faults out.old) (K.faults out.new) result };
 }

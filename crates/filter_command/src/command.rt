@@ -33,7 +33,7 @@ impl Ready for Filters {
         Ending::Done
     }
 
-    fn print<K: Sink>(&self, alloc: Global, out: &mut K) -> Result<(), SinkError> {
+    fn print<K: Sink>(&mut self, alloc: Global, out: &mut K) -> Result<(), SinkError> {
         print_filters(alloc, self.programs.as_slice(), out)
     }
 }

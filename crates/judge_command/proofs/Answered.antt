@@ -13,10 +13,9 @@ use Rattle.kernel_calls.specs.declared.rule.Rule.TheVariants.{Known, Plain}
 use Rattle.kernel_model.specs.World.{World}
 use Rattle.kernel_laws.specs.Kinds.{no_words}
 use Rattle.kernel_laws.specs.Launched.{IsLaunchedWorld, data_at, is_pass, launch_of}
-use Rattle.kernel_laws.specs.PlainCalls.{IsPlainCall}
 use Rattle.kernel_laws.specs.Questions.{if_so}
 use Rattle.kernel_laws.proofs.PlainCalls.{denied_where_stopped, shown_where_passed}
-use Rattle.judge_command.specs.Answers.{AreAnswers, IsAnswer, answer_at, answers_of, bare_place, bare_places, is_bare, is_bare_rule, is_stopped}
+use Rattle.judge_command.specs.Answers.{AreAnswers, IsAnswer, answer_at, answers_of, bare_place, is_bare, is_bare_rule, is_stopped}
 use Rattle.judge_command.specs.declared.report.Answer.{Answer}
 
 bare_rule : (rule : Option Rule) → is_bare_rule rule ≡ true → rule ≡ Some (Plain None)

@@ -20,7 +20,7 @@ use Rattle.unit_settings.specs.declared.settling.SettledUnit.{SettledUnit}
 use Rattle.plan_command.specs.Planned.{IsPlan, path_refusals}
 use Rattle.plan_command.proofs.Prepared.{refused_before, refused_as, at_paths}
 use Rattle.judge_command.specs.declared.report.Outcome.{Outcome}
-use Rattle.judge_command.specs.declared.report.Outcome.TheVariants.{Launched, Privileged, Refused, Killed}
+use Rattle.judge_command.specs.declared.report.Outcome.TheVariants.{Launched, Refused}
 use Rattle.judge_command.specs.declared.report.Report.{Report}
 use Rattle.judge_command.specs.Launching.{CameTo}
 use Rattle.judge_command.specs.Prints.{PrintsReport, judge_laws}
@@ -37,9 +37,7 @@ together told unit = go_together (judge_laws unit) told (answered unit)
 -- a launch is done or refused
 ends_so : (outcome : Outcome) → (ending_behind outcome ≡ Done) ⊎ (ending_behind outcome ≡ LaunchRefused)
 ends_so (Launched line answers) = inl refl
-ends_so (Privileged program) = inr refl
-ends_so (Refused step errno) = inr refl
-ends_so (Killed step) = inr refl
+ends_so (Refused refusal) = inr refl
 
 -- an input or a setting is refused
 pub stops_before_paths : (P : SettledUnit → Type 0) (told : Option Files) (unit : List ℕ) (stop : Stop) → IfSome told (λ files. Prepares P (unit_refusals files unit) (Err stop)) → IsAdmitted (laws_over told (judge_laws unit)) ending_of text_of (Err stop)

@@ -7,11 +7,12 @@ use Rattle.unit_values.specs.declared.value.FileNote.{FileNote}
 use Rattle.command_answers.specs.declared.ending.Ending.{Ending}
 use Rattle.command_answers.specs.declared.ending.Ending.TheVariants.{Done, LaunchRefused}
 use Rattle.report_text.specs.Answers.{denied_call_line, open_call_line, plain_call_line, summary_line}
-use Rattle.report_text.specs.Launches.{killed_line, launched_line, privileged_line, refused_line}
+use Rattle.report_text.specs.Launches.{launched_line}
 use Rattle.report_text.specs.Notes.{note_line, unit_line}
+use Rattle.unit_launch.specs.Refusals.{refusal_line}
 use Rattle.judge_command.specs.declared.report.Answer.{Answer}
 use Rattle.judge_command.specs.declared.report.Outcome.{Outcome}
-use Rattle.judge_command.specs.declared.report.Outcome.TheVariants.{Launched, Privileged, Refused, Killed}
+use Rattle.judge_command.specs.declared.report.Outcome.TheVariants.{Launched, Refused}
 use Rattle.judge_command.specs.declared.report.Report.{Report}
 
 -- the name of the call at a place of calls.txt
@@ -33,9 +34,7 @@ answers_text calls answers =
 -- the launch, and what it left is asked; or why there is none
 abbrev pub outcome_text : List CallLine → Outcome → List ℕ
 outcome_text calls (Launched launched answers) = launched_line launched ++ answers_text calls answers.items
-outcome_text calls (Privileged program) = privileged_line program
-outcome_text calls (Refused step errno) = refused_line step errno
-outcome_text calls (Killed step) = killed_line step
+outcome_text calls (Refused refusal) = refusal_line refusal
 
 -- the unit, what was passed over in its files, and the outcome
 abbrev pub report_text : List ℕ → List UnitFile → List FileNote → List CallLine → Outcome → List ℕ
@@ -43,9 +42,7 @@ report_text unit files notes calls outcome = unit_line unit ++ (flat_map (note_l
 
 abbrev pub ending_behind : Outcome → Ending
 ending_behind (Launched launched answers) = Done
-ending_behind (Privileged program) = LaunchRefused
-ending_behind (Refused step errno) = LaunchRefused
-ending_behind (Killed step) = LaunchRefused
+ending_behind (Refused refusal) = LaunchRefused
 
 -- what is ready
 abbrev pub text_of : Report → List ℕ

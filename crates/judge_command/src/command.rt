@@ -11,7 +11,7 @@ ghost use Rattle.judge_command.specs.Launching.{CameTo};
 ghost use Rattle.judge_command.specs.Prints.{judge_laws};
 ghost use Rattle.judge_command.specs.Report.{ending_of, text_of};
 
-use crate::launching::launch_unit;
+use crate::launching::launch_and_ask;
 use crate::report::{Outcome, Report};
 use command_answers::Stop;
 use host_io::Shelf;
@@ -27,7 +27,7 @@ fn outcome_of(alloc: Global, one: &SettledUnit, plan: &MountSteps) -> Result<Out
     ensures came_to { IfOk result (CameTo one.now.inputs.calls.value one.now.inputs.site.value one.now.settings.value plan.now) }
 {
     let inputs = &one.inputs;
-    launch_unit(
+    launch_and_ask(
         alloc,
         &one.settings,
         plan.list(),

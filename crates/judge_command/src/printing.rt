@@ -10,10 +10,11 @@ use command_answers::put_line;
 use dropin_merge::Resolved;
 use host_io::{Sink, SinkError};
 use report_text::{
-    denied_call_line, killed_line, launched_line, note_line, open_call_line, plain_call_line,
-    privileged_line, refused_line, summary_line, unit_line,
+    denied_call_line, launched_line, note_line, open_call_line, plain_call_line, summary_line,
+    unit_line,
 };
 use std::alloc::Global;
+use unit_launch::refusal_line;
 use unit_values::FileNote;
 
 // Prints notes, one behind the other.
@@ -122,9 +123,7 @@ fn print_outcome<K: Sink>(
             put_line(out, launched_line(alloc, *launched))?;
             print_answers(alloc, calls, answers.as_slice(), out)
         }
-        Outcome::Privileged(program) => put_line(out, privileged_line(alloc, program)),
-        Outcome::Refused(step, errno) => put_line(out, refused_line(alloc, *step, *errno)),
-        Outcome::Killed(step) => put_line(out, killed_line(alloc, *step)),
+        Outcome::Refused(refusal) => put_line(out, refusal_line(alloc, refusal)),
     }
 }
 

@@ -3,11 +3,11 @@ ghost use Rattle.std.specs.Prelude.{◌≡◌};
 ghost use Rattle.judge_command.specs.Report.{ending_behind};
 
 use crate::printing::print_report;
-use abs_path::AbsPath;
 use command_answers::{Ending, Ready};
 use host_io::{Sink, SinkError};
 use report_text::Launched;
 use std::alloc::Global;
+use unit_launch::LaunchRefusal;
 use unit_settings::SettledUnit;
 
 /// What is found about a plain call.
@@ -24,12 +24,8 @@ pub struct Answer {
 pub enum Outcome {
     /// It ended well; with an answer for each plain call, in the order of calls.txt.
     Launched(Launched, Vec<Answer>),
-    /// The program has a set-id bit or capabilities.
-    Privileged(AbsPath),
-    /// A step, counted from 1, is refused with this errno.
-    Refused(u32, u32),
-    /// At this step the service is killed.
-    Killed(u32),
+    /// It is refused.
+    Refused(LaunchRefusal),
 }
 
 /// The report on a unit.
@@ -49,9 +45,7 @@ fn ending_behind(outcome: &Outcome) -> Ending
 {
     match outcome {
         Outcome::Launched(_, _) => Ending::Done,
-        Outcome::Privileged(_) | Outcome::Refused(_, _) | Outcome::Killed(_) => {
-            Ending::LaunchRefused
-        }
+        Outcome::Refused(_) => Ending::LaunchRefused,
     }
 }
 
@@ -66,7 +60,7 @@ impl Ready for Report {
         ending_behind(&self.outcome)
     }
 
-    fn print<K: Sink>(&self, alloc: Global, out: &mut K) -> Result<(), SinkError> {
+    fn print<K: Sink>(&mut self, alloc: Global, out: &mut K) -> Result<(), SinkError> {
         print_report(alloc, self, out)
     }
 }

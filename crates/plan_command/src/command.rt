@@ -30,7 +30,7 @@ impl Ready for Mounts {
         Ending::Done
     }
 
-    fn print<K: Sink>(&self, alloc: Global, out: &mut K) -> Result<(), SinkError> {
+    fn print<K: Sink>(&mut self, alloc: Global, out: &mut K) -> Result<(), SinkError> {
         print_mounts(alloc, self.table.list(), out)
     }
 }

@@ -1,12 +1,11 @@
 -- Texts that are printed as they stand.
-use Rattle.std.proofs.Common.{◌≡◌, ℕ, List, Ok, refl}
+use Rattle.std.proofs.Common.{◌≡◌, ℕ, List, Ok}
 use Rattle.std.specs.Prelude.{IsTrue}
 use Rattle.command_answers.specs.Endings.{is_answer, is_whole}
 use Rattle.command_answers.specs.Laws.{fixed_laws}
 use Rattle.command_answers.specs.Printing.{Finishes}
 use Rattle.command_answers.specs.Runs.{IsRun, Outside}
 use Rattle.command_answers.specs.declared.ending.Ending.{Ending}
-use Rattle.command_answers.specs.declared.stop.Stop.{Stop}
 use Rattle.command_answers.proofs.FileCommands.{fixed_go_together}
 use Rattle.command_answers.proofs.Refusing.{quiet}
 use Rattle.command_answers.proofs.Runs.{ran}

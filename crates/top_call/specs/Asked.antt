@@ -7,7 +7,8 @@ use Rattle.command_answers.specs.declared.ending.Ending.TheVariants.{Done, NoCom
 use Rattle.filter_command.specs.Prints.{filter_laws}
 use Rattle.plan_command.specs.Prints.{plan_laws}
 use Rattle.judge_command.specs.Prints.{judge_laws}
-use Rattle.top_call.specs.Requests.{Request, HelpAlone, VersionAlone, FilterOf, PlanOf, JudgeOf, request_in}
+use Rattle.replay_command.specs.Prints.{replay_laws}
+use Rattle.top_call.specs.Requests.{Request, HelpAlone, VersionAlone, FilterOf, PlanOf, JudgeOf, ReplayOf, request_in}
 use Rattle.top_call.specs.Texts.{help_text, version_text, words_line}
 use denote.Ref.{Bor}
 
@@ -26,6 +27,7 @@ laws_for VersionAlone told = fixed_laws Done version_text (Unit {0})
 laws_for (FilterOf unit) told = laws_over told (filter_laws unit)
 laws_for (PlanOf unit) told = laws_over told (plan_laws unit)
 laws_for (JudgeOf unit) told = laws_over told (judge_laws unit)
+laws_for (ReplayOf unit script) told = laws_over told (replay_laws unit script)
 
 -- words that are no command are refused whatever the files
 abbrev pub laws_by : Option Request → Option Files → Laws

@@ -2,7 +2,7 @@
 use Rattle.std.specs.Prelude.{List, [], ◌∷◌, ℕ, codes, cond, Option, Some, None}
 use Rattle.std.specs.Str.{bytes_eq}
 use Rattle.top_call.specs.declared.request.Request.{Request as Code}
-use Rattle.top_call.specs.declared.request.Request.TheVariants.{Help, Version, Filter, Plan, Judge}
+use Rattle.top_call.specs.declared.request.Request.TheVariants.{Help, Version, Filter, Plan, Judge, Replay}
 
 -- what is asked for
 pub data Request : Type 0 where
@@ -11,6 +11,7 @@ pub data Request : Type 0 where
   FilterOf : (unit : List ℕ) → Request
   PlanOf : (unit : List ℕ) → Request
   JudgeOf : (unit : List ℕ) → Request
+  ReplayOf : (unit script : List ℕ) → Request
 
 -- a word by itself
 abbrev pub request_alone : List ℕ → Option Request
@@ -25,12 +26,17 @@ request_on word unit =
     (cond (bytes_eq word (codes "plan")) (Some (PlanOf unit))
     (cond (bytes_eq word (codes "judge")) (Some (JudgeOf unit)) None))
 
+-- a word, a unit and the path of a script
+abbrev pub request_with : List ℕ → List ℕ → List ℕ → Option Request
+request_with word unit script = cond (bytes_eq word (codes "replay")) (Some (ReplayOf unit script)) None
+
 -- all other words are no command
 abbrev pub request_in : List (List ℕ) → Option Request
 request_in [] = None
 request_in (word ∷ []) = request_alone word
 request_in (word ∷ unit ∷ []) = request_on word unit
-request_in (word ∷ unit ∷ more ∷ words) = None
+request_in (word ∷ unit ∷ script ∷ []) = request_with word unit script
+request_in (word ∷ unit ∷ script ∷ more ∷ words) = None
 
 -- a request of the code, as contracts see it
 abbrev pub request_of : Code → Request
@@ -39,3 +45,4 @@ request_of Version = VersionAlone
 request_of (Filter unit) = FilterOf unit.now
 request_of (Plan unit) = PlanOf unit.now
 request_of (Judge unit) = JudgeOf unit.now
+request_of (Replay unit script) = ReplayOf unit.now script.now

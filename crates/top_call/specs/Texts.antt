@@ -20,11 +20,13 @@ abbrev pub help_lines : List (List ℕ)
 help_lines =
     codes "Lentsheep judges the sandbox of a systemd service without starting it." ∷
     [] ∷
-    codes "usage: sandbox_cli COMMAND UNIT" ∷
+    codes "usage: sandbox_cli COMMAND UNIT [SCRIPT]" ∷
     [] ∷
     codes "  filter UNIT    print the compiled seccomp filters of the unit" ∷
     codes "  plan UNIT      print the mounts that give the service its view of files" ∷
     codes "  judge UNIT     launch the service in a model, print what it can reach" ∷
+    codes "  replay UNIT SCRIPT" ∷
+    codes "                 launch it, make the calls of SCRIPT, print what each comes to" ∷
     codes "  --help         print this text" ∷
     codes "  --version      print the name and the version" ∷
     [] ∷
@@ -34,6 +36,7 @@ help_lines =
     codes "                 the unit, with its drop-ins beside it" ∷
     codes "  calls.txt      the table of system calls and their groups" ∷
     codes "  site.toml      the files, the users and the groups of the host" ∷
+    codes "  SCRIPT         calls to replay, one a line: PID NAME [PAYLOAD] [NUMBER ..]" ∷
     [] ∷
     codes "The status says how it ended:" ∷
     [] ∷
@@ -43,7 +46,7 @@ help_lines =
     codes "  4  a read failed, and nothing was printed" ∷
     codes "  5  a write failed, and the text was cut" ∷
     codes "  6  memory ran out, and the text was cut" ∷
-    codes "  7  the launch of judge is refused" ∷
+    codes "  7  the launch of judge or replay is refused" ∷
     [] ∷
     codes "The manual is README.md; docs/PROFILE.md says how units are read." ∷
     []

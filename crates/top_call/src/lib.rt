@@ -1,7 +1,7 @@
 //! The top call: it does what the words ask for, and prints it.
 //!
 //! `run` takes words, a shelf and a sink, and answers a status. Each command is a crate of its own, `filter_command`,
-//! `plan_command` and `judge_command`, which is prepared and then finished as `command_answers` says for all.
+//! `plan_command`, `judge_command` and `replay_command`, which is prepared and then finished as `command_answers` says for all.
 //!
 //! `run(alloc, &["filter", "web.service"], &mut shelf, &mut out)` prints the filters of a unit.
 #![tactic(auto)]

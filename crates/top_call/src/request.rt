@@ -1,7 +1,7 @@
 //! What the words of the command line ask for.
 ghost use Rattle.std.specs.Prelude.{◌≡◌, map};
 ghost use Rattle.std.specs.Option.{option_map};
-ghost use Rattle.top_call.specs.Requests.{request_alone, request_in, request_of, request_on};
+ghost use Rattle.top_call.specs.Requests.{request_alone, request_in, request_of, request_on, request_with};
 
 /// What is asked for.
 #[derive(Clone, Copy)]
@@ -16,6 +16,8 @@ pub enum Request<'a> {
     Plan(&'a str),
     /// What the sandbox of a unit lets its service do.
     Judge(&'a str),
+    /// What the sandbox of a unit, the first, answers to the calls of a script, the second.
+    Replay(&'a str, &'a str),
 }
 
 // The request of a word by itself.
@@ -41,6 +43,16 @@ fn request_on<'a>(word: &str, unit: &'a str) -> Option<Request<'a>>
     }
 }
 
+// The request of a word about a unit and a script.
+fn request_with<'a>(word: &str, unit: &'a str, script: &'a str) -> Option<Request<'a>>
+    ensures { option_map request_of result ≡ request_with word.now unit.now script.now }
+{
+    match word {
+        "replay" => Some(Request::Replay(unit, script)),
+        _ => None,
+    }
+}
+
 /// The request of the words, or none where they are no command.
 pub fn parse<'a>(words: &[&'a str]) -> Option<Request<'a>>
     ensures { option_map request_of result ≡ request_in (map (λ word. word.now) words.now) }
@@ -48,6 +60,7 @@ pub fn parse<'a>(words: &[&'a str]) -> Option<Request<'a>>
     match words {
         [word] => request_alone(word),
         [word, unit] => request_on(word, unit),
+        [word, unit, script] => request_with(word, unit, script),
         _ => None,
     }
 }

@@ -31,6 +31,7 @@ fn answer_request<S: Shelf, K: Sink>(
         Request::Filter(unit) => finish(alloc, filter_command::prepare(alloc, shelf, unit), out),
         Request::Plan(unit) => finish(alloc, plan_command::prepare(alloc, shelf, unit), out),
         Request::Judge(unit) => finish(alloc, judge_command::prepare(alloc, shelf, unit), out),
+        Request::Replay(unit, script) => replay_command::answer(alloc, shelf, unit, script, out),
     }
 }
 

@@ -11,11 +11,13 @@ use std::alloc::Global;
 const HELP: &[&str] = &[
     "Lentsheep judges the sandbox of a systemd service without starting it.\n",
     "\n",
-    "usage: sandbox_cli COMMAND UNIT\n",
+    "usage: sandbox_cli COMMAND UNIT [SCRIPT]\n",
     "\n",
     "  filter UNIT    print the compiled seccomp filters of the unit\n",
     "  plan UNIT      print the mounts that give the service its view of files\n",
     "  judge UNIT     launch the service in a model, print what it can reach\n",
+    "  replay UNIT SCRIPT\n",
+    "                 launch it, make the calls of SCRIPT, print what each comes to\n",
     "  --help         print this text\n",
     "  --version      print the name and the version\n",
     "\n",
@@ -25,6 +27,7 @@ const HELP: &[&str] = &[
     "                 the unit, with its drop-ins beside it\n",
     "  calls.txt      the table of system calls and their groups\n",
     "  site.toml      the files, the users and the groups of the host\n",
+    "  SCRIPT         calls to replay, one a line: PID NAME [PAYLOAD] [NUMBER ..]\n",
     "\n",
     "The status says how it ended:\n",
     "\n",
@@ -34,7 +37,7 @@ const HELP: &[&str] = &[
     "  4  a read failed, and nothing was printed\n",
     "  5  a write failed, and the text was cut\n",
     "  6  memory ran out, and the text was cut\n",
-    "  7  the launch of judge is refused\n",
+    "  7  the launch of judge or replay is refused\n",
     "\n",
     "The manual is README.md; docs/PROFILE.md says how units are read.\n",
 ];
@@ -63,7 +66,7 @@ impl Ready for Fixed {
         self.ending
     }
 
-    fn print<K: Sink>(&self, _alloc: Global, out: &mut K) -> Result<(), SinkError> {
+    fn print<K: Sink>(&mut self, _alloc: Global, out: &mut K) -> Result<(), SinkError> {
         print_lines(self.lines, out)
     }
 }

@@ -12,4 +12,5 @@ mod inputs;
 mod site;
 mod units;
 
+pub use files::read_input;
 pub use inputs::{UnitInputs, read_inputs};

@@ -1,6 +1,4 @@
-use Rattle.std.proofs.Common.{refl, sym, ap, subst}
-use Rattle.std.specs.Option.{option_map}
-use Rattle.command_answers.specs.Runs.{IsRun}
+use Rattle.std.proofs.Common.{refl}
 use Rattle.command_answers.specs.Laws.{laws_over}
 use Rattle.command_answers.specs.declared.ending.Ending.TheVariants.{Done}
 use Rattle.command_answers.proofs.Runs.{ran}
@@ -11,8 +9,6 @@ use Rattle.plan_command.proofs.Prepared.{together as plan_together}
 use Rattle.judge_command.specs.Prints.{judge_laws}
 use Rattle.judge_command.specs.Report.{ending_of as judge_ending, text_of as report_text}
 use Rattle.judge_command.proofs.Prepared.{together as judge_together}
-use Rattle.top_call.specs.Asked.{laws_by}
-use Rattle.top_call.specs.Requests.{request_of}
 use Rattle.top_call.specs.Texts.{help_text, version_text}
 use Rattle.top_call.proofs.Runs.{ran_fixed}
 use Rattle.top_call.proofs.running.answer_request.Goals as goal
@@ -44,3 +40,6 @@ returns-in-Judge-clause-runs g c =
     rw c.in-Judge.is
     (ran (laws_over (g.S.Shelf.told c.args.shelf.now) (judge_laws c.in-Judge.unit.now)) (judge_together (g.S.Shelf.told c.args.shelf.now) c.in-Judge.unit.now) _ judge_ending report_text c.prepare-in-Judge.result c.finish-in-Judge.result
     c.prepare-in-Judge.ensures.prepares c.prepare-in-Judge.ensures.reads_for_a_name c.prepare-in-Judge.ensures.fault_rose c.finish-in-Judge.ensures.finishes)
+
+pub returns-in-Replay-clause-runs : goal.returns-in-Replay-clause-runs
+returns-in-Replay-clause-runs g c = rw c.in-Replay.is c.answer.ensures.runs

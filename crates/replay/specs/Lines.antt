@@ -1,0 +1,28 @@
+-- The lines of a replay, each ended by a line feed.
+use Rattle.std.specs.Prelude.{ℕ, List, [], ◌∷◌, ◌++◌, codes, flat_map}
+use Rattle.std.specs.Fmt.{decimal}
+use Rattle.call_table.specs.declared.listed.CallLine.{CallLine}
+use Rattle.kernel_calls.specs.declared.call.Call.{Call}
+use Rattle.kernel_model.specs.declared.reply.Reply.{Reply}
+use Rattle.kernel_model.specs.declared.reply.Reply.TheVariants.{Done, Refused, Killed}
+use Rattle.kernel_model.specs.Runs.{Moment, moments}
+use Rattle.kernel_model.specs.World.{World}
+use Rattle.script_text.specs.Printed.{call_text}
+
+-- what a call comes to: its value, its error number (errno(3)), or that the caller is killed (seccomp(2))
+abbrev pub reply_words : Reply → List ℕ
+reply_words (Done value) = codes "ok " ++ decimal value
+reply_words (Refused errno) = codes "errno " ++ decimal errno
+reply_words Killed = codes "killed"
+
+-- a call, as a script would have it, and what it comes to
+abbrev pub call_line : List CallLine → Call → Reply → List ℕ
+call_line calls call reply = call_text calls call ++ (codes " -> " ++ (reply_words reply ++ 10 ∷ []))
+
+-- a call of a run and the reply to it
+abbrev pub moment_line : List CallLine → Moment → List ℕ
+moment_line calls moment = call_line calls moment.call moment.reply
+
+-- the run of a script from a world on: a line for each call, in order, with its reply
+abbrev pub run_text : List CallLine → World → List Call → List ℕ
+run_text calls world script = flat_map (moment_line calls) (moments world script)

@@ -1,0 +1,34 @@
+-- Which calls of a script were made, where its replay stopped.
+use Rattle.std.specs.Prelude.{◌≡◌, ◌⊎◌, ◌≤◌, ℕ, List, ◌++◌, length, Option, Result, Ok, Err}
+use Rattle.call_table.specs.declared.listed.CallLine.{CallLine}
+use Rattle.host_io.specs.Writing.{Grew}
+use Rattle.host_io.specs.declared.writing.SinkError.{SinkError}
+use Rattle.kernel_calls.specs.declared.call.Call.{Call}
+use Rattle.kernel_model.specs.Runs.{run}
+use Rattle.kernel_model.specs.Step.{step}
+use Rattle.kernel_model.specs.World.{World}
+use Rattle.replay.specs.Lines.{run_text}
+
+-- the calls that were made are a front of the script: those whose lines the sink has taken whole, and at most one more, of
+-- whose line it has taken a front
+pub record IsCut (calls : List CallLine) (world : World) (script : List Call) (before after : Option (List ℕ)) (left : World) : Type 0 where
+  pub told : List Call
+  pub more : List Call
+  pub rest : List Call
+  pub in_order : told ++ (more ++ rest) ≡ script
+  pub at_most_one_more : length more ≤ 1
+  pub leaves : left ≡ run world (told ++ more)
+  pub front : List ℕ
+  pub behind : List ℕ
+  pub of_its_line : front ++ behind ≡ run_text calls (run world told) more
+  pub taken : Grew before after (run_text calls world told ++ front)
+
+-- a script was replayed whole, and its run's world is left; or only so many of its calls were made
+abbrev pub Performs : List CallLine → World → List Call → Option (List ℕ) → Option (List ℕ) → Result (Unit {0}) SinkError → World → Type 0
+Performs calls world script before after (Ok u) left = left ≡ run world script
+Performs calls world script before after (Err error) left = IsCut calls world script before after left
+
+-- a call was made; where its line was not taken whole it was made, or not and nothing was taken
+abbrev pub Makes : World → Call → Option (List ℕ) → Option (List ℕ) → Result (Unit {0}) SinkError → World → Type 0
+Makes world call before after (Ok u) left = left ≡ (step world call).1
+Makes world call before after (Err error) left = (left ≡ (step world call).1) ⊎ ((left ≡ world) × (after ≡ before))

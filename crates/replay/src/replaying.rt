@@ -1,0 +1,72 @@
+//! The calls of a script, made one behind the other.
+ghost use Rattle.std.specs.Prelude.{◌≡◌};
+ghost use Rattle.command_answers.specs.Printing.{HasWriteCause, TakesText};
+ghost use Rattle.kernel_model.specs.Runs.{moment_at};
+ghost use Rattle.replay.specs.Lines.{moment_line, run_text};
+ghost use Rattle.replay.specs.Performed.{Makes, Performs};
+
+use crate::lines::call_line;
+use call_table::CallTable;
+use command_answers::put_line;
+use host_io::{Sink, SinkError};
+use kernel_calls::Call;
+use kernel_model::World;
+use launcher::Launched;
+use script_text::Script;
+use std::alloc::Global;
+
+// Makes a call, and prints its line.
+fn make_call<K: Sink>(
+    alloc: Global,
+    world: &mut World,
+    call: &Call,
+    calls: &CallTable,
+    out: &mut K,
+) -> Result<(), SinkError>
+    ensures takes_the_line { TakesText (K.taken out.old) (K.taken out.new) (moment_line calls.now.calls (moment_at world.old call.now)) result }
+    ensures fault_rose { HasWriteCause (K.faults out.old) (K.faults out.new) result }
+    ensures makes_it { Makes world.old call.now (K.taken out.old) (K.taken out.new) result world.new }
+{
+    let reply = world.step(alloc, call)?;
+    put_line(out, call_line(alloc, call, reply, calls))
+}
+
+// Makes calls one behind the other, and prints the line of each as it is made.
+fn make_calls<K: Sink>(
+    alloc: Global,
+    world: &mut World,
+    script: &[Call],
+    calls: &CallTable,
+    out: &mut K,
+) -> Result<(), SinkError>
+    ensures takes_the_lines { TakesText (K.taken out.old) (K.taken out.new) (run_text calls.now.calls world.old script.now) result }
+    ensures fault_rose { HasWriteCause (K.faults out.old) (K.faults out.new) result }
+    ensures performs { Performs calls.now.calls world.old script.now (K.taken out.old) (K.taken out.new) result world.new }
+{
+    'script: for call in script {
+        make_call(alloc, world, call, calls, out)?;
+    }
+    Ok(())
+}
+
+/// Makes the calls of a script in the world of a launched service, and prints a line for each as it is made: the call as
+/// `print_call` gives it with this table of calls, and its reply, `ok` with a value, `errno` with an error number, or `killed`.
+///
+/// The replies are those of the run of the script from the service's world on, and that run's world is left. A reply that
+/// refuses or kills is a reply like others: the next call is made. `Failed` comes only where the sink's count of faults rose.
+/// At an error a front of the text was taken, and the calls that were made are those whose lines were taken whole, in order,
+/// and at most one more, of whose line a front was taken or nothing. All else of the service stays as it was.
+pub fn replay<K: Sink>(
+    alloc: Global,
+    launched: &mut Launched,
+    script: &Script,
+    calls: &CallTable,
+    out: &mut K,
+) -> Result<(), SinkError>
+    ensures takes_the_lines { TakesText (K.taken out.old) (K.taken out.new) (run_text calls.now.calls launched.old.world script.now) result }
+    ensures fault_rose { HasWriteCause (K.faults out.old) (K.faults out.new) result }
+    ensures performs { Performs calls.now.calls launched.old.world script.now (K.taken out.old) (K.taken out.new) result launched.new.world }
+    ensures rest_stays { launched.new ≡ record launched.old { world = launched.new.world } }
+{
+    make_calls(alloc, &mut launched.world, script.calls(), calls, out)
+}

@@ -1,0 +1,10 @@
+use Rattle.replay_command.proofs.Runs.{ran_prepared, ran_stopped}
+use Rattle.replay_command.proofs.command.answer.Goals as goal
+
+pub returns-in-Ok-clause-runs : goal.returns-in-Ok-clause-runs
+returns-in-Ok-clause-runs g c =
+    ran_prepared (g.S.Shelf.told c.args.shelf.now) c.args.unit.now c.args.script.now _ c.answer_prepared.result c.in-Ok.prepared c.in-Ok.ensures.can_be_started c.in-Ok.ensures.prepares c.in-Ok.ensures.fault_rose c.answer_prepared.ensures.finishes
+
+pub returns-in-Err-clause-runs : goal.returns-in-Err-clause-runs
+returns-in-Err-clause-runs g c =
+    ran_stopped (g.S.Shelf.told c.args.shelf.now) c.args.unit.now c.args.script.now _ c.answer_stop.result c.in-Err.stop c.in-Err.ensures.prepares c.in-Err.ensures.reads_for_a_name c.in-Err.ensures.fault_rose c.answer_stop.ensures.finishes

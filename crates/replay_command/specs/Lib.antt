@@ -1,0 +1,5 @@
+pub mod Scripts
+pub mod Texts
+pub mod Prepared
+pub mod Started
+pub mod Prints

@@ -1,0 +1,38 @@
+-- What a replay starts with, and the order of refusals.
+use Rattle.std.specs.Prelude.{◌≡◌, ℕ, List, ◌∷◌, ◌++◌, Option, Some, Ok}
+use Rattle.host_io.specs.Files.{Files}
+use Rattle.kern_mounts.specs.Launch.{CanBeMounted}
+use Rattle.kernel_calls.specs.Calls.{AreCalls}
+use Rattle.mount_plan.specs.Host.{host_of}
+use Rattle.exec_settings.specs.Mounts.{unit_mentions}
+use Rattle.command_answers.specs.Stops.{refusal_in}
+use Rattle.unit_inputs.specs.Inputs.{Inputs, input_refusals, inputs_of, inputs_view}
+use Rattle.unit_settings.specs.Settled.{AreSettled, refusals_by, refusals_of}
+use Rattle.plan_command.specs.Planned.{IsPlan}
+use Rattle.plan_command.specs.Prints.{refused_paths}
+use Rattle.replay_command.specs.Scripts.{script_in}
+use Rattle.replay_command.specs.declared.preparing.Prepared.{Prepared}
+
+-- what is refused behind the inputs: the script, then the settings, and then the paths
+abbrev pub refusals_behind : Files → List ℕ → List ℕ → Inputs → List (Option (List ℕ))
+refusals_behind files unit path inputs = refusal_in (script_in files path inputs.calls) ∷ (refusals_of unit inputs ++ refused_paths unit inputs)
+
+-- the order of refusals: the inputs, and what is refused behind them
+abbrev pub replay_refusals : Files → List ℕ → List ℕ → List (Option (List ℕ))
+replay_refusals files unit path = input_refusals files unit ++ refusals_by (refusals_behind files unit path) (inputs_of files unit)
+
+abbrev pub inputs_in : Prepared → Inputs
+inputs_in prepared = inputs_view prepared.unit.inputs
+
+-- its settings are those of the unit, a launch can take its plan, and its script has calls that processes can make
+pub record CanBeStarted (prepared : Prepared) : Type 0 where
+  pub settled : AreSettled (inputs_in prepared) prepared.unit.settings.value
+  pub plan : CanBeMounted (host_of (inputs_in prepared).site) prepared.plan
+  pub calls : AreCalls prepared.script
+
+-- it is what the files give: the inputs of the unit, the script, the settings, and the plan of the unit's mounts
+pub record IsPrepared (files : Files) (unit path : List ℕ) (prepared : Prepared) : Type 0 where
+  pub inputs : inputs_of files unit ≡ Some (inputs_in prepared)
+  pub script : script_in files path (inputs_in prepared).calls ≡ Ok prepared.script
+  pub settings : AreSettled (inputs_in prepared) prepared.unit.settings.value
+  pub plan : IsPlan (host_of (inputs_in prepared).site) (unit_mentions (inputs_in prepared).unit (inputs_in prepared).site) prepared.plan

@@ -1,0 +1,65 @@
+-- What `replay` prints, by the files.
+use Rattle.std.specs.Prelude.{◌≡◌, ◌⊎◌, ℕ, IsSome, List, Some, Ok}
+use Rattle.host_io.specs.Files.{Files}
+use Rattle.kern_mounts.specs.declared.step.MountStep.{MountStep}
+use Rattle.mount_plan.specs.Host.{host_of}
+use Rattle.exec_settings.specs.Mounts.{unit_mentions}
+use Rattle.exec_settings.specs.declared.service.Settings.{Settings}
+use Rattle.command_answers.specs.Laws.{FileLaws}
+use Rattle.command_answers.specs.declared.ending.Ending.{Ending}
+use Rattle.command_answers.specs.declared.ending.Ending.TheVariants.{Done, LaunchRefused}
+use Rattle.kernel_calls.specs.declared.call.Call.{Call}
+use Rattle.bpf_code.specs.declared.machine.Insn.{Insn}
+use Rattle.kernel_model.specs.World.{World}
+use Rattle.call_table.specs.Table as calls
+use Rattle.site_table.specs.Table.{Site}
+use Rattle.launcher.specs.Alike.{SameReplies}
+use Rattle.launcher.specs.Answers.{launch_with}
+use Rattle.launcher.specs.Launch as ends
+use Rattle.unit_inputs.specs.Inputs.{Inputs, inputs_of}
+use Rattle.unit_names.specs.Cutting.{name_of}
+use Rattle.unit_settings.specs.Settled.{AreSettled}
+use Rattle.unit_launch.specs.Launching.{ComesTo}
+use Rattle.unit_launch.specs.OtherPrograms.{AreOthers, HasRoomByBounds}
+use Rattle.unit_launch.specs.declared.launching.UnitLaunch.{UnitLaunch}
+use Rattle.unit_launch.specs.declared.launching.UnitLaunch.TheVariants.{Launched, Refused}
+use Rattle.plan_command.specs.Planned.{IsPlan}
+use Rattle.replay_command.specs.Prepared.{replay_refusals}
+use Rattle.replay_command.specs.Scripts.{script_in}
+use Rattle.replay_command.specs.Texts.{ending_behind, replay_text}
+
+-- With any programs that match the filters, its own among them, the launch takes as many steps, and the replies are the same, up
+-- to the first call of seccomp(2) that answers with one list alone that there is no room (ENOMEM). That answer comes wherever
+-- the programs that the service pushed itself pass the limit, and never where they do not pass it together with the most that
+-- the programs of the launch may take.
+abbrev pub RepliesAlike : calls.Table → Site → Settings → List MountStep → List Call → UnitLaunch → Type 0
+RepliesAlike table site settings plan script (Launched service) =
+    (programs : List (List ℕ)) (codes : List (List Insn)) → AreOthers settings programs codes
+    → ((other : World) × (launch_with table site settings plan programs ≡ ends.Launched other service.steps) × SameReplies service.world other script) × HasRoomByBounds settings codes
+RepliesAlike table site settings plan script (Refused refusal) = Unit {0}
+
+-- the replay of a script: by the inputs of the unit, its settings and the plan of its mounts the unit is launched; then the
+-- script, as the table of calls reads it, is run from the launched world on, and each call is told with its reply
+pub record PrintsReplay (files : Files) (unit path : List ℕ) (ending : Ending) (text : List ℕ) : Type 0 where
+  pub inputs : Inputs
+  pub inputs_are : inputs_of files unit ≡ Some inputs
+  pub script : List Call
+  pub script_is : script_in files path inputs.calls ≡ Ok script
+  pub settings : Settings
+  pub are_settings : AreSettled inputs settings
+  pub plan : List MountStep
+  pub is_plan : IsPlan (host_of inputs.site) (unit_mentions inputs.unit inputs.site) plan
+  pub launch : UnitLaunch
+  pub comes_to : ComesTo inputs.calls inputs.site settings plan launch
+  pub replies_alike : RepliesAlike inputs.calls inputs.site settings plan script launch
+  pub is_its_text : text ≡ replay_text inputs.calls.calls script launch
+  pub is_its_ending : ending ≡ ending_behind launch
+
+-- the refusals in their order; a launch that is refused is told with status 7
+abbrev pub replay_laws : List ℕ → List ℕ → FileLaws
+replay_laws unit path = record {
+  refusals = λ files. replay_refusals files unit path;
+  prints = λ files ending text. PrintsReplay files unit path ending text;
+  may_end = λ ending. (ending ≡ Done) ⊎ (ending ≡ LaunchRefused);
+  reads = IsSome (name_of unit);
+}

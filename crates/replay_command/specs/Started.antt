@@ -1,0 +1,38 @@
+-- A replay that is started, and how a run goes on behind what is prepared.
+use Rattle.std.specs.Prelude.{◌≡◌, ◌⊎◌, ℕ, List, Err}
+use Rattle.command_answers.specs.Printing.{Finishes, IsUntouched, Output, PrintsText}
+use Rattle.command_answers.specs.declared.ending.Ending.{Ending}
+use Rattle.command_answers.specs.declared.ending.Ending.TheVariants.{OutOfMemory}
+use Rattle.command_answers.specs.declared.stop.Stop.{Stop}
+use Rattle.unit_launch.specs.Launching.{ComesTo}
+use Rattle.replay_command.specs.Prepared.{inputs_in}
+use Rattle.replay_command.specs.Texts.{ending_behind, replay_text}
+use Rattle.replay_command.specs.declared.preparing.Prepared.{Prepared}
+use Rattle.replay_command.specs.declared.ready.Replay.{Replay}
+
+-- what is ready
+abbrev pub text_of : Replay → List ℕ
+text_of replay = replay_text replay.calls.now.calls replay.script.now replay.launch
+
+abbrev pub ending_of : Replay → Ending
+ending_of replay = ending_behind replay.launch
+
+-- the launch of what is prepared, with its script and its table of calls
+pub record IsStarted (prepared : Prepared) (replay : Replay) : Type 0 where
+  pub comes_to : ComesTo (inputs_in prepared).calls (inputs_in prepared).site prepared.unit.settings.value prepared.plan replay.launch
+  pub script : replay.script.now ≡ prepared.script
+  pub calls : replay.calls.now ≡ (inputs_in prepared).calls
+
+-- its replay is printed
+pub record PrintsStarted (prepared : Prepared) (ended : Ending) (output : Output) : Type 0 where
+  pub replay : Replay
+  pub started : IsStarted prepared replay
+  pub prints : PrintsText (ending_of replay) (text_of replay) ended output
+
+-- or memory ran out, and nothing was printed
+abbrev pub FinishesStarted : Prepared → Ending → Output → Type 0
+FinishesStarted prepared ended output = PrintsStarted prepared ended output ⊎ ((ended ≡ OutOfMemory) × IsUntouched output)
+
+-- what stopped prints its line, if it has one
+abbrev pub FinishesAny : Stop → Ending → Output → Type 0
+FinishesAny stop ended output = Finishes {R = Replay} ending_of text_of (Err stop) ended output

@@ -1,0 +1,32 @@
+-- The text of a replay, and how a run ends behind it.
+use Rattle.std.specs.Prelude.{ℕ, List, [], ◌∷◌, ◌++◌, length, codes}
+use Rattle.std.specs.Fmt.{decimal}
+use Rattle.call_table.specs.declared.listed.CallLine.{CallLine}
+use Rattle.command_answers.specs.declared.ending.Ending.{Ending}
+use Rattle.command_answers.specs.declared.ending.Ending.TheVariants.{Done, LaunchRefused}
+use Rattle.kernel_calls.specs.declared.call.Call.{Call}
+use Rattle.launcher.specs.declared.launched.Launched.{Launched as Service}
+use Rattle.replay.specs.Lines.{run_text}
+use Rattle.report_text.specs.Launches.{launched_line}
+use Rattle.unit_launch.specs.Refusals.{refusal_line}
+use Rattle.unit_launch.specs.Told.{told_of}
+use Rattle.unit_launch.specs.declared.launching.UnitLaunch.{UnitLaunch}
+use Rattle.unit_launch.specs.declared.launching.UnitLaunch.TheVariants.{Launched, Refused}
+
+-- how many calls there are
+abbrev pub count_line : ℕ → List ℕ
+count_line count = codes "calls " ++ (decimal count ++ 10 ∷ [])
+
+-- the launch of a service; the calls of the script with the replies of their run from its world on; how many calls there are
+abbrev pub service_text : List CallLine → List Call → Service → List ℕ
+service_text calls script service =
+    launched_line (told_of service.world service.steps) ++ (run_text calls service.world script ++ count_line (length script))
+
+-- or the line of a launch that is refused
+abbrev pub replay_text : List CallLine → List Call → UnitLaunch → List ℕ
+replay_text calls script (Launched service) = service_text calls script service
+replay_text calls script (Refused refusal) = refusal_line refusal
+
+abbrev pub ending_behind : UnitLaunch → Ending
+ending_behind (Launched service) = Done
+ending_behind (Refused refusal) = LaunchRefused

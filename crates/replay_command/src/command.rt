@@ -1,0 +1,56 @@
+//! The command `replay`, the name of a unit and the path of a script.
+ghost use Rattle.std.specs.Prelude.{◌≡◌, IsSome};
+ghost use Rattle.unit_names.specs.Cutting.{name_of};
+ghost use Rattle.command_answers.specs.Laws.{laws_over};
+ghost use Rattle.command_answers.specs.Printing.{Finishes};
+ghost use Rattle.command_answers.specs.Runs.{IsRun};
+ghost use Rattle.replay_command.specs.Prepared.{CanBeStarted};
+ghost use Rattle.replay_command.specs.Prints.{replay_laws};
+ghost use Rattle.replay_command.specs.Started.{FinishesAny, FinishesStarted};
+
+use crate::launching::start;
+use crate::preparing::{Prepared, prepare};
+use crate::ready::Replay;
+use command_answers::{Ending, Stop, finish};
+use host_io::{Shelf, Sink};
+use std::alloc::Global;
+
+// Launches what is prepared and prints its replay.
+fn answer_prepared<K: Sink>(alloc: Global, prepared: &Prepared, out: &mut K) -> Ending
+    requires can_be_started { CanBeStarted prepared.now }
+    ensures finishes { FinishesStarted prepared.now result (record { faults_before = K.faults out.old; faults_after = K.faults out.new; taken_before = K.taken out.old; taken_after = K.taken out.new }) }
+{
+    match start(alloc, prepared) {
+        Ok(replay) => finish(alloc, Ok(replay), out),
+        Err(_) => Ending::OutOfMemory,
+    }
+}
+
+// Prints the line of a refusal, if there is one.
+fn answer_stop<K: Sink>(alloc: Global, stop: Stop, out: &mut K) -> Ending
+    ensures finishes { FinishesAny stop result (record { faults_before = K.faults out.old; faults_after = K.faults out.new; taken_before = K.taken out.old; taken_after = K.taken out.new }) }
+{
+    let stopped: Result<Replay, Stop> = Err(stop);
+    finish(alloc, stopped, out)
+}
+
+/// Does `replay` for the name of a unit and the path of a script: reads the unit, calls.txt, site.toml and the script, finds
+/// the first refusal of them, of the settings and of the paths that they mention, launches the service, and makes the calls of
+/// the script in its world, each with a line. A launch that is refused prints its line alone.
+pub fn answer<S: Shelf, K: Sink>(
+    alloc: Global,
+    shelf: &mut S,
+    unit: &str,
+    script: &str,
+    out: &mut K,
+) -> Ending
+    ensures runs { IsRun (laws_over (S.told shelf.old) (replay_laws unit.now script.now)) result
+        (record { shelf_before = S.faults shelf.old; shelf_after = S.faults shelf.new; sink = record { faults_before = K.faults out.old; faults_after = K.faults out.new; taken_before = K.taken out.old; taken_after = K.taken out.new } }) }
+    ensures unread_without_a_name { (IsSome (name_of unit.now) → ⊥) → shelf.new ≡ shelf.old }
+    ensures map_stays { S.told shelf.new ≡ S.told shelf.old }
+{
+    match prepare(alloc, shelf, unit, script) {
+        Ok(prepared) => answer_prepared(alloc, &prepared, out),
+        Err(stop) => answer_stop(alloc, stop, out),
+    }
+}

@@ -1,0 +1,64 @@
+//! What `replay` reads, and what it takes from that.
+ghost use Rattle.std.specs.Prelude.{◌≡◌, All, IfOk, IfSome, IsErrOf, IsSome};
+ghost use Rattle.unit_names.specs.Cutting.{name_of};
+ghost use Rattle.command_answers.specs.Stops.{HasReadCause, Prepares};
+ghost use Rattle.kernel_calls.specs.Calls.{IsCall};
+ghost use Rattle.replay_command.specs.Prepared.{CanBeStarted, IsPrepared, replay_refusals};
+
+use crate::script::read_script;
+use command_answers::Stop;
+use host_io::Shelf;
+use kernel_calls::{Call, fits};
+use mount_plan::MountSteps;
+use plan_command::plan_mounts;
+use script_text::Script;
+use std::alloc::Global;
+use unit_inputs::read_inputs;
+use unit_settings::{SettledUnit, settle};
+
+/// All that a replay starts with.
+#[derive(Drop)]
+pub struct Prepared {
+    /// The unit with its settings.
+    pub unit: SettledUnit,
+    /// The calls of the script.
+    pub script: Script,
+    /// The plan of the unit's mounts.
+    pub plan: MountSteps,
+}
+
+// What holds of each call is said by a call of `fits`, which changes nothing.
+fn calls_fit(script: &[Call])
+    ensures { All IsCall script.now }
+{
+    'script: for call in script {
+        fits(call);
+    }
+}
+
+/// Reads the unit, calls.txt, site.toml and the script, finds the first refusal of them, of the settings and of the paths that
+/// they mention, and plans the mounts.
+pub fn prepare<S: Shelf>(
+    alloc: Global,
+    shelf: &mut S,
+    unit: &str,
+    script: &str,
+) -> Result<Prepared, Stop>
+    ensures prepares { IfSome (S.told shelf.old) (λ files. Prepares (IsPrepared files unit.now script.now) (replay_refusals files unit.now script.now) result) }
+    ensures can_be_started { IfOk result CanBeStarted }
+    ensures reads_for_a_name { IsErrOf result Stop.ReadFault → IsSome (name_of unit.now) }
+    ensures unread_without_a_name { (IsSome (name_of unit.now) → ⊥) → shelf.new ≡ shelf.old }
+    ensures map_stays { S.told shelf.new ≡ S.told shelf.old }
+    ensures fault_rose { HasReadCause (S.faults shelf.old) (S.faults shelf.new) result }
+{
+    let inputs = read_inputs(alloc, shelf, unit)?;
+    let made = read_script(alloc, shelf, script, &inputs.calls)?;
+    calls_fit(made.calls());
+    let one = settle(alloc, unit, inputs)?;
+    let plan = plan_mounts(alloc, unit, &one.settings.mentions, &one.inputs.site)?;
+    Ok(Prepared {
+        unit: one,
+        script: made,
+        plan,
+    })
+}

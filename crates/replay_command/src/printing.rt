@@ -1,0 +1,47 @@
+//! Replays, made and printed line by line.
+ghost use Rattle.command_answers.specs.Printing.{HasWriteCause, TakesText};
+ghost use Rattle.replay_command.specs.Texts.{replay_text, service_text};
+
+use crate::lines::count_line;
+use call_table::CallTable;
+use command_answers::put_line;
+use host_io::{Sink, SinkError};
+use launcher::Launched;
+use replay::replay;
+use report_text::launched_line;
+use script_text::Script;
+use std::alloc::Global;
+use unit_launch::{UnitLaunch, refusal_line, told};
+
+// Prints the launch, each call of the script as it is made, and how many there are.
+fn print_service<K: Sink>(
+    alloc: Global,
+    service: &mut Launched,
+    script: &Script,
+    calls: &CallTable,
+    out: &mut K,
+) -> Result<(), SinkError>
+    ensures takes_the_text { TakesText (K.taken out.old) (K.taken out.new) (service_text calls.now.calls script.now service.old) result }
+    ensures fault_rose { HasWriteCause (K.faults out.old) (K.faults out.new) result }
+{
+    put_line(out, launched_line(alloc, told(service)))?;
+    replay(alloc, service, script, calls, out)?;
+    put_line(out, count_line(alloc, script.calls().len()))
+}
+
+/// Prints a replay of the script after this launch, or why there is none.
+pub fn print_replay<K: Sink>(
+    alloc: Global,
+    launch: &mut UnitLaunch,
+    script: &Script,
+    calls: &CallTable,
+    out: &mut K,
+) -> Result<(), SinkError>
+    ensures takes_the_text { TakesText (K.taken out.old) (K.taken out.new) (replay_text calls.now.calls script.now launch.old) result }
+    ensures fault_rose { HasWriteCause (K.faults out.old) (K.faults out.new) result }
+{
+    match launch {
+        UnitLaunch::Launched(service) => print_service(alloc, service, script, calls, out),
+        UnitLaunch::Refused(refusal) => put_line(out, refusal_line(alloc, refusal)),
+    }
+}

@@ -1,0 +1,4 @@
+pub mod Told
+pub mod Refusals
+pub mod OtherPrograms
+pub mod Launching

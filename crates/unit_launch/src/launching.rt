@@ -1,0 +1,66 @@
+//! The launch of a unit.
+ghost use Rattle.std.specs.Prelude.{◌<◌, ◌^◌, IfOk};
+ghost use Rattle.call_table.specs.Facts.{IsWhole};
+ghost use Rattle.dropin_merge.specs.declared.resolved.Resolved.{Resolved};
+ghost use Rattle.exec_settings.specs.AreSettings.{AreSettings};
+ghost use Rattle.kern_mounts.specs.Launch.{CanBeMounted};
+ghost use Rattle.mount_plan.specs.Host.{host_of};
+ghost use Rattle.unit_launch.specs.Launching.{ComesTo};
+
+use crate::refusal::LaunchRefusal;
+use call_table::CallTable;
+use exec_settings::Settings;
+use kern_mounts::MountStep;
+use launcher::{LaunchError, Launched, launch};
+use site_table::SiteTable;
+use std::alloc::{AllocError, Global};
+
+/// What the launch of a unit comes to.
+#[derive(Drop)]
+pub enum UnitLaunch<'a> {
+    /// It ended well, and left this service.
+    Launched(Launched<'a>),
+    /// It is refused.
+    Refused(LaunchRefusal),
+}
+
+// The facts of every table, which its lists are lent with.
+fn look_at(table: &CallTable)
+    ensures whole { IsWhole table.now }
+    ensures arch { table.now.arch < 2 ^ 32 }
+{
+    let _arch = table.arch();
+    let _calls = table.calls();
+    let _families = table.families();
+    let _groups = table.groups();
+}
+
+/// Launches a unit with these settings and this plan of its mounts, over the table of calls and the site that they are by.
+pub fn launch_unit<'a>(
+    alloc: Global,
+    settings: &Settings,
+    plan: &[MountStep],
+    calls: &'a CallTable,
+    site: &'a SiteTable,
+) -> Result<UnitLaunch<'a>, AllocError>
+    requires plan { CanBeMounted (host_of site.now) plan.now }
+    requires settings { (unit : Resolved) × AreSettings unit calls.now site.now settings.now }
+    ensures comes_to { IfOk result (ComesTo calls.now site.now settings.now plan.now) }
+{
+    // What holds of each site is said by the calls that lend its parts.
+    let _uid = site.dynamic_uid();
+    look_at(calls);
+    match launch(alloc, settings, plan, calls, site) {
+        Ok(service) => Ok(UnitLaunch::Launched(service)),
+        Err(LaunchError::PrivilegedProgram(program)) => {
+            Ok(UnitLaunch::Refused(LaunchRefusal::Privileged(program)))
+        }
+        Err(LaunchError::Refused { step, errno }) => {
+            Ok(UnitLaunch::Refused(LaunchRefusal::Refused(step, errno)))
+        }
+        Err(LaunchError::Killed { step }) => {
+            Ok(UnitLaunch::Refused(LaunchRefusal::Killed(step)))
+        }
+        Err(LaunchError::Memory) => Err(AllocError),
+    }
+}
