@@ -1,0 +1,7 @@
+pub mod Among
+pub mod Plain
+pub mod Ascending
+pub mod Pushing
+pub mod Members
+pub mod Order
+pub mod Flags

@@ -1,0 +1,119 @@
+-- The list of questions, in words of its own: which questions are in it, and which comes before which.
+use Rattle.std.specs.Prelude.{◌≡◌, ◌↔◌, ◌⊎◌, ◌<◌, ◌≤◌, ◌*◌, ◌+◌, ℕ, Bool, true, not, List, length, slice_get, Some, Any, AllPairs, Contains}
+use Rattle.std.specs.List.Sorted.{IsStrictlyIncreasing}
+use Rattle.linux_numbers.specs.Capabilities.{cap_last_cap}
+use Rattle.call_table.specs.declared.listed.CallLine.{CallLine}
+use Rattle.call_table.specs.Table as calls
+use Rattle.site_table.specs.declared.kinds.RowKind.{RowKind}
+use Rattle.site_table.specs.declared.row.Row.{Row}
+use Rattle.site_table.specs.declared.accounts.User.{User}
+use Rattle.site_table.specs.declared.accounts.Group.{Group}
+use Rattle.site_table.specs.Kinds.{is_dir, is_exe}
+use Rattle.site_table.specs.Table.{Site}
+use Rattle.filter_rules.specs.declared.namespace_types.NamespaceType.{NamespaceType}
+use Rattle.filter_rules.specs.NamespaceTypes as filter
+use Rattle.kernel_calls.specs.Rules.{rule_of}
+use Rattle.kernel_laws.specs.Questions.{Wish, ToSee, ToRead, ToWrite, ToExec, Space, Cgroup, Ipc, Net, Mnt, Pid, User as UserSpace, Uts, flag_of, Question, ByPath, Call, Socket, Ns, MapWx, ProtectX, ShmX, Realtime, Personality, SuidBit, Cap, Uid, Gid, is_plain, ascending, questions}
+use Rattle.questions.specs.Meanings.{meant_space}
+
+-- what is asked of a row of this kind: anything may be seen and read, what is no directory written, an executable executed
+abbrev pub is_asked_of : Wish → RowKind → Bool
+is_asked_of ToSee kind = true
+is_asked_of ToRead kind = true
+is_asked_of ToWrite kind = not (is_dir kind)
+is_asked_of ToExec kind = is_exe kind
+
+-- a uid that the site knows: root's, the dynamic user's, a user's, or the owner's of a set-user-id row
+pub data IsUidOf (site : Site) (id : ℕ) : Type 0 where
+  of_root : id ≡ 0 → IsUidOf site id
+  of_dynamic_user : id ≡ site.dynamic_uid → IsUidOf site id
+  of_user : Any (λ (user : User). user.uid ≡ id) site.users → IsUidOf site id
+  of_owner : Any (λ (row : Row). row.setuid ≡ Some id) site.rows → IsUidOf site id
+
+-- a gid that the site knows: root's, the dynamic user's, a group's, a user's, one of a user's further groups, or that of a
+-- set-group-id row
+pub data IsGidOf (site : Site) (id : ℕ) : Type 0 where
+  of_root_group : id ≡ 0 → IsGidOf site id
+  of_dynamic_group : id ≡ site.dynamic_uid → IsGidOf site id
+  of_group : Any (λ (group : Group). group.gid ≡ id) site.groups → IsGidOf site id
+  of_group_of_user : Any (λ (user : User). user.gid ≡ id) site.users → IsGidOf site id
+  of_further_group : Any (λ (user : User). Contains user.groups id) site.users → IsGidOf site id
+  of_group_of_row : Any (λ (row : Row). row.setgid ≡ Some id) site.rows → IsGidOf site id
+
+-- there is a thing that the question is asked of
+abbrev pub IsAskedOf : calls.Table → Site → Question → Type 0
+IsAskedOf table site (ByPath wish at) = (row : Row) × (slice_get site.rows at ≡ Some row) × (is_asked_of wish row.kind ≡ true)
+IsAskedOf table site (Call at) = (line : CallLine) × (slice_get table.calls at ≡ Some line) × (is_plain (rule_of line) ≡ true)
+IsAskedOf table site (Socket at) = at < length table.families
+IsAskedOf table site (Cap number) = number ≤ cap_last_cap
+IsAskedOf table site (Uid id) = IsUidOf site id
+IsAskedOf table site (Gid id) = IsGidOf site id
+IsAskedOf table site _ = Unit {0}
+
+-- exactly these are in the list
+abbrev pub ListsWhatIsAsked : Type 0
+ListsWhatIsAsked = (table : calls.Table) (site : Site) (question : Question) → Contains (questions table site) question ↔ IsAskedOf table site question
+
+-- the kinds in their order
+abbrev pub kind_of : Question → ℕ
+kind_of (ByPath wish at) = 0
+kind_of (Call at) = 1
+kind_of (Socket at) = 2
+kind_of (Ns space) = 3
+kind_of MapWx = 4
+kind_of ProtectX = 5
+kind_of ShmX = 6
+kind_of Realtime = 7
+kind_of Personality = 8
+kind_of SuidBit = 9
+kind_of (Cap number) = 10
+kind_of (Uid id) = 11
+kind_of (Gid id) = 12
+
+-- of one row: to see, to read, to write, to execute it
+abbrev pub wish_order : Wish → ℕ
+wish_order ToSee = 0
+wish_order ToRead = 1
+wish_order ToWrite = 2
+wish_order ToExec = 3
+
+-- the types of namespaces in the order of their names, systemd.exec(5), RestrictNamespaces=
+abbrev pub space_order : Space → ℕ
+space_order Cgroup = 0
+space_order Ipc = 1
+space_order Net = 2
+space_order Mnt = 3
+space_order Pid = 4
+space_order UserSpace = 5
+space_order Uts = 6
+
+-- within a kind: row by row, by the place in a table, by number
+abbrev pub place_of : Question → ℕ
+place_of (ByPath wish at) = 4 * at + wish_order wish
+place_of (Call at) = at
+place_of (Socket at) = at
+place_of (Ns space) = space_order space
+place_of (Cap number) = number
+place_of (Uid id) = id
+place_of (Gid id) = id
+place_of _ = 0
+
+-- one question comes before another
+abbrev pub IsBefore : Question → Question → Type 0
+IsBefore one other = (kind_of one < kind_of other) ⊎ ((kind_of one ≡ kind_of other) × (place_of one < place_of other))
+
+-- each question of the list comes before the later ones
+abbrev pub StandInOrder : Type 0
+StandInOrder = (table : calls.Table) (site : Site) → AllPairs IsBefore (questions table site)
+
+-- ids in order are the same ids, each below the next
+pub record IsInOrder (ids given : List ℕ) : Type 0 where
+  pub same : (id : ℕ) → Contains ids id ↔ Contains given id
+  pub rises : IsStrictlyIncreasing ids
+
+abbrev pub IdsAscendOnce : Type 0
+IdsAscendOnce = (given : List ℕ) → IsInOrder (ascending given) given
+
+-- clone(2), CLONE_NEW*
+abbrev pub FlagsAreTheTypes : Type 0
+FlagsAreTheTypes = (kind : NamespaceType) → flag_of (meant_space kind) ≡ filter.flag_of kind

@@ -1,0 +1,67 @@
+//! The list of all questions.
+
+ghost use Rattle.std.specs.Prelude.{◌≡◌, ◌++◌, map, IfOk, OnOk};
+ghost use Rattle.kernel_laws.specs.Questions.{Cap as of_cap, Uid as of_uid, Gid as of_gid, count_from, questions};
+ghost use Rattle.questions.specs.Meanings.{meant};
+
+use crate::ids::{gids, uids};
+use crate::question::{Question, other_questions};
+use crate::tables::{push_calls, push_families, push_rows};
+use call_table::CallTable;
+use linux_numbers::capabilities::CAP_LAST_CAP;
+use site_table::SiteTable;
+use std::alloc::{AllocError, Global};
+
+// Adds a question of each capability.
+fn push_caps(list: &mut Vec<Question>) -> Result<(), AllocError>
+    ensures { OnOk result (map meant list.new.items ≡ map meant list.old.items ++ map of_cap (count_from 0 41)) }
+{
+    for cap in 0..CAP_LAST_CAP + 1 {
+        list.push(Question::Cap(cap))?;
+    }
+    Ok(())
+}
+
+// Adds a question of each uid.
+fn push_uids(list: &mut Vec<Question>, uids: &[u32]) -> Result<(), AllocError>
+    ensures { OnOk result (map meant list.new.items ≡ map meant list.old.items ++ map of_uid uids.now) }
+{
+    for uid in uids {
+        list.push(Question::Uid(*uid))?;
+    }
+    Ok(())
+}
+
+// Adds a question of each gid.
+fn push_gids(list: &mut Vec<Question>, gids: &[u32]) -> Result<(), AllocError>
+    ensures { OnOk result (map meant list.new.items ≡ map meant list.old.items ++ map of_gid gids.now) }
+{
+    for gid in gids {
+        list.push(Question::Gid(*gid))?;
+    }
+    Ok(())
+}
+
+/// All that is asked of a service, in this order: of each row to see and to read it, to write what is no directory and to
+/// execute what can be executed; of each call that no rule names, in the order of the table; of each family; of the types
+/// of namespaces and the six other uses of memory, policies, domains and modes; of the capabilities by their numbers; of
+/// the uids and of the gids that the site knows, ascending, each once.
+///
+/// The one error is want of memory.
+pub fn questions(
+    alloc: Global,
+    calls: &CallTable,
+    site: &SiteTable,
+) -> Result<Vec<Question>, AllocError>
+    ensures in_their_order { IfOk result (λ list. map meant list.items ≡ questions calls.now site.now) }
+{
+    let mut list = Vec::new(alloc);
+    push_rows(&mut list, site.rows())?;
+    push_calls(&mut list, calls.calls())?;
+    push_families(&mut list, calls.families())?;
+    list.extend_from_slice(other_questions())?;
+    push_caps(&mut list)?;
+    push_uids(&mut list, &uids(alloc, site)?)?;
+    push_gids(&mut list, &gids(alloc, site)?)?;
+    Ok(list)
+}

@@ -1,0 +1,109 @@
+-- An entry leads to a row exactly where a path that can be named finds it, on the tables of each power.
+use Rattle.std.proofs.Common.{◌≡◌, ◌∙◌, ℕ, true, [], ◌∷◌, ◌++◌, Option, Some, refl, ap, sym, subst, arith}
+use Rattle.std.specs.Prelude.{is_some, IsSome}
+use Rattle.std.specs.List.{AllByRecursion}
+use Rattle.abs_path.specs.Paths.{Path}
+use Rattle.abs_path.specs.Prefix.{rest_of}
+use Rattle.site_table.specs.declared.row.Row.{Row}
+use Rattle.site_table.specs.Table.{Site, IsSite, IsRowOf, row_at}
+use Rattle.kern_mounts.specs.Entry.{leads_to, entry_of}
+use Rattle.kern_mounts.specs.Finds.{found_at, found_by, row_or_nothing}
+use Rattle.kern_mounts.specs.Launch.{HasShortPlace, CanBeMounted, proc}
+use Rattle.kern_mounts.specs.declared.step.MountStep.{MountStep}
+use Rattle.kern_mounts.specs.Split.{Table}
+use Rattle.kern_mounts.specs.Table.{StartsAtRoot}
+use Rattle.kern_mounts.specs.Unmounts.{IsOrdered}
+use Rattle.kern_mounts.proofs.Leaving.{ascending_is_ordered}
+use Rattle.kern_mounts.proofs.Paths.{rest-append}
+use Rattle.kern_mounts.proofs.Splits.{split_some, of_split}
+use Rattle.kern_mounts.proofs.Unmounting.{append_all, trimmed_part, unmounts_trim}
+use Rattle.kern_files.specs.Looking.{flags_by}
+use Rattle.kern_files.specs.MountCall.{ms_bind, ms_remount_bind, flags_of}
+use Rattle.kernel_calls.specs.Calls.{IsPath}
+use Rattle.kernel_laws.specs.Questions.{Wish, ToSee, ToRead, ToWrite, ToExec}
+use Rattle.kernel_laws.specs.Reach.{fits, Leads, Power, Nowise, Unmounting, Mounting, reach, reaches}
+use Rattle.kernel_laws.proofs.Reach.{leads}
+use Rattle.kernel_laws.proofs.ReachLaws.{reach_of_the_table, reach_by_unmounts}
+use Rattle.reach_paths.specs.Finding.{dirs_of, FindsRow, still, then_one, CanBeFound}
+use Rattle.reach_paths.proofs.Naming.{named_both, rest_short}
+use Rattle.reach_paths.proofs.Parts.{part_all, starts}
+use Rattle.reach_paths.proofs.RowsOfSites.{found_path, found_row}
+use Rattle.reach_paths.proofs.Mounted.{mounted_twice}
+
+module _ (site : Site) (wish : Wish) (target : Row) (is : IsSite site) (there : row_at site.rows target.path ≡ Some target) where
+  abbrev rows : Path → Option Row
+  rows = row_at site.rows
+
+  own : IsRowOf site.rows target
+  own = found_row site target.path target is there
+
+  -- a path that leads to the row finds it, and can be named
+  finds_row : (table : Table) → AllByRecursion HasShortPlace table → Leads table target.path wish → FindsRow rows table wish target
+  finds_row table short lead =
+      let by : entry_of table lead.path ≡ Some lead.split.entry = of_split lead.path table lead.split lead.belongs in
+      let split = split_some (leads_to lead.path) table lead.split lead.belongs in
+      let all : AllByRecursion HasShortPlace (lead.split.earlier ++ lead.split.entry ∷ lead.split.later) = subst (AllByRecursion HasShortPlace) split.whole short in
+      let place : HasShortPlace lead.split.entry = append_all HasShortPlace lead.split.earlier lead.split.entry lead.split.later all in
+      let rest = rest_short lead.source lead.rest target.path lead.row_is own.normal own.short in
+      let at : lead.source ++ rest_of lead.split.entry.place lead.path ≡ target.path =
+      ap (λ (p : Path). lead.source ++ rest_of lead.split.entry.place p) lead.path_is ∙ ap (λ (r : Path). lead.source ++ r) (rest-append lead.split.entry.place lead.rest) ∙ sym lead.row_is in
+      record {
+        path = lead.path;
+        can_be_named = subst IsPath (sym lead.path_is) (named_both lead.split.entry.place lead.rest place.normal place.short rest.0 rest.1);
+        is_found = ap (found_at rows lead.path) by ∙ ap (λ w. found_by rows w lead.split.entry.place lead.path) lead.host ∙ ap (λ (p : Path). row_or_nothing (rows p)) at ∙ ap row_or_nothing there;
+        is_allowed = ap (λ (o : Option MountStep). fits wish (flags_by o)) by ∙ lead.flags;
+      }
+
+  lead_of : (table : Table) → FindsRow rows table wish target → Leads table target.path wish
+  lead_of table f = leads site.rows table f.path target wish f.is_found f.is_allowed
+
+  all_fit : (wish : Wish) → fits wish (flags_of ms_remount_bind) ≡ true
+  all_fit ToSee = refl
+  all_fit ToRead = refl
+  all_fit ToWrite = refl
+  all_fit ToExec = refl
+
+  root_named : IsPath []
+  root_named = record { normal = refl; short = omega arith }
+
+  proc_named : IsPath proc
+  proc_named = record { normal = refl; short = omega arith }
+
+  module _ (table : Table) (can : CanBeMounted (dirs_of site) table) where
+    top : StartsAtRoot table
+    top = starts table can.begins_at_root
+
+    ordered : IsOrdered table
+    ordered = ascending_is_ordered table can.places_ascend
+
+    there_by : (power : Power) → reaches power table target.path wish ≡ true → CanBeFound power rows table wish target
+    there_by Nowise e = (table, refl, finds_row table can.places_are_short ((reach_of_the_table table target.path wish).0 e))
+    there_by Unmounting e =
+        let m = (reach_by_unmounts table target.path wish top ordered).0 e in
+        (m.0, m.1, finds_row m.0 (part_all HasShortPlace (trimmed_part (unmounts_trim m.1 top)) can.places_are_short) m.2)
+    there_by Mounting e =
+        let two = mounted_twice site table ms_remount_bind is can refl refl in
+        let below = two.each_row target there in (
+          two.last,
+          then_one [] proc ms_bind root_named proc_named (omega arith) two.bound (then_one [] proc ms_remount_bind root_named proc_named (omega arith) two.remounted still),
+          record { path = proc ++ target.path; can_be_named = below.can_be_named; is_found = below.is_found; is_allowed = ap (fits wish) below.flags_are ∙ all_fit wish },
+        )
+
+    back_by : (power : Power) → CanBeFound power rows table wish target → reaches power table target.path wish ≡ true
+    back_by Nowise f = (reach_of_the_table table target.path wish).1 (let P : Table → Type 0 = λ t. Leads t target.path wish in subst P f.1 (lead_of f.0 f.2))
+    back_by Unmounting f = (reach_by_unmounts table target.path wish top ordered).1 f.0 f.1 (lead_of f.0 f.2)
+    back_by Mounting f = refl
+
+-- at each power: where an entry is answered, and only there
+pub exactly : (power : Power) (table : Table) (path : Path) (wish : Wish) (site : Site) (target : Row) → IsSite site → CanBeMounted (dirs_of site) table → row_at site.rows path ≡ Some target
+    → (reaches power table path wish ≡ true → CanBeFound power (row_at site.rows) table wish target) × (CanBeFound power (row_at site.rows) table wish target → reaches power table path wish ≡ true)
+exactly power table path wish site target is can there =
+    let same : target.path ≡ path = found_path site.rows path target there in
+    let there' : row_at site.rows target.path ≡ Some target = ap (row_at site.rows) same ∙ there in
+    ((λ e. there_by site wish target is there' table can power (ap (λ p. reaches power table p wish) same ∙ e)), (λ f. ap (λ p. reaches power table p wish) (sym same) ∙ back_by site wish target is there' table can power f))
+
+pub exactly_answered : (power : Power) (table : Table) (path : Path) (wish : Wish) (answer : Option ℕ) → answer ≡ reach power table path wish → (site : Site) (target : Row) → IsSite site → CanBeMounted (dirs_of site) table → row_at site.rows path ≡ Some target
+    → (IsSome answer → CanBeFound power (row_at site.rows) table wish target) × (CanBeFound power (row_at site.rows) table wish target → IsSome answer)
+exactly_answered power table path wish answer is site target s can there =
+    let e = exactly power table path wish site target s can there in
+    ((λ some. e.0 (ap (λ (o : Option ℕ). is_some o) (sym is) ∙ some)), (λ f. ap (λ (o : Option ℕ). is_some o) is ∙ e.1 f))

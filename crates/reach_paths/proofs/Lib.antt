@@ -1,0 +1,10 @@
+pub mod Covering
+pub mod Looping
+pub mod Stripping
+pub mod Serving
+pub mod Naming
+pub mod Parts
+pub mod RowsOfSites
+pub mod Found
+pub mod Mounted
+pub mod Processes

@@ -1,0 +1,78 @@
+-- A loop over the entries of a table, by their numbers.
+use Rattle.std.proofs.Common.{◌≡◌, ◌≤◌, ◌∙◌, ℕ, zero, suc, Bool, true, false, List, [], ◌∷◌, ◌++◌, Some, None, refl, cond, ap, sym, ◌+◌, length, drop, arith}
+use Rattle.std.specs.Prelude.{slice_get, not, ◌||◌, ◌&&◌}
+use Rattle.std.specs.List.{list_any}
+use Rattle.std.proofs.lemmas.Bool.{and_from}
+use Rattle.abs_path.specs.Paths.{Path, tail_of, parts_of, is_normal}
+use Rattle.abs_path.specs.Prefix.{is_prefix, rest_of, rest_text}
+use Rattle.kern_mounts.specs.Entry.{leads_to}
+use Rattle.kern_mounts.specs.declared.step.What.TheVariants.{Host}
+use Rattle.kern_mounts.proofs.Paths.{parts_behind}
+use Rattle.kern_mounts.specs.declared.step.MountStep.{MountStep}
+use Rattle.kern_mounts.specs.Split.{Table}
+use Rattle.kernel_laws.specs.Questions.{Wish}
+use Rattle.kernel_laws.specs.Reach.{fits, shows_row, serves, reach_from}
+
+pub from_here : (table : Table) (at : ℕ) (entry : MountStep) → slice_get table at ≡ Some entry → drop at table ≡ entry ∷ drop (at + 1) table
+from_here [] at entry e = cc
+from_here (first ∷ table) zero entry e = let same : first ≡ entry = cc in ap (λ (m : MountStep). m ∷ table) same
+from_here (first ∷ table) (suc at) entry e = from_here table at entry e ∙ ap (λ n. entry ∷ drop n (first ∷ table)) (let n : suc (at + 1) ≡ suc at + 1 = omega arith in n)
+
+pub none_from : (table : Table) (at : ℕ) → length table ≤ at → drop at table ≡ []
+none_from [] zero h = refl
+none_from [] (suc at) h = refl
+none_from (first ∷ table) zero h = absurd (omega arith)
+none_from (first ∷ table) (suc at) h = none_from table at (omega arith)
+
+-- ---- some entry from here on
+module _ (p : MountStep → Bool) (table : Table) (at : ℕ) where
+  pub any_here : (entry : MountStep) → slice_get table at ≡ Some entry → p entry ≡ true → true ≡ list_any p (drop at table)
+  any_here entry e is = sym (ap (list_any p) (from_here table at entry e) ∙ ap (λ b. b || list_any p (drop (at + 1) table)) is)
+
+  pub any_not_here : (entry : MountStep) → slice_get table at ≡ Some entry → p entry ≡ false → list_any p (drop (at + 1) table) ≡ list_any p (drop at table)
+  any_not_here entry e is = sym (ap (list_any p) (from_here table at entry e) ∙ ap (λ b. b || list_any p (drop (at + 1) table)) is)
+
+  pub any_none : length table ≤ at → false ≡ list_any p (drop at table)
+  any_none h = sym (ap (list_any p) (none_from table at h))
+
+-- ---- the first entry that serves from here on
+module _ (uncover : Bool) (row : Path) (wish : Wish) (table : Table) (at : ℕ) where
+  pub none_serves : length table ≤ at → None ≡ reach_from uncover row wish (drop at table) at
+  none_serves h = sym (ap (λ t. reach_from uncover row wish t at) (none_from table at h))
+
+  step : (entry : MountStep) → slice_get table at ≡ Some entry → (b : Bool) → serves uncover row wish entry (drop (at + 1) table) ≡ b
+      → reach_from uncover row wish (drop at table) at ≡ cond b (Some at) (reach_from uncover row wish (drop (at + 1) table) (at + 1))
+  step entry e b is =
+      ap (λ t. reach_from uncover row wish t at) (from_here table at entry e) ∙ ap (λ s. cond s (Some at) (reach_from uncover row wish (drop (at + 1) table) (at + 1))) is
+
+  pub serves_here : (entry : MountStep) → slice_get table at ≡ Some entry → fits wish entry.flags ≡ true → shows_row uncover entry (drop (at + 1) table) row entry.what ≡ true
+      → Some at ≡ reach_from uncover row wish (drop at table) at
+  serves_here entry e f s = sym (step entry e true (and_from (fits wish entry.flags) (shows_row uncover entry (drop (at + 1) table) row entry.what) f s))
+
+  pub forbids_here : (entry : MountStep) → slice_get table at ≡ Some entry → fits wish entry.flags ≡ false
+      → reach_from uncover row wish (drop (at + 1) table) (at + 1) ≡ reach_from uncover row wish (drop at table) at
+  forbids_here entry e f = sym (step entry e false (ap (λ b. b && shows_row uncover entry (drop (at + 1) table) row entry.what) f))
+
+  pub hides_here : (entry : MountStep) → slice_get table at ≡ Some entry → fits wish entry.flags ≡ true → shows_row uncover entry (drop (at + 1) table) row entry.what ≡ false
+      → reach_from uncover row wish (drop (at + 1) table) (at + 1) ≡ reach_from uncover row wish (drop at table) at
+  hides_here entry e f s = sym (step entry e false (ap (λ b. b && shows_row uncover entry (drop (at + 1) table) row entry.what) f ∙ s))
+
+-- ---- what an entry of the host shows
+prefix_of : (source row : Path) (rest : List ℕ) → Some rest ≡ rest_text source row → is_prefix source row ≡ true
+prefix_of source row rest e = by (is_prefix source row) e
+  where
+    by : (b : Bool) → Some rest ≡ cond b (Some (tail_of (rest_of source row))) None → b ≡ true
+    by true e = refl
+    by false e = cc
+
+pub shows_behind : (row : Path) (table : Table) (at : ℕ) (own entry : MountStep) (source : Path) (rest : List ℕ) (covered : Bool) → slice_get table at ≡ Some own → slice_get table at ≡ Some entry → own.what ≡ Host source
+    → Some rest ≡ rest_text source row → is_normal row ≡ true → covered ≡ list_any (leads_to (own.place ++ parts_of rest)) (drop (at + 1) table)
+    → not covered ≡ shows_row false entry (drop (at + 1) table) row entry.what
+shows_behind row table at own entry source rest covered e f host is normal c =
+    let same : own ≡ entry = cc in
+    let parts : parts_of rest ≡ rest_of source row = parts_behind source row rest normal (sym is) in
+    let later = drop (at + 1) table in
+    ap not (c ∙ ap (λ (r : Path). list_any (leads_to (own.place ++ r)) later) parts)
+    ∙ ap (λ b. b && not (list_any (leads_to (own.place ++ rest_of source row)) later)) (sym (prefix_of source row rest is))
+    ∙ ap (shows_row false own later row) (sym host)
+    ∙ ap (λ (m : MountStep). shows_row false m later row m.what) same

@@ -1,0 +1,41 @@
+-- Where a row of a site can be found, on the tables that a power makes of one (path_resolution(7), mount_namespaces(7)).
+use Rattle.std.specs.Prelude.{◌≡◌, ℕ, ◌<◌, ◌^◌, Bool, true, Option, Ok, option_map}
+use Rattle.abs_path.specs.Paths.{Path}
+use Rattle.site_table.specs.declared.row.Row.{Row}
+use Rattle.site_table.specs.Kinds.{is_dir}
+use Rattle.site_table.specs.Table.{Site, kind_at}
+use Rattle.kern_mounts.specs.Finds.{row, finds}
+use Rattle.kern_mounts.specs.Split.{Table}
+use Rattle.kern_mounts.specs.Unmounts.{Unmounts}
+use Rattle.kern_files.specs.Looking.{flags_at}
+use Rattle.kern_files.specs.MountCall.{after_mount}
+use Rattle.kernel_calls.specs.Calls.{IsPath}
+use Rattle.kernel_laws.specs.Questions.{Wish}
+use Rattle.kernel_laws.specs.Reach.{fits, Power, Nowise, Unmounting, Mounting}
+
+-- whether the site has a row at a path, and then whether it is a directory
+abbrev pub dirs_of : Site → Path → Option Bool
+dirs_of site path = option_map is_dir (kind_at site.rows path)
+
+-- a path that a call can name finds the row, on a mount whose flags allow what is wished
+pub record FindsRow (rows : Path → Option Row) (table : Table) (wish : Wish) (target : Row) : Type 0 where
+  pub path : Path
+  pub can_be_named : IsPath path
+  pub is_found : finds rows table path ≡ row target
+  pub is_allowed : fits wish (flags_at table path) ≡ true
+
+-- what any calls of mount(2) make of a table, each of them done
+pub data Mounts (rows : Path → Option Row) : Table → Table → Type 0 where
+  still : {table : Table} → Mounts rows table table
+  then_one : {table next last : Table} (source target : Path) (flags : ℕ) → IsPath source → IsPath target → flags < 2 ^ 32
+      → after_mount rows table source target flags ≡ Ok next → Mounts rows next last → Mounts rows table last
+
+-- what a power makes of a table: the table alone, what calls of umount2(2) make of it, or what calls of mount(2) make of it
+abbrev pub Makes : Power → (Path → Option Row) → Table → Table → Type 0
+Makes Nowise rows table now = now ≡ table
+Makes Unmounting rows table now = Unmounts table now
+Makes Mounting rows table now = Mounts rows table now
+
+-- some path finds the row on some table that the power makes of this one
+abbrev pub CanBeFound : Power → (Path → Option Row) → Table → Wish → Row → Type 0
+CanBeFound power rows table wish target = (now : Table) × Makes power rows table now × FindsRow rows now wish target

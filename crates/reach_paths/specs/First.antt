@@ -1,0 +1,38 @@
+-- Which entry of a mount table leads to a row of the host, by its number; and that it is the first.
+use Rattle.std.specs.Prelude.{◌≡◌, ℕ, ◌<◌, true, ◌∷◌, ◌++◌, length, Option, Some, None}
+use Rattle.abs_path.specs.Paths.{Path}
+use Rattle.kern_mounts.specs.declared.step.What.TheVariants.{Host}
+use Rattle.kern_mounts.specs.declared.step.MountStep.{MountStep}
+use Rattle.kern_mounts.specs.Split.{Table}
+use Rattle.kernel_laws.specs.Questions.{Wish}
+use Rattle.kernel_laws.specs.Reach.{fits, Leads, Power, Nowise, Unmounting, Mounting}
+
+-- a path of this very table belongs to the entry of this number and finds the row, with flags that allow the wish
+pub record LeadsBy (table : Table) (target : Path) (wish : Wish) (at : ℕ) : Type 0 where
+  pub lead : Leads table target wish
+  pub number : at ≡ length lead.split.earlier
+
+-- the entry of this number shows the host at or above the row, with flags that allow the wish, whatever covers it
+pub record Shows (table : Table) (target : Path) (wish : Wish) (at : ℕ) : Type 0 where
+  pub earlier : Table
+  pub entry : MountStep
+  pub later : Table
+  pub whole : table ≡ earlier ++ entry ∷ later
+  pub number : at ≡ length earlier
+  pub source : Path
+  pub host : entry.what ≡ Host source
+  pub rest : Path
+  pub row_is : target ≡ source ++ rest
+  pub flags : fits wish entry.flags ≡ true
+
+-- the first number that is such, or none where no number is
+abbrev pub IsFirst : (ℕ → Type 0) → Option ℕ → Type 0
+IsFirst P None = (at : ℕ) → ¬ P at
+IsFirst P (Some at) = P at × ((other : ℕ) → other < at → ¬ P other)
+
+-- the first entry that leads there, by a power. What covers an entry's path can be unmounted, umount2(2); and the first
+-- entry can be bound anew, mount(2).
+abbrev pub IsFirstByPower : Power → Table → Path → Wish → Option ℕ → Type 0
+IsFirstByPower Nowise table target wish place = IsFirst (LeadsBy table target wish) place
+IsFirstByPower Unmounting table target wish place = IsFirst (Shows table target wish) place
+IsFirstByPower Mounting table target wish place = place ≡ Some 0

@@ -1,0 +1,5 @@
+pub mod Meanings
+pub mod Finding
+pub mod First
+pub mod Mounting
+pub mod Processes

@@ -1,0 +1,69 @@
+-- What a process that may mount makes of its mount table, call by call, capabilities(7), CAP_SYS_ADMIN.
+use Rattle.std.specs.Prelude.{◌≡◌, ℕ, Bool, true, false, List, [], ◌∷◌, Some}
+use Rattle.abs_path.specs.Paths.{Path}
+use Rattle.bpf_code.specs.declared.decision.Decision.TheVariants.{Pass}
+use Rattle.bpf_code.specs.Stack.{decision_on}
+use Rattle.cap_sets.specs.Sets.{has}
+use Rattle.linux_numbers.specs.Capabilities.{cap_sys_admin}
+use Rattle.site_table.specs.declared.row.Row.{Row}
+use Rattle.site_table.specs.Table.{IsSite, row_at}
+use Rattle.kern_mounts.specs.Launch.{CanBeMounted, proc}
+use Rattle.kern_mounts.specs.Split.{Table}
+use Rattle.kern_mounts.specs.Unmounts.{Unmounts}
+use Rattle.kern_files.specs.Bits.{has_all}
+use Rattle.kern_files.specs.MountCall.{ms_bind, ms_remount_bind, has_other_kind}
+use Rattle.kern_files.specs.UmountCall.{mnt_detach}
+use Rattle.kernel_calls.specs.Calls.{IsPath}
+use Rattle.kernel_calls.specs.Doing.{Doing, Mount, Umount, Does, asked_of}
+use Rattle.kernel_calls.specs.declared.call.Call.{Call}
+use Rattle.kernel_model.specs.Runs.{moments, run, AllDone}
+use Rattle.kernel_model.specs.Step.{data_of}
+use Rattle.kernel_model.specs.World.{World, living_of, of_number}
+use Rattle.kernel_model.specs.declared.process.Process.{Process}
+use Rattle.reach_paths.specs.Finding.{dirs_of}
+use Rattle.reach_paths.specs.Mounting.{IsBelowProc}
+
+-- the process lives, has the capability, and its namespace has this table
+pub record CanMount (world : World) (pid : ℕ) (process : Process) (table : Table) : Type 0 where
+  pub lives : living_of world pid ≡ Some process
+  pub admin : has process.creds.effective cap_sys_admin ≡ true
+  pub own : of_number world.tables process.namespace ≡ Some table
+
+-- a call of the process that asks for this, and that its filters let through
+pub record AsksFor (world : World) (pid : ℕ) (process : Process) (call : Call) (doing : Doing) : Type 0 where
+  pub caller : call.pid ≡ pid
+  pub through : decision_on process.stack (data_of world call) ≡ Pass
+  pub asks : asked_of world.calls.calls call ≡ Does doing
+
+-- every call is done, and then the process may still mount, and its namespace has this table
+pub record LeadsTo (world : World) (pid : ℕ) (process : Process) (calls : List Call) (now : Table) : Type 0 where
+  pub done : AllDone (moments world calls)
+  pub can : CanMount (run world calls) pid process now
+
+-- a bind of `/` and a remount of it, by a process that may mount: both are done, and then it finds every row
+pub record FindsEachRow (world : World) (pid : ℕ) (process : Process) (calls : List Call) (flags : ℕ) : Type 0 where
+  pub now : Table
+  pub leads : LeadsTo world pid process calls now
+  pub each_row : (target : Row) → row_at world.site.rows target.path ≡ Some target → IsBelowProc world.site now flags target
+
+abbrev pub MountingShowsAll : Type 0
+MountingShowsAll = (world : World) (pid : ℕ) (process : Process) (table : Table) (bind remount : Call) (flags : ℕ)
+    → CanMount world pid process table → IsSite world.site → CanBeMounted (dirs_of world.site) table
+    → has_all ms_remount_bind flags ≡ true → has_other_kind flags ≡ false
+    → AsksFor world pid process bind (Mount [] proc ms_bind) → AsksFor world pid process remount (Mount [] proc flags)
+    → FindsEachRow world pid process (bind ∷ remount ∷ []) flags
+
+-- umount2(2) with MNT_DETACH or without
+abbrev pub umount_flags : Bool → ℕ
+umount_flags true = mnt_detach
+umount_flags false = 0
+
+-- the process has a call for each path that it can name
+abbrev pub CanAskToUnmount : World → ℕ → Process → Type 0
+CanAskToUnmount world pid process = (path : Path) (detach : Bool) → IsPath path → (call : Call) × AsksFor world pid process call (Umount path (umount_flags detach))
+
+-- whatever calls of umount2(2) make of the table, a process that may unmount makes of it, each call done
+abbrev pub UnmountingIsDone : Type 0
+UnmountingIsDone = (world : World) (pid : ℕ) (process : Process) (table now : Table)
+    → CanMount world pid process table → CanBeMounted (dirs_of world.site) table → CanAskToUnmount world pid process
+    → Unmounts table now → (calls : List Call) × LeadsTo world pid process calls now

@@ -1,0 +1,54 @@
+//! Whether the entries of a mount table cover a path. The path is given as a front and a rest, and is never built.
+
+ghost use Rattle.std.specs.Prelude.{◌≡◌, ◌++◌, drop, is_some};
+ghost use Rattle.std.specs.List.{list_any};
+ghost use Rattle.abs_path.specs.Paths.{parts_of};
+ghost use Rattle.abs_path.specs.Prefix.{IsRest, is_prefix, is_behind, behind_text};
+ghost use Rattle.kern_mounts.specs.Entry.{leads_to};
+
+use abs_path::AbsPath;
+use kern_mounts::MountTable;
+
+// Nothing, or a text that goes on at a slash.
+fn is_behind(rest: &str) -> bool
+    ensures { result ≡ is_behind rest.now }
+{
+    match rest.as_bytes().first() {
+        None => true,
+        Some(byte) => *byte == b'/',
+    }
+}
+
+// Whether a text is the other, or goes on behind it at a slash.
+fn goes_on(text: &str, front: &str) -> bool
+    ensures { result ≡ is_some (behind_text front.now text.now) }
+{
+    match text.strip_prefix(front) {
+        None => false,
+        Some(rest) => is_behind(rest),
+    }
+}
+
+// Whether the place leads to the path that the front and the rest make, by whole parts.
+fn leads_to(place: &AbsPath, front: &AbsPath, rest: &str) -> bool
+    requires { IsRest rest.now }
+    ensures { result ≡ is_prefix place.now (front.now ++ parts_of rest.now) }
+{
+    match front.rest(place) {
+        None => place.is_prefix(front),
+        Some(further) => goes_on(rest, further),
+    }
+}
+
+// Whether an entry from this number on leads to the path that the front and the rest make.
+pub(crate) fn is_covered(table: &MountTable, from: usize, front: &AbsPath, rest: &str) -> bool
+    requires { IsRest rest.now }
+    ensures { result ≡ list_any (leads_to (front.now ++ parts_of rest.now)) (drop from table.now) }
+{
+    for at in from..table.len() {
+        if leads_to(&table.entry(at).place, front, rest) {
+            return true;
+        }
+    }
+    false
+}

@@ -1,0 +1,70 @@
+//! The first entry of a mount table that leads to a file of the host.
+
+ghost use Rattle.std.specs.Prelude.{◌≡◌, ◌+◌, ◌<◌, ◌≤◌, ◌↔◌, drop, length, slice_get, Some, IsSome};
+ghost use Rattle.linux_numbers.specs.Limits.{mount_max};
+ghost use Rattle.site_table.specs.declared.row.Row.{Row};
+ghost use Rattle.site_table.specs.Table.{Site, IsSite, row_at};
+ghost use Rattle.kern_mounts.specs.Launch.{CanBeMounted};
+ghost use Rattle.kern_mounts.specs.declared.step.MountStep.{MountStep};
+ghost use Rattle.kernel_laws.specs.Reach.{shows_row, reach_from, reach};
+ghost use Rattle.reach_paths.specs.Meanings.{meant_wish, meant_power};
+ghost use Rattle.reach_paths.specs.Finding.{dirs_of, CanBeFound};
+ghost use Rattle.reach_paths.specs.First.{IsFirstByPower};
+
+use crate::covers::is_covered;
+use crate::power::Power;
+use crate::wish::{Wish, allows};
+use abs_path::AbsPath;
+use kern_mounts::{MountTable, What};
+
+// Whether the entry of this number shows the row, at a path that no later entry covers or that can be uncovered.
+fn shows(table: &MountTable, at: usize, row: &AbsPath, uncover: bool) -> bool
+    requires in_range { at < length table.now }
+    requires few { length table.now ≤ mount_max }
+    ensures { (entry : MountStep) → slice_get table.now at ≡ Some entry
+        → result ≡ shows_row uncover entry (drop (at + 1) table.now) row.now entry.what }
+{
+    let entry = table.entry(at);
+    match &entry.what {
+        What::Host(source) => match source.rest(row) {
+            None => false,
+            Some(rest) => uncover || !is_covered(table, at + 1, &entry.place, rest),
+        },
+        What::Empty | What::Hidden(_) => false,
+    }
+}
+
+// The number of the first entry that shows the row, with flags that allow the wish.
+fn first_that_serves(table: &MountTable, row: &AbsPath, wish: Wish, uncover: bool) -> Option<usize>
+    ensures { result ≡ reach_from uncover row.now (meant_wish wish) table.now 0 }
+{
+    for at in 0..table.len() {
+        if allows(table.entry(at).flags, wish) && shows(table, at, row, uncover) {
+            return Some(at);
+        }
+    }
+    None
+}
+
+/// The number of the entry of a mount table that leads to a row of the host, with flags that allow what is wished: the
+/// first to which a path of this very table belongs that finds the row; with umount2(2) the first that shows the row at
+/// all, since what covers it can be taken away; with mount(2) the first of the table, since the host can be bound anew.
+///
+/// On a table that a launch can mount, in a site that has the row, None comes exactly where no path finds the row so, on no
+/// table that the power makes of this one. It takes no memory.
+pub fn reach(table: &MountTable, row: &AbsPath, wish: Wish, power: Power) -> Option<usize>
+    ensures by_the_rule { result ≡ reach (meant_power power) table.now row.now (meant_wish wish) }
+    ensures first_that_leads_there { IsFirstByPower (meant_power power) table.now row.now (meant_wish wish) result }
+
+    // On a table that a launch can mount, in a site that has the row.
+    ensures exactly_where_it_can_be_found { (site : Site) (target : Row)
+        → IsSite site → CanBeMounted (dirs_of site) table.now → row_at site.rows row.now ≡ Some target
+        → (IsSome result
+        ↔ CanBeFound (meant_power power) (row_at site.rows) table.now (meant_wish wish) target) }
+{
+    match power {
+        Power::None => first_that_serves(table, row, wish, false),
+        Power::Unmount => first_that_serves(table, row, wish, true),
+        Power::Mount => Some(0),
+    }
+}
