@@ -1,0 +1,4 @@
+pub mod Quotients
+pub mod Sums
+pub mod Walks
+pub mod Known

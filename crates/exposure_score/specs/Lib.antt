@@ -1,0 +1,5 @@
+pub mod Facts
+pub mod Arithmetic
+pub mod Badness
+pub mod Rows
+pub mod Stored

@@ -1,0 +1,61 @@
+//! The type of a score: what each test of a policy came to, and the exposure.
+
+ghost use Rattle.std.specs.Prelude.{◌≡◌};
+
+use policy_file::TestId;
+use std::marker::Model;
+
+/// What one test of a policy came to. Where it is skipped, its numbers are 0.
+#[derive(Drop)]
+pub struct ScoreRow {
+    pub id: TestId,
+    /// Whether neither a fact nor a stored test has the identifier.
+    pub skipped: bool,
+    pub badness: u32,
+    /// The policy's range, to which the badness is cut before it is weighed.
+    pub range: u32,
+    /// The policy's weight.
+    pub weight: u32,
+    /// The part of the weight that counts, rounded up.
+    pub term: u32,
+}
+
+/// Rows in byte order of identifiers.
+#[derive(Drop)]
+pub struct ScoreRows {
+    items: Vec<ScoreRow>,
+}
+
+impl Model for ScoreRows {
+    ghost use Rattle.std.specs.Prelude.{List};
+    ghost use Rattle.exposure_score.specs.declared.rows.ScoreRow.{ScoreRow};
+
+    ghost Value = { List ScoreRow };
+
+    ghost view = { λ rows. rows.items.items };
+}
+
+impl ScoreRows {
+    /// The rows of a list.
+    pub fn new(items: Vec<ScoreRow>) -> ScoreRows
+        ensures same_rows { result ≡ items.items }
+    {
+        ScoreRows { items }
+    }
+
+    /// The rows in their order.
+    pub fn list(&self) -> &[ScoreRow]
+        ensures same_rows { result.now ≡ self.now }
+    {
+        &self.items
+    }
+}
+
+/// The exposure of a service by a policy.
+#[derive(Drop)]
+pub struct Score {
+    /// A row for each test of the policy.
+    pub rows: ScoreRows,
+    /// The part of all weights that counts, in hundredths, rounded up: 0 to 100.
+    pub exposure: u32,
+}

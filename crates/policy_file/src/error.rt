@@ -1,0 +1,42 @@
+//! Why a policy is refused.
+
+ghost use Rattle.std.specs.Prelude.{◌≡◌};
+ghost use Rattle.policy_file.specs.declared.error.PolicyError.TheVariants.{Memory};
+
+use crate::identifier::TestId;
+use std::alloc::{AllocError, AllocFailed};
+use thiserror::Error;
+
+/// Why a policy is refused; of several reasons, the first in this order.
+#[derive(Debug, Drop, Error)]
+pub enum PolicyError {
+    /// The bytes are no JSON, or no object.
+    #[error("no JSON object")]
+    NotJson,
+    /// The first member in byte order of identifiers that is no test: its `weight` is missing, or its
+    /// `weight` or `range` is no whole number in range.
+    #[error("member {0} is refused")]
+    Field(TestId),
+    /// There are more than 512 tests.
+    #[error("too many members")]
+    TooMany,
+    /// There is no memory left.
+    #[error("out of memory")]
+    Memory,
+}
+
+impl From<AllocError> for PolicyError {
+    ghost from_gives = { λ _ e. e ≡ Memory };
+
+    fn from(_: AllocError) -> Self {
+        PolicyError::Memory
+    }
+}
+
+impl<T: Drop> From<AllocFailed<T>> for PolicyError {
+    ghost from_gives = { λ _ e. e ≡ Memory };
+
+    fn from(_: AllocFailed<T>) -> Self {
+        PolicyError::Memory
+    }
+}
