@@ -73,7 +73,7 @@ EndsAs table site settings plan (Err (error.Refused step errno)) = EndsWithAll t
 EndsAs table site settings plan (Err (error.Killed step)) = EndsWithAll table site settings plan (StepKilled step)
 EndsAs table site settings plan (Err error.Memory) = ⊤
 
--- what a launched service is: process 1 lives alone in a namespace of its own, whose table is the plan, and has these programs
+-- what a launched service is: process 1 lives alone in its namespace, whose table is the plan, and has these programs
 -- in their order; every step was made
 pub record LeavesService (table : calls.Table) (site : Site) (settings : Settings) (plan : Table) (service : Service) : Type 0 where
   pub leaves : Leaves table site (wanted_of settings (given_bytes service.filters)) plan service.world

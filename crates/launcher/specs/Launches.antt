@@ -52,7 +52,7 @@ pub record IsLaunchedCreds (creds : Creds) : Type 0 where
   pub inheritable_effective : IsWithin creds.inheritable creds.effective
   pub root : creds.uids.effective ≡ 0 → IsWithin creds.bounding creds.effective
 
--- what a launch that ends well leaves: one process, which lives alone in a namespace of its own, with the programs in their
+-- what a launch that ends well leaves: one process, which lives alone in its namespace, with the programs in their
 -- order and the plan as its table
 pub record Leaves (table : calls.Table) (site : Site) (wanted : Wanted) (plan : Table) (last : World) : Type 0 where
   pub creds : Creds
