@@ -1,0 +1,126 @@
+//! What the next row is over: a policy, and what is known of a service.
+use crate::scored;
+use cap_sets::CapSet;
+use exposure_score::{CustomTest, Fact, FactId};
+use policy_file::{Policy, PolicyError, read_policy};
+use row_text::{number, number32, said, words};
+use std::alloc::{AllocError, Global};
+
+/// A policy, and the facts of a service.
+#[derive(Drop)]
+pub struct Rows {
+    policy: Option<Policy>,
+    facts: Vec<Fact>,
+    ambient: CapSet,
+    writable_paths: u32,
+}
+
+impl Rows {
+    /// No policy and no facts.
+    pub fn new(alloc: Global) -> Self {
+        Rows {
+            policy: None,
+            facts: Vec::new(alloc),
+            ambient: CapSet::empty(),
+            writable_paths: 0,
+        }
+    }
+
+    /// What a row answers.
+    pub fn answer(
+        &mut self,
+        alloc: Global,
+        tests: &[CustomTest],
+        row: &str,
+    ) -> Result<String, AllocError> {
+        let words = words(alloc, row)?;
+        match words.as_slice() {
+            ["policy", text] => self.read(alloc, text.as_bytes()),
+            ["tests", count] => {
+                let text = many_tests(alloc, number(count))?;
+                self.read(alloc, text.as_bytes())
+            }
+            ["fact", id, badness] => {
+                self.facts.push(Fact {
+                    id: FactId::new(alloc, id)?,
+                    badness: number32(badness),
+                })?;
+                said(alloc, "known")
+            }
+            ["caps", bits] => {
+                self.ambient = CapSet::from_bits(number(bits)).unwrap_or(CapSet::empty());
+                said(alloc, "known")
+            }
+            ["paths", count] => {
+                self.writable_paths = number32(count);
+                said(alloc, "known")
+            }
+            ["score"] => self.score(alloc, tests),
+            _ => said(alloc, "no row"),
+        }
+    }
+
+    fn read(&mut self, alloc: Global, bytes: &[u8]) -> Result<String, AllocError> {
+        match read_policy(alloc, bytes) {
+            Ok(policy) => {
+                let text = shown(alloc, &policy)?;
+                self.policy = Some(policy);
+                Ok(text)
+            }
+            Err(PolicyError::NotJson) => said(alloc, "json"),
+            Err(PolicyError::Field(id)) => format!(in alloc; "test {}", id.as_str()),
+            Err(PolicyError::TooMany) => said(alloc, "too-many"),
+            Err(PolicyError::Memory) => Err(AllocError),
+        }
+    }
+
+    // The score of the facts so far, which are gone then.
+    fn score(&mut self, alloc: Global, tests: &[CustomTest]) -> Result<String, AllocError> {
+        let Some(policy) = &self.policy else {
+            return said(alloc, "no policy");
+        };
+        let mut facts = Vec::new(alloc);
+        for fact in &self.facts {
+            facts.push(Fact {
+                id: FactId::new(alloc, fact.id.as_str())?,
+                badness: fact.badness,
+            })?;
+        }
+        scored::scored(
+            alloc,
+            policy,
+            facts,
+            self.ambient,
+            self.writable_paths,
+            tests,
+        )
+    }
+}
+
+// The tests of a policy, or how many where they are many.
+fn shown(alloc: Global, policy: &Policy) -> Result<String, AllocError> {
+    if policy.tests().len() > 9 {
+        return format!(in alloc; "{} tests", policy.tests().len());
+    }
+    let mut text = String::from_str(alloc, "read")?;
+    for test in policy.tests() {
+        text.push_str(format!(in alloc;
+            " {} {}/{}",
+            test.id.as_str(),
+            test.weight,
+            test.range
+        )?.as_str())?;
+    }
+    Ok(text)
+}
+
+// A policy of so many tests.
+fn many_tests(alloc: Global, count: u64) -> Result<String, AllocError> {
+    let mut text = String::from_str(alloc, "{")?;
+    for at in 0..count {
+        let comma = if at == 0 { "" } else { "," };
+        text.push_str(format!(in alloc; "{comma}\"t{at}\":{{\"weight\":1}}")?.as_str())?;
+    }
+    text.push('}')?;
+    Ok(text)
+}
