@@ -1,0 +1,10 @@
+use Rattle.cap_sets.specs.Names.{name_of}
+use Rattle.cap_sets.specs.Sets.{has}
+use Rattle.std.specs.List.{range_with_len}
+use Rattle.service_facts.specs.Badness.{one_if}
+use Rattle.service_facts.specs.Facts.{told}
+use Rattle.service_facts.proofs.Telling.{Tells}
+use Rattle.service_facts.proofs.line_facts.push_caps.Given as goal
+
+abbrev pub invariant-telling : goal.invariant-telling
+invariant-telling l = Tells (told l.initial.facts.items) l.front (λ number. (name_of number, one_if (has l.sandbox.bounding number))) (range_with_len 0 l.cap) (told l.facts.items)

@@ -1,0 +1,9 @@
+use Rattle.std.proofs.Common.{take}
+use Rattle.service_facts.specs.Each.{lets_through}
+use Rattle.service_facts.specs.Badness.{one_if}
+use Rattle.service_facts.specs.Facts.{told}
+use Rattle.service_facts.proofs.Telling.{Tells}
+use Rattle.service_facts.proofs.line_facts.push_groups.Given as goal
+
+abbrev pub invariant-telling : goal.invariant-telling
+invariant-telling l = Tells (told l.initial.facts.items) l.front (λ group. (group.name, one_if (lets_through l.calls l.sandbox.filters group))) (take l.group-index l.group-items) (told l.facts.items)

@@ -1,0 +1,9 @@
+use Rattle.std.proofs.Common.{take}
+use Rattle.filter_rules.specs.NamespaceTypes.{permits, name_of}
+use Rattle.service_facts.specs.Badness.{one_if}
+use Rattle.service_facts.specs.Facts.{told}
+use Rattle.service_facts.proofs.Telling.{Tells}
+use Rattle.service_facts.proofs.line_facts.push_types.Given as goal
+
+abbrev pub invariant-telling : goal.invariant-telling
+invariant-telling l = Tells (told l.initial.facts.items) l.front (λ kind. (name_of kind, one_if (permits l.sandbox.filters.namespaces kind))) (take l.kind-index l.kind-items) (told l.facts.items)

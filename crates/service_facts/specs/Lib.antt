@@ -1,0 +1,5 @@
+pub mod Sandbox
+pub mod Table
+pub mod Badness
+pub mod Each
+pub mod Facts
