@@ -1,0 +1,312 @@
+-- A launch makes one mount namespace at most.
+use Rattle.std.proofs.Common.{◌≡◌, ℕ, Bool, true, false, cond, codes, List, [], ◌∷◌, ◌++◌, Option, Some, None, Result, Ok, Err, refl, ap, ◌∙◌, sym, length, ◌≤◌, arith, eqb}
+use Rattle.std.specs.Prelude.{◌+◌, ◌-◌, ◌&&◌, ◌||◌, nat_le, nat_lt, map, filter, not}
+use Rattle.std.specs.List.{AllByRecursion}
+use Rattle.bpf_code.specs.declared.machine.Insn.{Insn}
+use Rattle.bpf_code.specs.ProgramOf.{program_of}
+use Rattle.bpf_code.specs.Stack.{room_of}
+use Rattle.call_names.specs.declared.rule.CallRule.TheVariants as known
+use Rattle.call_table.specs.declared.listed.CallLine.{CallLine}
+use Rattle.call_table.specs.Lookups.{numbered}
+use Rattle.call_table.specs.Table as calls
+use Rattle.cap_sets.specs.Sets.{has}
+use Rattle.kern_creds.specs.declared.creds.Creds.{Creds}
+use Rattle.kern_creds.specs.Capset.{after_capset}
+use Rattle.kern_creds.specs.Prctl.{after_drop_bounding, after_raise, after_lower, after_clear_ambient, after_set_keepcaps, after_set_no_new_privs}
+use Rattle.kern_creds.specs.Setgroups.{after_setgroups}
+use Rattle.kern_creds.specs.Setresuid.{after_setresuid, after_setresgid}
+use Rattle.kern_creds.specs.Setuid.{after_setuid, after_setgid}
+use Rattle.kern_files.specs.Executing.{exec_answer}
+use Rattle.kern_files.specs.Looking.{flags_at, see_answer, write_answer, open_answer}
+use Rattle.kern_files.specs.MountCall.{after_mount}
+use Rattle.kern_files.specs.UmountCall.{umount_answer}
+use Rattle.kern_mounts.specs.Finds.{finds}
+use Rattle.kern_mounts.specs.Split.{Table}
+use Rattle.kernel_calls.specs.Doing as d
+use Rattle.kernel_calls.specs.Doing.{Doing, Does, doing_by, asked_by, asked_if, asked_of}
+use Rattle.kernel_calls.specs.Rules.{rule_at}
+use Rattle.kernel_calls.specs.declared.call.Call.{Call}
+use Rattle.kernel_calls.specs.declared.payload.Payload.{Payload}
+use Rattle.kernel_calls.specs.declared.payload.Payload.TheVariants.{Nothing, OnePath, Sets, Ids, Code}
+use Rattle.kernel_calls.specs.declared.rule.Rule.{Rule}
+use Rattle.kernel_calls.specs.declared.rule.Rule.TheVariants.{Known}
+use Rattle.kernel_model.specs.Effects as f
+use Rattle.kernel_model.specs.Effects.{Effect, Host, Caller, looks, creds_effect, table_effect, with_cap_of, with_admin, schedule_answer, socket_effect, is_set_effect, ambient_effect, no_new_privs_effect, keepcaps_effect, prctl_effect, push_effect, seccomp_effect, effect_of}
+use Rattle.kernel_model.specs.MountStep.{with_step, stepped_by}
+use Rattle.kernel_model.specs.Step.{step}
+use Rattle.kernel_model.specs.StepCases as case
+use Rattle.kernel_model.specs.StepCases.{EffectCase, StepCase}
+use Rattle.kernel_model.specs.World.{World, living_of, table_of, host_of, caller_of, start_world}
+use Rattle.kernel_model.specs.declared.process.Process.{Process}
+use Rattle.kernel_model.specs.declared.reply.Reply.{Reply}
+use Rattle.kernel_model.proofs.Cases.{steps_by_cases}
+use Rattle.kernel_model.proofs.Kernels.{told_stays}
+use Rattle.kernel_model.proofs.Lists.{each-append, length-set, length-push}
+use Rattle.kernel_laws.specs.Questions.{if_so, count_from}
+use Rattle.launcher.specs.Launch.{Wanted, LaunchStep, Makes, Mounts, number_of, first_call, makes, capset_step, prctl_step, launch_step, launch_steps, mount_steps, with_unshare, group_steps, drop_steps, inherit_steps, user_steps, raise_steps, left_steps, privilege_steps, identity_steps, filter_steps, program_steps, call_steps, set_keepcaps, capbset_drop, set_no_new_privs, cap_ambient, ambient_raise, set_mode_filter}
+use Rattle.launcher.specs.Launches.{HasLaunchCalls}
+use Rattle.launcher.proofs.Leading.{Leads, leads_parts}
+use Rattle.linux_numbers.specs.Capabilities.{cap_sys_admin, cap_last_cap}
+use Rattle.linux_numbers.specs.Errnos.{eperm, eacces, einval, enomem}
+use Rattle.linux_numbers.specs.Limits.{max_insns_per_path}
+use Rattle.site_table.specs.Table.{Site}
+
+-- clone(2) and unshare(2), which alone make namespaces
+abbrev pub parts : Doing → Bool
+parts (d.Clone flags) = true
+parts (d.Unshare flags) = true
+parts _ = false
+
+-- an effect that makes no namespace
+abbrev Stays : Effect → Type 0
+Stays (f.Child own) = own ≡ false
+Stays f.OwnTable = ⊥
+Stays _ = Unit {0}
+
+stays_looks : (r : Result ℕ ℕ) → Stays (looks r)
+stays_looks (Ok value) = tt
+stays_looks (Err errno) = tt
+
+stays_creds : (r : Result Creds ℕ) → Stays (creds_effect r)
+stays_creds (Ok creds) = tt
+stays_creds (Err errno) = tt
+
+stays_table : (r : Result Table ℕ) → Stays (table_effect r)
+stays_table (Ok table) = tt
+stays_table (Err errno) = tt
+
+either : (b : Bool) (one other : Effect) → Stays one → Stays other → Stays (cond b one other)
+either true one other h g = h
+either false one other h g = g
+
+stays_cap : (o : Option ℕ) (creds : Creds) (value : ℕ) → Stays (with_cap_of o creds (f.Answer value))
+stays_cap None creds value = tt
+stays_cap (Some number) creds value = either (has creds.effective number) (f.Answer value) (f.Refuse eperm) tt tt
+
+stays_socket : (creds : Creds) (o : Option CallLine) → Stays (socket_effect creds o)
+stays_socket creds None = tt
+stays_socket creds (Some line) = stays_cap line.cap creds 3
+
+stays_push : (stack : List (List Insn)) (o : Option (List Insn)) → Stays (push_effect stack o)
+stays_push stack None = tt
+stays_push stack (Some program) = either (nat_le (room_of stack + length program) max_insns_per_path) (f.Push program) (f.Refuse enomem) tt tt
+
+stays_admin : (creds : Creds) (r : Result Table ℕ) → Stays (with_admin creds (table_effect r))
+stays_admin creds r = either (has creds.effective cap_sys_admin) (table_effect r) (f.Refuse eperm) (stays_table r) tt
+
+stays_ambient : (creds : Creds) (operation cap' : ℕ) → Stays (ambient_effect creds operation cap')
+stays_ambient creds operation cap' =
+    let set : Effect = is_set_effect creds cap' in
+    let raise : Effect = creds_effect (after_raise creds cap') in
+    let lower : Effect = creds_effect (after_lower creds cap') in
+    let clear : Effect = f.SetCreds (after_clear_ambient creds) in
+    let four : Effect = cond (eqb operation 4) clear (f.Refuse einval) in
+    let three : Effect = cond (eqb operation 3) lower four in
+    let two : Effect = cond (eqb operation 2) raise three in
+    either (eqb operation 1) set two (either (nat_lt cap_last_cap cap') (f.Refuse einval) (f.Answer (cond (has creds.ambient cap') 1 0)) tt tt)
+    (either (eqb operation 2) raise three (stays_creds (after_raise creds cap')) (either (eqb operation 3) lower four (stays_creds (after_lower creds cap')) (either (eqb operation 4) clear (f.Refuse einval) tt tt)))
+
+stays_prctl : (creds : Creds) (option value third : ℕ) → Stays (prctl_effect creds option value third)
+stays_prctl creds option value third =
+    let mark : Effect = no_new_privs_effect creds value in
+    let marked : Effect = f.Answer (cond creds.no_new_privs 1 0) in
+    let keep : Effect = keepcaps_effect creds value in
+    let drop : Effect = creds_effect (after_drop_bounding creds value) in
+    let five : Effect = cond (eqb option 47) (ambient_effect creds value third) (f.Refuse einval) in
+    let four : Effect = cond (eqb option 24) drop five in
+    let three : Effect = cond (eqb option 8) keep four in
+    let two : Effect = cond (eqb option 39) marked three in
+    either (eqb option 38) mark two (either (eqb value 1) (f.SetCreds (after_set_no_new_privs creds)) (f.Refuse einval) tt tt)
+    (either (eqb option 39) marked three tt
+    (either (eqb option 8) keep four (either (nat_lt value 2) (f.SetCreds (after_set_keepcaps creds (eqb value 1))) (f.Refuse einval) tt tt)
+    (either (eqb option 24) drop five (stays_creds (after_drop_bounding creds value)) (either (eqb option 47) (ambient_effect creds value third) (f.Refuse einval) (stays_ambient creds value third) tt))))
+
+stays_seccomp : (creds : Creds) (stack : List (List Insn)) (operation flags : ℕ) (code : List ℕ) → Stays (seccomp_effect creds stack operation flags code)
+stays_seccomp creds stack operation flags code =
+    let pushed : Effect = push_effect stack (program_of code) in
+    let allowed : Effect = cond (not (creds.no_new_privs || has creds.effective cap_sys_admin)) (f.Refuse eacces) pushed in
+    either (not (eqb operation 1 && eqb flags 0)) (f.Refuse einval) allowed tt (either (not (creds.no_new_privs || has creds.effective cap_sys_admin)) (f.Refuse eacces) pushed tt (stays_push stack (program_of code)))
+
+effect_stays : (host : Host) (caller : Caller) (doing : Doing) → parts doing ≡ false → Stays (effect_of host caller doing)
+effect_stays host caller (d.See path) e = stays_looks (see_answer 0 (finds host.rows caller.table path))
+effect_stays host caller (d.Open flags path) e = stays_looks (open_answer flags (flags_at caller.table path) (finds host.rows caller.table path))
+effect_stays host caller (d.Create path) e = stays_looks (write_answer 3 (flags_at caller.table path) (finds host.rows caller.table path))
+effect_stays host caller (d.Truncate path) e = stays_looks (write_answer 0 (flags_at caller.table path) (finds host.rows caller.table path))
+effect_stays host caller (d.Execve path) e = stays_creds (exec_answer caller.creds (flags_at caller.table path) (finds host.rows caller.table path))
+effect_stays host caller (d.SetMode mode) e = tt
+effect_stays host caller (d.Map protection) e = tt
+effect_stays host caller (d.Protect protection) e = tt
+effect_stays host caller (d.Attach flags) e = tt
+effect_stays host caller (d.Schedule policy) e = stays_looks (schedule_answer policy)
+effect_stays host caller (d.Personality persona) e = tt
+effect_stays host caller (d.Socket family) e = stays_socket caller.creds (numbered family host.families)
+effect_stays host caller d.Enter e = tt
+effect_stays host caller d.Fork e = refl
+effect_stays host caller (d.Clone flags) e = cc
+effect_stays host caller (d.Unshare flags) e = cc
+effect_stays host caller d.Exit e = tt
+effect_stays host caller (d.Mount source target flags) e = stays_admin caller.creds (after_mount host.rows caller.table source target flags)
+effect_stays host caller (d.Umount path flags) e = stays_admin caller.creds (umount_answer caller.table path flags)
+effect_stays host caller (d.Setuid id) e = stays_creds (after_setuid caller.creds id)
+effect_stays host caller (d.Setgid id) e = stays_creds (after_setgid caller.creds id)
+effect_stays host caller (d.Setresuid real effective saved) e = stays_creds (after_setresuid caller.creds real effective saved)
+effect_stays host caller (d.Setresgid real effective saved) e = stays_creds (after_setresgid caller.creds real effective saved)
+effect_stays host caller (d.Setgroups ids) e = stays_creds (after_setgroups caller.creds ids)
+effect_stays host caller (d.Capset permitted effective inheritable) e = stays_creds (after_capset caller.creds permitted effective inheritable)
+effect_stays host caller (d.Prctl option value third) e = stays_prctl caller.creds option value third
+effect_stays host caller (d.Seccomp operation flags code) e = stays_seccomp caller.creds caller.stack operation flags code
+effect_stays host caller (d.Plain cap') e = stays_cap cap' caller.creds 0
+
+-- ---- a step
+module _ (world : World) where
+  effect_count : {pid : ℕ} {process : Process} {effect : Effect} {out : Reply × World} → EffectCase world pid process effect out → Stays effect → length out.1.tables ≡ length world.tables
+  effect_count (case.refuses errno) h = refl
+  effect_count (case.answers value) h = refl
+  effect_count (case.takes_creds creds) h = refl
+  effect_count {process = process} (case.takes_table table) h = length-set world.tables (process.namespace - 1) table
+  effect_count (case.takes_program program) h = refl
+  effect_count (case.no_process_left own full) h = refl
+  effect_count (case.shares few) h = refl
+  effect_count (case.no_namespace_for_child few full) h = refl
+  effect_count (case.gives_copy few room) h = cc
+  effect_count (case.no_namespace_left full) h = refl
+  effect_count (case.moves room) h = absurd h
+  effect_count case.ends h = refl
+
+  effect_more : {pid : ℕ} {process : Process} {effect : Effect} {out : Reply × World} → EffectCase world pid process effect out → length out.1.tables ≤ length world.tables + 1
+  effect_more (case.refuses errno) = omega arith
+  effect_more (case.answers value) = omega arith
+  effect_more (case.takes_creds creds) = omega arith
+  effect_more {process = process} (case.takes_table table) = let e = length-set world.tables (process.namespace - 1) table in omega (arith, e)
+  effect_more (case.takes_program program) = omega arith
+  effect_more (case.no_process_left own full) = omega arith
+  effect_more (case.shares few) = omega arith
+  effect_more (case.no_namespace_for_child few full) = omega arith
+  effect_more {process = process} (case.gives_copy few room) = let e = length-push world.tables (table_of world process.namespace) in omega (arith, e)
+  effect_more (case.no_namespace_left full) = omega arith
+  effect_more {process = process} (case.moves room) = let e = length-push world.tables (table_of world process.namespace) in omega (arith, e)
+  effect_more case.ends = omega arith
+
+  case_count : {call : Call} {out : Reply × World} → StepCase world call out → ((doing : Doing) → asked_of world.calls.calls call ≡ Does doing → parts doing ≡ false) → length out.1.tables ≡ length world.tables
+  case_count (case.absent e) h = refl
+  case_count (case.filtered process errno e g) h = refl
+  case_count (case.killed process e g) h = refl
+  case_count (case.lacking process passes e) h = refl
+  case_count (case.misformed process passes e) h = refl
+  case_count (case.does process doing out passes e c) h = effect_count c (effect_stays (host_of world) (caller_of world process) doing (h doing e))
+
+  case_more : {call : Call} {out : Reply × World} → StepCase world call out → length out.1.tables ≤ length world.tables + 1
+  case_more (case.absent e) = omega arith
+  case_more (case.filtered process errno e g) = omega arith
+  case_more (case.killed process e g) = omega arith
+  case_more (case.lacking process passes e) = omega arith
+  case_more (case.misformed process passes e) = omega arith
+  case_more (case.does process doing out passes e c) = effect_more c
+
+-- ---- steps of a launch
+module _ (table : calls.Table) where
+  -- a step that makes no namespace
+  abbrev IsQuiet : LaunchStep → Type 0
+  IsQuiet (Makes call) = (doing : Doing) → asked_of table.calls call ≡ Does doing → parts doing ≡ false
+  IsQuiet (Mounts entry) = Unit {0}
+
+  abbrev AreQuiet : List LaunchStep → Type 0
+  AreQuiet steps = AllByRecursion IsQuiet steps
+
+  told_after : (world : World) (own : LaunchStep) → (launch_step world own).1.calls ≡ world.calls
+  told_after world (Makes call) = (told_stays world (call ∷ [])).0
+  told_after world (Mounts entry) = by (living_of world 1)
+    where
+      by : (o : Option Process) → (stepped_by world entry o).calls ≡ world.calls
+      by None = refl
+      by (Some process) = refl
+
+  quiet_step : (world : World) (own : LaunchStep) → world.calls ≡ table → IsQuiet own → length (launch_step world own).1.tables ≡ length world.tables
+  quiet_step world (Makes call) is quiet = case_count world (steps_by_cases world call) (λ doing e. quiet doing (ap (λ (t : calls.Table). asked_of t.calls call) (sym is) ∙ e))
+  quiet_step world (Mounts entry) is quiet = by (living_of world 1)
+    where
+      by : (o : Option Process) → length (stepped_by world entry o).tables ≡ length world.tables
+      by None = refl
+      by (Some process) = length-set world.tables (process.namespace - 1) (with_step (table_of world process.namespace) entry)
+
+  quiet_steps : (world last : World) (steps : List LaunchStep) → world.calls ≡ table → AreQuiet steps → Leads world steps last → length last.tables ≡ length world.tables
+  quiet_steps world last [] is quiet l = ap (λ (w : World). length w.tables) (sym l)
+  quiet_steps world last (own ∷ steps) is quiet l = quiet_steps (launch_step world own).1 last steps (told_after world own ∙ is) quiet.1 l.1 ∙ quiet_step world own is quiet.0
+
+  told_steps : (world last : World) (steps : List LaunchStep) → Leads world steps last → last.calls ≡ world.calls
+  told_steps world last [] l = ap (λ (w : World). w.calls) (sym l)
+  told_steps world last (own ∷ steps) l = told_steps (launch_step world own).1 last steps l.1 ∙ told_after world own
+
+  -- calls by their names
+  quiet_call : (name args : List ℕ) (payload : Payload) (rule : Rule) (doing : Doing) → rule_at table.calls (number_of table.calls name) ≡ Some rule → doing_by rule args payload ≡ Some doing → parts doing ≡ false → IsQuiet (Makes (first_call table.calls name args payload))
+  quiet_call name args payload rule doing at is off other e =
+      let own : asked_of table.calls (first_call table.calls name args payload) ≡ Does doing = ap (λ (r : Option Rule). asked_by r (first_call table.calls name args payload)) at ∙ ap asked_if is in
+      let same : doing ≡ other = does_same doing other (sym own ∙ e) in
+      ap parts (sym same) ∙ off
+    where
+      does_same : (one other : Doing) → Does one ≡ Does other → one ≡ other
+      does_same one other e = cc
+
+  each_made : {X : Type 0} (own : X → LaunchStep) → ((x : X) → IsQuiet (own x)) → (xs : List X) → AreQuiet (map own xs)
+  each_made own h [] = tt
+  each_made own h (x ∷ xs) = (h x, each_made own h xs)
+
+  if_quiet : (b : Bool) (own : LaunchStep) → IsQuiet own → AreQuiet (if_so b own)
+  if_quiet true own h = (h, tt)
+  if_quiet false own h = tt
+
+  unless_quiet : (b : Bool) (steps : List LaunchStep) → AreQuiet steps → AreQuiet (cond b [] steps)
+  unless_quiet true steps h = tt
+  unless_quiet false steps h = h
+
+  mounts_quiet : (plan : Table) → AreQuiet (mount_steps plan)
+  mounts_quiet [] = tt
+  mounts_quiet (first ∷ rest) = each-append IsQuiet (if_so _ (Mounts first)) (map Mounts rest) (if_quiet _ (Mounts first) tt) (each_made Mounts (λ entry. tt) rest)
+
+  module _ (calls' : HasLaunchCalls table.calls) (wanted : Wanted) where
+    prctl_quiet : (option value third : ℕ) → IsQuiet (prctl_step table.calls option value third)
+    prctl_quiet option value third = quiet_call (codes "prctl") _ Nothing (Known known.Prctl) _ calls'.prctl refl refl
+
+    capset_quiet : (p e i : ℕ) → IsQuiet (capset_step table.calls p e i)
+    capset_quiet p e i = quiet_call (codes "capset") _ (Sets p e i) (Known known.Capset) (d.Capset p e i) calls'.capset refl refl
+
+    join : (one other : List LaunchStep) → AreQuiet one → AreQuiet other → AreQuiet (one ++ other)
+    join one other h g = each-append IsQuiet one other h g
+
+    calls_quiet : AreQuiet (call_steps table.calls wanted)
+    calls_quiet =
+        let lines = table.calls in
+        let groups : AreQuiet (group_steps lines wanted) = (quiet_call (codes "setgroups") _ (Ids wanted.groups) (Known known.Setgroups) _ calls'.setgroups refl refl, (quiet_call (codes "setresgid") _ Nothing (Known known.Setresgid) _ calls'.setresgid refl refl, tt)) in
+        let drops : AreQuiet (drop_steps lines wanted) = each_made (λ cap. prctl_step lines capbset_drop cap 0) (λ cap. prctl_quiet capbset_drop cap 0) (filter (λ cap. not (has wanted.bounding cap)) (count_from 0 41)) in
+        let inherits : AreQuiet (inherit_steps lines wanted) = (capset_quiet _ _ wanted.ambient, tt) in
+        let users : AreQuiet (user_steps lines wanted) = unless_quiet (eqb wanted.uid 0) _ (prctl_quiet set_keepcaps 1 0, (quiet_call (codes "setresuid") _ Nothing (Known known.Setresuid) _ calls'.setresuid refl refl, tt)) in
+        let raises : AreQuiet (raise_steps lines wanted) = each_made (λ cap. prctl_step lines cap_ambient ambient_raise cap) (λ cap. prctl_quiet cap_ambient ambient_raise cap) (filter (has wanted.ambient) (count_from 0 41)) in
+        let left' : AreQuiet (left_steps lines wanted) = unless_quiet (eqb wanted.uid 0) _ (capset_quiet wanted.ambient wanted.ambient wanted.ambient, tt) in
+        let marks : AreQuiet (privilege_steps lines wanted) = if_quiet wanted.no_new_privs _ (prctl_quiet set_no_new_privs 1 0) in
+        let filters : AreQuiet (filter_steps lines wanted.programs) = each_made (λ bytes. makes lines (codes "seccomp") set_mode_filter 0 0 (Code bytes)) (λ bytes. quiet_call (codes "seccomp") _ (Code bytes) (Known known.Seccomp) _ calls'.seccomp refl refl) wanted.programs in
+        let program : AreQuiet (program_steps lines wanted.program) = (quiet_call (codes "execve") _ (OnePath wanted.program) (Known known.Execve) (d.Execve wanted.program) calls'.execve refl refl, tt) in
+        let one = join (group_steps lines wanted) (drop_steps lines wanted) groups drops in
+        let two = join (group_steps lines wanted ++ drop_steps lines wanted) (inherit_steps lines wanted) one inherits in
+        let three = join (group_steps lines wanted ++ drop_steps lines wanted ++ inherit_steps lines wanted) (user_steps lines wanted) two users in
+        let four = join (group_steps lines wanted ++ drop_steps lines wanted ++ inherit_steps lines wanted ++ user_steps lines wanted) (raise_steps lines wanted) three raises in
+        let five = join (group_steps lines wanted ++ drop_steps lines wanted ++ inherit_steps lines wanted ++ user_steps lines wanted ++ raise_steps lines wanted) (left_steps lines wanted) four left' in
+        let six = join (group_steps lines wanted ++ drop_steps lines wanted ++ inherit_steps lines wanted ++ user_steps lines wanted ++ raise_steps lines wanted ++ left_steps lines wanted) (privilege_steps lines wanted) five marks in
+        let seven = join (identity_steps lines wanted) (filter_steps lines wanted.programs) six filters in
+        join (identity_steps lines wanted ++ filter_steps lines wanted.programs) (program_steps lines wanted.program) seven program
+
+    -- the mounts in a namespace of their own
+    unshared : (steps : List LaunchStep) (world mid : World) → world.calls ≡ table → AreQuiet steps → Leads world (with_unshare table.calls steps) mid → length mid.tables ≤ length world.tables + 1
+    unshared [] world mid is quiet l = let e = ap (λ (w : World). length w.tables) l in omega (arith, e)
+    unshared (own ∷ steps) world mid is quiet l =
+        let call : Call = first_call table.calls (codes "unshare") (0x2_0000 ∷ 0 ∷ 0 ∷ 0 ∷ 0 ∷ 0 ∷ []) Nothing in
+        let more = case_more world (steps_by_cases world call) in
+        let rest = quiet_steps (step world call).1 mid (own ∷ steps) (told_after world (Makes call) ∙ is) quiet l.1 in
+        omega (arith, more, rest)
+
+    pub few_tables : (site : Site) (plan : Table) (last : World) → Leads (start_world table site) (launch_steps table.calls wanted plan) last → length last.tables ≤ 2
+    few_tables site plan last l =
+        let own = leads_parts (start_world table site) (with_unshare table.calls (mount_steps plan)) (call_steps table.calls wanted) last l in
+        let first = unshared (mount_steps plan) (start_world table site) own.mid refl (mounts_quiet plan) own.before in
+        let told = told_steps (start_world table site) own.mid (with_unshare table.calls (mount_steps plan)) own.before in
+        let rest = quiet_steps own.mid last (call_steps table.calls wanted) told calls_quiet own.after in
+        omega (arith, first, rest)

@@ -1,0 +1,134 @@
+-- Calls that name a path, and what they come to.
+use Rattle.std.proofs.Common.{◌≡◌, ℕ, Bool, true, false, List, Option, Some, Result, Ok, Err, refl, ap, ◌∙◌, cond, arith, ◌<◌}
+use Rattle.std.specs.Prelude.{◌^◌, not}
+use Rattle.abs_path.specs.Paths.{Path}
+use Rattle.linux_numbers.specs.Errnos.{eacces, eisdir, erofs, eperm}
+use Rattle.call_names.specs.declared.rule.Argument.TheVariants as argument
+use Rattle.call_names.specs.declared.rule.CallRule.TheVariants as known
+use Rattle.site_table.specs.declared.row.Row.{Row}
+use Rattle.site_table.specs.Kinds.{is_dir, is_exe}
+use Rattle.site_table.specs.Table.{row_at}
+use Rattle.kern_creds.specs.declared.creds.Creds.{Creds}
+use Rattle.kern_creds.specs.Exec.{exec_done, is_refused}
+use Rattle.kern_mounts.specs.Finds.{row, finds}
+use Rattle.kern_mounts.specs.Split.{Table}
+use Rattle.kern_files.specs.Executing.{marks_of, executed, exec_answer}
+use Rattle.kern_files.specs.Looking.{flags_at, see_answer, write_answer}
+use Rattle.kernel_calls.specs.Calls.{IsPath}
+use Rattle.kernel_calls.specs.Doing as d
+use Rattle.kernel_calls.specs.Doing.{Doing}
+use Rattle.kernel_calls.specs.Rules.{rule_at}
+use Rattle.kernel_calls.specs.declared.call.Call.{Call}
+use Rattle.kernel_calls.specs.declared.payload.Payload.TheVariants as pay
+use Rattle.kernel_calls.specs.declared.rule.Rule.{Rule}
+use Rattle.kernel_calls.specs.declared.rule.Rule.TheVariants as rule
+use Rattle.kernel_model.specs.Effects as f
+use Rattle.kernel_model.specs.Effects.{Effect, SetCreds, looks, creds_effect, effect_of}
+use Rattle.kernel_laws.specs.Denied.{path_for}
+use Rattle.kernel_laws.specs.Kinds as k
+use Rattle.kernel_laws.specs.Kinds.{AreWords, no_words, one_word}
+use Rattle.kernel_laws.specs.Launched.{Launch, passes}
+use Rattle.kernel_laws.specs.Questions.{Wish, ToSee, ToRead, ToWrite, ToExec}
+use Rattle.kernel_laws.specs.Reach.{fits}
+use Rattle.kernel_ways.specs.Ways.{Makes, host_at, caller_at}
+use Rattle.kernel_ways.proofs.Choices as choices
+use Rattle.kernel_ways.proofs.Lines.{Line, make, six, zeros, first_by}
+use Rattle.kernel_ways.specs.Showing.{IsDoable}
+
+module _ (launch : Launch) (creds : Creds) (table : Table) where
+  -- a call by this path, that is done
+  pub record PathCall (wish : Wish) (path : Path) : Type 0 where
+    pub call : Call
+    pub doing : Doing
+    pub effect : Effect
+    pub makes : Makes launch creds table doing call effect
+    pub doable : IsDoable effect
+    pub wanted : path_for wish doing ≡ Some path
+
+  -- a call that is done and asks for such a thing
+  pub record Performed (p : Doing → Bool) : Type 0 where
+    pub call : Call
+    pub doing : Doing
+    pub effect : Effect
+    pub makes : Makes launch creds table doing call effect
+    pub doable : IsDoable effect
+    pub such : p doing ≡ true
+
+  abbrev rows : Path → Option Row
+  rows = row_at launch.site.rows
+
+  module _ (path : Path) (fit : IsPath path) (target : Row) (found : finds rows table path ≡ row target) where
+    pub seen : (value : ℕ) → looks (see_answer value (finds rows table path)) ≡ f.Answer value
+    seen value = ap (λ x. looks (see_answer value x)) found
+
+    -- a call by the path alone that changes nothing
+    by_path : (nr : ℕ) (own : Rule) (args : List ℕ) (doing : Doing) (value : ℕ) (wish : Wish) → nr < 2 ^ 32 → AreWords args → rule_at launch.calls.calls nr ≡ Some own → passes launch nr args
+        → d.doing_by own args (pay.OnePath path) ≡ Some doing → path_for wish doing ≡ Some path → effect_of (host_at launch) (caller_at launch creds table) doing ≡ f.Answer value → PathCall wish path
+    by_path nr own args doing value wish n w at t is wanted e = record {
+      call = first_by nr args (pay.OnePath path);
+      doing = doing;
+      effect = f.Answer value;
+      makes = make launch creds table nr own args (pay.OnePath path) doing (f.Answer value) n w fit at is t e;
+      doable = tt;
+      wanted = wanted;
+    }
+
+    see_by : {own : Rule} {args : List ℕ} → (nr : ℕ) → nr < 2 ^ 32 → rule_at launch.calls.calls nr ≡ Some own → passes launch nr args → choices.Sees own args → PathCall ToSee path
+    see_by nr n at t choices.sees = by_path nr (rule.Known known.See) no_words (d.See path) 0 ToSee n zeros at t refl refl (seen 0)
+
+    pub see_path : Line launch (k.ForPath ToSee) → PathCall ToSee path
+    see_path line = see_by line.line.number line.number line.at line.through (choices.of_sees line.own line.args line.are)
+
+    read_by : {own : Rule} {args : List ℕ} → (nr : ℕ) → nr < 2 ^ 32 → rule_at launch.calls.calls nr ≡ Some own → passes launch nr args → choices.Reads own args → PathCall ToRead path
+    read_by nr n at t (choices.reads argument.Second) = by_path nr (rule.Known (known.Open argument.Second)) no_words (d.Open 0 path) 3 ToRead n zeros at t refl refl (seen 3)
+    read_by nr n at t (choices.reads argument.Third) = by_path nr (rule.Known (known.Open argument.Third)) no_words (d.Open 0 path) 3 ToRead n zeros at t refl refl (seen 3)
+
+    pub read_path : Line launch (k.ForPath ToRead) → PathCall ToRead path
+    read_path line = read_by line.line.number line.number line.at line.through (choices.of_reads line.own line.args line.are)
+
+    module _ (file : is_dir target.kind ≡ false) (writes : fits ToWrite (flags_at table path) ≡ true) where
+      pub written : (value : ℕ) → looks (write_answer value (flags_at table path) (finds rows table path)) ≡ f.Answer value
+      written value = ap (λ x. looks (write_answer value (flags_at table path) x)) found ∙ by (is_dir target.kind) (flags_at table path).read_only file writes
+        where
+          by : (a b : Bool) → a ≡ false → not b ≡ true → looks (cond {A = Result ℕ ℕ} a (Err eisdir) (cond {A = Result ℕ ℕ} b (Err erofs) (Ok value))) ≡ f.Answer value
+          by false false g h = refl
+          by false true g h = cc
+          by true b g h = cc
+
+      write_by : {own : Rule} {args : List ℕ} → (nr : ℕ) → nr < 2 ^ 32 → rule_at launch.calls.calls nr ≡ Some own → passes launch nr args → choices.Writes own args → PathCall ToWrite path
+      write_by nr n at t (choices.opens argument.Second) =
+          by_path nr (rule.Known (known.Open argument.Second)) (one_word 1 1) (d.Open 1 path) 3 ToWrite n (six 0 1 0 0 (omega arith) (omega arith) (omega arith) (omega arith)) at t refl refl (written 3)
+      write_by nr n at t (choices.opens argument.Third) =
+          by_path nr (rule.Known (known.Open argument.Third)) (one_word 2 1) (d.Open 1 path) 3 ToWrite n (six 0 0 1 0 (omega arith) (omega arith) (omega arith) (omega arith)) at t refl refl (written 3)
+      write_by nr n at t choices.creates = by_path nr (rule.Known known.Create) no_words (d.Create path) 3 ToWrite n zeros at t refl refl (written 3)
+      write_by nr n at t choices.truncates = by_path nr (rule.Known known.Truncate) no_words (d.Truncate path) 0 ToWrite n zeros at t refl refl (written 0)
+
+      pub write_path : Line launch (k.ForPath ToWrite) → PathCall ToWrite path
+      write_path line = write_by line.line.number line.number line.at line.through (choices.of_writes line.own line.args line.are)
+
+    module _ (exe : is_exe target.kind ≡ true) (runs : fits ToExec (flags_at table path) ≡ true) (admitted : is_refused creds (marks_of target) (flags_at table path).no_suid ≡ false) where
+      abbrev pub after_run : Creds
+      after_run = exec_done creds (marks_of target) (flags_at table path).no_suid
+
+      pub exec_is : creds_effect (exec_answer creds (flags_at table path) (finds rows table path)) ≡ SetCreds after_run
+      exec_is = ap (λ x. creds_effect (exec_answer creds (flags_at table path) x)) found ∙ by (is_exe target.kind) (flags_at table path).no_exec exe runs
+        where
+          by : (a b : Bool) → a ≡ true → not b ≡ true
+              → creds_effect (executed creds (cond (not a) (Err eacces) (cond b (Err eacces) (Ok (record { file = marks_of target; no_suid = (flags_at table path).no_suid }))))) ≡ SetCreds after_run
+          by true false g h = ap (λ b. creds_effect (cond {A = Result Creds ℕ} b (Err eperm) (Ok after_run))) admitted
+          by true true g h = cc
+          by false b g h = cc
+
+      -- its call
+      pub record ExecCall : Type 0 where
+        pub call : Call
+        pub makes : Makes launch creds table (d.Execve path) call (SetCreds after_run)
+
+      exec_by : {own : Rule} {args : List ℕ} → (nr : ℕ) → nr < 2 ^ 32 → rule_at launch.calls.calls nr ≡ Some own → passes launch nr args → choices.Execs own args → ExecCall
+      exec_by nr n at t choices.execs = record {
+        call = first_by nr no_words (pay.OnePath path);
+        makes = make launch creds table nr (rule.Known known.Execve) no_words (pay.OnePath path) (d.Execve path) (SetCreds after_run) n zeros fit at refl t exec_is;
+      }
+
+      pub exec_path : Line launch (k.ForPath ToExec) → ExecCall
+      exec_path line = exec_by line.line.number line.number line.at line.through (choices.of_execs line.own line.args line.are)

@@ -1,0 +1,117 @@
+-- What execve of a row gives, and capset behind it.
+use Rattle.std.proofs.Common.{◌≡◌, ℕ, Bool, true, false, ap, ◌∙◌, sym, subst, cond, arith, ◌<◌, eqb}
+use Rattle.std.specs.Prelude.{not, ◌&&◌, ◌||◌, ◌^◌}
+use Rattle.std.proofs.lemmas.Bool.{and_from, or_left, or_right}
+use Rattle.std.proofs.lemmas.Nat.{and_le_r}
+use Rattle.abs_path.specs.Paths.{Path}
+use Rattle.cap_sets.specs.Sets.{has, union, cut, within, IsWithin}
+use Rattle.cap_sets.proofs.Members.{within_self, within-from_IsWithin, cut_within_right, within_union_left, within_union_right}
+use Rattle.site_table.specs.declared.row.Row.{Row}
+use Rattle.site_table.specs.Table.{row_at}
+use Rattle.kern_creds.specs.declared.creds.Creds.{Creds}
+use Rattle.kern_creds.specs.declared.ids.Ids.{Ids}
+use Rattle.kern_creds.specs.declared.file.FileCreds.{FileCreds}
+use Rattle.kern_creds.specs.Exec.{is_refused, exec_done, exec_uids, exec_gains, exec_ambient, honours, owner_or, runs_as_root}
+use Rattle.kern_creds.specs.Capset.{may_capset}
+use Rattle.kernel_laws.specs.Bound.{is_barred}
+use Rattle.kernel_calls.specs.declared.call.Call.{Call}
+use Rattle.kernel_calls.specs.Doing as d
+use Rattle.kernel_model.specs.Effects.{SetCreds}
+use Rattle.kern_files.specs.Looking.{flags_at}
+use Rattle.kern_files.specs.Executing.{marks_of}
+use Rattle.kernel_laws.specs.Kinds.{ForPath}
+use Rattle.kernel_laws.specs.Launched.{Launch, IsLaunched}
+use Rattle.site_table.specs.Kinds.{is_exe}
+use Rattle.kern_mounts.specs.Split.{Table}
+use Rattle.kernel_laws.specs.Questions.{ToExec}
+use Rattle.reach_paths.specs.Finding.{FindsRow}
+use Rattle.kernel_laws.proofs.KeptExec.{above_if}
+use Rattle.kernel_ways.specs.Offers.{Offers}
+use Rattle.kernel_ways.specs.Ways.{Makes}
+use Rattle.kernel_ways.proofs.Doings.{exec_path}
+use Rattle.kernel_ways.proofs.Lines.{some_line}
+use Rattle.kernel_ways.proofs.Rows.{IsKnown}
+
+-- what each of the lists of calls keeps
+pub record Basis (launch : Launch) (creds : Creds) : Type 0 where
+  pub bounding : creds.bounding ≡ launch.creds.bounding
+  pub inheritable : creds.inheritable ≡ launch.creds.inheritable
+  pub mark : creds.no_new_privs ≡ launch.creds.no_new_privs
+
+-- a row that can be run on this table with its marks looked at
+pub record Runnable (launch : Launch) (table : Table) (target : Row) : Type 0 where
+  pub found : FindsRow (row_at launch.site.rows) table ToExec target
+  pub known : IsKnown launch.site target
+  pub exe : is_exe target.kind ≡ true
+  pub suid : (flags_at table found.path).no_suid ≡ false
+  pub free : is_barred launch target ≡ false
+
+-- ---- the credentials after it
+module _ (creds : Creds) (file : FileCreds) (off : creds.no_new_privs ≡ false) where
+  abbrev pub done : Creds
+  done = exec_done creds file false
+
+  abbrev uids : Ids
+  uids = exec_uids creds file false
+
+  abbrev pub common : ℕ
+  common = cut file.caps creds.bounding
+
+  pub honoured : honours creds false ≡ true
+  honoured = ap (λ b. not b && true) off
+
+  gains_permitted : (a : ℕ) → IsWithin a (exec_gains creds file false) → IsWithin a done.permitted
+  gains_permitted a h = above_if creds.no_new_privs (cut (exec_gains creds file false) creds.permitted) (exec_gains creds file false) a (λ y. let no' : false ≡ true = sym off ∙ y in cc) (λ y. h)
+
+  pub common_permitted : IsWithin common done.permitted
+  common_permitted = gains_permitted common
+      (above_if (runs_as_root uids) (union creds.inheritable creds.bounding) _ common (λ z. within_union_right _ _ _ (cut_within_right _ _ _ (within_self _)))
+      λ z. above_if (honours creds false) (union common (exec_ambient creds file false)) (exec_ambient creds file false) common (λ h. within_union_left _ _ _ (within_self common)) (λ h. let no' : true ≡ false = sym honoured ∙ h in cc))
+
+  -- uid 0 gives the bounding set at once
+  pub zero_gives : eqb uids.effective 0 ≡ true → IsWithin creds.bounding done.effective
+  zero_gives root = above_if (eqb uids.effective 0 || (honours creds false && file.effective)) done.permitted (exec_ambient creds file false) creds.bounding
+      (λ y. gains_permitted creds.bounding (above_if (eqb uids.real 0 || eqb uids.effective 0) (union creds.inheritable creds.bounding) _ creds.bounding (λ z. within_union_right _ _ _ (within_self _)) (λ z. let yes = or_right (eqb uids.real 0) (eqb uids.effective 0) root in let no' : true ≡ false = sym yes ∙ z in cc)))
+      (λ y. let yes = or_left (eqb uids.effective 0) (honours creds false && file.effective) root in let no' : true ≡ false = sym yes ∙ y in cc)
+
+  -- the owner becomes the effective id
+  pub uid_after : uids.effective ≡ owner_or file.setuid creds.uids.effective
+  uid_after = ap (λ b. cond b (owner_or file.setuid creds.uids.effective) creds.uids.effective) honoured
+
+  pub gid_after : done.gids.effective ≡ owner_or file.setgid creds.gids.effective
+  gid_after = ap (λ b. cond b (owner_or file.setgid creds.gids.effective) creds.gids.effective) honoured
+
+  -- the effective bit gives the file's set at once
+  pub bit_gives : file.effective ≡ true → IsWithin common done.effective
+  bit_gives e = above_if (eqb uids.effective 0 || (honours creds false && file.effective)) done.permitted (exec_ambient creds file false) common (λ y. common_permitted)
+      (λ y. let yes = or_right (eqb uids.effective 0) (honours creds false && file.effective) (and_from _ _ honoured e) in let no' : true ≡ false = sym yes ∙ y in cc)
+
+  -- else capset takes it up
+  pub may_take : may_capset done common common creds.inheritable ≡ true
+  may_take =
+      and_from _ _ (and_from _ _ (within-from_IsWithin common done.permitted common_permitted) (within-from_IsWithin common common (within_self common)))
+      (and_from _ _ (within-from_IsWithin creds.inheritable (union creds.inheritable creds.bounding) (within_union_left _ _ _ (within_self _)))
+      (or_right (has done.effective 8) _ (within-from_IsWithin creds.inheritable (union creds.inheritable done.permitted) (within_union_left _ _ _ (within_self _)))))
+
+pub common_small : (caps bounding : ℕ) → bounding < 2 ^ 41 → cut caps bounding < 2 ^ 41
+unfolding cut
+common_small caps bounding h = omega (arith, and_le_r caps bounding, h)
+
+-- ---- its call
+module _ (launch : Launch) (l : IsLaunched launch) (o : Offers launch) where
+  pub record Ran (creds : Creds) (table : Table) (target : Row) : Type 0 where
+    pub call : Call
+    pub path : Path
+    pub makes : Makes launch creds table (d.Execve path) call (SetCreds (exec_done creds (marks_of target) false))
+
+  pub runs : (creds : Creds) (table : Table) (target : Row) → creds.bounding ≡ launch.creds.bounding → Runnable launch table target → Ran creds table target
+  runs creds table target bounding r =
+      let path = r.found.path in
+      let admitted : is_refused creds (marks_of target) (flags_at table path).no_suid ≡ false =
+      ap (λ b. is_refused creds (marks_of target) b) r.suid ∙ ap (λ s. target.effective && not (within target.caps s)) bounding ∙ r.free in
+      let x = exec_path launch creds table path r.found.can_be_named target r.found.is_found r.exe r.found.is_allowed admitted (some_line launch l (ForPath ToExec) o.execs) in
+      record {
+        call = x.call;
+        path = path;
+        makes = let P : Bool → Type 0 = λ b. Makes launch creds table (d.Execve path) x.call (SetCreds (exec_done creds (marks_of target) b)) in subst P r.suid x.makes;
+      }

@@ -1,0 +1,190 @@
+-- Calls that ask for a thing and name no path.
+use Rattle.std.proofs.Common.{◌≡◌, ℕ, Bool, true, false, List, [], ◌∷◌, Option, Some, None, refl, ap, ◌∙◌, subst, cond, arith, ◌<◌}
+use Rattle.std.specs.Prelude.{◌^◌, ◌%◌}
+use Rattle.cap_sets.specs.Sets.{has}
+use Rattle.linux_numbers.specs.Errnos.{eperm}
+use Rattle.call_names.specs.declared.rule.Argument.TheVariants as argument
+use Rattle.call_names.specs.declared.rule.CallRule.TheVariants as known
+use Rattle.call_table.specs.declared.listed.CallLine.{CallLine}
+use Rattle.call_table.specs.Lookups.{numbered}
+use Rattle.kern_creds.specs.declared.creds.Creds.{Creds}
+use Rattle.kern_mounts.specs.Split.{Table}
+use Rattle.kernel_calls.specs.Doing as d
+use Rattle.kernel_calls.specs.Doing.{Doing}
+use Rattle.kernel_calls.specs.Rules.{rule_of, rule_at}
+use Rattle.kernel_calls.specs.declared.payload.Payload.TheVariants as pay
+use Rattle.kernel_calls.specs.declared.rule.Rule.{Rule}
+use Rattle.kernel_calls.specs.declared.rule.Rule.TheVariants as rule
+use Rattle.kernel_model.specs.Effects as f
+use Rattle.kernel_model.specs.Effects.{Effect, effect_of, with_cap_of, socket_effect}
+use Rattle.kernel_laws.specs.Bound.{is_user}
+use Rattle.kernel_laws.specs.Denied.{asks_space, asks_map, asks_protect, asks_attach, asks_realtime, asks_personality, asks_mode}
+use Rattle.kernel_laws.specs.Kinds as k
+use Rattle.kernel_laws.specs.Kinds.{AreWords, asks_plain, no_words, one_word}
+use Rattle.kernel_laws.specs.Launched.{Launch, passes}
+use Rattle.kernel_laws.specs.Questions as q
+use Rattle.kernel_laws.specs.Questions.{Space, flag_of}
+use Rattle.kernel_ways.specs.Ways.{host_at, caller_at}
+use Rattle.kernel_ways.proofs.Choices as choices
+use Rattle.kernel_ways.proofs.Doings.{Performed}
+use Rattle.kernel_ways.proofs.Lines.{Line, make, six, zeros, first_by}
+use Rattle.kernel_ways.specs.Showing.{IsDoable}
+
+-- the capability is effective, if there is one
+abbrev pub CapAtHand : Creds → Option ℕ → Type 0
+CapAtHand creds None = Unit {0}
+CapAtHand creds (Some number) = has creds.effective number ≡ true
+
+cap_lets : (creds : Creds) (o : Option ℕ) (effect : Effect) → CapAtHand creds o → with_cap_of o creds effect ≡ effect
+cap_lets creds None effect h = refl
+cap_lets creds (Some number) effect h = ap (λ b. cond b effect (f.Refuse eperm)) h
+
+module _ (launch : Launch) (creds : Creds) (table : Table) where
+  -- a call without a payload, by its number and its words
+  bare_call : (p : Doing → Bool) (nr : ℕ) (own : Rule) (args : List ℕ) (doing : Doing) (effect : Effect) → nr < 2 ^ 32 → AreWords args → rule_at launch.calls.calls nr ≡ Some own → passes launch nr args
+      → d.doing_by own args pay.Nothing ≡ Some doing → effect_of (host_at launch) (caller_at launch creds table) doing ≡ effect → IsDoable effect → p doing ≡ true → Performed launch creds table p
+  bare_call p nr own args doing effect n w at t is e h such = record {
+    call = first_by nr args pay.Nothing;
+    doing = doing;
+    effect = effect;
+    makes = make launch creds table nr own args pay.Nothing doing effect n w tt at is t e;
+    doable = h;
+    such = such;
+  }
+
+  maps_by : {own : Rule} {args : List ℕ} → (nr : ℕ) → nr < 2 ^ 32 → rule_at launch.calls.calls nr ≡ Some own → passes launch nr args → choices.Maps own args → Performed launch creds table asks_map
+  maps_by nr n at t choices.maps = bare_call asks_map nr (rule.Known known.Map) (one_word 2 6) (d.Map 6) (f.Answer 0) n (six 0 0 6 0 (omega arith) (omega arith) (omega arith) (omega arith)) at t refl refl tt refl
+
+  pub maps : Line launch k.MapsWx → Performed launch creds table asks_map
+  maps line = maps_by line.line.number line.number line.at line.through (choices.of_maps line.own line.args line.are)
+
+  protects_by : {own : Rule} {args : List ℕ} → (nr : ℕ) → nr < 2 ^ 32 → rule_at launch.calls.calls nr ≡ Some own → passes launch nr args → choices.Protects own args → Performed launch creds table asks_protect
+  protects_by nr n at t choices.protects = bare_call asks_protect nr (rule.Known known.Protect) (one_word 2 4) (d.Protect 4) (f.Answer 0) n (six 0 0 4 0 (omega arith) (omega arith) (omega arith) (omega arith)) at t refl refl tt refl
+
+  pub protects : Line launch k.ProtectsX → Performed launch creds table asks_protect
+  protects line = protects_by line.line.number line.number line.at line.through (choices.of_protects line.own line.args line.are)
+
+  attaches_by : {own : Rule} {args : List ℕ} → (nr : ℕ) → nr < 2 ^ 32 → rule_at launch.calls.calls nr ≡ Some own → passes launch nr args → choices.Attaches own args → Performed launch creds table asks_attach
+  attaches_by nr n at t choices.attaches = bare_call asks_attach nr (rule.Known known.Attach) (one_word 2 0x8000) (d.Attach 0x8000) (f.Answer 0) n (six 0 0 0x8000 0 (omega arith) (omega arith) (omega arith) (omega arith)) at t refl refl tt refl
+
+  pub attaches : Line launch k.AttachesX → Performed launch creds table asks_attach
+  attaches line = attaches_by line.line.number line.number line.at line.through (choices.of_attaches line.own line.args line.are)
+
+  schedules_by : {own : Rule} {args : List ℕ} → (nr : ℕ) → nr < 2 ^ 32 → rule_at launch.calls.calls nr ≡ Some own → passes launch nr args → choices.Schedules own args → Performed launch creds table asks_realtime
+  schedules_by nr n at t choices.schedules = bare_call asks_realtime nr (rule.Known known.Schedule) (one_word 1 1) (d.Schedule 1) (f.Answer 0) n (six 0 1 0 0 (omega arith) (omega arith) (omega arith) (omega arith)) at t refl refl tt refl
+
+  pub schedules : Line launch k.SchedulesRealtime → Performed launch creds table asks_realtime
+  schedules line = schedules_by line.line.number line.number line.at line.through (choices.of_schedules line.own line.args line.are)
+
+  personality_by : {own : Rule} {args : List ℕ} → (nr : ℕ) → nr < 2 ^ 32 → rule_at launch.calls.calls nr ≡ Some own → passes launch nr args → choices.Personalities own args → Performed launch creds table asks_personality
+  personality_by nr n at t choices.personality = bare_call asks_personality nr (rule.Known known.Personality) (one_word 0 8) (d.Personality 8) (f.Answer 0) n (six 8 0 0 0 (omega arith) (omega arith) (omega arith) (omega arith)) at t refl refl tt refl
+
+  pub personality : Line launch k.TakesPersonality → Performed launch creds table asks_personality
+  personality line = personality_by line.line.number line.number line.at line.through (choices.of_personalities line.own line.args line.are)
+
+  mode_by : {own : Rule} {args : List ℕ} → (nr : ℕ) → nr < 2 ^ 32 → rule_at launch.calls.calls nr ≡ Some own → passes launch nr args → choices.Modes own args → Performed launch creds table asks_mode
+  mode_by nr n at t (choices.mode argument.Second) =
+      bare_call asks_mode nr (rule.Known (known.SetMode argument.Second)) (one_word 1 0x800) (d.SetMode 0x800) (f.Answer 0) n (six 0 0x800 0 0 (omega arith) (omega arith) (omega arith) (omega arith)) at t refl refl tt refl
+  mode_by nr n at t (choices.mode argument.Third) =
+      bare_call asks_mode nr (rule.Known (known.SetMode argument.Third)) (one_word 2 0x800) (d.SetMode 0x800) (f.Answer 0) n (six 0 0 0x800 0 (omega arith) (omega arith) (omega arith) (omega arith)) at t refl refl tt refl
+
+  pub mode : Line launch k.SetsMode → Performed launch creds table asks_mode
+  mode line = mode_by line.line.number line.number line.at line.through (choices.of_modes line.own line.args line.are)
+
+  -- a plain call, with its capability
+  pub record PlainDone (nr : ℕ) : Type 0 where
+    pub performed : Performed launch creds table asks_plain
+    pub same : performed.call.nr ≡ nr
+
+  abbrev pub can_for : Option Rule → Type 0
+  can_for (Some (rule.Plain number)) = CapAtHand creds number
+  can_for _ = Unit {0}
+
+  rule_by : {own : Rule} {args : List ℕ} → (line : CallLine) → rule_of line ≡ Some own → choices.Plains own args → (number : Option ℕ) × (rule_of line ≡ Some (rule.Plain number))
+  rule_by line is (choices.plain number) = (number, is)
+
+  pub plain_rule : (line : Line launch k.PlainCall) → (number : Option ℕ) × (rule_of line.line ≡ Some (rule.Plain number))
+  plain_rule line = rule_by line.line line.is (choices.of_plains line.own line.args line.are)
+
+  plain_by : {own : Rule} {args : List ℕ} → (line : CallLine) → line.number < 2 ^ 32 → rule_of line ≡ Some own → rule_at launch.calls.calls line.number ≡ Some own → passes launch line.number args → choices.Plains own args → can_for (rule_of line) → PlainDone line.number
+  plain_by line n is at t (choices.plain number) can =
+      let has' : CapAtHand creds number = subst can_for is can in
+      record {
+        performed = record {
+          call = first_by line.number no_words pay.Nothing;
+          doing = d.Plain number;
+          effect = f.Answer 0;
+          makes = make launch creds table line.number (rule.Plain number) no_words pay.Nothing (d.Plain number) (f.Answer 0) n zeros tt at refl t (cap_lets creds number (f.Answer 0) has');
+          doable = tt;
+          such = refl;
+        };
+        same = refl;
+      }
+
+  pub plain : (line : Line launch k.PlainCall) → can_for (rule_of line.line) → PlainDone line.line.number
+  plain line can = plain_by line.line line.number line.is line.at line.through (choices.of_plains line.own line.args line.are) can
+
+  -- a socket of a family
+  low : (n : ℕ) → n < 2 ^ 32 → n % 2 ^ 32 ≡ n
+  low n h = omega (arith, h)
+
+  socket_by : {own : Rule} {args : List ℕ} → (nr : ℕ) → nr < 2 ^ 32 → rule_at launch.calls.calls nr ≡ Some own → passes launch nr args → (family : CallLine) → family.number < 2 ^ 32 → choices.Sockets family.number own args
+      → numbered family.number launch.calls.families ≡ Some family → CapAtHand creds family.cap → (p : Doing → Bool) → p (d.Socket family.number) ≡ true → Performed launch creds table p
+  socket_by nr n at t family small choices.socket found can p such =
+      let word : family.number % 2 ^ 32 ≡ family.number = low family.number small in
+      bare_call p nr (rule.Known known.Socket) (family.number ∷ 0 ∷ 0 ∷ 0 ∷ 0 ∷ 0 ∷ []) (d.Socket family.number) (f.Answer 3) n (six family.number 0 0 0 small (omega arith) (omega arith) (omega arith)) at t
+      (ap (λ w. Some (d.Socket w)) word)
+      (ap (socket_effect creds) found ∙ cap_lets creds family.cap (f.Answer 3) can) tt such
+
+  pub socket : (family : CallLine) → family.number < 2 ^ 32 → Line launch (k.ForFamily family.number) → numbered family.number launch.calls.families ≡ Some family → CapAtHand creds family.cap → (p : Doing → Bool) → p (d.Socket family.number) ≡ true → Performed launch creds table p
+  socket family small line found can p such = socket_by line.line.number line.number line.at line.through family small (choices.of_sockets family.number line.own line.args line.are) found can p such
+
+  -- a namespace of its own
+  module _ (admin : has creds.effective 21 ≡ true) where
+    admits : (effect : Effect) → cond (has creds.effective 21) effect (f.Refuse eperm) ≡ effect
+    admits effect = ap (λ b. cond b effect (f.Refuse eperm)) admin
+
+    flag_words : (space : Space) → AreWords (flag_of space ∷ 0 ∷ 0 ∷ 0 ∷ 0 ∷ 0 ∷ [])
+    flag_words space = six (flag_of space) 0 0 0 (by space) (omega arith) (omega arith) (omega arith)
+      where
+        by : (space : Space) → flag_of space < 2 ^ 32
+        by q.Cgroup = omega arith
+        by q.Ipc = omega arith
+        by q.Net = omega arith
+        by q.Mnt = omega arith
+        by q.Pid = omega arith
+        by q.User = omega arith
+        by q.Uts = omega arith
+
+    unshared : (space : Space) (effect : Effect) (nr : ℕ) → nr < 2 ^ 32 → rule_at launch.calls.calls nr ≡ Some (rule.Known known.Unshare) → passes launch nr (one_word 0 (flag_of space)) → d.doing_by (rule.Known known.Unshare) (one_word 0 (flag_of space)) pay.Nothing ≡ Some (d.Unshare (flag_of space))
+        → effect_of (host_at launch) (caller_at launch creds table) (d.Unshare (flag_of space)) ≡ effect → IsDoable effect → asks_space space (d.Unshare (flag_of space)) ≡ true → Performed launch creds table (asks_space space)
+    unshared space effect nr n at t is e h such = bare_call (asks_space space) nr (rule.Known known.Unshare) (one_word 0 (flag_of space)) (d.Unshare (flag_of space)) effect n (flag_words space) at t is e h such
+
+    cloned : (space : Space) (effect : Effect) (nr : ℕ) → nr < 2 ^ 32 → rule_at launch.calls.calls nr ≡ Some (rule.Known known.Clone) → passes launch nr (one_word 0 (flag_of space)) → d.doing_by (rule.Known known.Clone) (one_word 0 (flag_of space)) pay.Nothing ≡ Some (d.Clone (flag_of space))
+        → effect_of (host_at launch) (caller_at launch creds table) (d.Clone (flag_of space)) ≡ effect → IsDoable effect → asks_space space (d.Clone (flag_of space)) ≡ true → Performed launch creds table (asks_space space)
+    cloned space effect nr n at t is e h such = bare_call (asks_space space) nr (rule.Known known.Clone) (one_word 0 (flag_of space)) (d.Clone (flag_of space)) effect n (flag_words space) at t is e h such
+
+    unshare_by : (space : Space) → is_user space ≡ false → (nr : ℕ) → nr < 2 ^ 32 → rule_at launch.calls.calls nr ≡ Some (rule.Known known.Unshare) → passes launch nr (one_word 0 (flag_of space)) → Performed launch creds table (asks_space space)
+    unshare_by q.Cgroup u nr n at t = unshared q.Cgroup (f.Answer 0) nr n at t refl (admits (f.Answer 0)) tt refl
+    unshare_by q.Ipc u nr n at t = unshared q.Ipc (f.Answer 0) nr n at t refl (admits (f.Answer 0)) tt refl
+    unshare_by q.Net u nr n at t = unshared q.Net (f.Answer 0) nr n at t refl (admits (f.Answer 0)) tt refl
+    unshare_by q.Mnt u nr n at t = unshared q.Mnt f.OwnTable nr n at t refl (admits f.OwnTable) tt refl
+    unshare_by q.Pid u nr n at t = unshared q.Pid (f.Answer 0) nr n at t refl (admits (f.Answer 0)) tt refl
+    unshare_by q.User u nr n at t = cc
+    unshare_by q.Uts u nr n at t = unshared q.Uts (f.Answer 0) nr n at t refl (admits (f.Answer 0)) tt refl
+
+    clone_by : (space : Space) → is_user space ≡ false → (nr : ℕ) → nr < 2 ^ 32 → rule_at launch.calls.calls nr ≡ Some (rule.Known known.Clone) → passes launch nr (one_word 0 (flag_of space)) → Performed launch creds table (asks_space space)
+    clone_by q.Cgroup u nr n at t = cloned q.Cgroup (f.Child false) nr n at t refl (admits (f.Child false)) tt refl
+    clone_by q.Ipc u nr n at t = cloned q.Ipc (f.Child false) nr n at t refl (admits (f.Child false)) tt refl
+    clone_by q.Net u nr n at t = cloned q.Net (f.Child false) nr n at t refl (admits (f.Child false)) tt refl
+    clone_by q.Mnt u nr n at t = cloned q.Mnt (f.Child true) nr n at t refl (admits (f.Child true)) tt refl
+    clone_by q.Pid u nr n at t = cloned q.Pid (f.Child false) nr n at t refl (admits (f.Child false)) tt refl
+    clone_by q.User u nr n at t = cc
+    clone_by q.Uts u nr n at t = cloned q.Uts (f.Child false) nr n at t refl (admits (f.Child false)) tt refl
+
+    space_by : {own : Rule} {args : List ℕ} → (space : Space) → is_user space ≡ false → (nr : ℕ) → nr < 2 ^ 32 → rule_at launch.calls.calls nr ≡ Some own → passes launch nr args → choices.Spaces space own args → Performed launch creds table (asks_space space)
+    space_by space u nr n at t choices.unshare = unshare_by space u nr n at t
+    space_by space u nr n at t choices.clone = clone_by space u nr n at t
+
+    pub own_space : (space : Space) → is_user space ≡ false → Line launch (k.ForSpace space) → Performed launch creds table (asks_space space)
+    own_space space u line = space_by space u line.line.number line.number line.at line.through (choices.of_spaces space line.own line.args line.are)

@@ -1,0 +1,199 @@
+-- Calls that change mount tables, ids and capability sets.
+use Rattle.std.proofs.Common.{◌≡◌, ℕ, Bool, true, false, List, [], ◌∷◌, Some, Result, Ok, Err, refl, ap, ◌∙◌, cond, arith, ◌<◌, ◌≤◌, inl, inr, eqb}
+use Rattle.std.specs.Prelude.{◌^◌, ◌%◌}
+use Rattle.std.proofs.lemmas.Bool.{eq-eqb, or_left}
+use Rattle.std.proofs.lemmas.Bool.Decides.{nat_tests}
+use Rattle.abs_path.specs.Paths.{Path}
+use Rattle.cap_sets.specs.Sets.{has}
+use Rattle.site_table.specs.Table.{row_at}
+use Rattle.kern_creds.specs.declared.creds.Creds.{Creds}
+use Rattle.kern_creds.specs.Ids.{all_of}
+use Rattle.kern_creds.specs.RootChange.{with_uids}
+use Rattle.kern_creds.specs.Capset.{may_capset, with_sets}
+use Rattle.kernel_calls.specs.declared.payload.Payload.TheVariants as pay
+use Rattle.kernel_calls.specs.declared.call.Call.{Call}
+use Rattle.kernel_calls.specs.Calls.{IsPath}
+use Rattle.kernel_laws.specs.Denied.{HasGid}
+use Rattle.kernel_calls.specs.Doing as d
+use Rattle.kernel_calls.specs.Doing.{Doing}
+use Rattle.kernel_model.specs.Effects as f
+use Rattle.kernel_model.specs.Effects.{Effect, SetCreds, SetTable, effect_of, creds_effect, table_effect}
+use Rattle.kernel_laws.specs.Kinds as k
+use Rattle.kernel_laws.specs.Kinds.{AreWords, no_words, asks}
+use Rattle.kernel_laws.specs.Launched.{Launch, passes}
+use Rattle.kern_files.specs.MountCall.{after_mount}
+use Rattle.kern_mounts.specs.Split.{Table}
+use Rattle.kern_mounts.specs.Umount.{after_umount}
+use Rattle.kernel_calls.specs.declared.rule.Rule.TheVariants as rule
+use Rattle.call_names.specs.declared.rule.CallRule.TheVariants as known
+use Rattle.kernel_calls.specs.declared.rule.Rule.{Rule}
+use Rattle.kernel_calls.specs.Rules.{rule_at}
+use Rattle.kernel_ways.specs.Offers.{Offers, is_unlooked}
+use Rattle.kernel_ways.specs.Ways.{Makes}
+use Rattle.kernel_ways.proofs.Choices as choices
+use Rattle.kernel_ways.proofs.Lines.{Line, make, six, zeros, first_by}
+
+low : (n : ℕ) → n < 2 ^ 32 → n % 2 ^ 32 ≡ n
+low n h = omega (arith, h)
+
+not_none : (id : ℕ) → id ≤ 4294967294 → eqb id 4294967295 ≡ false
+not_none id h = grind (arith, nat_tests, h)
+
+module _ (launch : Launch) (o : Offers launch) (creds : Creds) (table : Table) where
+  pub record TableCall (now : Table) : Type 0 where
+    pub call : Call
+    pub doing : Doing
+    pub makes : Makes launch creds table doing call (SetTable now)
+    pub no_uid : asks k.TakesUid doing ≡ false
+    pub no_gid : asks k.TakesGid doing ≡ false
+
+  pub record CredsCall (spares : Bool) (now : Creds) : Type 0 where
+    pub call : Call
+    pub doing : Doing
+    pub makes : Makes launch creds table doing call (SetCreds now)
+    pub no_uid : spares ≡ true → asks k.TakesUid doing ≡ false
+    pub no_gid : asks k.TakesGid doing ≡ false
+
+  pub record GroupCall (now : Creds) : Type 0 where
+    pub call : Call
+    pub doing : Doing
+    pub makes : Makes launch creds table doing call (SetCreds now)
+
+  -- other words of a call that no filter looks at
+  pub other : (nr : ℕ) (own : Rule) (args : List ℕ) → nr < 2 ^ 32 → AreWords args → rule_at launch.calls.calls nr ≡ Some own → is_unlooked own ≡ true → passes launch nr no_words → passes launch nr args
+  other nr own args n w at u t = o.alike nr own no_words args n zeros w at u t
+
+  module _ (admin : has creds.effective 21 ≡ true) where
+    abbrev flag_of : Bool → ℕ
+    flag_of true = 2
+    flag_of false = 0
+
+    umount_by : {own : Rule} {args : List ℕ} → (nr : ℕ) → nr < 2 ^ 32 → rule_at launch.calls.calls nr ≡ Some own → passes launch nr args → choices.Unmounts own args
+        → (path : Path) → IsPath path → (detach : Bool) (now : Table) → after_umount table path detach ≡ Ok now → TableCall now
+    umount_by nr n at t choices.unmounts path fit true now e =
+        let w = six 0 2 0 0 (omega arith) (omega arith) (omega arith) (omega arith) in
+        record {
+          call = first_by nr (0 ∷ 2 ∷ 0 ∷ 0 ∷ 0 ∷ 0 ∷ []) (pay.OnePath path);
+          doing = d.Umount path 2;
+          makes = make launch creds table nr (rule.Known known.Umount) (0 ∷ 2 ∷ 0 ∷ 0 ∷ 0 ∷ 0 ∷ []) (pay.OnePath path) (d.Umount path 2) (SetTable now) n w fit at refl (other nr (rule.Known known.Umount) (0 ∷ 2 ∷ 0 ∷ 0 ∷ 0 ∷ 0 ∷ []) n w at refl t)
+              (ap (λ b. cond b (table_effect (after_umount table path true)) (f.Refuse 1)) admin ∙ ap table_effect e);
+          no_uid = refl;
+          no_gid = refl;
+        }
+    umount_by nr n at t choices.unmounts path fit false now e =
+        record {
+          call = first_by nr no_words (pay.OnePath path);
+          doing = d.Umount path 0;
+          makes = make launch creds table nr (rule.Known known.Umount) no_words (pay.OnePath path) (d.Umount path 0) (SetTable now) n zeros fit at refl t
+              (ap (λ b. cond b (table_effect (after_umount table path false)) (f.Refuse 1)) admin ∙ ap table_effect e);
+          no_uid = refl;
+          no_gid = refl;
+        }
+
+    pub umount_call : Line launch k.RemovesMounts → (path : Path) → IsPath path → (detach : Bool) (now : Table) → after_umount table path detach ≡ Ok now → TableCall now
+    umount_call line = umount_by line.line.number line.number line.at line.through (choices.of_unmounts line.own line.args line.are)
+
+    mount_by : {own : Rule} {args : List ℕ} → (nr : ℕ) → nr < 2 ^ 32 → rule_at launch.calls.calls nr ≡ Some own → passes launch nr args → choices.Mounts own args
+        → (source target : Path) → IsPath source → IsPath target → (flags : ℕ) → flags < 2 ^ 32 → (now : Table) → after_mount (row_at launch.site.rows) table source target flags ≡ Ok now → TableCall now
+    mount_by nr n at t choices.mounts source target s g flags small now e =
+        let w = six 0 0 0 flags (omega arith) (omega arith) (omega arith) small in
+        record {
+          call = first_by nr (0 ∷ 0 ∷ 0 ∷ flags ∷ 0 ∷ 0 ∷ []) (pay.TwoPaths source target);
+          doing = d.Mount source target flags;
+          makes = make launch creds table nr (rule.Known known.Mount) (0 ∷ 0 ∷ 0 ∷ flags ∷ 0 ∷ 0 ∷ []) (pay.TwoPaths source target) (d.Mount source target flags) (SetTable now) n w (s, g) at (ap (λ w. Some (d.Mount source target w)) (low flags small))
+              (other nr (rule.Known known.Mount) (0 ∷ 0 ∷ 0 ∷ flags ∷ 0 ∷ 0 ∷ []) n w at refl t)
+              (ap (λ b. cond b (table_effect (after_mount (row_at launch.site.rows) table source target flags)) (f.Refuse 1)) admin ∙ ap table_effect e);
+          no_uid = refl;
+          no_gid = refl;
+        }
+
+    pub mount_call : Line launch k.ChangesMounts → (source target : Path) → IsPath source → IsPath target → (flags : ℕ) → flags < 2 ^ 32 → (now : Table) → after_mount (row_at launch.site.rows) table source target flags ≡ Ok now → TableCall now
+    mount_call line = mount_by line.line.number line.number line.at line.through (choices.of_mounts line.own line.args line.are)
+
+  capset_by : {own : Rule} {args : List ℕ} → (nr : ℕ) → nr < 2 ^ 32 → rule_at launch.calls.calls nr ≡ Some own → passes launch nr args → choices.SetsCaps own args
+      → (p e i : ℕ) → p < 2 ^ 41 → e < 2 ^ 41 → i < 2 ^ 41 → may_capset creds p e i ≡ true → CredsCall true (with_sets creds p e i)
+  capset_by nr n at t choices.capset p e i hp he hi may = record {
+    call = first_by nr no_words (pay.Sets p e i);
+    doing = d.Capset p e i;
+    makes = make launch creds table nr (rule.Known known.Capset) no_words (pay.Sets p e i) (d.Capset p e i) (SetCreds (with_sets creds p e i)) n zeros (hp, he, hi) at refl t
+        (ap (λ b. creds_effect (cond {A = Result Creds ℕ} b (Ok (with_sets creds p e i)) (Err 1))) may);
+    no_uid = λ e. refl;
+    no_gid = refl;
+  }
+
+  pub capset_call : Line launch k.SetsCaps → (p e i : ℕ) → p < 2 ^ 41 → e < 2 ^ 41 → i < 2 ^ 41 → may_capset creds p e i ≡ true → CredsCall true (with_sets creds p e i)
+  capset_call line = capset_by line.line.number line.number line.at line.through (choices.of_setscaps line.own line.args line.are)
+
+  -- all three ids by the capability
+  module _ (id : ℕ) (small : id ≤ 4294967294) where
+    word : id < 2 ^ 32
+    word = omega (arith, small)
+
+    uid_by : {own : Rule} {args : List ℕ} → (nr : ℕ) → nr < 2 ^ 32 → rule_at launch.calls.calls nr ≡ Some own → passes launch nr args → choices.Uids own args → has creds.effective 7 ≡ true → CredsCall false (with_uids creds (all_of id))
+    uid_by nr n at t choices.setuid h =
+        let w = six id 0 0 0 word (omega arith) (omega arith) (omega arith) in
+        record {
+          call = first_by nr (id ∷ 0 ∷ 0 ∷ 0 ∷ 0 ∷ 0 ∷ []) pay.Nothing;
+          doing = d.Setuid id;
+          makes = make launch creds table nr (rule.Known known.Setuid) (id ∷ 0 ∷ 0 ∷ 0 ∷ 0 ∷ 0 ∷ []) pay.Nothing (d.Setuid id) (SetCreds (with_uids creds (all_of id))) n w tt at (ap (λ w. Some (d.Setuid w)) (low id word))
+              (other nr (rule.Known known.Setuid) (id ∷ 0 ∷ 0 ∷ 0 ∷ 0 ∷ 0 ∷ []) n w at refl t) (rw (not_none id small, h) refl);
+          no_uid = λ e. cc;
+          no_gid = refl;
+        }
+    uid_by nr n at t choices.setresuid h =
+        let w = six id id id 0 word word word (omega arith) in
+        record {
+          call = first_by nr (id ∷ id ∷ id ∷ 0 ∷ 0 ∷ 0 ∷ []) pay.Nothing;
+          doing = d.Setresuid id id id;
+          makes = make launch creds table nr (rule.Known known.Setresuid) (id ∷ id ∷ id ∷ 0 ∷ 0 ∷ 0 ∷ []) pay.Nothing (d.Setresuid id id id) (SetCreds (with_uids creds (all_of id))) n w tt at (ap (λ w. Some (d.Setresuid w w w)) (low id word))
+              (other nr (rule.Known known.Setresuid) (id ∷ id ∷ id ∷ 0 ∷ 0 ∷ 0 ∷ []) n w at refl t) (rw (not_none id small, h) refl);
+          no_uid = λ e. cc;
+          no_gid = refl;
+        }
+
+    pub uid_call : Line launch k.TakesUid → has creds.effective 7 ≡ true → CredsCall false (with_uids creds (all_of id))
+    uid_call line = uid_by line.line.number line.number line.at line.through (choices.of_uids line.own line.args line.are)
+
+    pub record GidCall : Type 0 where
+      pub now : Creds
+      pub change : GroupCall now
+      pub has_gid : HasGid id now
+
+    gid_by : {own : Rule} {args : List ℕ} → (nr : ℕ) → nr < 2 ^ 32 → rule_at launch.calls.calls nr ≡ Some own → passes launch nr args → choices.Gids own args → has creds.effective 6 ≡ true → GidCall
+    gid_by nr n at t choices.setgid h =
+        let w = six id 0 0 0 word (omega arith) (omega arith) (omega arith) in
+        record {
+          now = record creds { gids = all_of id };
+          change = record {
+            call = first_by nr (id ∷ 0 ∷ 0 ∷ 0 ∷ 0 ∷ 0 ∷ []) pay.Nothing;
+            doing = d.Setgid id;
+            makes = make launch creds table nr (rule.Known known.Setgid) (id ∷ 0 ∷ 0 ∷ 0 ∷ 0 ∷ 0 ∷ []) pay.Nothing (d.Setgid id) (SetCreds (record creds { gids = all_of id })) n w tt at (ap (λ w. Some (d.Setgid w)) (low id word))
+                (other nr (rule.Known known.Setgid) (id ∷ 0 ∷ 0 ∷ 0 ∷ 0 ∷ 0 ∷ []) n w at refl t) (rw (not_none id small, h) refl);
+          };
+          has_gid = inl refl;
+        }
+    gid_by nr n at t choices.setresgid h =
+        let w = six id id id 0 word word word (omega arith) in
+        record {
+          now = record creds { gids = all_of id };
+          change = record {
+            call = first_by nr (id ∷ id ∷ id ∷ 0 ∷ 0 ∷ 0 ∷ []) pay.Nothing;
+            doing = d.Setresgid id id id;
+            makes = make launch creds table nr (rule.Known known.Setresgid) (id ∷ id ∷ id ∷ 0 ∷ 0 ∷ 0 ∷ []) pay.Nothing (d.Setresgid id id id) (SetCreds (record creds { gids = all_of id })) n w tt at (ap (λ w. Some (d.Setresgid w w w)) (low id word))
+                (other nr (rule.Known known.Setresgid) (id ∷ id ∷ id ∷ 0 ∷ 0 ∷ 0 ∷ []) n w at refl t) (rw (not_none id small, h) refl);
+          };
+          has_gid = inl refl;
+        }
+    gid_by nr n at t choices.setgroups h =
+        record {
+          now = record creds { groups = id ∷ [] };
+          change = record {
+            call = first_by nr no_words (pay.Ids (id ∷ []));
+            doing = d.Setgroups (id ∷ []);
+            makes = make launch creds table nr (rule.Known known.Setgroups) no_words (pay.Ids (id ∷ [])) (d.Setgroups (id ∷ [])) (SetCreds (record creds { groups = id ∷ [] })) n zeros (word, tt) at refl t (rw h refl);
+          };
+          has_gid = inr (or_left (eqb id id) false (eq-eqb id id refl));
+        }
+
+    pub gid_call : Line launch k.TakesGid → has creds.effective 6 ≡ true → GidCall
+    gid_call line = gid_by line.line.number line.number line.at line.through (choices.of_gids line.own line.args line.are)

@@ -1,0 +1,276 @@
+-- The last step of a launch runs the program; and with what the launch keeps, the launched world is served.
+use Rattle.std.proofs.Common.{◌≡◌, ℕ, Bool, true, false, cond, codes, List, [], ◌∷◌, ◌++◌, Option, Some, Result, Ok, Err, refl, ap, ◌∙◌, sym, subst, ◌<◌, arith, eqb, append-nil}
+use Rattle.std.specs.Prelude.{◌^◌, ◌&&◌, not, All}
+use Rattle.std.specs.List.{AllByRecursion}
+use Rattle.std.proofs.lemmas.List.Elements.{recursion_from_All}
+use Rattle.std.specs.Int.RustNames.{bit_and}
+use Rattle.std.proofs.lemmas.Bool.{eqb-true}
+use Rattle.abs_path.specs.Paths.{Path}
+use Rattle.bpf_code.specs.declared.machine.Insn.{Insn}
+use Rattle.bpf_code.specs.declared.decision.Decision.{Decision}
+use Rattle.bpf_code.specs.declared.decision.Decision.TheVariants as decision
+use Rattle.bpf_code.specs.Stack.{decision_on}
+use Rattle.call_names.specs.declared.rule.CallRule.TheVariants as known
+use Rattle.call_table.specs.declared.listed.CallLine.{CallLine}
+use Rattle.call_table.specs.Facts.{IsWhole}
+use Rattle.call_table.specs.Lookups.{IsInRange, numbered}
+use Rattle.call_table.specs.Table as calls
+use Rattle.cap_sets.specs.Sets.{all, within, IsWithin}
+use Rattle.cap_sets.proofs.Words.{and_below}
+use Rattle.cap_sets.proofs.Members.{within-from_IsWithin, within_through}
+use Rattle.filter_rules.specs.declared.settings.FilterSettings.{FilterSettings}
+use Rattle.linux_numbers.specs.Errnos.{eacces, eperm}
+use Rattle.linux_numbers.specs.Limits.{no_id}
+use Rattle.site_table.specs.declared.row.Row.{Row}
+use Rattle.site_table.specs.Kinds.{is_exe}
+use Rattle.site_table.specs.Table.{Site, IsSite, row_at}
+use Rattle.kern_creds.specs.declared.creds.Creds.{Creds}
+use Rattle.kern_creds.specs.Exec.{is_privileged, is_refused, exec_done}
+use Rattle.kern_mounts.specs.Finds.{Found, row, empty_directory, nothing, finds}
+use Rattle.kern_mounts.specs.Launch.{CanBeMounted}
+use Rattle.kern_mounts.specs.Split.{Table}
+use Rattle.kern_mounts.specs.declared.step.Flags.{Flags}
+use Rattle.kern_files.specs.Executing.{marks_of, executed, exec_answer}
+use Rattle.kern_files.specs.Looking.{flags_at}
+use Rattle.kernel_calls.specs.Calls.{IsCall}
+use Rattle.kernel_calls.specs.Doing as d
+use Rattle.kernel_calls.specs.Doing.{Does, asked_by, asked_of}
+use Rattle.kernel_calls.specs.Rules.{rule_at}
+use Rattle.kernel_calls.specs.declared.call.Call.{Call}
+use Rattle.kernel_calls.specs.declared.payload.Payload.TheVariants.{OnePath}
+use Rattle.kernel_calls.specs.declared.rule.Rule.{Rule}
+use Rattle.kernel_calls.specs.declared.rule.Rule.TheVariants.{Known}
+use Rattle.kernel_model.specs.Effects.{Effect, SetCreds, creds_effect}
+use Rattle.kernel_model.specs.Runs.{IsDone}
+use Rattle.kernel_model.specs.Step.{step, applied, decided}
+use Rattle.kernel_model.specs.World.{World, start_world, of_number}
+use Rattle.kernel_model.specs.declared.process.Process.{Process}
+use Rattle.kernel_model.specs.declared.reply.Reply.{Reply}
+use Rattle.kernel_laws.specs.FirstChoice.{Means}
+use Rattle.kernel_laws.specs.Kinds.{ForPath, no_words}
+use Rattle.kernel_laws.specs.Launched.{Launch, IsLaunched, IsLaunchedWorld, launch_of, data_at, lets, passes}
+use Rattle.kernel_laws.specs.Questions.{ToExec}
+use Rattle.kernel_laws.specs.Reach.{fits, Nowise}
+use Rattle.kernel_laws.proofs.Filters.{has_rule, found_number, lets_through}
+use Rattle.kernel_laws.proofs.Reach.{leads}
+use Rattle.kernel_laws.proofs.ReachLaws.{reach_of_the_table}
+use Rattle.launcher.specs.Launch.{Wanted, LaunchStep, Launched, PrivilegedProgram, number_of, first_call, launch_from, launch_steps, mount_steps, with_unshare, identity_steps, filter_steps, program_steps, is_privileged_row}
+use Rattle.launcher.specs.LaunchedWorlds.{IsMeant}
+use Rattle.launcher.specs.Launches.{HasLaunchCalls, AreRead}
+use Rattle.launcher.proofs.HostRoot.{BeginsAtHostRoot, begins_at_host}
+use Rattle.launcher.proofs.LaunchCalls.{launch_calls}
+use Rattle.launcher.proofs.LaunchCreds.{IsReady}
+use Rattle.launcher.proofs.LaunchWorld.{ready_at, filtered}
+use Rattle.launcher.proofs.LaunchedWorlds.{launched_is_world}
+use Rattle.launcher.proofs.Leading.{Leads, launched_leads, leads_parts, append_parts}
+use Rattle.launcher.proofs.Solo.{At, solo, only, does, own_table}
+use Rattle.mount_plan.specs.Host.{host_of as site_host}
+use Rattle.reach_paths.specs.Finding.{FindsRow}
+use Rattle.reach_paths.proofs.Found.{exactly}
+use Rattle.kernel_ways.specs.Laws.{IsServedWorld}
+use Rattle.kernel_ways.specs.Launching.{LaunchedIsServed}
+use Rattle.kernel_ways.specs.Offers.{Offers, HasProgram}
+use Rattle.kernel_ways.proofs.Counting.{few_tables}
+use Rattle.kernel_ways.proofs.Lines.{zeros}
+use Rattle.kernel_ways.proofs.Rows.{known_found}
+use Rattle.kernel_ways.proofs.Unlooked.{settings_pass_alike}
+
+module _ (table : calls.Table) (site : Site) where
+  -- ---- an execve that is done
+  passed : (world : World) (call : Call) (process : Process) (own : Decision) → IsDone (decided world call process own).0 → own ≡ decision.Pass
+  passed world call process decision.Pass done = refl
+  passed world call process (decision.Errno errno) done = absurd done
+  passed world call process decision.Kill done = absurd done
+
+  module _ (creds : Creds) (stack : List (List Insn)) (namespace : ℕ) (tables : List Table) where
+    abbrev own_world : World
+    own_world = solo table site creds stack namespace tables
+
+    abbrev own_process : Process
+    own_process = only table site creds stack namespace
+
+    -- what the path found, and the credentials afterwards
+    pub record Ran (flags : Flags) (found : Found Row) : Type 0 where
+      pub program : Row
+      pub is : found ≡ row program
+      pub exe : is_exe program.kind ≡ true
+      pub leave : flags.no_exec ≡ false
+      pub after : Creds
+      pub becomes : creds_effect (exec_answer creds flags found) ≡ SetCreds after
+      pub bounding : after.bounding ≡ creds.bounding
+
+    abbrev after_of : Flags → Row → Creds
+    after_of flags own = exec_done creds (marks_of own) flags.no_suid
+
+    abbrev program_by : Flags → Row → Bool → Bool → Effect
+    program_by flags own b c = creds_effect (executed creds (cond (not b) (Err eacces) (cond c (Err eacces) (Ok (record { file = marks_of own; no_suid = flags.no_suid })))))
+
+    abbrev creds_by : Flags → Row → Bool → Effect
+    creds_by flags own b = creds_effect (cond {A = Result Creds ℕ} b (Err eperm) (Ok (after_of flags own)))
+
+    not_refused : (flags : Flags) (own : Row) (b : Bool) → is_refused creds (marks_of own) flags.no_suid ≡ b → is_exe own.kind ≡ true → flags.no_exec ≡ false → IsDone (applied own_world 1 own_process (creds_by flags own b)).0 → Ran flags (row own)
+    not_refused flags own true g e h done = absurd done
+    not_refused flags own false g e h done = record {
+      program = own;
+      is = refl;
+      exe = e;
+      leave = h;
+      after = after_of flags own;
+      becomes = ap (λ b. program_by flags own b flags.no_exec) e ∙ ap (λ c. program_by flags own true c) h ∙ ap (creds_by flags own) g;
+      bounding = refl;
+    }
+
+    ran : (flags : Flags) (found : Found Row) → IsDone (applied own_world 1 own_process (creds_effect (exec_answer creds flags found))).0 → Ran flags found
+    ran flags empty_directory done = absurd done
+    ran flags (nothing errno) done = absurd done
+    ran flags (row own) done = by (is_exe own.kind) refl flags.no_exec refl done
+      where
+        by : (b : Bool) → is_exe own.kind ≡ b → (c : Bool) → flags.no_exec ≡ c → IsDone (applied own_world 1 own_process (program_by flags own b c)).0 → Ran flags (row own)
+        by false e c h done = absurd done
+        by true e true h done = absurd done
+        by true e false h done = not_refused flags own (is_refused creds (marks_of own) flags.no_suid) refl e h done
+
+  -- ---- the last step
+  module _ (calls' : HasLaunchCalls table.calls) (plan : Table) (program : Path) where
+    abbrev exec_call : Call
+    exec_call = first_call table.calls (codes "execve") no_words (OnePath program)
+
+    abbrev launched_with : Creds → List (List Insn) → Launch
+    launched_with creds stack = record { calls = table; site = site; creds = creds; stack = stack; table = plan }
+
+    pub record Ends (Q : Creds → Type 0) (stack : List (List Insn)) (last : World) : Type 0 where
+      pub before : Creds
+      pub ready : Q before
+      pub through : decision_on stack (data_at (launched_with before stack) (number_of table.calls (codes "execve")) no_words) ≡ decision.Pass
+      pub namespace : ℕ
+      pub tables : List Table
+      pub own : of_number tables namespace ≡ Some plan
+      pub ran : Ran before stack namespace tables (flags_at plan program) (finds (row_at site.rows) plan program)
+      pub is : launch_of last ≡ launched_with ran.after stack
+
+    ends : (Q : Creds → Type 0) (stack : List (List Insn)) (world last : World) → At table site Q stack plan world → Leads world (program_steps table.calls program) last → Ends Q stack last
+    ends Q stack world last at l =
+        let own : World = solo table site at.creds stack at.namespace at.tables in
+        let process : Process = only table site at.creds stack at.namespace in
+        let done : IsDone (step own exec_call).0 = subst (λ (v : World). IsDone (step v exec_call).0) at.is l.0 in
+        let same = own_table table site at.creds stack at.namespace at.tables plan at.own in
+        let stepped = does table site at.creds stack at.namespace at.tables exec_call.nr exec_call.args (OnePath program) (Known known.Execve) (d.Execve program) calls'.execve refl done
+        ∙ ap (λ (t : Table). applied own 1 process (creds_effect (exec_answer at.creds (flags_at t program) (finds (row_at site.rows) t program)))) same in
+        let done' = subst (λ (out : Reply × World). IsDone out.0) stepped done in
+        let ran' = ran at.creds stack at.namespace at.tables (flags_at plan program) (finds (row_at site.rows) plan program) done' in
+        let now : step own exec_call ≡ applied own 1 process (SetCreds ran'.after) = stepped ∙ ap (applied own 1 process) ran'.becomes in
+        let last_is : last ≡ solo table site ran'.after stack at.namespace at.tables = sym l.1 ∙ ap (λ (v : World). (step v exec_call).1) at.is ∙ ap (λ (out : Reply × World). out.1) now in
+        let shown : launch_of (solo table site ran'.after stack at.namespace at.tables) ≡ launched_with ran'.after stack =
+        ap (λ (t : Table). record { calls = table; site = site; creds = ran'.after; stack = stack; table = t }) (own_table table site ran'.after stack at.namespace at.tables plan at.own) in
+        record {
+          before = at.creds;
+          ready = at.as_asked;
+          through = passed own exec_call process (decision_on stack (data_at (launched_with at.creds stack) exec_call.nr no_words)) done;
+          namespace = at.namespace;
+          tables = at.tables;
+          own = at.own;
+          ran = ran';
+          is = ap launch_of last_is ∙ shown;
+        }
+
+  module _ (calls' : HasLaunchCalls table.calls) (wanted : Wanted) (plan : Table) where
+    pub record Launches (last : World) : Type 0 where
+      pub stack : List (List Insn)
+      pub read : AreRead wanted.programs stack
+      pub ends : Ends calls' plan wanted.program (IsReady wanted.uid wanted.ambient) stack last
+
+    launches : (last : World) → BeginsAtHostRoot plan → wanted.uid < no_id → Leads (start_world table site) (launch_steps table.calls wanted plan) last → Launches last
+    launches last begins small l =
+        let lines = table.calls in
+        let mounting = with_unshare lines (mount_steps plan) in
+        let joined : launch_steps lines wanted plan ≡ ((mounting ++ identity_steps lines wanted) ++ filter_steps lines wanted.programs) ++ program_steps lines wanted.program =
+        sym (append_parts mounting (identity_steps lines wanted) (filter_steps lines wanted.programs) (program_steps lines wanted.program)) in
+        let l' = subst (λ (steps : List LaunchStep). Leads (start_world table site) steps last) joined l in
+        let exec = leads_parts (start_world table site) ((mounting ++ identity_steps lines wanted) ++ filter_steps lines wanted.programs) (program_steps lines wanted.program) last l' in
+        let push = leads_parts (start_world table site) (mounting ++ identity_steps lines wanted) (filter_steps lines wanted.programs) exec.mid exec.before in
+        let ready = ready_at table site calls' wanted plan push.mid begins small push.before in
+        let filters = filtered table site calls' [] plan (IsReady wanted.uid wanted.ambient) wanted.programs [] push.mid exec.mid ready push.after in
+        record { stack = filters.codes'; read = filters.read; ends = ends calls' plan wanted.program (IsReady wanted.uid wanted.ambient) filters.codes' exec.mid last filters.at exec.after }
+
+-- ---- numbers
+-- what is found by its number has what all lines have
+found_all : (P : CallLine → Type 0) (lines : List CallLine) (nr : ℕ) (line : CallLine) → AllByRecursion P lines → numbered nr lines ≡ Some line → P line
+found_all P [] nr line each e = cc
+found_all P (first ∷ lines) nr line each e = by (eqb first.number nr) e (found_all P lines nr line each.1)
+  where
+    by : (b : Bool) → cond b (Some first) (numbered nr lines) ≡ Some line → (numbered nr lines ≡ Some line → P line) → P line
+    by true e more = let same : first ≡ line = cc in subst P same each.0
+    by false e more = more e
+
+small_number : (lines : List CallLine) (nr : ℕ) (rule : Rule) → All IsInRange lines → rule_at lines nr ≡ Some rule → nr < 2 ^ 32
+small_number lines nr rule each at =
+    let h = has_rule lines nr rule at in
+    let range = found_all IsInRange lines nr h.line (recursion_from_All IsInRange lines each) h.found in
+    let number = found_number lines nr h.line h.found in
+    omega (arith, range.number, number)
+
+-- a set of the capabilities 0 to 40
+small_set : (set : ℕ) → IsWithin set all → set < 2 ^ 41
+unfolding within all
+small_set set h =
+    let e : bit_and all set ≡ set = eqb-true (bit_and all set) set (within-from_IsWithin set all h) in
+    let P : ℕ → Type 0 = λ n. n < 2 ^ 41 in
+    subst P e (and_below all set (omega arith))
+
+-- ---- the facts
+module _ (launch : Launch) (l : IsLaunched launch) (whole : IsWhole launch.calls) (site : IsSite launch.site) (can : CanBeMounted (site_host launch.site) launch.table) where
+  -- execve with the words 0 passes, so some line lets it
+  execs : (nr : ℕ) → rule_at launch.calls.calls nr ≡ Some (Known known.Execve) → passes launch nr no_words → lets launch (ForPath ToExec) ≡ true
+  execs nr at through =
+      let call : Call = record { pid = 1; nr = nr; args = no_words; payload = OnePath [] } in
+      let small = small_number launch.calls.calls nr (Known known.Execve) l.calls_in_range at in
+      let fit : IsCall call = record { pid = omega arith; nr = small; count = zeros.count; args = zeros.each; payload = record { normal = refl; short = omega arith } } in
+      let asks : asked_of launch.calls.calls call ≡ Does (d.Execve []) = ap (λ (r : Option Rule). asked_by r call) at in
+      let through' : decision_on (launch.stack ++ []) (data_at launch nr no_words) ≡ decision.Pass = ap (λ s. decision_on s (data_at launch nr no_words)) (append-nil launch.stack) ∙ through in
+      (lets_through launch l).kinds [] call (d.Execve []) fit through' asks (ForPath ToExec) refl
+
+  -- a path that finds a program finds it by a path that can be named
+  has_program : (path : Path) (program : Row) → finds (row_at launch.site.rows) launch.table path ≡ row program → is_exe program.kind ≡ true → (flags_at launch.table path).no_exec ≡ false → is_privileged (marks_of program) ≡ false → HasProgram launch
+  has_program path program found exe leave plain =
+      let allowed : fits ToExec (flags_at launch.table path) ≡ true = ap not leave in
+      let lead = leads launch.site.rows launch.table path program ToExec found allowed in
+      let reached = (reach_of_the_table launch.table program.path ToExec).1 lead in
+      let known' = known_found launch.site launch.table path program found in
+      let f = (exactly Nowise launch.table program.path ToExec launch.site program site can known').0 reached in
+      record { program = program; found = subst (λ (t : Table). FindsRow (row_at launch.site.rows) t ToExec program) f.1 f.2; exe = exe; plain = plain }
+
+-- programs that were read from bytes that decide as filters do
+read_means : (settings : FilterSettings) (table : calls.Table) (programs : List (List ℕ)) (stack : List (List Insn)) → AreRead programs stack → AllByRecursion (IsMeant settings table) programs → AllByRecursion (Means settings table) stack
+read_means settings table [] [] read each = tt
+read_means settings table [] (code ∷ stack) read each = absurd read
+read_means settings table (bytes ∷ programs) [] read each = absurd read
+read_means settings table (bytes ∷ programs) (code ∷ stack) read each = (each.0 code read.0, read_means settings table programs stack read.1 each.1)
+
+pub launched_is_served : LaunchedIsServed
+launched_is_served settings table site wanted plan last steps whole arch is refusing can small meant e = by (is_privileged_row (finds (row_at site.rows) plan wanted.program)) refl e
+  where
+    by : (b : Bool) → is_privileged_row (finds (row_at site.rows) plan wanted.program) ≡ b
+        → cond b (PrivilegedProgram wanted.program) (launch_from (start_world table site) (launch_steps table.calls wanted plan) 0) ≡ Launched last steps → IsServedWorld last
+    by true priv e' = cc
+    by false unmarked e' =
+        let calls' = launch_calls table whole in
+        let l = (launched_leads (start_world table site) (launch_steps table.calls wanted plan) 0 last steps e').0 in
+        let x = launches table site calls' wanted plan last (begins_at_host (site_host site) plan can) small l in
+        let ran' = x.ends.ran in
+        let own : Launch = record { calls = table; site = site; creds = ran'.after; stack = x.stack; table = plan } in
+        let world : IsLaunchedWorld last = launched_is_world settings table site wanted plan last steps whole arch refusing can small meant e in
+        let launched : IsLaunched own = subst IsLaunched x.ends.is world.launched in
+        let bounded : IsWithin ran'.after.bounding all = subst (λ (set : ℕ). IsWithin set all) (sym ran'.bounding) x.ends.ready.has.bounding in
+        let plain : is_privileged (marks_of ran'.program) ≡ false = ap (λ b. b && is_privileged (marks_of ran'.program)) (sym ran'.exe) ∙ ap is_privileged_row (sym ran'.is) ∙ unmarked in
+        let offers : Offers own = record {
+          calls = whole.sound;
+          site = is;
+          plan = can;
+          program = has_program own launched whole is can wanted.program ran'.program ran'.is ran'.exe ran'.leave plain;
+          execs = execs own launched whole is can (number_of table.calls (codes "execve")) calls'.execve x.ends.through;
+          bounding = small_set ran'.after.bounding bounded;
+          inheritable = small_set ran'.after.inheritable (within_through ran'.after.inheritable ran'.after.bounding all launched.inheritable_bounding bounded);
+          alike = settings_pass_alike own settings arch (read_means settings table wanted.programs x.stack x.read meant) launched.plain;
+        } in
+        let few = few_tables table calls' wanted site plan last l in
+        record { launched = world; few = omega (arith, few); offers = subst Offers (sym x.ends.is) offers }

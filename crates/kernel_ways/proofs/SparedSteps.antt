@@ -1,0 +1,183 @@
+-- No effect of a call that spares leaves bounds that are closed to such.
+use Rattle.std.proofs.Common.{◌≡◌, ℕ, Bool, true, false, List, Option, Some, None, Result, Ok, Err, arith, refl, cond, sym, subst, eqb}
+use Rattle.std.specs.Prelude.{not, nat_lt, nat_le, ◌&&◌, ◌||◌, ◌+◌, length}
+use Rattle.abs_path.specs.Paths.{Path}
+use Rattle.bpf_code.specs.declared.machine.Insn.{Insn}
+use Rattle.bpf_code.specs.ProgramOf.{program_of}
+use Rattle.bpf_code.specs.Stack.{room_of}
+use Rattle.cap_sets.specs.Sets.{has, IsWithin, within}
+use Rattle.cap_sets.proofs.Members.{within_through, IsWithin-from_within}
+use Rattle.call_table.specs.declared.listed.CallLine.{CallLine}
+use Rattle.site_table.specs.declared.row.Row.{Row}
+use Rattle.site_table.specs.Table.{row_at}
+use Rattle.kern_creds.specs.declared.creds.Creds.{Creds}
+use Rattle.kern_creds.specs.declared.file.FileCreds.{FileCreds}
+use Rattle.kern_creds.specs.Exec.{honours, is_refused, after_exec}
+use Rattle.kern_creds.specs.Prctl.{after_drop_bounding, after_raise, after_lower, after_clear_ambient, after_set_keepcaps, after_set_no_new_privs}
+use Rattle.kern_creds.proofs.Answers.{Leaves}
+use Rattle.kern_mounts.specs.Finds.{Found, row, empty_directory, nothing, finds}
+use Rattle.kern_files.specs.Bits.{has_some}
+use Rattle.kernel_laws.specs.Bounds.{Bounds, Keeps}
+use Rattle.kern_mounts.specs.Split.{Table}
+use Rattle.kern_mounts.specs.Umount.{after_umount}
+use Rattle.kern_files.specs.MountCall.{after_mount}
+use Rattle.kernel_calls.specs.Doing as d
+use Rattle.kernel_calls.specs.Doing.{Doing}
+use Rattle.kernel_model.specs.Effects.{Effect, Refuse, Answer, SetCreds, Push, Child, OwnTable, Caller, effect_of, looks, creds_effect, table_effect, with_cap_of, with_admin, socket_effect, clone_effect, unshare_effect, ambient_effect, prctl_effect, push_effect, seccomp_effect, newuser, other_spaces, newns}
+use Rattle.kern_files.specs.Looking.{flags_at}
+use Rattle.linux_numbers.specs.Errnos.{einval}
+use Rattle.kern_files.specs.declared.program.Program.{Program}
+use Rattle.kern_files.specs.Executing.{marks_of, program_answer, executed, exec_answer}
+use Rattle.kern_files.specs.UmountCall.{mnt_detach, umount_answer}
+use Rattle.kernel_laws.specs.Reach.{Power, Nowise, Unmounting, Mounting}
+use Rattle.kernel_laws.specs.Kinds as k
+use Rattle.kernel_laws.specs.Kinds.{Kind, asks}
+use Rattle.kernel_laws.specs.Launched.{Launch, lets}
+use Rattle.kernel_laws.specs.Ceiling.{CanHave, IsSafe}
+use Rattle.kernel_ways.specs.Spared.{IsClosedBy, Uses}
+use Rattle.kernel_laws.proofs.Kept.{kept-clear_ambient, kept-no_new_privs, kept-keepcaps, kept-lower, kept-drop_bounding, kept-raise, kept-capset}
+use Rattle.kernel_ways.proofs.SparedIds.{kept-setuid, kept-setresuid, kept-setgid, kept-setresgid, kept-setgroups}
+use Rattle.kernel_laws.proofs.KeptExec.{kept-exec, off}
+use Rattle.kernel_laws.proofs.Ran.{ran_program}
+use Rattle.kern_mounts.proofs.Unmounting.{trims, trimmed_through, trimmed_top}
+
+module _ (launch : Launch) (may_uids may_gids : Bool) (power : Power) (top : Bounds) (closed : IsClosedBy launch may_uids may_gids power top) where
+  abbrev Safe : Effect → Type 0
+  Safe = IsSafe launch power top
+
+  safe_creds : (answer : Result Creds ℕ) → Leaves (Keeps top) answer → Safe (creds_effect answer)
+  safe_creds (Ok creds) l = l.held creds refl
+  safe_creds (Err errno) l = tt
+
+  safe_if : (b : Bool) (x y : Effect) → (b ≡ true → Safe x) → (b ≡ false → Safe y) → Safe (cond b x y)
+  safe_if true x y p q = p refl
+  safe_if false x y p q = q refl
+
+  safe_admin : (creds : Creds) (effect : Effect) → Keeps top creds → (has top.effective 21 ≡ true → Safe effect) → Safe (with_admin creds effect)
+  safe_admin creds effect held h = safe_if (has creds.effective 21) effect (Refuse 1) (λ e. h (held.effective.each 21 e)) (λ e. tt)
+
+  safe_looks : (answer : Result ℕ ℕ) → Safe (looks answer)
+  safe_looks (Ok value) = tt
+  safe_looks (Err errno) = tt
+
+  safe_cap_of : (cap' : Option ℕ) (creds : Creds) (value : ℕ) → Safe (with_cap_of cap' creds (Answer value))
+  safe_cap_of None creds value = tt
+  safe_cap_of (Some number) creds value = safe_if (has creds.effective number) (Answer value) (Refuse 1) (λ e. tt) (λ e. tt)
+
+  safe_socket : (creds : Creds) (line : Option CallLine) → Safe (socket_effect creds line)
+  safe_socket creds None = tt
+  safe_socket creds (Some line) = safe_cap_of line.cap creds 3
+
+  not_refused : (creds : Creds) (file : FileCreds) (nosuid : Bool) → Keeps top creds → honours creds nosuid ≡ true → is_refused creds file nosuid ≡ false → file.effective ≡ true → IsWithin file.caps top.bounding
+  not_refused creds file nosuid held h r e =
+      let is : within file.caps creds.bounding ≡ true = grind arith in
+      within_through _ _ _ (IsWithin-from_within file.caps creds.bounding is) held.bounding
+
+  safe_exec : (creds : Creds) (table : Table) (path : Path) → Keeps top creds → CanHave power launch.table table → (found : Found Row) → finds (row_at launch.site.rows) table path ≡ found → Safe (creds_effect (exec_answer creds (flags_at table path) found))
+  safe_exec creds table path held allowed (nothing errno) e = tt
+  safe_exec creds table path held allowed empty_directory e = tt
+  safe_exec creds table path held allowed (row target) e = by (program_answer (flags_at table path) (row target)) refl
+    where
+      by : (answer : Result Program ℕ) → program_answer (flags_at table path) (row target) ≡ answer → Safe (creds_effect (executed creds answer))
+      by (Err errno) is = tt
+      by (Ok program) is =
+          let ran = ran_program (flags_at table path) target program is in
+          let P : Program → Type 0 = λ p. Safe (creds_effect (after_exec creds p.file p.no_suid)) in
+          subst P (sym ran.is) (safe_creds _ (kept-exec top creds (marks_of target) (flags_at table path).no_suid held closed.settled λ h r.
+          closed.files target
+          (off top.no_new_privs creds.no_new_privs held.no_new_privs (grind arith))
+          (record { table = table; path = path; allowed = allowed; found = e; exe = ran.exe; runs = ran.runs; suid = grind arith })
+          (not_refused creds (marks_of target) (flags_at table path).no_suid held h r)))
+
+  safe_clone : (creds : Creds) (flags : ℕ) → Keeps top creds → Safe (clone_effect creds flags)
+  safe_clone creds flags held =
+      safe_if (has_some 0x1_0000 flags) (Refuse 22) _ (λ e. tt) λ e. safe_if (has_some newuser flags) (Refuse 28) _ (λ e. tt) λ e.
+      safe_if (has_some other_spaces flags) (with_admin creds (Child (has_some newns flags))) (Child false) (λ e. safe_admin creds (Child (has_some newns flags)) held (λ h. tt)) (λ e. tt)
+
+  safe_unshare : (creds : Creds) (flags : ℕ) → Keeps top creds → Safe (unshare_effect creds flags)
+  safe_unshare creds flags held =
+      safe_if (has_some 0x81fd_ffff flags) (Refuse 22) _ (λ e. tt) λ e. safe_if (has_some newuser flags) (Refuse 28) _ (λ e. tt) λ e.
+      safe_if (has_some other_spaces flags) (with_admin creds (cond (has_some newns flags) OwnTable (Answer 0))) (Answer 0)
+      (λ e. safe_admin creds (cond (has_some newns flags) OwnTable (Answer 0)) held (λ h. safe_if (has_some newns flags) OwnTable (Answer 0) (λ e. tt) (λ e. tt))) (λ e. tt)
+
+  safe_ambient : (creds : Creds) (operation cap' : ℕ) → Keeps top creds → Safe (ambient_effect creds operation cap')
+  safe_ambient creds operation cap' held =
+      safe_if (eqb operation 1) (cond (nat_lt 40 cap') (Refuse 22) (Answer (cond (has creds.ambient cap') 1 0))) _ (λ e. safe_if (nat_lt 40 cap') (Refuse 22) (Answer (cond (has creds.ambient cap') 1 0)) (λ e. tt) (λ e. tt)) λ e.
+      safe_if (eqb operation 2) (creds_effect (after_raise creds cap')) _ (λ e. safe_creds _ (kept-raise top creds held cap')) λ e.
+      safe_if (eqb operation 3) (creds_effect (after_lower creds cap')) _ (λ e. safe_creds _ (kept-lower top creds held cap')) λ e.
+      safe_if (eqb operation 4) (SetCreds (after_clear_ambient creds)) (Refuse 22) (λ e. kept-clear_ambient top creds held) (λ e. tt)
+
+  safe_prctl : (creds : Creds) (option value third : ℕ) → Keeps top creds → Safe (prctl_effect creds option value third)
+  safe_prctl creds option value third held =
+      safe_if (eqb option 38) (cond (eqb value 1) (SetCreds (after_set_no_new_privs creds)) (Refuse 22)) _
+      (λ e. safe_if (eqb value 1) (SetCreds (after_set_no_new_privs creds)) (Refuse 22) (λ e. kept-no_new_privs top creds held) (λ e. tt)) λ e.
+      safe_if (eqb option 39) (Answer (cond creds.no_new_privs 1 0)) _ (λ e. tt) λ e.
+      safe_if (eqb option 8) (cond (nat_lt value 2) (SetCreds (after_set_keepcaps creds (eqb value 1))) (Refuse 22)) _
+      (λ e. safe_if (nat_lt value 2) (SetCreds (after_set_keepcaps creds (eqb value 1))) (Refuse 22) (λ e. kept-keepcaps top creds held (eqb value 1)) (λ e. tt)) λ e.
+      safe_if (eqb option 24) (creds_effect (after_drop_bounding creds value)) _ (λ e. safe_creds _ (kept-drop_bounding top creds held value)) λ e.
+      safe_if (eqb option 47) (ambient_effect creds value third) (Refuse 22) (λ e. safe_ambient creds value third held) (λ e. tt)
+
+  safe_push : (stack : List (List Insn)) (program : Option (List Insn)) → Safe (push_effect stack program)
+  safe_push stack None = tt
+  safe_push stack (Some program) = safe_if (nat_le (room_of stack + length program) 32768) (Push program) (Refuse 12) (λ e. tt) (λ e. tt)
+
+  safe_seccomp : (creds : Creds) (stack : List (List Insn)) (operation flags : ℕ) (bytes : List ℕ) → Safe (seccomp_effect creds stack operation flags bytes)
+  safe_seccomp creds stack operation flags bytes =
+      safe_if (not (eqb operation 1 && eqb flags 0)) (Refuse 22) _ (λ e. tt) λ e. safe_if (not (creds.no_new_privs || has creds.effective 21)) (Refuse 13) (push_effect stack (program_of bytes)) (λ e. tt) (λ e. safe_push stack _)
+
+  mounted : (table : Table) → power ≡ Mounting → CanHave power launch.table table
+  mounted table e = let P : Power → Type 0 = λ power. CanHave power launch.table table in subst P (sym e) tt
+
+  unmounted : (own : Power) (table next : Table) (path : Path) (detach : Bool) → (own ≡ Nowise → ⊥) → CanHave own launch.table table → after_umount table path detach ≡ Ok next → CanHave own launch.table next
+  unmounted Nowise table next path detach barred allowed e = absurd (barred refl)
+  unmounted Unmounting table next path detach barred allowed e = trimmed_through (trims path detach table next (trimmed_top allowed closed.rooted) e) allowed
+  unmounted Mounting table next path detach barred allowed e = tt
+
+  safe_table : (answer : Result Table ℕ) → ((table : Table) → answer ≡ Ok table → CanHave power launch.table table) → Safe (table_effect answer)
+  safe_table (Ok table) h = h table refl
+  safe_table (Err errno) h = tt
+
+  safe_umount : (table : Table) (path : Path) (flags : ℕ) → CanHave power launch.table table → (power ≡ Nowise → ⊥) → Safe (table_effect (umount_answer table path flags))
+  safe_umount table path flags allowed h = safe_table (umount_answer table path flags) (λ next e. unmounted power table next path (eqb flags mnt_detach) h allowed (by (eqb flags 0 || eqb flags mnt_detach) next e))
+    where
+      by : (b : Bool) (next : Table) → cond {A = Result Table ℕ} b (after_umount table path (eqb flags mnt_detach)) (Err einval) ≡ Ok next → after_umount table path (eqb flags mnt_detach) ≡ Ok next
+      by true next e = e
+      by false next e = cc
+
+  -- the kinds that a call asks for are let through
+  abbrev pub Through : Doing → Type 0
+  Through doing = (kind : Kind) → asks kind doing ≡ true → lets launch kind ≡ true
+
+  pub safe_effect : (families : List CallLine) (caller : Caller) (doing : Doing) → Keeps top caller.creds → CanHave power launch.table caller.table → Through doing → Uses may_uids may_gids caller.creds doing
+      → Safe (effect_of (record { rows = row_at launch.site.rows; families = families }) caller doing)
+  safe_effect families caller (d.See path) held allowed p u = safe_looks _
+  safe_effect families caller (d.Open flags path) held allowed p u = safe_looks _
+  safe_effect families caller (d.Create path) held allowed p u = safe_looks _
+  safe_effect families caller (d.Truncate path) held allowed p u = safe_looks _
+  safe_effect families caller (d.Execve path) held allowed p u = safe_exec caller.creds caller.table path held allowed _ refl
+  safe_effect families caller (d.SetMode mode) held allowed p u = tt
+  safe_effect families caller (d.Map protection) held allowed p u = tt
+  safe_effect families caller (d.Protect protection) held allowed p u = tt
+  safe_effect families caller (d.Attach flags) held allowed p u = tt
+  safe_effect families caller (d.Schedule policy) held allowed p u = safe_looks _
+  safe_effect families caller (d.Personality domain) held allowed p u = tt
+  safe_effect families caller (d.Socket family) held allowed p u = safe_socket caller.creds _
+  safe_effect families caller d.Enter held allowed p u = tt
+  safe_effect families caller d.Fork held allowed p u = tt
+  safe_effect families caller (d.Clone flags) held allowed p u = safe_clone caller.creds flags held
+  safe_effect families caller (d.Unshare flags) held allowed p u = safe_unshare caller.creds flags held
+  safe_effect families caller d.Exit held allowed p u = tt
+  safe_effect families caller (d.Mount source target flags) held allowed p u =
+      safe_admin caller.creds (table_effect (after_mount (row_at launch.site.rows) caller.table source target flags)) held (λ h. safe_table _ (λ next e. mounted next (closed.mount (p k.ChangesMounts refl) h)))
+  safe_effect families caller (d.Umount path flags) held allowed p u =
+      safe_admin caller.creds (table_effect (umount_answer caller.table path flags)) held (λ h. safe_umount caller.table path flags allowed (closed.umount (p k.RemovesMounts refl) h))
+  safe_effect families caller (d.Setuid id) held allowed p u = safe_creds _ (kept-setuid top caller.creds held closed.settled (λ h. closed.any_uid (u.0 refl h) (held.effective.each 7 h)) id)
+  safe_effect families caller (d.Setgid id) held allowed p u = safe_creds _ (kept-setgid top caller.creds held (λ h. closed.any_gid (u.1 refl h) (held.effective.each 6 h)) id)
+  safe_effect families caller (d.Setresuid r e s) held allowed p u = safe_creds _ (kept-setresuid top caller.creds held closed.settled (λ h. closed.any_uid (u.0 refl h) (held.effective.each 7 h)) r e s)
+  safe_effect families caller (d.Setresgid r e s) held allowed p u = safe_creds _ (kept-setresgid top caller.creds held (λ h. closed.any_gid (u.1 refl h) (held.effective.each 6 h)) r e s)
+  safe_effect families caller (d.Setgroups ids) held allowed p u = safe_creds _ (kept-setgroups top caller.creds held (λ h. closed.any_gid (u.1 refl h) (held.effective.each 6 h)) ids)
+  safe_effect families caller (d.Capset permitted effective inheritable) held allowed p u =
+      safe_creds _ (kept-capset top caller.creds held permitted effective inheritable (closed.capset_effective (p k.SetsCaps refl)) (closed.capset_inheritable (p k.SetsCaps refl)))
+  safe_effect families caller (d.Prctl option value third) held allowed p u = safe_prctl caller.creds option value third held
+  safe_effect families caller (d.Seccomp operation flags bytes) held allowed p u = safe_seccomp caller.creds caller.stack operation flags bytes
+  safe_effect families caller (d.Plain cap') held allowed p u = safe_cap_of cap' caller.creds 0

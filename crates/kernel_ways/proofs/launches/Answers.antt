@@ -1,0 +1,9 @@
+use Rattle.kernel_ways.proofs.Serving.{launched_is_served}
+use Rattle.kernel_ways.proofs.Unlooked.{settings_pass_alike}
+use Rattle.kernel_ways.proofs.launches.Goals as goal
+
+pub returns-clause-pass_alike : goal.returns-clause-pass_alike
+returns-clause-pass_alike c = settings_pass_alike
+
+pub returns-clause-leave_a_served_world : goal.returns-clause-leave_a_served_world
+returns-clause-leave_a_served_world c = launched_is_served

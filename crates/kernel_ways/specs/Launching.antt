@@ -1,0 +1,36 @@
+-- A launch by the programs of settings leaves a world in which what is open can be shown.
+use Rattle.std.specs.Prelude.{◌≡◌, ℕ, ◌<◌, ◌^◌}
+use Rattle.std.specs.List.{AllByRecursion}
+use Rattle.bpf_code.specs.declared.machine.CallData.{CallData}
+use Rattle.bpf_code.specs.Meaning.{IsCallData}
+use Rattle.bpf_code.specs.Refusing.{ArePlain}
+use Rattle.bpf_code.specs.Stack.{answers_of}
+use Rattle.call_table.specs.Facts.{IsWhole}
+use Rattle.call_table.specs.Table as calls
+use Rattle.filter_rules.specs.Refusing.{AreRefusing}
+use Rattle.filter_rules.specs.declared.settings.FilterSettings.{FilterSettings}
+use Rattle.kern_mounts.specs.Launch.{CanBeMounted}
+use Rattle.kern_mounts.specs.Split.{Table}
+use Rattle.kernel_laws.specs.FirstChoice.{Means}
+use Rattle.kernel_laws.specs.Launched.{Launch}
+use Rattle.kernel_model.specs.World.{World}
+use Rattle.launcher.specs.Launch.{Wanted, Launched, launch}
+use Rattle.launcher.specs.LaunchedWorlds.{IsMeant}
+use Rattle.linux_numbers.specs.Limits.{no_id}
+use Rattle.mount_plan.specs.Host.{host_of}
+use Rattle.site_table.specs.Table.{Site, IsSite}
+use Rattle.kernel_ways.specs.Laws.{IsServedWorld}
+use Rattle.kernel_ways.specs.Offers.{PassesAlike}
+
+-- programs that decide as filters of settings let execve(2), mount(2), umount2(2), capset(2) and the calls that set ids through by
+-- their numbers alone
+abbrev pub SettingsPassAlike : Type 0
+SettingsPassAlike = (launch : Launch) (settings : FilterSettings) → launch.calls.arch < 2 ^ 32 → AllByRecursion (Means settings launch.calls) launch.stack
+    → ((input : CallData) → IsCallData input → ArePlain (answers_of launch.stack input)) → PassesAlike launch
+
+-- the same premises as those under which a launch leaves a launched world, and a site that was read
+abbrev pub LaunchedIsServed : Type 0
+LaunchedIsServed = (settings : FilterSettings) (table : calls.Table) (site : Site) (wanted : Wanted) (plan : Table) (last : World) (steps : ℕ)
+    → IsWhole table → table.arch < 2 ^ 32 → IsSite site → AreRefusing settings → CanBeMounted (host_of site) plan
+    → wanted.uid < no_id → AllByRecursion (IsMeant settings table) wanted.programs
+    → launch table site wanted plan ≡ Launched last steps → IsServedWorld last

@@ -1,0 +1,71 @@
+-- What is open is shown by a list of calls, and what is not is denied; and the bounds of the ceiling are exact.
+use Rattle.std.specs.Prelude.{◌≡◌, ℕ, ◌<◌, ◌≤◌, true, false, List, length, slice_get, Some}
+use Rattle.std.specs.List.{AllByRecursion}
+use Rattle.cap_sets.specs.Sets.{has}
+use Rattle.linux_numbers.specs.Capabilities.{cap_sys_admin}
+use Rattle.call_table.specs.Table as calls
+use Rattle.site_table.specs.declared.row.Row.{Row}
+use Rattle.site_table.specs.Ids.{greatest_id}
+use Rattle.site_table.specs.Kinds.{is_dir, is_exe}
+use Rattle.site_table.specs.Table.{Site, IsSite}
+use Rattle.kernel_calls.specs.declared.call.Call.{Call}
+use Rattle.kernel_model.specs.Step.{most_namespaces}
+use Rattle.kernel_model.specs.World.{World}
+use Rattle.kernel_laws.specs.Bound.{is_open, any_uid, any_gid, ceiling, power_by, power_of}
+use Rattle.kernel_laws.specs.Denied.{IsDenied, Shows}
+use Rattle.kernel_laws.specs.Kinds.{ChangesMounts, RemovesMounts}
+use Rattle.kernel_laws.specs.Launched.{lets, launch_of, IsLaunchedWorld}
+use Rattle.kernel_laws.specs.Questions.{Question, ByPath, ToWrite, ToExec, Cap, Uid, Gid, IsAsked, questions}
+use Rattle.kernel_ways.specs.Offers.{Offers}
+
+-- the question is put to what it is about: no directory is written, what is executed is an executable file, and the id -1, which
+-- setresuid(2) takes for none, is no id
+abbrev pub IsFit : Site → Question → Type 0
+IsFit site (ByPath ToWrite place) = (row : Row) → slice_get site.rows place ≡ Some row → is_dir row.kind ≡ false
+IsFit site (ByPath ToExec place) = (row : Row) → slice_get site.rows place ≡ Some row → is_exe row.kind ≡ true
+IsFit site (Uid id) = id ≤ greatest_id
+IsFit site (Gid id) = id ≤ greatest_id
+IsFit site _ = Unit {0}
+
+-- each question of the list is, for every site that is read
+abbrev pub ListedAreFit : Type 0
+ListedAreFit = (calls : calls.Table) (site : Site) → IsSite site → AllByRecursion (IsFit site) (questions calls site)
+
+-- the launched world, with what else a launch leaves, and with room for one more mount namespace
+pub record IsServedWorld (world : World) : Type 0 where
+  pub launched : IsLaunchedWorld world
+  pub few : length world.tables < most_namespaces
+  pub offers : Offers (launch_of world)
+
+-- some list shows the question
+abbrev pub IsShown : World → Question → Type 0
+IsShown world question = (list : List Call) × Shows world question list
+
+abbrev pub OpenIsShown : Type 0
+OpenIsShown = (world : World) (question : Question) → IsServedWorld world → IsFit world.site question → is_open (launch_of world) question ≡ true → IsShown world question
+
+-- open where some list shows the question and nowhere else, denied where no list reaches it and nowhere else
+pub record IsExact (world : World) (question : Question) : Type 0 where
+  pub opens : is_open (launch_of world) question ≡ true → IsShown world question
+  pub shows : IsShown world question → is_open (launch_of world) question ≡ true
+  pub denies : is_open (launch_of world) question ≡ false → IsDenied world question
+  pub stays_denied : IsDenied world question → is_open (launch_of world) question ≡ false
+
+abbrev pub VerdictIsExact : Type 0
+VerdictIsExact = (world : World) (question : Question) → IsServedWorld world → IsAsked world.calls question → IsFit world.site question → IsExact world question
+
+-- so it is of each question of the list
+abbrev pub QuestionsAreExact : Type 0
+QuestionsAreExact = (world : World) → IsServedWorld world → AllByRecursion (IsExact world) (questions world.calls world.site)
+
+-- the capabilities of the ceiling are those that can become effective, capabilities(7); its power is by CAP_SYS_ADMIN among them and by
+-- whether mount(2) and umount2(2) pass the filters; and where every uid or every gid is said to be had, each can be
+pub record BoundsAreExact (world : World) : Type 0 where
+  pub held : (number : ℕ) → has (ceiling (launch_of world)).effective number ≡ true → IsShown world (Cap number)
+  pub withheld : (number : ℕ) → has (ceiling (launch_of world)).effective number ≡ false → IsDenied world (Cap number)
+  pub power : power_of (launch_of world) ≡ power_by (has (ceiling (launch_of world)).effective cap_sys_admin) (lets (launch_of world) ChangesMounts) (lets (launch_of world) RemovesMounts)
+  pub any_uid : any_uid (launch_of world) (ceiling (launch_of world)).effective ≡ true → (id : ℕ) → id ≤ greatest_id → IsShown world (Uid id)
+  pub any_gid : any_gid (launch_of world) (ceiling (launch_of world)).effective ≡ true → (id : ℕ) → id ≤ greatest_id → IsShown world (Gid id)
+
+abbrev pub CeilingIsExact : Type 0
+CeilingIsExact = (world : World) → IsServedWorld world → BoundsAreExact world

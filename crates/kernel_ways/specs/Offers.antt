@@ -1,0 +1,55 @@
+-- What a launched service has beside the facts that bound it: tables that were read, a plan that was mounted, a program that runs,
+-- and filters that do not look at the words of some calls. With these, what is open can be shown.
+use Rattle.std.specs.Prelude.{◌≡◌, ℕ, ◌<◌, ◌^◌, Bool, true, false, List, Some}
+use Rattle.call_names.specs.declared.rule.CallRule.TheVariants.{Execve, Mount, Umount, Setuid, Setgid, Setresuid, Setresgid, Setgroups, Capset}
+use Rattle.call_table.specs.Facts.{IsTable}
+use Rattle.site_table.specs.declared.row.Row.{Row}
+use Rattle.site_table.specs.Kinds.{is_exe}
+use Rattle.site_table.specs.Table.{IsSite, row_at}
+use Rattle.kern_creds.specs.Exec.{is_privileged}
+use Rattle.kern_mounts.specs.Launch.{CanBeMounted}
+use Rattle.kern_files.specs.Executing.{marks_of}
+use Rattle.kernel_calls.specs.declared.rule.Rule.{Rule}
+use Rattle.kernel_calls.specs.declared.rule.Rule.TheVariants.{Known}
+use Rattle.kernel_calls.specs.Rules.{rule_at}
+use Rattle.kernel_laws.specs.Kinds.{ForPath, AreWords}
+use Rattle.kernel_laws.specs.Launched.{Launch, passes, lets}
+use Rattle.kernel_laws.specs.Questions.{ToExec}
+use Rattle.reach_paths.specs.Finding.{dirs_of, FindsRow}
+
+-- execve(2), the calls that mount, and those that set ids or capabilities: no setting of systemd.exec(5) filters them by their words
+abbrev pub is_unlooked : Rule → Bool
+is_unlooked (Known Execve) = true
+is_unlooked (Known Mount) = true
+is_unlooked (Known Umount) = true
+is_unlooked (Known Setuid) = true
+is_unlooked (Known Setgid) = true
+is_unlooked (Known Setresuid) = true
+is_unlooked (Known Setresgid) = true
+is_unlooked (Known Setgroups) = true
+is_unlooked (Known Capset) = true
+is_unlooked rule = false
+
+-- what the filters let through with some words they let through with any
+abbrev pub PassesAlike : Launch → Type 0
+PassesAlike launch = (nr : ℕ) (rule : Rule) (args other : List ℕ) → nr < 2 ^ 32 → AreWords args → AreWords other → rule_at launch.calls.calls nr ≡ Some rule → is_unlooked rule ≡ true
+    → passes launch nr args → passes launch nr other
+
+-- the program that the launch ran: a row without set-id bits and capabilities, which a path of the launched table finds
+pub record HasProgram (launch : Launch) : Type 0 where
+  pub program : Row
+  pub found : FindsRow (row_at launch.site.rows) launch.table ToExec program
+  pub exe : is_exe program.kind ≡ true
+  pub plain : is_privileged (marks_of program) ≡ false
+
+pub record Offers (launch : Launch) : Type 0 where
+  pub calls : IsTable launch.calls
+  pub site : IsSite launch.site
+  pub plan : CanBeMounted (dirs_of launch.site) launch.table
+  pub program : HasProgram launch
+  -- the last step of the launch is a call of execve(2) with the words 0
+  pub execs : lets launch (ForPath ToExec) ≡ true
+  -- sets of the capabilities 0 to 40, capabilities(7)
+  pub bounding : launch.creds.bounding < 2 ^ 41
+  pub inheritable : launch.creds.inheritable < 2 ^ 41
+  pub alike : PassesAlike launch

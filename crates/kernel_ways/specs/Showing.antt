@@ -1,0 +1,83 @@
+-- What a way of process 1 is and shows: each call is done; and it shows a question by one more call behind it, or by the credentials
+-- that it leads to.
+use Rattle.std.specs.Prelude.{◌≡◌, true, List, [], ◌∷◌, ◌++◌, slice_get, Some}
+use Rattle.abs_path.specs.Paths.{Path}
+use Rattle.cap_sets.specs.Sets.{has}
+use Rattle.call_table.specs.declared.listed.CallLine.{CallLine}
+use Rattle.site_table.specs.declared.row.Row.{Row}
+use Rattle.site_table.specs.Table.{row_at}
+use Rattle.kern_creds.specs.declared.creds.Creds.{Creds}
+use Rattle.kern_mounts.specs.Finds.{row, finds}
+use Rattle.kern_mounts.specs.Split.{Table}
+use Rattle.kernel_calls.specs.declared.call.Call as call
+use Rattle.kernel_calls.specs.Doing.{Doing}
+use Rattle.kernel_model.specs.Effects.{Effect, Refuse, Answer, SetCreds, SetTable, Push, Child, OwnTable, End}
+use Rattle.kernel_calls.specs.Calls.{AreCalls}
+use Rattle.kernel_model.specs.Runs.{moments, run, AllDone}
+use Rattle.kernel_model.specs.World.{World}
+use Rattle.kernel_laws.specs.Denied.{path_for, asks_family, asks_space, asks_map, asks_protect, asks_attach, asks_realtime, asks_personality, asks_mode, HasGid, Shows}
+use Rattle.kernel_laws.specs.Launched.{Launch, launch_of}
+use Rattle.kernel_laws.specs.Questions.{Question, ByPath, Call, Socket, Ns, MapWx, ProtectX, ShmX, Realtime, Personality, SuidBit, Cap, Uid, Gid}
+use Rattle.kernel_ways.specs.Laws.{IsServedWorld}
+use Rattle.kernel_ways.specs.Ways.{Way, IsSolo, Makes}
+
+-- the effect is no refusal: one process alone, which has room for another and for a namespace, gets it done
+abbrev pub IsDoable : Effect → Type 0
+IsDoable (Refuse errno) = ⊥
+IsDoable (Answer value) = Unit {0}
+IsDoable (SetCreds creds) = Unit {0}
+IsDoable (SetTable table) = Unit {0}
+IsDoable (Push program) = Unit {0}
+IsDoable (Child own) = Unit {0}
+IsDoable OwnTable = Unit {0}
+IsDoable End = Unit {0}
+
+-- such a call, which asks for this, answers the question once it is done: a path of the mount table finds the row of that place, the
+-- number is that of the call of that place, or it asks for such a thing
+abbrev pub Answers : Launch → Table → Question → call.Call → Doing → Type 0
+Answers launch table (ByPath wish place) call doing =
+    (path : Path) × (target : Row) × (path_for wish doing ≡ Some path) × (slice_get launch.site.rows place ≡ Some target) × (finds (row_at launch.site.rows) table path ≡ row target)
+Answers launch table (Call place) call doing = (line : CallLine) × (slice_get launch.calls.calls place ≡ Some line) × (call.nr ≡ line.number)
+Answers launch table (Socket place) call doing = asks_family launch.calls.families place doing ≡ true
+Answers launch table (Ns space) call doing = asks_space space doing ≡ true
+Answers launch table MapWx call doing = asks_map doing ≡ true
+Answers launch table ProtectX call doing = asks_protect doing ≡ true
+Answers launch table ShmX call doing = asks_attach doing ≡ true
+Answers launch table Realtime call doing = asks_realtime doing ≡ true
+Answers launch table Personality call doing = asks_personality doing ≡ true
+Answers launch table SuidBit call doing = asks_mode doing ≡ true
+Answers launch table (Cap number) call doing = ⊥
+Answers launch table (Uid id) call doing = ⊥
+Answers launch table (Gid id) call doing = ⊥
+
+-- and such credentials do
+abbrev pub HaveAsked : Question → Creds → Type 0
+HaveAsked (Cap number) creds = has creds.effective number ≡ true
+HaveAsked (Uid id) creds = creds.uids.effective ≡ id
+HaveAsked (Gid id) creds = HasGid id creds
+HaveAsked question creds = ⊥
+
+-- a way and one more call
+abbrev pub CallsShow : Type 0
+CallsShow = (launch : Launch) (from to : Creds) (table now : Table) (world : World) (calls : List call.Call) (question : Question) (doing : Doing) (last : call.Call) (effect : Effect)
+    → IsSolo launch from table world → Way launch from table calls to now → Makes launch to now doing last effect → IsDoable effect → Answers launch now question last doing
+    → Shows world question (calls ++ last ∷ [])
+
+-- a way alone
+abbrev pub CredsShow : Type 0
+CredsShow = (launch : Launch) (from to : Creds) (table now : Table) (world : World) (calls : List call.Call) (question : Question)
+    → IsSolo launch from table world → Way launch from table calls to now → HaveAsked question to → Shows world question calls
+
+-- a way is made of calls that can be made and are all done, and leaves process 1 alone with these credentials and this table
+pub record IsDoneTo (launch : Launch) (creds : Creds) (table : Table) (world : World) (calls : List call.Call) : Type 0 where
+  pub fit : AreCalls calls
+  pub done : AllDone (moments world calls)
+  pub solo : IsSolo launch creds table (run world calls)
+
+abbrev pub WaysAreDone : Type 0
+WaysAreDone = (launch : Launch) (from to : Creds) (table now : Table) (world : World) (calls : List call.Call)
+    → IsSolo launch from table world → Way launch from table calls to now → IsDoneTo launch to now world calls
+
+-- and ways begin in the launched world
+abbrev pub ServedIsSolo : Type 0
+ServedIsSolo = (world : World) → IsServedWorld world → IsSolo (launch_of world) (launch_of world).creds (launch_of world).table world
