@@ -1,0 +1,58 @@
+-- The ids that are listed row by row are those that some row gives.
+use Rattle.std.proofs.Common.{◌≡◌, ℕ, Bool, true, false, List, [], ◌∷◌, Option, Some, None, arith, refl, cond, ap, ◌∙◌, map, eqb}
+use Rattle.std.specs.Prelude.{not, ◌&&◌, ◌||◌}
+use Rattle.std.specs.List.{list_any}
+use Rattle.std.proofs.lemmas.Bool.Decides.{nat_tests}
+use Rattle.std.proofs.lemmas.List.Folds.{list_any-append}
+use Rattle.site_table.specs.declared.row.Row.{Row}
+use Rattle.kernel_laws.specs.Bound.{is_owner, can_run, owned_by, grouped_by, power_of}
+use Rattle.kernel_laws.specs.Launched.{Launch}
+use Rattle.kernel_laws.specs.Questions.{some_ids}
+use Rattle.kernel_laws.specs.Reach.{Power}
+use Rattle.ceilings.specs.Owners.{owner_at, group_at, owners_at, groups_at, uids_at, gids_at}
+use Rattle.ceilings.specs.Spared.{power_using, uids_of, gids_of}
+
+abbrev pub has_id : ℕ → List ℕ → Bool
+has_id id ids = list_any (λ own. eqb id own) ids
+
+eqb_comm : (a b : ℕ) → eqb a b ≡ eqb b a
+eqb_comm a b = grind (arith, nat_tests)
+
+-- what one row gives before the others
+given_first : (id : ℕ) (b : Bool) (owner : Option ℕ) (others : List (Option ℕ)) → has_id id (some_ids (cond b owner None ∷ others)) ≡ ((b && is_owner id owner) || has_id id (some_ids others))
+given_first id true None others = refl
+given_first id true (Some owner) others = ap (λ b. b || has_id id (some_ids others)) (eqb_comm id owner)
+given_first id false owner others = refl
+
+module _ (launch : Launch) (power : Power) (id : ℕ) where
+  owners_given : (rows : List Row) → has_id id (owners_at launch power rows) ≡ list_any (owned_by launch power id) rows
+  owners_given [] = refl
+  owners_given (row ∷ rows) =
+      given_first id (can_run launch power row) row.setuid (map (owner_at launch power) rows)
+      ∙ ap (λ b. owned_by launch power id row || b) (owners_given rows)
+
+  groups_given : (rows : List Row) → has_id id (groups_at launch power rows) ≡ list_any (grouped_by launch power id) rows
+  groups_given [] = refl
+  groups_given (row ∷ rows) =
+      given_first id (can_run launch power row) row.setgid (map (group_at launch power) rows)
+      ∙ ap (λ b. grouped_by launch power id row || b) (groups_given rows)
+
+unless : (id : ℕ) (b : Bool) (ids : List ℕ) → has_id id (cond b [] ids) ≡ (not b && has_id id ids)
+unless id true ids = refl
+unless id false ids = refl
+
+-- the lists of a ceiling are the ids that are had without a use of a capability
+pub uids_given : (launch : Launch) (power : Power) (id : ℕ) → power ≡ power_using launch false → has_id id (uids_at launch power) ≡ uids_of launch id
+uids_given launch power id e =
+    ap (λ b. eqb id launch.creds.uids.effective || b)
+    (unless id launch.creds.no_new_privs (owners_at launch power launch.site.rows)
+    ∙ ap (λ b. not launch.creds.no_new_privs && b) (owners_given launch power id launch.site.rows))
+    ∙ ap (λ (p : Power). eqb id launch.creds.uids.effective || (not launch.creds.no_new_privs && list_any (owned_by launch p id) launch.site.rows)) e
+
+pub gids_given : (launch : Launch) (power : Power) (id : ℕ) → power ≡ power_of launch → has_id id (gids_at launch power) ≡ gids_of launch id
+gids_given launch power id e =
+    list_any-append (λ own. eqb id own) (launch.creds.gids.effective ∷ launch.creds.groups) (cond launch.creds.no_new_privs [] (groups_at launch power launch.site.rows))
+    ∙ ap (λ b. has_id id (launch.creds.gids.effective ∷ launch.creds.groups) || b)
+    (unless id launch.creds.no_new_privs (groups_at launch power launch.site.rows)
+    ∙ ap (λ b. not launch.creds.no_new_privs && b) (groups_given launch power id launch.site.rows))
+    ∙ ap (λ (p : Power). has_id id (launch.creds.gids.effective ∷ launch.creds.groups) || (not launch.creds.no_new_privs && list_any (grouped_by launch p id) launch.site.rows)) e

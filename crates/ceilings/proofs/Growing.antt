@@ -1,0 +1,78 @@
+-- Power over mount tables takes nothing away: what can be run without it can be run with it, and what is had is had.
+use Rattle.std.proofs.Common.{◌≡◌, ℕ, ◌+◌, Bool, true, false, [], ◌∷◌, ◌++◌, Some, refl, cond, ◌∙◌, sym}
+use Rattle.std.specs.Prelude.{not, ◌&&◌, is_some}
+use Rattle.std.specs.List.{list_any}
+use Rattle.std.proofs.lemmas.Bool.{and_parts, and_from}
+use Rattle.abs_path.specs.Paths.{Path}
+use Rattle.abs_path.specs.Prefix.{is_prefix, rest_of}
+use Rattle.cap_sets.specs.Sets.{has, union, IsWithin}
+use Rattle.cap_sets.proofs.Members.{none_within, union_within, within_union_left, within_union_right, within_self, within_through}
+use Rattle.linux_numbers.specs.Capabilities.{cap_setuid}
+use Rattle.site_table.specs.declared.row.Row.{Row}
+use Rattle.site_table.specs.Kinds.{is_exe}
+use Rattle.kern_mounts.specs.Entry.{leads_to}
+use Rattle.kern_mounts.specs.Split.{Table}
+use Rattle.kern_mounts.specs.declared.step.What.{What}
+use Rattle.kern_mounts.specs.declared.step.What.TheVariants.{Host, Empty, Hidden}
+use Rattle.kern_mounts.specs.declared.step.MountStep.{MountStep}
+use Rattle.kernel_laws.specs.Bound.{gathered, when, is_barred, can_run, file_gain, gain_at, caps_before}
+use Rattle.kernel_laws.specs.Launched.{Launch}
+use Rattle.kernel_laws.specs.Questions.{Wish, ToExec}
+use Rattle.kernel_laws.specs.Reach.{fits, shows_row, serves, reach_from, Power, Nowise, Unmounting, Mounting, reaches}
+use Rattle.kernel_laws.proofs.Bound.{gathered_has, gathered_within, within_when}
+use Rattle.ceilings.specs.Spared.{caps_by}
+
+serves_grow : (row : Path) (wish : Wish) (entry : MountStep) (later : Table) → serves false row wish entry later ≡ true → serves true row wish entry later ≡ true
+serves_grow row wish entry later h =
+    let p = and_parts (fits wish entry.flags) (shows_row false entry later row entry.what) h in
+    and_from _ _ p.0 (by entry.what p.1)
+  where
+    by : (what : What) → shows_row false entry later row what ≡ true → shows_row true entry later row what ≡ true
+    by (Host source) h = and_from (is_prefix source row) true (and_parts (is_prefix source row) (not (list_any (leads_to (entry.place ++ rest_of source row)) later)) h).0 refl
+    by Empty h = cc
+    by (Hidden directory) h = cc
+
+from_grow : (row : Path) (wish : Wish) (table : Table) (at : ℕ) → is_some (reach_from false row wish table at) ≡ true → is_some (reach_from true row wish table at) ≡ true
+from_grow row wish [] at h = cc
+from_grow row wish (entry ∷ later) at h = by (serves false row wish entry later) refl (serves true row wish entry later) refl h (from_grow row wish later (at + 1))
+  where
+    by : (b : Bool) → serves false row wish entry later ≡ b → (c : Bool) → serves true row wish entry later ≡ c
+        → is_some (cond b (Some at) (reach_from false row wish later (at + 1))) ≡ true
+        → (is_some (reach_from false row wish later (at + 1)) ≡ true → is_some (reach_from true row wish later (at + 1)) ≡ true)
+        → is_some (cond c (Some at) (reach_from true row wish later (at + 1))) ≡ true
+    by b e true f h more = refl
+    by true e false f h more = let both : true ≡ false = sym (serves_grow row wish entry later e) ∙ f in cc
+    by false e false f h more = more h
+
+reaches_grow : (power : Power) (table : Table) (row : Path) (wish : Wish) → reaches Nowise table row wish ≡ true → reaches power table row wish ≡ true
+reaches_grow Nowise table row wish h = h
+reaches_grow Unmounting table row wish h = from_grow row wish table 0 h
+reaches_grow Mounting table row wish h = refl
+
+when_grow : (b c : Bool) (set : ℕ) → (b ≡ true → c ≡ true) → IsWithin (when b set) (when c set)
+when_grow true c set h = within_when c set set (h refl) (within_self set)
+when_grow false c set h = none_within (when c set)
+
+module _ (launch : Launch) (power : Power) where
+  pub run_grows : (row : Row) → can_run launch Nowise row ≡ true → can_run launch power row ≡ true
+  run_grows row h =
+      let p = and_parts (is_exe row.kind && reaches Nowise launch.table row.path ToExec) (not (is_barred launch row)) h in
+      let q = and_parts (is_exe row.kind) (reaches Nowise launch.table row.path ToExec) p.0 in
+      and_from _ _ (and_from _ _ q.0 (reaches_grow power launch.table row.path ToExec q.1)) p.1
+
+  before_grows : IsWithin (caps_before launch Nowise) (caps_before launch power)
+  before_grows = union_within _ _ _ (within_union_left _ _ _ (within_self _))
+      (within_union_right _ _ _ (gathered_within (gain_at launch Nowise) launch.site.rows (gathered (gain_at launch power) launch.site.rows)
+      (λ at row e. within_through _ (gain_at launch power row) _
+      (when_grow (can_run launch Nowise row) (can_run launch power row) (file_gain launch row) (run_grows row))
+      (gathered_has (gain_at launch power) launch.site.rows at row e))))
+
+  pub caps_grow : (uids : Bool) → IsWithin (caps_by launch uids Nowise) (caps_by launch uids power)
+  caps_grow uids = by launch.creds.no_new_privs
+    where
+      by : (b : Bool) → IsWithin (cond b launch.creds.effective (union (caps_before launch Nowise) (when (has (caps_before launch Nowise) cap_setuid && uids) launch.creds.bounding)))
+          (cond b launch.creds.effective (union (caps_before launch power) (when (has (caps_before launch power) cap_setuid && uids) launch.creds.bounding)))
+      by true = within_self _
+      by false = union_within _ _ _ (within_union_left _ _ _ before_grows)
+          (within_union_right _ _ _ (when_grow (has (caps_before launch Nowise) cap_setuid && uids) (has (caps_before launch power) cap_setuid && uids) launch.creds.bounding
+          (λ e. let p = and_parts (has (caps_before launch Nowise) cap_setuid) uids e in and_from _ _ (before_grows.each cap_setuid p.0) p.1)))

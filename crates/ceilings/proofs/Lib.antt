@@ -1,0 +1,5 @@
+pub mod Unions
+pub mod Growing
+pub mod Spares
+pub mod Given
+pub mod Bounded

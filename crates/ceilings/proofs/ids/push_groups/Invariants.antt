@@ -1,0 +1,10 @@
+use Rattle.std.proofs.Common.{◌≡◌, ◌++◌, drop}
+use Rattle.kernel_laws.specs.Launched.{launch_of}
+use Rattle.reach_paths.specs.Meanings.{meant_power}
+use Rattle.ceilings.specs.Owners.{groups_at}
+use Rattle.ceilings.proofs.ids.push_groups.Given as goal
+
+-- what was added, and what is left to add
+abbrev pub invariant-loop-row : goal.invariant-loop-row
+invariant-loop-row l =
+    l.ids.items ++ groups_at (launch_of l.world) (meant_power l.power) (drop l.row-index l.rows) ≡ l.initial.ids.items ++ groups_at (launch_of l.world) (meant_power l.power) l.rows

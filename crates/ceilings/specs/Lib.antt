@@ -1,0 +1,5 @@
+pub mod Meanings
+pub mod Passing
+pub mod Spared
+pub mod Owners
+pub mod Own

@@ -1,0 +1,20 @@
+-- A ceiling is that of a launched service: what each of its parts is.
+use Rattle.std.specs.Prelude.{◌≡◌, ℕ, ◌==◌}
+use Rattle.std.specs.List.{list_any}
+use Rattle.kernel_laws.specs.Bound.{caps_at, power_of, any_uid, any_gid}
+use Rattle.kernel_laws.specs.Launched.{Launch}
+use Rattle.reach_paths.specs.Meanings.{meant_power}
+use Rattle.ceilings.specs.declared.bounds.Ceiling.{Ceiling}
+use Rattle.ceilings.specs.Passing.{ArePathCalls}
+use Rattle.ceilings.specs.Spared.{uids_of, gids_of}
+
+-- the capabilities that can become effective at the power that can be had, capabilities(7); that power; whether every id can be
+-- taken by them; the ids that are had besides, each of these and no other, credentials(7); and the calls on paths that pass
+pub record IsCeilingOf (launch : Launch) (top : Ceiling) : Type 0 where
+  pub effective : top.effective ≡ caps_at launch (power_of launch)
+  pub power : meant_power top.power ≡ power_of launch
+  pub any_uid : top.any_uid ≡ any_uid launch (caps_at launch (power_of launch))
+  pub any_gid : top.any_gid ≡ any_gid launch (caps_at launch (power_of launch))
+  pub uids : (id : ℕ) → list_any (λ own. id == own) top.uids ≡ uids_of launch id
+  pub gids : (id : ℕ) → list_any (λ own. id == own) top.gids ≡ gids_of launch id
+  pub paths : ArePathCalls launch top.paths

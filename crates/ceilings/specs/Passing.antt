@@ -1,0 +1,29 @@
+-- What is said of the calls that the filters of a launch let through: they are exactly those.
+use Rattle.std.specs.Prelude.{◌≡◌, Bool}
+use Rattle.kernel_laws.specs.Kinds.{ForPath, ChangesMounts, RemovesMounts, SetsCaps, TakesUid, TakesGid}
+use Rattle.kernel_laws.specs.Launched.{Launch, lets}
+use Rattle.kernel_laws.specs.Questions.{Wish, ToSee, ToRead, ToWrite, ToExec}
+use Rattle.ceilings.specs.declared.passing.PathCalls.{PathCalls}
+use Rattle.ceilings.specs.declared.passing.Passing as made
+
+-- by what is wished of a path
+abbrev pub passes : PathCalls → Wish → Bool
+passes calls ToSee = calls.see
+passes calls ToRead = calls.read
+passes calls ToWrite = calls.write
+passes calls ToExec = calls.exec
+
+-- stat(2) and its like; open(2); open(2), creat(2) and truncate(2); execve(2)
+pub record ArePathCalls (launch : Launch) (calls : PathCalls) : Type 0 where
+  pub see : calls.see ≡ lets launch (ForPath ToSee)
+  pub read : calls.read ≡ lets launch (ForPath ToRead)
+  pub write : calls.write ≡ lets launch (ForPath ToWrite)
+  pub exec : calls.exec ≡ lets launch (ForPath ToExec)
+
+-- mount(2); umount2(2); capset(2); setuid(2) and setresuid(2); setgid(2), setresgid(2) and setgroups(2)
+pub record ArePassing (launch : Launch) (passing : made.Passing) : Type 0 where
+  pub mounts : passing.mounts ≡ lets launch ChangesMounts
+  pub unmounts : passing.unmounts ≡ lets launch RemovesMounts
+  pub sets_caps : passing.sets_caps ≡ lets launch SetsCaps
+  pub takes_uid : passing.takes_uid ≡ lets launch TakesUid
+  pub takes_gid : passing.takes_gid ≡ lets launch TakesGid

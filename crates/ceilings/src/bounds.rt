@@ -1,0 +1,25 @@
+//! What a ceiling is.
+
+use crate::ids::IdList;
+use crate::passing::PathCalls;
+use cap_sets::CapSet;
+use reach_paths::Power;
+
+/// What no process of a launched service passes, in any world that any calls of its processes lead to.
+#[derive(Drop)]
+pub struct Ceiling {
+    /// The capabilities that can become effective, capabilities(7).
+    pub effective: CapSet,
+    /// How far the mount tables can be changed, mount(2), umount2(2).
+    pub power: Power,
+    /// Whether every uid can be taken: CAP_SETUID can become effective, and setuid(2) or setresuid(2) passes.
+    pub any_uid: bool,
+    /// Whether every gid can be taken: CAP_SETGID can become effective, and setgid(2), setresgid(2) or setgroups(2) passes.
+    pub any_gid: bool,
+    /// The uids that are had without a use of CAP_SETUID: that of the launch, and the owners of set-user-id programs.
+    pub uids: IdList,
+    /// The gids that are had without a use of CAP_SETGID: those of the launch, and the groups of set-group-id programs.
+    pub gids: IdList,
+    /// Which calls on paths pass.
+    pub paths: PathCalls,
+}

@@ -1,0 +1,91 @@
+//! The capabilities that can become effective, capabilities(7).
+
+ghost use Rattle.std.specs.Prelude.{◌≡◌, ◌&&◌};
+ghost use Rattle.linux_numbers.specs.Capabilities.{cap_setuid};
+ghost use Rattle.cap_sets.specs.Sets.{has, union};
+ghost use Rattle.kernel_laws.specs.Bound.{when, caps_before, file_gain, gain_at};
+ghost use Rattle.kernel_laws.specs.Launched.{IsLaunchedWorld, launch_of};
+ghost use Rattle.reach_paths.specs.Meanings.{meant_power};
+ghost use Rattle.ceilings.specs.Passing.{ArePassing};
+ghost use Rattle.ceilings.specs.Spared.{caps_by};
+
+use crate::first::launched_process;
+use crate::passing::Passing;
+use crate::programs::can_run;
+use cap_sets::CapSet;
+use kernel_model::World;
+use linux_numbers::capabilities::CAP_SETUID;
+use reach_paths::Power;
+use site_table::Row;
+
+// What execve of a row, and capset after it, make effective: all of the bounding set for a program that is run as root; else
+// the file's capabilities of the bounding set, by its effective bit or by capset.
+fn file_gain(world: &World<'_>, passing: Passing, row: &Row) -> CapSet
+    requires launched { IsLaunchedWorld world.now }
+    requires passing { ArePassing (launch_of world.now) passing }
+    ensures { result ≡ file_gain (launch_of world.now) row.now }
+{
+    let bounding = launched_process(world).creds.bounding();
+    if row.setuid == Some(0) {
+        bounding
+    } else if row.effective || passing.sets_caps {
+        row.caps.cut(bounding)
+    } else {
+        CapSet::empty()
+    }
+}
+
+// The same, if the row can be run. Most rows give nothing, and are not looked for.
+fn gain_at(world: &World<'_>, passing: Passing, power: Power, row: &Row) -> CapSet
+    requires launched { IsLaunchedWorld world.now }
+    requires passing { ArePassing (launch_of world.now) passing }
+    ensures { result ≡ gain_at (launch_of world.now) (meant_power power) row.now }
+{
+    let gain = file_gain(world, passing, row);
+    if gain.bits() != 0 && can_run(world, power, row) {
+        gain
+    } else {
+        CapSet::empty()
+    }
+}
+
+// The capabilities of the launch, and those that running rows gives.
+fn caps_before(world: &World<'_>, passing: Passing, power: Power) -> CapSet
+    requires launched { IsLaunchedWorld world.now }
+    requires passing { ArePassing (launch_of world.now) passing }
+    ensures { result ≡ caps_before (launch_of world.now) (meant_power power) }
+{
+    let rows = world.site_table().rows();
+    let mut caps = launched_process(world).creds.effective();
+    for row in rows {
+        caps = caps.union(gain_at(world, passing, power, row));
+    }
+    caps
+}
+
+// Who has CAP_SETUID and uses it takes uid 0, and has all of the bounding set.
+fn with_root(caps: CapSet, bounding: CapSet, takes_uid: bool) -> CapSet
+    ensures { result ≡ union caps (when (has caps cap_setuid && takes_uid) bounding) }
+{
+    if caps.contains(CAP_SETUID) && takes_uid {
+        caps.union(bounding)
+    } else {
+        caps.union(CapSet::empty())
+    }
+}
+
+// The capabilities that can become effective at a power, where CAP_SETUID is used to take uid 0 or not. With no_new_privs none
+// are added, prctl(2).
+pub(crate) fn caps_by(world: &World<'_>, passing: Passing, takes_uid: bool, power: Power) -> CapSet
+    requires launched { IsLaunchedWorld world.now }
+    requires passing { ArePassing (launch_of world.now) passing }
+    ensures { result ≡ caps_by (launch_of world.now) takes_uid (meant_power power) }
+{
+    let creds = &launched_process(world).creds;
+    if creds.no_new_privs() {
+        creds.effective()
+    } else {
+        let caps = caps_before(world, passing, power);
+        with_root(caps, creds.bounding(), takes_uid)
+    }
+}

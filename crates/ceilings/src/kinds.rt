@@ -1,0 +1,153 @@
+//! Kinds of calls, and the words with which a call asks for its kind first.
+
+ghost use Rattle.std.specs.Prelude.{◌≡◌, ◌<◌};
+ghost use Rattle.kernel_calls.specs.declared.rule.Rule.TheVariants.{Known, Plain};
+ghost use Rattle.kernel_laws.specs.Kinds.{ForPath, one_word, words};
+ghost use Rattle.reach_paths.specs.Meanings.{meant_wish};
+ghost use Rattle.ceilings.specs.Meanings.{meant_kind};
+
+use call_names::CallRule;
+use kernel_calls::Rule;
+use questions::{NamespaceType, Wish};
+
+/// What a call asks for, syscalls(2).
+#[derive(Clone, Copy)]
+pub enum CallKind {
+    /// That a row of the site is seen, read, written or executed.
+    ForPath(Wish),
+    /// Nothing but the call itself, which no rule of the kernel names.
+    PlainCall,
+    /// A socket of the family of this number, socket(2).
+    ForFamily(u32),
+    /// A namespace of this type, clone(2), unshare(2).
+    ForNamespace(NamespaceType),
+    /// Memory to be written and executed, mmap(2).
+    MapsWx,
+    /// Memory to be executed, mprotect(2).
+    ProtectsX,
+    /// Shared memory to be executed, shmat(2).
+    AttachesX,
+    /// A realtime policy, sched(7).
+    SchedulesRealtime,
+    /// Another execution domain, personality(2).
+    TakesPersonality,
+    /// A mode with a set-user-id or set-group-id bit, chmod(2), inode(7).
+    SetsMode,
+    /// Another mount table, mount(2).
+    ChangesMounts,
+    /// Fewer mounts, umount2(2).
+    RemovesMounts,
+    /// Other sets of capabilities, capset(2).
+    SetsCaps,
+    /// Another uid, setuid(2), setresuid(2).
+    TakesUid,
+    /// Another gid, setgid(2), setresgid(2), setgroups(2).
+    TakesGid,
+}
+
+/// PROT_WRITE and PROT_EXEC of mmap(2).
+const WRITE_AND_EXEC: u64 = 6;
+
+/// PROT_EXEC of mprotect(2).
+const EXEC: u64 = 4;
+
+/// SHM_EXEC of shmat(2).
+const SHM_EXEC: u64 = 0x8000;
+
+/// SCHED_FIFO of sched(7).
+const SCHED_FIFO: u64 = 1;
+
+/// PER_LINUX32 of personality(2).
+const PER_LINUX32: u64 = 8;
+
+/// S_ISUID of inode(7).
+const S_ISUID: u64 = 0x800;
+
+/// O_WRONLY of open(2).
+const O_WRONLY: u64 = 1;
+
+/// Six words, all 0.
+const NO_WORDS: [u64; 6] = [0; 6];
+
+// Six words, all 0 but the one of this place.
+fn one_word(at: usize, value: u64) -> [u64; 6]
+    requires { at < 6 }
+    ensures { result ≡ one_word at value }
+{
+    let mut words = [0; 6];
+    words[at] = value;
+    words
+}
+
+// The words with which a call of the rule does first what is wished of a path.
+fn path_words(wish: Wish, rule: CallRule) -> Option<[u64; 6]>
+    ensures { result ≡ words (ForPath (meant_wish wish)) (Known rule) }
+{
+    match wish {
+        Wish::See => match rule {
+            CallRule::See => Some(NO_WORDS),
+            _ => None,
+        },
+        Wish::Read => match rule {
+            CallRule::Open(_) => Some(NO_WORDS),
+            _ => None,
+        },
+        Wish::Write => match rule {
+            CallRule::Open(flags) => Some(one_word(flags.place(), O_WRONLY)),
+            CallRule::Create | CallRule::Truncate => Some(NO_WORDS),
+            _ => None,
+        },
+        Wish::Exec => match rule {
+            CallRule::Execve => Some(NO_WORDS),
+            _ => None,
+        },
+    }
+}
+
+// The words with which a call of the rule asks first for what else the kernel has rules for.
+fn known_words(kind: CallKind, rule: CallRule) -> Option<[u64; 6]>
+    ensures { result ≡ words (meant_kind kind) (Known rule) }
+{
+    let words = match (kind, rule) {
+        (CallKind::ForPath(wish), _) => return path_words(wish, rule),
+        (CallKind::ForFamily(family), CallRule::Socket) => one_word(0, u64::from(family)),
+        (CallKind::ForNamespace(kind), CallRule::Unshare | CallRule::Clone) => {
+            one_word(0, u64::from(kind.flag()))
+        }
+        (CallKind::MapsWx, CallRule::Map) => one_word(2, WRITE_AND_EXEC),
+        (CallKind::ProtectsX, CallRule::Protect) => one_word(2, EXEC),
+        (CallKind::AttachesX, CallRule::Attach) => one_word(2, SHM_EXEC),
+        (CallKind::SchedulesRealtime, CallRule::Schedule) => one_word(1, SCHED_FIFO),
+        (CallKind::TakesPersonality, CallRule::Personality) => one_word(0, PER_LINUX32),
+        (CallKind::SetsMode, CallRule::SetMode(mode)) => one_word(mode.place(), S_ISUID),
+        (CallKind::ChangesMounts, CallRule::Mount)
+        | (CallKind::RemovesMounts, CallRule::Umount)
+        | (CallKind::SetsCaps, CallRule::Capset)
+        | (CallKind::TakesUid, CallRule::Setuid | CallRule::Setresuid)
+        | (CallKind::TakesGid, CallRule::Setgid | CallRule::Setresgid | CallRule::Setgroups) => {
+            NO_WORDS
+        }
+        _ => return None,
+    };
+    Some(words)
+}
+
+// Of a plain call nothing else is asked than that it is made, without words.
+fn plain_words(kind: CallKind, cap: Option<u8>) -> Option<[u64; 6]>
+    ensures { result ≡ words (meant_kind kind) (Plain cap) }
+{
+    match kind {
+        CallKind::PlainCall => Some(NO_WORDS),
+        _ => None,
+    }
+}
+
+/// The words with which a call of the rule asks for the kind first; None where no call of the rule asks for it.
+pub(crate) fn words(kind: CallKind, rule: Rule) -> Option<[u64; 6]>
+    ensures { result ≡ words (meant_kind kind) rule }
+{
+    match rule {
+        Rule::Known(rule) => known_words(kind, rule),
+        Rule::Plain(cap) => plain_words(kind, cap),
+    }
+}

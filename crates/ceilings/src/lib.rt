@@ -1,0 +1,27 @@
+//! What the processes of a launched service can ever have: capabilities, ids, and power over their mount tables.
+//!
+//! A ceiling is made once for a launched world, from its credentials, its filters and the programs of the site, and bounds
+//! every process in every world that any calls lead to. It rests on `launcher` for the launched service, on `reach_paths`
+//! for what can be executed and on `kernel_laws` for what it means; `ceiling(alloc, &launched)?.effective` has the
+//! capabilities. `lets` says without memory whether the filters let any call of one kind through.
+#![tactic(auto)]
+
+mod bounds;
+mod calls;
+mod first;
+mod gains;
+mod ids;
+mod kinds;
+mod making;
+mod passing;
+mod powers;
+mod programs;
+
+pub use bounds::Ceiling;
+pub use calls::{lets, lets_line};
+pub use first::{launched_process, launched_table};
+pub use ids::IdList;
+pub use kinds::CallKind;
+pub use making::ceiling;
+pub use passing::PathCalls;
+pub use programs::is_barred;

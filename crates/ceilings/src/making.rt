@@ -1,0 +1,68 @@
+//! How a ceiling is made.
+
+ghost use Rattle.std.specs.Prelude.{◌≡◌, ℕ, ◌&&◌, false, Contains, IfOk};
+ghost use Rattle.linux_numbers.specs.Capabilities.{cap_sys_admin};
+ghost use Rattle.cap_sets.specs.Sets.{has};
+ghost use Rattle.kernel_laws.specs.Bound.{power_by};
+ghost use Rattle.kernel_laws.specs.Denied.{IsDenied};
+ghost use Rattle.kernel_laws.specs.Kinds.{ChangesMounts, RemovesMounts};
+ghost use Rattle.kernel_laws.specs.Launched.{IsLaunchedWorld, launch_of, lets};
+ghost use Rattle.kernel_laws.specs.Questions.{Cap, Uid, Gid};
+ghost use Rattle.reach_paths.specs.Meanings.{meant_power};
+ghost use Rattle.ceilings.specs.Own.{IsCeilingOf};
+
+use crate::bounds::Ceiling;
+use crate::gains::caps_by;
+use crate::ids::{gids, uids};
+use crate::passing::{Passing, PathCalls};
+use crate::powers::power_using;
+use cap_sets::CapSet;
+use launcher::Launched;
+use linux_numbers::capabilities::{CAP_SETGID, CAP_SETUID};
+use std::alloc::{AllocError, Global};
+
+// Whether every id can be taken, by a capability and a call that passes.
+fn can_take_any(caps: CapSet, cap: u8, passes: bool) -> bool
+    ensures { result ≡ (has caps cap && passes) }
+{
+    caps.contains(cap) && passes
+}
+
+/// What bounds every process of a launched service. The capabilities are those of the launch and of what can be executed, as
+/// root, by its effective bit, or with capset(2) behind it (capabilities(7)); with no_new_privs those of the launch alone,
+/// prctl(2). A program counts where some mount table that can be had leads to it. CAP_SYS_ADMIN that is had on the launched
+/// table gives power over mount tables; at that power more programs may count, and what they give adds to no power.
+///
+/// It takes time for a few passes over the site, and looks at mount tables for programs with set-id bits or capabilities alone.
+pub fn ceiling(alloc: Global, launched: &Launched<'_>) -> Result<Ceiling, AllocError>
+    requires { IsLaunchedWorld launched.now.world }
+    ensures is_its_own { IfOk result (IsCeilingOf (launch_of launched.now.world)) }
+
+    // CAP_SYS_ADMIN and the calls that pass give the power.
+    ensures power_is_by_what_can_be_had { IfOk result (λ top. let launch = launch_of launched.now.world in
+        meant_power top.power
+        ≡ power_by (has top.effective cap_sys_admin) (lets launch ChangesMounts) (lets launch RemovesMounts)) }
+
+    // In no world of any run does a living process have more.
+    ensures other_capabilities_are_denied { IfOk result (λ top. (number : ℕ)
+        → has top.effective number ≡ false → IsDenied launched.now.world (Cap number)) }
+    ensures other_uids_are_denied { IfOk result (λ top. (id : ℕ)
+        → top.any_uid ≡ false → ¬ Contains top.uids id → IsDenied launched.now.world (Uid id)) }
+    ensures other_gids_are_denied { IfOk result (λ top. (id : ℕ)
+        → top.any_gid ≡ false → ¬ Contains top.gids id → IsDenied launched.now.world (Gid id)) }
+{
+    let world = &launched.world;
+    let passing = Passing::of(world);
+    let power = power_using(world, passing, passing.takes_uid);
+    let effective = caps_by(world, passing, passing.takes_uid, power);
+    let spared = power_using(world, passing, false);
+    Ok(Ceiling {
+        effective,
+        power,
+        any_uid: can_take_any(effective, CAP_SETUID, passing.takes_uid),
+        any_gid: can_take_any(effective, CAP_SETGID, passing.takes_gid),
+        uids: uids(alloc, world, spared)?,
+        gids: gids(alloc, world, power)?,
+        paths: PathCalls::of(world),
+    })
+}

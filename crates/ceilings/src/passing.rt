@@ -1,0 +1,80 @@
+//! Kinds of calls that the filters of a launched service let through.
+
+ghost use Rattle.std.specs.Prelude.{◌≡◌};
+ghost use Rattle.kernel_laws.specs.Launched.{launch_of};
+ghost use Rattle.reach_paths.specs.Meanings.{meant_wish};
+ghost use Rattle.ceilings.specs.Passing.{ArePassing, ArePathCalls, passes};
+
+use crate::calls::lets;
+use crate::kinds::CallKind;
+use kernel_model::World;
+use questions::Wish;
+
+/// What processes can ask of paths: whether some call passes that sees, reads, writes or executes what a path finds.
+#[derive(Clone, Copy)]
+pub struct PathCalls {
+    /// stat(2) and its like.
+    pub see: bool,
+    /// open(2) for reading.
+    pub read: bool,
+    /// open(2) for writing, creat(2), truncate(2).
+    pub write: bool,
+    /// execve(2).
+    pub exec: bool,
+}
+
+impl PathCalls {
+    /// Those that the filters of the first process let through.
+    pub(crate) fn of(world: &World<'_>) -> PathCalls
+        ensures { ArePathCalls (launch_of world.now) result }
+    {
+        PathCalls {
+            see: lets(world, CallKind::ForPath(Wish::See)),
+            read: lets(world, CallKind::ForPath(Wish::Read)),
+            write: lets(world, CallKind::ForPath(Wish::Write)),
+            exec: lets(world, CallKind::ForPath(Wish::Exec)),
+        }
+    }
+
+    /// Whether some call passes that does what is wished.
+    pub fn passes(self, wish: Wish) -> bool
+        ensures of_the_wish { result ≡ passes self (meant_wish wish) }
+    {
+        match wish {
+            Wish::See => self.see,
+            Wish::Read => self.read,
+            Wish::Write => self.write,
+            Wish::Exec => self.exec,
+        }
+    }
+}
+
+// Whether calls pass that change what processes have.
+#[derive(Clone, Copy)]
+pub(crate) struct Passing {
+    // mount(2)
+    pub(crate) mounts: bool,
+    // umount2(2)
+    pub(crate) unmounts: bool,
+    // capset(2)
+    pub(crate) sets_caps: bool,
+    // setuid(2), setresuid(2)
+    pub(crate) takes_uid: bool,
+    // setgid(2), setresgid(2), setgroups(2)
+    pub(crate) takes_gid: bool,
+}
+
+impl Passing {
+    // Those that the filters of the first process let through.
+    pub(crate) fn of(world: &World<'_>) -> Passing
+        ensures { ArePassing (launch_of world.now) result }
+    {
+        Passing {
+            mounts: lets(world, CallKind::ChangesMounts),
+            unmounts: lets(world, CallKind::RemovesMounts),
+            sets_caps: lets(world, CallKind::SetsCaps),
+            takes_uid: lets(world, CallKind::TakesUid),
+            takes_gid: lets(world, CallKind::TakesGid),
+        }
+    }
+}

@@ -1,0 +1,39 @@
+//! How far a service can change its mount tables.
+
+ghost use Rattle.std.specs.Prelude.{◌≡◌};
+ghost use Rattle.kernel_laws.specs.Bound.{power_by};
+ghost use Rattle.kernel_laws.specs.Launched.{IsLaunchedWorld, launch_of};
+ghost use Rattle.reach_paths.specs.Meanings.{meant_power};
+ghost use Rattle.ceilings.specs.Passing.{ArePassing};
+ghost use Rattle.ceilings.specs.Spared.{power_using};
+
+use crate::gains::caps_by;
+use crate::passing::Passing;
+use kernel_model::World;
+use linux_numbers::capabilities::CAP_SYS_ADMIN;
+use reach_paths::Power;
+
+// By whether CAP_SYS_ADMIN can be had on the launched table, and which calls pass.
+fn power_by(has_admin: bool, mounts: bool, unmounts: bool) -> Power
+    ensures { meant_power result ≡ power_by has_admin mounts unmounts }
+{
+    match (has_admin, mounts, unmounts) {
+        (true, true, _) => Power::Mount,
+        (true, false, true) => Power::Unmount,
+        _ => Power::None,
+    }
+}
+
+// The power over mount tables, where CAP_SETUID is used to take uid 0 or not, mount(2), umount2(2).
+pub(crate) fn power_using(world: &World<'_>, passing: Passing, takes_uid: bool) -> Power
+    requires launched { IsLaunchedWorld world.now }
+    requires passing { ArePassing (launch_of world.now) passing }
+    ensures { meant_power result ≡ power_using (launch_of world.now) takes_uid }
+{
+    let caps = caps_by(world, passing, takes_uid, Power::None);
+    power_by(
+        caps.contains(CAP_SYS_ADMIN),
+        passing.mounts,
+        passing.unmounts,
+    )
+}

@@ -1,0 +1,34 @@
+//! Which programs of a site a service can run.
+
+ghost use Rattle.std.specs.Prelude.{◌≡◌};
+ghost use Rattle.kernel_laws.specs.Bound.{can_run, is_barred};
+ghost use Rattle.kernel_laws.specs.Launched.{IsLaunchedWorld, launch_of};
+ghost use Rattle.reach_paths.specs.Meanings.{meant_power};
+
+use crate::first::{launched_process, launched_table};
+use kernel_model::World;
+use reach_paths::{Power, Wish, reach};
+use site_table::{Row, RowKind};
+
+/// Whether execve(2) refuses the row to every process that heeds its marks: its effective bit is set, and the bounding set of
+/// the launch withholds one of its capabilities (capabilities(7), "Safety checking for capability-dumb binaries").
+pub fn is_barred(world: &World<'_>, row: &Row) -> bool
+    requires { IsLaunchedWorld world.now }
+    ensures withheld { result ≡ is_barred (launch_of world.now) row.now }
+{
+    row.effective && !row.caps.within(launched_process(world).creds.bounding())
+}
+
+// Whether the row is a program that some table of the power leads to, and that execve does not refuse.
+pub(crate) fn can_run(world: &World<'_>, power: Power, row: &Row) -> bool
+    requires { IsLaunchedWorld world.now }
+    ensures { result ≡ can_run (launch_of world.now) (meant_power power) row.now }
+{
+    match row.kind {
+        RowKind::Dir | RowKind::File => false,
+        RowKind::Exe => {
+            !is_barred(world, row)
+                && reach(launched_table(world), &row.path, Wish::Exec, power).is_some()
+        }
+    }
+}

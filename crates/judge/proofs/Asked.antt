@@ -1,0 +1,10 @@
+-- What is in the list of questions is asked of what it is about.
+use Rattle.std.specs.Prelude.{Contains}
+use Rattle.call_table.specs.Table as calls
+use Rattle.site_table.specs.Table.{Site}
+use Rattle.kernel_laws.specs.Questions.{Question, IsAsked, questions}
+use Rattle.kernel_laws.proofs.AskedQuestions.{all_asked}
+use Rattle.questions.proofs.Among.{has_contained, all_had}
+
+pub asked : (table : calls.Table) (site : Site) (question : Question) → Contains (questions table site) question → IsAsked table question
+asked table site question h = all_had (IsAsked table) (questions table site) question (all_asked table site) (has_contained (questions table site) question h)

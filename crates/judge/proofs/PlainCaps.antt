@@ -1,0 +1,29 @@
+-- The capability that a call of the table asks for.
+use Rattle.std.proofs.Common.{◌≡◌, ℕ, true, false, Option, Some, None, refl}
+use Rattle.std.specs.Prelude.{is_some}
+use Rattle.call_names.specs.Known.{known_call, is_known}
+use Rattle.call_names.specs.declared.known.KnownCall.{KnownCall}
+use Rattle.call_names.specs.declared.known.KnownCall.TheVariants.{Modelled, Absent}
+use Rattle.call_table.specs.declared.listed.CallLine.{CallLine}
+use Rattle.kernel_calls.specs.Rules.{rule_by, rule_of}
+use Rattle.kernel_laws.specs.Bound.{can_have_cap, can_have_for}
+use Rattle.kernel_laws.specs.Bounds.{Bounds}
+
+by_known : (top : Bounds) (known : Option KnownCall) (cap : Option ℕ) → is_some known ≡ true → true ≡ can_have_for top (rule_by known cap)
+by_known top None cap e = cc
+by_known top (Some Absent) cap e = refl
+by_known top (Some (Modelled rule)) cap e = refl
+
+by_plain : (top : Bounds) (known : Option KnownCall) (cap : Option ℕ) → is_some known ≡ false → can_have_cap top cap ≡ can_have_for top (rule_by known cap)
+by_plain top None cap e = refl
+by_plain top (Some known) cap e = cc
+
+-- a call that the kernel knows asks for none here
+pub known_have : (top : Bounds) (line : CallLine) → is_known line.name ≡ true → true ≡ can_have_for top (rule_of line)
+unfolding rule_of
+known_have top line e = by_known top (known_call line.name) line.cap e
+
+-- a plain call asks for that of its line
+pub plain_have : (top : Bounds) (line : CallLine) → is_known line.name ≡ false → can_have_cap top line.cap ≡ can_have_for top (rule_of line)
+unfolding rule_of
+plain_have top line e = by_plain top (known_call line.name) line.cap e

@@ -1,0 +1,51 @@
+//! Which rows of the site can be seen, read, written and executed.
+
+ghost use Rattle.std.specs.Prelude.{◌≡◌, ◌&&◌, not};
+ghost use Rattle.kernel_laws.specs.Bound.{can_reach, ceiling, is_barred, is_mounting, is_to_exec, open_at, power_of};
+ghost use Rattle.kernel_laws.specs.Launched.{IsLaunchedWorld, launch_of};
+ghost use Rattle.kernel_laws.specs.Questions.{ByPath};
+ghost use Rattle.reach_paths.specs.Meanings.{meant_power, meant_wish};
+ghost use Rattle.ceilings.specs.Own.{IsCeilingOf};
+
+use ceilings::{Ceiling, is_barred, launched_table};
+use kernel_model::World;
+use questions::Wish;
+use reach_paths::{Power, reach};
+use site_table::Row;
+
+// Whether execve refuses the row by its marks on every table that the power makes: only mount(2) makes a mount on which they
+// are not looked at, MS_NOSUID.
+fn is_refused(world: &World<'_>, power: Power, wish: Wish, row: &Row) -> bool
+    requires { IsLaunchedWorld world.now }
+    ensures { result ≡ ((is_to_exec (meant_wish wish) && not (is_mounting (meant_power power)))
+        && is_barred (launch_of world.now) row.now) }
+{
+    match (wish, power) {
+        (Wish::Exec, Power::None | Power::Unmount) => is_barred(world, row),
+        _ => false,
+    }
+}
+
+// Whether a call on paths passes for the wish, some table that the power makes shows the row, and execve does not refuse it.
+fn can_reach(world: &World<'_>, ceiling: &Ceiling, wish: Wish, row: &Row) -> bool
+    requires launched { IsLaunchedWorld world.now }
+    requires its_own_ceiling { IsCeilingOf (launch_of world.now) ceiling.now }
+    ensures { let launch = launch_of world.now in result ≡ can_reach launch (power_of launch) (meant_wish wish) row.now }
+{
+    ceiling.paths.passes(wish)
+        && reach(launched_table(world), &row.path, wish, ceiling.power).is_some()
+        && !is_refused(world, ceiling.power, wish, row)
+}
+
+/// Whether what is wished of the row of this number is open.
+pub(crate) fn is_path_open(world: &World<'_>, top: &Ceiling, wish: Wish, at: usize) -> bool
+    requires launched { IsLaunchedWorld world.now }
+    requires its_own_ceiling { IsCeilingOf (launch_of world.now) top.now }
+    ensures { let launch = launch_of world.now in
+        result ≡ open_at launch (power_of launch) (ceiling launch) (ByPath (meant_wish wish) at) }
+{
+    match world.site_table().rows().get(at) {
+        None => false,
+        Some(row) => can_reach(world, top, wish, row),
+    }
+}

@@ -1,0 +1,63 @@
+//! The verdicts on all questions of a launched service.
+ghost use Rattle.std.specs.Prelude.{◌≡◌, map};
+ghost use Rattle.kernel_laws.specs.Launched.{IsLaunchedWorld, launch_of};
+ghost use Rattle.kernel_laws.specs.Questions.{questions};
+ghost use Rattle.questions.specs.Meanings.{meant};
+ghost use Rattle.ceilings.specs.Own.{IsCeilingOf};
+
+use crate::asking::{Judged, answer_asks};
+use crate::shown::shown;
+use ceilings::{Ceiling, ceiling};
+use judge::{Verdict, verdict};
+use launcher::Launched;
+use questions::{Question, questions};
+use std::alloc::{AllocError, Global};
+
+/// What is found, ask by ask.
+pub fn judged(alloc: Global, service: &Launched<'_>, asks: &[&str]) -> Result<String, AllocError>
+    requires { IsLaunchedWorld service.now.world }
+{
+    let world = &service.world;
+    let all = questions(alloc, world.call_table(), world.site_table())?;
+    let top = ceiling(alloc, service)?;
+    let verdicts = verdicts_of(alloc, service, &top, all.as_slice())?;
+    let judged = judged_of(alloc, service, all.as_slice(), verdicts.as_slice())?;
+    answer_asks(alloc, judged.as_slice(), asks)
+}
+
+// The verdict on each question.
+fn verdicts_of(
+    alloc: Global,
+    service: &Launched<'_>,
+    top: &Ceiling,
+    all: &[Question],
+) -> Result<Vec<Verdict>, AllocError>
+    requires launched { IsLaunchedWorld service.now.world }
+    requires its_own_ceiling { IsCeilingOf (launch_of service.now.world) top.now }
+    requires all { map meant all.now ≡ questions service.now.world.calls service.now.world.site }
+{
+    let mut verdicts = Vec::new(alloc);
+    for question in all {
+        verdicts.push(verdict(service, top, question))?;
+    }
+    Ok(verdicts)
+}
+
+// Each question in words, with its verdict.
+fn judged_of(
+    alloc: Global,
+    service: &Launched<'_>,
+    all: &[Question],
+    verdicts: &[Verdict],
+) -> Result<Vec<Judged>, AllocError> {
+    let calls = service.world.call_table();
+    let site = service.world.site_table();
+    let mut judged = Vec::new(alloc);
+    for (question, verdict) in all.iter().zip(verdicts) {
+        judged.push(Judged {
+            question: shown(alloc, calls, site, question)?,
+            is_open: matches!(verdict, Verdict::Open),
+        })?;
+    }
+    Ok(judged)
+}

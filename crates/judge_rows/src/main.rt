@@ -1,0 +1,38 @@
+//! Rows over what a launched service can do and have.
+//!
+//! The standard input has the rows. Lines that begin with two spaces are a text; `calls` takes it as calls.txt and `site` as
+//! site.toml. A row `judge|LINES|ASK|ASK ..` launches the unit with these lines in its section of the service, where `\n` ends
+//! a line, and answers each ask on a line: a question by its verdict, `summary` by how many questions are denied and how many
+//! open, `some PREFIX` by the same of the questions that begin so, and `denied` by every denied question. A line that begins
+//! with `#` says what the next rows show.
+#![tactic(auto)]
+
+mod asking;
+mod inputs;
+mod judging;
+mod launching;
+mod rows;
+mod shown;
+
+use rows::Rows;
+use std::io;
+
+fn main(rt: HostRuntime) -> io::Result<()> {
+    let mut rows = Rows::new(rt.alloc());
+    for line in rt.lines(rt.alloc()) {
+        follow(&rt, &mut rows, line?.as_str())?;
+    }
+    Ok(())
+}
+
+// Follows a line, and prints what comes out.
+fn follow(rt: &HostRuntime, rows: &mut Rows, line: &str) -> io::Result<()> {
+    if line.starts_with('#') {
+        return rt.println(line);
+    }
+    if let Some(more) = line.strip_prefix("  ") {
+        return Ok(rows.add(more)?);
+    }
+    let answer = rows.answer(rt.alloc(), line)?;
+    println!(rt; "{line} -> {answer}")
+}
