@@ -3,10 +3,12 @@
 //! The standard input has the rows, a line each step. `file PATH` begins a file, which further rows keep; `|TEXT` adds a line
 //! to it, `>TEXT` a text, `nul` a zero byte, `many N` so many letters and `times N TEXT` so many lines; `no-file PATH` takes
 //! it away. `word WORD` adds a word, `take N` says how much the sink takes at once, `fail-read N` and `fail-put N` which call
-//! fails. `run` runs these words, prints them with the status and what was taken, and begins the next row. A line that begins
-//! with `#` says what the next rows show.
+//! fails. `run` runs these words, prints them with the status and what was taken, and begins the next row. `ask NUMBER WORD ..`
+//! asks the filters that are printed of a call, `i386` before the number of one of that architecture: they are read back, and
+//! what each answers is told in their place. A line that begins with `#` says what the next rows show.
 #![tactic(auto)]
 
+mod asked;
 mod rows;
 mod whole;
 

@@ -15,6 +15,8 @@ pub struct Rows {
     pub puts: Vec<u64>,
     /// How much the sink takes at once.
     pub take: u64,
+    /// The calls that the printed filters are asked of.
+    pub asked: Vec<String>,
 }
 
 impl Rows {
@@ -26,6 +28,7 @@ impl Rows {
             reads: Vec::new(alloc),
             puts: Vec::new(alloc),
             take: 7,
+            asked: Vec::new(alloc),
         }
     }
 
@@ -35,6 +38,7 @@ impl Rows {
         self.reads = Vec::new(alloc);
         self.puts = Vec::new(alloc);
         self.take = 7;
+        self.asked = Vec::new(alloc);
     }
 
     /// Follows a line that is no run.
@@ -61,6 +65,7 @@ impl Rows {
                 Ok(())
             }
             "word" => Ok(self.words.push(String::from_str(alloc, rest)?)?),
+            "ask" => Ok(self.asked.push(String::from_str(alloc, rest)?)?),
             "take" => {
                 self.take = number(rest);
                 Ok(())

@@ -1,5 +1,7 @@
 //! A whole run over the files of a row.
+use crate::asked::answers;
 use crate::rows::Rows;
+use exposure_score::{CustomTest, Facts, ambient_count, writable_paths};
 use host_io::{MemShelf, MemSink, are_files};
 use std::alloc::{AllocError, Global};
 use top_call::run;
@@ -25,6 +27,7 @@ pub fn run_row(alloc: Global, rows: &Rows) -> Result<String, AllocError> {
     said(alloc, rows, code, sink.taken())
 }
 
+// The status of these words, with the two stored tests of the program.
 fn run_words(
     alloc: Global,
     rows: &Rows,
@@ -35,10 +38,22 @@ fn run_words(
     for word in &rows.words {
         words.push(word.as_str())?;
     }
-    Ok(run(alloc, words.as_slice(), shelf, sink).code)
+    let mut tests = Vec::new(alloc);
+    tests.push(CustomTest::new(
+        String::from_str(alloc, "AmbientCount")?,
+        41,
+        Box::new(alloc, |facts: &Facts| ambient_count(facts))?,
+    ))?;
+    tests.push(CustomTest::new(
+        String::from_str(alloc, "WritablePaths")?,
+        128,
+        Box::new(alloc, |facts: &Facts| writable_paths(facts))?,
+    ))?;
+    Ok(run(alloc, words.as_slice(), shelf, sink, tests).code)
 }
 
-// The words and the status, and below them the text, with a sign where it does not end with a line feed.
+// The words and the status, and below them the text, with a sign where it does not end with a line feed; of filters that are
+// asked what they answer.
 fn said(alloc: Global, rows: &Rows, code: u8, taken: &[u8]) -> Result<String, AllocError> {
     let mut text = String::from_str(alloc, "run")?;
     for word in &rows.words {
@@ -46,6 +61,11 @@ fn said(alloc: Global, rows: &Rows, code: u8, taken: &[u8]) -> Result<String, Al
         text.push_str(word.as_str())?;
     }
     let taken = str::from_utf8(taken).unwrap_or("no text\n");
+    if !rows.asked.is_empty() {
+        let answers = answers(alloc, taken, rows.asked.as_slice())?;
+        let answers = answers.as_str().trim_end();
+        return format!(in alloc; "{text} -> {code}\n{answers}");
+    }
     let (whole, cut) = match taken.strip_suffix('\n') {
         Some(whole) => (whole, ""),
         None => (taken, " (cut)"),

@@ -3,3 +3,4 @@ pub mod Arithmetic
 pub mod Badness
 pub mod Rows
 pub mod Stored
+pub mod StoredTests

@@ -1,3 +1,4 @@
 pub mod Notes
 pub mod Launches
 pub mod Answers
+pub mod Scores

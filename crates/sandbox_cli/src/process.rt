@@ -1,5 +1,6 @@
 //! The process around a run: its words, the current folder and the standard output.
 use command_answers::Ending;
+use exposure_score::{CustomTest, Facts, ambient_count, writable_paths};
 use host_io::{DirShelf, StdSink};
 use std::rt::{Env, Files};
 use std::{env, io};
@@ -20,6 +21,8 @@ fn words<R: Env + AllocGlobal>(rt: &R) -> io::Result<Vec<String>> {
     }
 }
 
+// A run of these words, with the stored tests of the program: how many ambient capabilities the service has, and how many paths
+// it writes or binds.
 fn run_words<R: Env + Files + Print + AllocGlobal + Clone + Drop>(rt: &R) -> io::Result<Status> {
     let words = words(rt)?;
     let mut texts = Vec::new(rt.alloc());
@@ -28,7 +31,18 @@ fn run_words<R: Env + Files + Print + AllocGlobal + Clone + Drop>(rt: &R) -> io:
     }
     let mut shelf = DirShelf::new(rt.clone()?);
     let mut sink = StdSink::new(rt.clone()?);
-    Ok(run(rt.alloc(), texts.as_slice(), &mut shelf, &mut sink))
+    let mut tests = Vec::new(rt.alloc());
+    tests.push(CustomTest::new(
+        String::from_str(rt.alloc(), "AmbientCount")?,
+        41,
+        Box::new(rt.alloc(), |facts: &Facts| ambient_count(facts))?,
+    ))?;
+    tests.push(CustomTest::new(
+        String::from_str(rt.alloc(), "WritablePaths")?,
+        128,
+        Box::new(rt.alloc(), |facts: &Facts| writable_paths(facts))?,
+    ))?;
+    Ok(run(rt.alloc(), texts.as_slice(), &mut shelf, &mut sink, tests))
 }
 
 /// Runs the words of the process over the current folder and the standard output.

@@ -1,6 +1,8 @@
 -- Texts that are printed as they stand.
-use Rattle.std.proofs.Common.{◌≡◌, ℕ, List, Ok}
+use Rattle.std.proofs.Common.{◌≡◌, ℕ, List, Ok, Option, subst, sym}
 use Rattle.std.specs.Prelude.{IsTrue}
+use Rattle.host_io.specs.Files.{Files}
+use Rattle.exposure_score.specs.StoredTests.{StoredTests}
 use Rattle.command_answers.specs.Endings.{is_answer, is_whole}
 use Rattle.command_answers.specs.Laws.{fixed_laws}
 use Rattle.command_answers.specs.Printing.{Finishes}
@@ -9,6 +11,8 @@ use Rattle.command_answers.specs.declared.ending.Ending.{Ending}
 use Rattle.command_answers.proofs.FileCommands.{fixed_go_together}
 use Rattle.command_answers.proofs.Refusing.{quiet}
 use Rattle.command_answers.proofs.Runs.{ran}
+use Rattle.top_call.specs.Asked.{laws_by, laws_of}
+use Rattle.top_call.specs.Requests.{Request, request_in}
 use Rattle.top_call.specs.Texts.{ending_of, text_of}
 use Rattle.top_call.specs.declared.texts.Fixed.{Fixed}
 
@@ -16,3 +20,12 @@ pub ran_fixed : (fixed : Fixed) (only : Ending) (line : List ℕ) (accepted : Ty
 ran_fixed fixed only line accepted outside ended whole answers ends is same finished =
     ran (fixed_laws only line accepted) (fixed_go_together only line accepted whole answers) outside ending_of text_of (Ok fixed) ended
     (ends, is) (λ e. cc) (quiet outside.shelf_before outside.shelf_after (Ok fixed) same (λ e. cc)) finished
+
+-- a run for a request is one for the words that ask for it, with the tests that are lent
+pub of_words : {T : Type 0} (request : Option Request) (words : List (List ℕ)) (told : Option Files) (stored : List T → StoredTests) (lent tests : List T) (ended status : Ending) (outside : Outside)
+    → request ≡ request_in words → lent ≡ tests → status ≡ ended → IsRun (laws_by request told (stored lent)) ended outside
+    → IsRun (laws_of (record { words = words; told = told; stored = stored tests })) status outside
+of_words request words told stored lent tests ended status outside asks lends same run =
+    subst (λ ending. IsRun (laws_by (request_in words) told (stored tests)) ending outside) (sym same)
+    (subst (λ these. IsRun (laws_by (request_in words) told (stored these)) ended outside) lends
+    (subst (λ own. IsRun (laws_by own told (stored lent)) ended outside) asks run))

@@ -1,6 +1,7 @@
 -- What is asked, and the laws of what is asked: the request decides first, and the files second.
 use Rattle.std.specs.Prelude.{ℕ, List, map, Option, Some, None}
 use Rattle.host_io.specs.Files.{Files}
+use Rattle.exposure_score.specs.StoredTests.{StoredTests}
 use Rattle.command_answers.specs.Laws.{Laws, fixed_laws, laws_over}
 use Rattle.command_answers.specs.declared.ending.Ending.{Ending}
 use Rattle.command_answers.specs.declared.ending.Ending.TheVariants.{Done, NoCommand}
@@ -8,34 +9,37 @@ use Rattle.filter_command.specs.Prints.{filter_laws}
 use Rattle.plan_command.specs.Prints.{plan_laws}
 use Rattle.judge_command.specs.Prints.{judge_laws}
 use Rattle.replay_command.specs.Prints.{replay_laws}
-use Rattle.top_call.specs.Requests.{Request, HelpAlone, VersionAlone, FilterOf, PlanOf, JudgeOf, ReplayOf, request_in}
+use Rattle.score_command.specs.Prints.{score_laws}
+use Rattle.top_call.specs.Requests.{Request, HelpAlone, VersionAlone, FilterOf, PlanOf, JudgeOf, ReplayOf, ScoreOf, request_in}
 use Rattle.top_call.specs.Texts.{help_text, version_text, words_line}
 use denote.Ref.{Bor}
 
--- the words behind the program's name, and the files of the shelf, where it tells them
-pub record Asked : Type 0 where
+-- the words behind the program's name, the files of the shelf, where it tells them, and the tests that are handed in
+pub record Asked : Type 1 where
   pub words : List (List ℕ)
   pub told : Option Files
+  pub stored : StoredTests
 
-abbrev pub asked : List (Bor (List ℕ)) → Option Files → Asked
-asked words told = record { words = map (λ word. word.now) words; told = told }
+abbrev pub asked : List (Bor (List ℕ)) → Option Files → StoredTests → Asked
+asked words told stored = record { words = map (λ word. word.now) words; told = told; stored = stored }
 
 -- each request has its laws
-abbrev pub laws_for : Request → Option Files → Laws
-laws_for HelpAlone told = fixed_laws Done help_text (Unit {0})
-laws_for VersionAlone told = fixed_laws Done version_text (Unit {0})
-laws_for (FilterOf unit) told = laws_over told (filter_laws unit)
-laws_for (PlanOf unit) told = laws_over told (plan_laws unit)
-laws_for (JudgeOf unit) told = laws_over told (judge_laws unit)
-laws_for (ReplayOf unit script) told = laws_over told (replay_laws unit script)
+abbrev pub laws_for : Request → Option Files → StoredTests → Laws
+laws_for HelpAlone told stored = fixed_laws Done help_text (Unit {0})
+laws_for VersionAlone told stored = fixed_laws Done version_text (Unit {0})
+laws_for (FilterOf unit) told stored = laws_over told (filter_laws unit)
+laws_for (PlanOf unit) told stored = laws_over told (plan_laws unit)
+laws_for (JudgeOf unit) told stored = laws_over told (judge_laws unit)
+laws_for (ReplayOf unit script) told stored = laws_over told (replay_laws unit script)
+laws_for (ScoreOf unit policy threshold) told stored = laws_over told (score_laws unit policy threshold stored)
 
 -- words that are no command are refused whatever the files
-abbrev pub laws_by : Option Request → Option Files → Laws
-laws_by None told = fixed_laws NoCommand words_line ⊥
-laws_by (Some request) told = laws_for request told
+abbrev pub laws_by : Option Request → Option Files → StoredTests → Laws
+laws_by None told stored = fixed_laws NoCommand words_line ⊥
+laws_by (Some request) told stored = laws_for request told stored
 
 abbrev pub laws_of : Asked → Laws
-laws_of asked = laws_by (request_in asked.words) asked.told
+laws_of asked = laws_by (request_in asked.words) asked.told asked.stored
 
 -- the texts that are admitted, each with the ending behind it
 abbrev pub Prints : Asked → Ending → List ℕ → Type 0

@@ -1,8 +1,9 @@
 -- What a list of words asks for.
-use Rattle.std.specs.Prelude.{List, [], ◌∷◌, ℕ, codes, cond, Option, Some, None}
+use Rattle.std.specs.Prelude.{List, [], ◌∷◌, ℕ, nat_le, codes, cond, Option, Some, None, option_map, option_and_then}
 use Rattle.std.specs.Str.{bytes_eq}
+use Rattle.text_forms.specs.Numbers.{decimal_value}
 use Rattle.top_call.specs.declared.request.Request.{Request as Code}
-use Rattle.top_call.specs.declared.request.Request.TheVariants.{Help, Version, Filter, Plan, Judge, Replay}
+use Rattle.top_call.specs.declared.request.Request.TheVariants.{Help, Version, Filter, Plan, Judge, Replay, Score}
 
 -- what is asked for
 pub data Request : Type 0 where
@@ -12,6 +13,7 @@ pub data Request : Type 0 where
   PlanOf : (unit : List ℕ) → Request
   JudgeOf : (unit : List ℕ) → Request
   ReplayOf : (unit script : List ℕ) → Request
+  ScoreOf : (unit policy : List ℕ) (threshold : ℕ) → Request
 
 -- a word by itself
 abbrev pub request_alone : List ℕ → Option Request
@@ -26,17 +28,29 @@ request_on word unit =
     (cond (bytes_eq word (codes "plan")) (Some (PlanOf unit))
     (cond (bytes_eq word (codes "judge")) (Some (JudgeOf unit)) None))
 
--- a word, a unit and the path of a script
+-- a word, a unit, and the path of a script or of a policy; without a threshold no exposure is above it
 abbrev pub request_with : List ℕ → List ℕ → List ℕ → Option Request
-request_with word unit script = cond (bytes_eq word (codes "replay")) (Some (ReplayOf unit script)) None
+request_with word unit path =
+    cond (bytes_eq word (codes "replay")) (Some (ReplayOf unit path))
+    (cond (bytes_eq word (codes "score")) (Some (ScoreOf unit path 100)) None)
+
+-- a threshold is decimal, 0 to 100
+abbrev pub threshold_of : List ℕ → Option ℕ
+threshold_of text = option_and_then (λ number. cond (nat_le number 100) (Some number) None) (decimal_value text)
+
+-- a word, a unit, the path of a policy and a threshold
+abbrev pub request_above : List ℕ → List ℕ → List ℕ → List ℕ → Option Request
+request_above word unit policy text =
+    cond (bytes_eq word (codes "score")) (option_map (λ threshold. ScoreOf unit policy threshold) (threshold_of text)) None
 
 -- all other words are no command
 abbrev pub request_in : List (List ℕ) → Option Request
 request_in [] = None
 request_in (word ∷ []) = request_alone word
 request_in (word ∷ unit ∷ []) = request_on word unit
-request_in (word ∷ unit ∷ script ∷ []) = request_with word unit script
-request_in (word ∷ unit ∷ script ∷ more ∷ words) = None
+request_in (word ∷ unit ∷ path ∷ []) = request_with word unit path
+request_in (word ∷ unit ∷ path ∷ text ∷ []) = request_above word unit path text
+request_in (word ∷ unit ∷ path ∷ text ∷ more ∷ words) = None
 
 -- a request of the code, as contracts see it
 abbrev pub request_of : Code → Request
@@ -46,3 +60,4 @@ request_of (Filter unit) = FilterOf unit.now
 request_of (Plan unit) = PlanOf unit.now
 request_of (Judge unit) = JudgeOf unit.now
 request_of (Replay unit script) = ReplayOf unit.now script.now
+request_of (Score unit policy threshold) = ScoreOf unit.now policy.now threshold

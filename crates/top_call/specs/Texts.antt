@@ -20,13 +20,15 @@ abbrev pub help_lines : List (List ℕ)
 help_lines =
     codes "Lentsheep judges the sandbox of a systemd service without starting it." ∷
     [] ∷
-    codes "usage: sandbox_cli COMMAND UNIT [SCRIPT]" ∷
+    codes "usage: sandbox_cli COMMAND UNIT [FILE [THRESHOLD]]" ∷
     [] ∷
     codes "  filter UNIT    print the compiled seccomp filters of the unit" ∷
     codes "  plan UNIT      print the mounts that give the service its view of files" ∷
     codes "  judge UNIT     launch the service in a model, print what it can reach" ∷
     codes "  replay UNIT SCRIPT" ∷
     codes "                 launch it, make the calls of SCRIPT, print what each comes to" ∷
+    codes "  score UNIT POLICY [THRESHOLD]" ∷
+    codes "                 weigh what its sandbox leaves open, 0 to 100 in all" ∷
     codes "  --help         print this text" ∷
     codes "  --version      print the name and the version" ∷
     [] ∷
@@ -37,10 +39,12 @@ help_lines =
     codes "  calls.txt      the table of system calls and their groups" ∷
     codes "  site.toml      the files, the users and the groups of the host" ∷
     codes "  SCRIPT         calls to replay, one a line: PID NAME [PAYLOAD] [NUMBER ..]" ∷
+    codes "  POLICY         what tests of the sandbox weigh, as JSON" ∷
     [] ∷
     codes "The status says how it ended:" ∷
     [] ∷
     codes "  0  done" ∷
+    codes "  1  the exposure of score is above THRESHOLD" ∷
     codes "  2  the words are no command" ∷
     codes "  3  an input is refused, and the line says which and why" ∷
     codes "  4  a read failed, and nothing was printed" ∷

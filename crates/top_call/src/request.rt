@@ -1,7 +1,9 @@
 //! What the words of the command line ask for.
 ghost use Rattle.std.specs.Prelude.{◌≡◌, map};
 ghost use Rattle.std.specs.Option.{option_map};
-ghost use Rattle.top_call.specs.Requests.{request_alone, request_in, request_of, request_on, request_with};
+ghost use Rattle.top_call.specs.Requests.{request_above, request_alone, request_in, request_of, request_on, request_with, threshold_of};
+
+use text_forms::read_decimal;
 
 /// What is asked for.
 #[derive(Clone, Copy)]
@@ -18,7 +20,12 @@ pub enum Request<'a> {
     Judge(&'a str),
     /// What the sandbox of a unit, the first, answers to the calls of a script, the second.
     Replay(&'a str, &'a str),
+    /// The exposure of a unit, the first, by a policy, the second, and the threshold that it is held against.
+    Score(&'a str, &'a str, u32),
 }
+
+/// The threshold of a score where none is given: no exposure is above it.
+const MOST_EXPOSURE: u32 = 100;
 
 // The request of a word by itself.
 fn request_alone<'a>(word: &str) -> Option<Request<'a>>
@@ -43,12 +50,40 @@ fn request_on<'a>(word: &str, unit: &'a str) -> Option<Request<'a>>
     }
 }
 
-// The request of a word about a unit and a script.
-fn request_with<'a>(word: &str, unit: &'a str, script: &'a str) -> Option<Request<'a>>
-    ensures { option_map request_of result ≡ request_with word.now unit.now script.now }
+// The request of a word about a unit and a file.
+fn request_with<'a>(word: &str, unit: &'a str, path: &'a str) -> Option<Request<'a>>
+    ensures { option_map request_of result ≡ request_with word.now unit.now path.now }
 {
     match word {
-        "replay" => Some(Request::Replay(unit, script)),
+        "replay" => Some(Request::Replay(unit, path)),
+        "score" => Some(Request::Score(unit, path, MOST_EXPOSURE)),
+        _ => None,
+    }
+}
+
+// A threshold: decimal, 0 to 100.
+fn threshold_of(text: &str) -> Option<u32>
+    ensures { result ≡ threshold_of text.now }
+{
+    let number = read_decimal(text)?;
+    if number <= u64::from(MOST_EXPOSURE) {
+        Some(number as u32)
+    } else {
+        None
+    }
+}
+
+// The request of a word about a unit, a file and a threshold.
+fn request_above<'a>(
+    word: &str,
+    unit: &'a str,
+    path: &'a str,
+    threshold: &str,
+) -> Option<Request<'a>>
+    ensures { option_map request_of result ≡ request_above word.now unit.now path.now threshold.now }
+{
+    match word {
+        "score" => Some(Request::Score(unit, path, threshold_of(threshold)?)),
         _ => None,
     }
 }
@@ -60,7 +95,8 @@ pub fn parse<'a>(words: &[&'a str]) -> Option<Request<'a>>
     match words {
         [word] => request_alone(word),
         [word, unit] => request_on(word, unit),
-        [word, unit, script] => request_with(word, unit, script),
+        [word, unit, path] => request_with(word, unit, path),
+        [word, unit, path, threshold] => request_above(word, unit, path, threshold),
         _ => None,
     }
 }

@@ -1,6 +1,7 @@
 //! The top call.
 ghost use Rattle.std.specs.Prelude.{◌≡◌, IsTrue};
 ghost use Rattle.std.specs.Option.{option_map};
+ghost use Rattle.exposure_score.specs.StoredTests.{stored_by};
 ghost use Rattle.command_answers.specs.Endings.{is_whole};
 ghost use Rattle.command_answers.specs.Runs.{Completes, EndsBy, HasFaultCause, IsRun, WroteWhole, WrotePrefix};
 ghost use Rattle.top_call.specs.Asked.{Accepts, Prints, ReadsFiles, asked, laws_by, laws_for, laws_of};
@@ -10,6 +11,7 @@ use crate::request::{Request, parse};
 use crate::status::Status;
 use crate::texts;
 use command_answers::{Ending, finish};
+use exposure_score::{CustomTest, Facts};
 use host_io::{Shelf, Sink};
 use std::alloc::Global;
 
@@ -19,10 +21,11 @@ fn answer_request<S: Shelf, K: Sink>(
     request: Request,
     shelf: &mut S,
     out: &mut K,
+    tests: &[CustomTest],
 ) -> Ending
-    ensures runs { IsRun (laws_for (request_of request.entry) (S.told shelf.old)) result
+    ensures runs { IsRun (laws_for (request_of request.entry) (S.told shelf.old) (stored_by (λ test. test.id) (λ test. test.range) (λ test. ⟦<Box<dyn Fn(&Facts) -> u32> as Fn(&Facts) -> u32>⟧.post test.check) tests.now)) result
         (record { shelf_before = S.faults shelf.old; shelf_after = S.faults shelf.new; sink = record { faults_before = K.faults out.old; faults_after = K.faults out.new; taken_before = K.taken out.old; taken_after = K.taken out.new } }) }
-    ensures reads_only_for_it { ((laws_for (request_of request.entry) (S.told shelf.old)).reads → ⊥) → shelf.new ≡ shelf.old }
+    ensures reads_only_for_it { ((laws_for (request_of request.entry) (S.told shelf.old) (stored_by (λ test. test.id) (λ test. test.range) (λ test. ⟦<Box<dyn Fn(&Facts) -> u32> as Fn(&Facts) -> u32>⟧.post test.check) tests.now)).reads → ⊥) → shelf.new ≡ shelf.old }
     ensures map_stays { S.told shelf.new ≡ S.told shelf.old }
 {
     match request {
@@ -32,6 +35,11 @@ fn answer_request<S: Shelf, K: Sink>(
         Request::Plan(unit) => finish(alloc, plan_command::prepare(alloc, shelf, unit), out),
         Request::Judge(unit) => finish(alloc, judge_command::prepare(alloc, shelf, unit), out),
         Request::Replay(unit, script) => replay_command::answer(alloc, shelf, unit, script, out),
+        Request::Score(unit, policy, threshold) => finish(
+            alloc,
+            score_command::prepare(alloc, shelf, unit, policy, threshold, tests),
+            out,
+        ),
     }
 }
 
@@ -41,32 +49,39 @@ fn answer<S: Shelf, K: Sink>(
     request: Option<Request>,
     shelf: &mut S,
     out: &mut K,
+    tests: &[CustomTest],
 ) -> Ending
-    ensures runs { IsRun (laws_by (option_map request_of request.entry) (S.told shelf.old)) result
+    ensures runs { IsRun (laws_by (option_map request_of request.entry) (S.told shelf.old) (stored_by (λ test. test.id) (λ test. test.range) (λ test. ⟦<Box<dyn Fn(&Facts) -> u32> as Fn(&Facts) -> u32>⟧.post test.check) tests.now)) result
         (record { shelf_before = S.faults shelf.old; shelf_after = S.faults shelf.new; sink = record { faults_before = K.faults out.old; faults_after = K.faults out.new; taken_before = K.taken out.old; taken_after = K.taken out.new } }) }
-    ensures reads_only_for_it { ((laws_by (option_map request_of request.entry) (S.told shelf.old)).reads → ⊥) → shelf.new ≡ shelf.old }
+    ensures reads_only_for_it { ((laws_by (option_map request_of request.entry) (S.told shelf.old) (stored_by (λ test. test.id) (λ test. test.range) (λ test. ⟦<Box<dyn Fn(&Facts) -> u32> as Fn(&Facts) -> u32>⟧.post test.check) tests.now)).reads → ⊥) → shelf.new ≡ shelf.old }
     ensures map_stays { S.told shelf.new ≡ S.told shelf.old }
 {
     match request {
         None => finish(alloc, Ok(texts::no_command()), out),
-        Some(request) => answer_request(alloc, request, shelf, out),
+        Some(request) => answer_request(alloc, request, shelf, out, tests),
     }
 }
 
 /// Does what the words ask for: prepares it over the shelf, and prints it to the sink.
 ///
-/// The words are those behind the program's name. The status says how it ended: with 0, 2, 3 and 7 a whole text was
-/// printed, with 4 nothing, and with 5 and 6 a prefix of one.
-pub fn run<S: Shelf, K: Sink>(alloc: Global, words: &[&str], shelf: &mut S, out: &mut K) -> Status
-    ensures prints_the_whole_text { IsTrue (is_whole result) → WroteWhole (Prints (asked words.now (S.told shelf.old)) result) (K.taken out.old) (K.taken out.new) }
-    ensures prints_a_prefix { WrotePrefix (Prints (asked words.now (S.told shelf.old))) (K.taken out.old) (K.taken out.new) }
-    ensures ends_by_the_inputs { EndsBy (laws_of (asked words.now (S.told shelf.old))) result }
+/// The words are those behind the program's name, and the tests those that a score may ask beside the settings. The status
+/// says how it ended: with 0, 1, 2, 3 and 7 a whole text was printed, with 4 nothing, and with 5 and 6 a prefix of one.
+pub fn run<S: Shelf, K: Sink>(
+    alloc: Global,
+    words: &[&str],
+    shelf: &mut S,
+    out: &mut K,
+    tests: Vec<CustomTest>,
+) -> Status
+    ensures prints_the_whole_text { IsTrue (is_whole result) → WroteWhole (Prints (asked words.now (S.told shelf.old) (stored_by (λ test. test.id) (λ test. test.range) (λ test. ⟦<Box<dyn Fn(&Facts) -> u32> as Fn(&Facts) -> u32>⟧.post test.check) tests.items)) result) (K.taken out.old) (K.taken out.new) }
+    ensures prints_a_prefix { WrotePrefix (Prints (asked words.now (S.told shelf.old) (stored_by (λ test. test.id) (λ test. test.range) (λ test. ⟦<Box<dyn Fn(&Facts) -> u32> as Fn(&Facts) -> u32>⟧.post test.check) tests.items))) (K.taken out.old) (K.taken out.new) }
+    ensures ends_by_the_inputs { EndsBy (laws_of (asked words.now (S.told shelf.old) (stored_by (λ test. test.id) (λ test. test.range) (λ test. ⟦<Box<dyn Fn(&Facts) -> u32> as Fn(&Facts) -> u32>⟧.post test.check) tests.items))) result }
     ensures faults_have_causes { HasFaultCause result
         (record { shelf_before = S.faults shelf.old; shelf_after = S.faults shelf.new; sink = record { faults_before = K.faults out.old; faults_after = K.faults out.new; taken_before = K.taken out.old; taken_after = K.taken out.new } }) }
-    ensures completes { Completes (Accepts (asked words.now (S.told shelf.old))) result
+    ensures completes { Completes (Accepts (asked words.now (S.told shelf.old) (stored_by (λ test. test.id) (λ test. test.range) (λ test. ⟦<Box<dyn Fn(&Facts) -> u32> as Fn(&Facts) -> u32>⟧.post test.check) tests.items))) result
         (record { shelf_before = S.faults shelf.old; shelf_after = S.faults shelf.new; sink = record { faults_before = K.faults out.old; faults_after = K.faults out.new; taken_before = K.taken out.old; taken_after = K.taken out.new } }) }
-    ensures reads_only_for_a_command { (ReadsFiles (asked words.now (S.told shelf.old)) → ⊥) → shelf.new ≡ shelf.old }
+    ensures reads_only_for_a_command { (ReadsFiles (asked words.now (S.told shelf.old) (stored_by (λ test. test.id) (λ test. test.range) (λ test. ⟦<Box<dyn Fn(&Facts) -> u32> as Fn(&Facts) -> u32>⟧.post test.check) tests.items)) → ⊥) → shelf.new ≡ shelf.old }
     ensures map_stays { S.told shelf.new ≡ S.told shelf.old }
 {
-    Status::of(answer(alloc, parse(words), shelf, out))
+    Status::of(answer(alloc, parse(words), shelf, out, &tests))
 }

@@ -9,6 +9,9 @@ use Rattle.plan_command.proofs.Prepared.{together as plan_together}
 use Rattle.judge_command.specs.Prints.{judge_laws}
 use Rattle.judge_command.specs.Report.{ending_of as judge_ending, text_of as report_text}
 use Rattle.judge_command.proofs.Prepared.{together as judge_together}
+use Rattle.exposure_score.specs.StoredTests.{stored_by}
+use Rattle.score_command.specs.Prints.{score_laws, scored_text, ending_of as score_ending}
+use Rattle.score_command.proofs.Prepared.{together as score_together}
 use Rattle.top_call.specs.Texts.{help_text, version_text}
 use Rattle.top_call.proofs.Runs.{ran_fixed}
 use Rattle.top_call.proofs.running.answer_request.Goals as goal
@@ -43,3 +46,10 @@ returns-in-Judge-clause-runs g c =
 
 pub returns-in-Replay-clause-runs : goal.returns-in-Replay-clause-runs
 returns-in-Replay-clause-runs g c = rw c.in-Replay.is c.answer.ensures.runs
+
+pub returns-in-Score-clause-runs : goal.returns-in-Score-clause-runs
+returns-in-Score-clause-runs g c =
+    rw c.in-Score.is
+    (let stored = stored_by (λ test. test.id) (λ test. test.range) (λ test shown answer. (goal.Fn-dyn g).post (test.check.vtable, test.check.value) (shown, tt) answer) c.args.tests.now in
+    ran (laws_over (g.S.Shelf.told c.args.shelf.now) (score_laws c.in-Score.unit.now c.in-Score.policy.now c.in-Score.threshold stored)) (score_together (g.S.Shelf.told c.args.shelf.now) c.in-Score.unit.now c.in-Score.policy.now c.in-Score.threshold stored) _ score_ending scored_text c.prepare-in-Score.result c.finish-in-Score.result
+    c.prepare-in-Score.ensures.prepares c.prepare-in-Score.ensures.reads_for_a_name c.prepare-in-Score.ensures.fault_rose c.finish-in-Score.ensures.finishes)

@@ -1,0 +1,104 @@
+-- What is read for a score, and the first refusal.
+use Rattle.std.proofs.Common.{◌≡◌, ◌∙◌, ℕ, Option, Some, None, List, [], ◌∷◌, Ok, Err, refl, sym, ap, subst, length, ◌≤◌}
+use Rattle.std.specs.Prelude.{IfSome}
+use Rattle.std.specs.Option.{option_map}
+use Rattle.host_io.specs.Files.{Files}
+use Rattle.command_answers.specs.Stops.{IsAnswer, Prepares, first_refusal}
+use Rattle.command_answers.specs.declared.stop.Stop.{Stop}
+use Rattle.command_answers.specs.declared.stop.Stop.TheVariants as stop
+use Rattle.command_answers.proofs.Refusing.{passes, stops, stops_as, stops_before}
+use Rattle.exec_settings.specs.Refusals.{refusal_of}
+use Rattle.exec_settings.specs.declared.errors.SettingsError.{SettingsError}
+use Rattle.mount_settings.specs.Written.{unit_written}
+use Rattle.policy_file.specs.declared.policy.PolicyTest.{PolicyTest}
+use Rattle.service_facts.proofs.Accepted.{few_paths}
+use Rattle.unit_inputs.specs.Inputs.{input_refusals, inputs_of, inputs_view}
+use Rattle.unit_inputs.specs.declared.inputs.UnitInputs.{UnitInputs}
+use Rattle.unit_settings.specs.Refusals.{settings_line}
+use Rattle.unit_settings.specs.Settled.{AreSettled, refusals_by, refusals_of}
+use Rattle.unit_settings.specs.declared.settling.SettledUnit.{SettledUnit}
+use Rattle.unit_settings.proofs.Steps.{refusals_with}
+use Rattle.score_command.specs.Policies.{policy_in}
+use Rattle.score_command.specs.Prepared.{CanBeWeighed, IsPrepared}
+use Rattle.score_command.specs.Refusals.{read_refusals, refusals_behind}
+
+-- the inputs are read and none is refused
+abbrev pub AreRead : Files → List ℕ → UnitInputs → Type 0
+AreRead files unit inputs = (first_refusal (input_refusals files unit) ≡ None) × (inputs_of files unit ≡ Some (inputs_view inputs))
+
+-- an input is refused
+pub stops_at_inputs : (P : UnitInputs → Type 0) (told : Option Files) (unit path : List ℕ) (stop : Stop) → IfSome told (λ files. Prepares P (input_refusals files unit) (Err stop)) → IfSome told (λ files. Prepares (IsPrepared files unit path) (read_refusals files unit path) (Err stop))
+stops_at_inputs P None unit path stop said = tt
+stops_at_inputs P (Some files) unit path stop said = stops_before P (IsPrepared files unit path) stop (input_refusals files unit) (refusals_by (refusals_behind files unit path) (inputs_of files unit)) said
+
+-- behind inputs that are read
+module _ (files : Files) (unit path : List ℕ) (inputs : UnitInputs) (read : AreRead files unit inputs) where
+  behind_inputs : first_refusal (read_refusals files unit path) ≡ first_refusal (refusals_behind files unit path (inputs_view inputs))
+  behind_inputs = refusals_with files unit (input_refusals files unit) (refusals_behind files unit path) (inputs_view inputs) read.0 read.1
+
+  behind_policy : (policy : List PolicyTest) → policy_in files path ≡ Ok policy → first_refusal (read_refusals files unit path) ≡ first_refusal (refusals_of unit (inputs_view inputs))
+  behind_policy policy is = behind_inputs ∙ passes (policy_in files path) policy (refusals_of unit (inputs_view inputs)) is
+
+-- the policy is refused
+pub stops_at_policy : (told now : Option Files) (unit path : List ℕ) (inputs : UnitInputs) (stop : Stop) → now ≡ told
+    → IfSome told (λ files. AreRead files unit inputs)
+    → IfSome now (λ files. IsAnswer {T = List PolicyTest} (λ policy. policy) (Err stop) (policy_in files path))
+    → IfSome told (λ files. Prepares (IsPrepared files unit path) (read_refusals files unit path) (Err stop))
+stops_at_policy None now unit path inputs stop same read said = tt
+stops_at_policy (Some files) now unit path inputs stop same read said =
+    let refused : IsAnswer {T = List PolicyTest} (λ policy. policy) (Err stop) (policy_in files path) =
+    subst (λ own. IfSome own (λ files. IsAnswer {T = List PolicyTest} (λ policy. policy) (Err stop) (policy_in files path))) same said in
+    stops_as (IsPrepared files unit path) stop (refusals_behind files unit path (inputs_view inputs)) (read_refusals files unit path) (behind_inputs files unit path inputs read)
+    (stops (λ (policy : List PolicyTest). policy) (IsPrepared files unit path) (policy_in files path) stop (refusals_of unit (inputs_view inputs)) refused)
+
+-- the policy that was read
+abbrev pub IsPolicyOf : Option Files → List ℕ → List PolicyTest → Type 0
+IsPolicyOf told path policy = IfSome told (λ files. policy_in files path ≡ Ok policy)
+
+pub policy_is : (told now : Option Files) (path : List ℕ) (policy : List PolicyTest) → now ≡ told
+    → IfSome now (λ files. IsAnswer (λ (policy : List PolicyTest). policy) (Ok policy) (policy_in files path)) → IsPolicyOf told path policy
+policy_is None now path policy same said = tt
+policy_is (Some files) now path policy same said =
+    subst (λ own. IfSome own (λ files. IsAnswer (λ (policy : List PolicyTest). policy) (Ok policy) (policy_in files path))) same said
+
+-- what stops rests on no value
+as_prepared : {T U : Type 0} (Q : U → Type 0) (refusals : List (Option (List ℕ))) (P : T → Type 0) (why : Stop) → Prepares P refusals (Err why) → Prepares Q refusals (Err why)
+as_prepared Q refusals P (stop.Refused line) said = said
+as_prepared Q refusals P stop.ReadFault said = tt
+as_prepared Q refusals P stop.Memory said = tt
+
+-- a setting is refused
+pub stops_at_settings : (P : SettledUnit → Type 0) (told : Option Files) (unit path : List ℕ) (inputs : UnitInputs) (policy : List PolicyTest) (why : Stop)
+    → IfSome told (λ files. AreRead files unit inputs) → IsPolicyOf told path policy
+    → Prepares P (refusals_of unit (inputs_view inputs)) (Err why)
+    → IfSome told (λ files. Prepares (IsPrepared files unit path) (read_refusals files unit path) (Err why))
+stops_at_settings P None unit path inputs policy why read is said = tt
+stops_at_settings P (Some files) unit path inputs policy why read is said =
+    stops_as (IsPrepared files unit path) why (refusals_of unit (inputs_view inputs)) (read_refusals files unit path)
+    (behind_policy files unit path inputs read policy is) (as_prepared (IsPrepared files unit path) (refusals_of unit (inputs_view inputs)) P why said)
+
+-- nothing is refused
+pub is_prepared : (told : Option Files) (unit path : List ℕ) (inputs : UnitInputs) (policy : List PolicyTest) (one : SettledUnit) → one.inputs ≡ inputs
+    → first_refusal (refusals_of unit (inputs_view inputs)) ≡ None
+    → IfSome told (λ files. AreRead files unit inputs) → IsPolicyOf told path policy
+    → IfSome told (λ files. Prepares (IsPrepared files unit path) (read_refusals files unit path) (Ok (record { unit = one; policy = policy })))
+is_prepared None unit path inputs policy one same none read is = tt
+is_prepared (Some files) unit path inputs policy one same none read is = (
+  behind_policy files unit path inputs read policy is ∙ none,
+  record { inputs = read.1 ∙ ap (λ own. Some (inputs_view own)) (sym same); policy = is },
+)
+
+-- what is not refused is not there
+not_refused : (unit : List ℕ) (refusal : Option SettingsError) → first_refusal (option_map (settings_line unit) refusal ∷ []) ≡ None → refusal ≡ None
+not_refused unit None none = refl
+not_refused unit (Some error) none = cc
+
+-- what is prepared can be weighed
+pub can_weigh : (unit : List ℕ) (inputs : UnitInputs) (policy : List PolicyTest) (one : SettledUnit) → one.inputs ≡ inputs → AreSettled (inputs_view inputs) one.settings.value
+    → first_refusal (refusals_of unit (inputs_view inputs)) ≡ None → CanBeWeighed (record { unit = one; policy = policy })
+can_weigh unit inputs policy one same settled none = record {
+  settled = subst (λ own. AreSettled (inputs_view own) one.settings.value) (sym same) settled;
+  few_paths = subst (λ (own : UnitInputs). length (unit_written (inputs_view own).unit) ≤ 128) (sym same)
+      (few_paths (inputs_view inputs).unit (inputs_view inputs).calls (inputs_view inputs).site
+      (not_refused unit (refusal_of (inputs_view inputs).unit (inputs_view inputs).calls (inputs_view inputs).site) none));
+}

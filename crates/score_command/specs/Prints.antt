@@ -1,0 +1,51 @@
+-- What `score` prints, by the files.
+use Rattle.std.specs.Prelude.{◌≡◌, ◌⊎◌, ℕ, IsSome, List, Some, Ok}
+use Rattle.host_io.specs.Files.{Files}
+use Rattle.exec_settings.specs.declared.service.Settings.{Settings}
+use Rattle.exposure_score.specs.StoredTests.{StoredTests}
+use Rattle.exposure_score.specs.declared.facts.Facts.{Facts}
+use Rattle.exposure_score.specs.declared.rows.Score.{Score}
+use Rattle.policy_file.specs.declared.policy.PolicyTest.{PolicyTest}
+use Rattle.service_facts.specs.Facts.{AreFacts}
+use Rattle.command_answers.specs.Laws.{FileLaws}
+use Rattle.command_answers.specs.declared.ending.Ending.{Ending}
+use Rattle.command_answers.specs.declared.ending.Ending.TheVariants.{Done, AboveThreshold}
+use Rattle.unit_inputs.specs.Inputs.{Inputs, inputs_of}
+use Rattle.unit_names.specs.Cutting.{name_of}
+use Rattle.unit_settings.specs.Settled.{AreSettled}
+use Rattle.score_command.specs.Policies.{policy_in}
+use Rattle.score_command.specs.Refusals.{score_refusals}
+use Rattle.score_command.specs.Texts.{ending_by, score_text}
+use Rattle.score_command.specs.Weighed.{IsScoreOf}
+use Rattle.score_command.specs.declared.ready.Scored.{Scored}
+
+-- the score of the unit by the policy: its settings give facts, and by them and the stored tests the policy weighs the service
+pub record PrintsScore (files : Files) (unit path : List ℕ) (threshold : ℕ) (stored : StoredTests) (ending : Ending) (text : List ℕ) : Type 0 where
+  pub inputs : Inputs
+  pub inputs_are : inputs_of files unit ≡ Some inputs
+  pub policy : List PolicyTest
+  pub policy_is : policy_in files path ≡ Ok policy
+  pub settings : Settings
+  pub are_settings : AreSettled inputs settings
+  pub facts : Facts
+  pub are_facts : AreFacts inputs.unit inputs.calls settings facts
+  pub score : Score
+  pub is_score : IsScoreOf stored facts policy score
+  pub is_its_text : text ≡ score_text score threshold
+  pub is_its_ending : ending ≡ ending_by score threshold
+
+-- the refusals in their order; an exposure above the threshold is told with status 1, and no other is
+abbrev pub score_laws : List ℕ → List ℕ → ℕ → StoredTests → FileLaws
+score_laws unit path threshold stored = record {
+  refusals = λ files. score_refusals files unit path stored;
+  prints = λ files ending text. PrintsScore files unit path threshold stored ending text;
+  may_end = λ ending. (ending ≡ Done) ⊎ (ending ≡ AboveThreshold);
+  reads = IsSome (name_of unit);
+}
+
+-- what is ready
+abbrev pub scored_text : Scored → List ℕ
+scored_text scored = score_text scored.score scored.threshold
+
+abbrev pub ending_of : Scored → Ending
+ending_of scored = ending_by scored.score scored.threshold

@@ -1,0 +1,14 @@
+-- The text of a score, and how a run ends behind it.
+use Rattle.std.specs.Prelude.{ℕ, nat_lt, cond, List, ◌++◌, flat_map}
+use Rattle.command_answers.specs.declared.ending.Ending.{Ending}
+use Rattle.command_answers.specs.declared.ending.Ending.TheVariants.{Done, AboveThreshold}
+use Rattle.exposure_score.specs.declared.rows.Score.{Score}
+use Rattle.report_text.specs.Scores.{exposure_line, score_line}
+
+-- a line for each test of the policy, and the exposure with the threshold
+abbrev pub score_text : Score → ℕ → List ℕ
+score_text score threshold = flat_map score_line score.rows ++ exposure_line score.exposure threshold
+
+-- the exposure is above the threshold, or not
+abbrev pub ending_by : Score → ℕ → Ending
+ending_by score threshold = cond (nat_lt threshold score.exposure) AboveThreshold Done

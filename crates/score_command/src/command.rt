@@ -1,0 +1,57 @@
+//! The command `score`, the name of a unit and the path of a policy.
+ghost use Rattle.std.specs.Prelude.{◌≡◌, IfOk, IsErrOf, IsSome};
+ghost use Rattle.unit_names.specs.Cutting.{name_of};
+ghost use Rattle.exposure_score.specs.StoredTests.{stored_by};
+ghost use Rattle.command_answers.specs.Laws.{IsAdmitted, laws_over};
+ghost use Rattle.command_answers.specs.Stops.{HasReadCause};
+ghost use Rattle.service_facts.specs.Facts.{AreFacts};
+ghost use Rattle.score_command.specs.Prepared.{CanBeWeighed, inputs_in};
+ghost use Rattle.score_command.specs.Prints.{ending_of, score_laws, scored_text};
+
+use crate::preparing::{Prepared, read_all};
+use crate::ready::Scored;
+use crate::weighing::weigh;
+use command_answers::Stop;
+use exposure_score::{CustomTest, Facts};
+use host_io::Shelf;
+use service_facts::facts;
+use std::alloc::{AllocError, Global};
+
+// What is known of the settings that are prepared.
+fn facts_of(alloc: Global, prepared: &Prepared) -> Result<Facts, AllocError>
+    requires can_be_weighed { CanBeWeighed prepared.now }
+    ensures known { IfOk result (AreFacts (inputs_in prepared.now).unit (inputs_in prepared.now).calls prepared.now.unit.settings.value) }
+{
+    let unit = &prepared.unit;
+    facts(
+        alloc,
+        &unit.inputs.unit,
+        &unit.inputs.calls,
+        &unit.inputs.site,
+        &unit.settings,
+    )
+}
+
+/// Prepares `score`, the name of a unit and the path of a policy: reads the unit, calls.txt, site.toml and the policy, finds
+/// the first refusal of them and of the settings, and weighs the service; a policy that weighs nothing is refused.
+///
+/// The threshold is in hundredths. The tests are the stored ones, which decide what the settings' table of tests does not.
+pub fn prepare<S: Shelf>(
+    alloc: Global,
+    shelf: &mut S,
+    unit: &str,
+    policy: &str,
+    threshold: u32,
+    tests: &[CustomTest],
+) -> Result<Scored, Stop>
+    ensures prepares { IsAdmitted (laws_over (S.told shelf.old) (score_laws unit.now policy.now threshold (stored_by (λ test. test.id) (λ test. test.range) (λ test. ⟦<Box<dyn Fn(&Facts) -> u32> as Fn(&Facts) -> u32>⟧.post test.check) tests.now))) ending_of scored_text result }
+    ensures reads_for_a_name { IsErrOf result Stop.ReadFault → IsSome (name_of unit.now) }
+    ensures unread_without_a_name { (IsSome (name_of unit.now) → ⊥) → shelf.new ≡ shelf.old }
+    ensures map_stays { S.told shelf.new ≡ S.told shelf.old }
+    ensures fault_rose { HasReadCause (S.faults shelf.old) (S.faults shelf.new) result }
+{
+    let prepared = read_all(alloc, shelf, unit, policy)?;
+    let known = facts_of(alloc, &prepared)?;
+    let score = weigh(alloc, policy, &prepared.policy, &known, tests)?;
+    Ok(Scored { score, threshold })
+}

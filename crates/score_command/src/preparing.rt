@@ -1,0 +1,48 @@
+//! What `score` reads, and what it takes from that.
+ghost use Rattle.std.specs.Prelude.{◌≡◌, IfOk, IfSome, IsErrOf, IsSome};
+ghost use Rattle.unit_names.specs.Cutting.{name_of};
+ghost use Rattle.command_answers.specs.Stops.{HasReadCause, Prepares};
+ghost use Rattle.score_command.specs.Prepared.{CanBeWeighed, IsPrepared};
+ghost use Rattle.score_command.specs.Refusals.{read_refusals};
+
+use crate::policies::read_policy;
+use command_answers::Stop;
+use host_io::Shelf;
+use policy_file::Policy;
+use service_facts::laws::accepted_units_write_few_paths;
+use std::alloc::Global;
+use unit_inputs::read_inputs;
+use unit_settings::{SettledUnit, settle};
+
+/// All that a score is made from.
+#[derive(Drop)]
+pub struct Prepared {
+    /// The unit with its settings.
+    pub unit: SettledUnit,
+    /// The policy.
+    pub policy: Policy,
+}
+
+/// Reads the unit, calls.txt, site.toml and the policy, and finds the first refusal of them and of the settings.
+pub fn read_all<S: Shelf>(
+    alloc: Global,
+    shelf: &mut S,
+    unit: &str,
+    policy: &str,
+) -> Result<Prepared, Stop>
+    ensures prepares { IfSome (S.told shelf.old) (λ files. Prepares (IsPrepared files unit.now policy.now) (read_refusals files unit.now policy.now) result) }
+    ensures can_be_weighed { IfOk result CanBeWeighed }
+    ensures reads_for_a_name { IsErrOf result Stop.ReadFault → IsSome (name_of unit.now) }
+    ensures unread_without_a_name { (IsSome (name_of unit.now) → ⊥) → shelf.new ≡ shelf.old }
+    ensures map_stays { S.told shelf.new ≡ S.told shelf.old }
+    ensures fault_rose { HasReadCause (S.faults shelf.old) (S.faults shelf.new) result }
+{
+    let inputs = read_inputs(alloc, shelf, unit)?;
+    let weights = read_policy(alloc, shelf, policy)?;
+    let one = settle(alloc, unit, inputs)?;
+    accepted_units_write_few_paths();
+    Ok(Prepared {
+        unit: one,
+        policy: weights,
+    })
+}

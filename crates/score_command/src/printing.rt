@@ -1,0 +1,36 @@
+//! Scores, printed line by line.
+ghost use Rattle.std.specs.Prelude.{flat_map};
+ghost use Rattle.command_answers.specs.Printing.{HasWriteCause, TakesText};
+ghost use Rattle.report_text.specs.Scores.{score_line};
+ghost use Rattle.score_command.specs.Texts.{score_text};
+
+use command_answers::put_line;
+use exposure_score::{Score, ScoreRow};
+use host_io::{Sink, SinkError};
+use report_text::{exposure_line, score_line};
+use std::alloc::Global;
+
+// Prints what each test of the policy came to.
+fn print_rows<K: Sink>(alloc: Global, rows: &[ScoreRow], out: &mut K) -> Result<(), SinkError>
+    ensures takes_the_text { TakesText (K.taken out.old) (K.taken out.new) (flat_map score_line rows.now) result }
+    ensures fault_rose { HasWriteCause (K.faults out.old) (K.faults out.new) result }
+{
+    'rows: for row in rows {
+        put_line(out, score_line(alloc, row))?;
+    }
+    Ok(())
+}
+
+/// Prints a score: a line for each test of the policy, and the exposure with the threshold.
+pub fn print_score<K: Sink>(
+    alloc: Global,
+    score: &Score,
+    threshold: u32,
+    out: &mut K,
+) -> Result<(), SinkError>
+    ensures takes_the_text { TakesText (K.taken out.old) (K.taken out.new) (score_text score.now threshold) result }
+    ensures fault_rose { HasWriteCause (K.faults out.old) (K.faults out.new) result }
+{
+    print_rows(alloc, score.rows.list(), out)?;
+    put_line(out, exposure_line(alloc, score.exposure, threshold))
+}

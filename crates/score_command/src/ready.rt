@@ -1,0 +1,45 @@
+//! A score, ready to be printed.
+ghost use Rattle.std.specs.Prelude.{◌≡◌};
+ghost use Rattle.score_command.specs.Texts.{ending_by};
+
+use crate::printing::print_score;
+use command_answers::{Ending, Ready};
+use exposure_score::Score;
+use host_io::{Sink, SinkError};
+use std::alloc::Global;
+
+/// The score of a unit, and the threshold that its exposure is held against.
+#[derive(Drop)]
+pub struct Scored {
+    /// What the tests of the policy came to, and the exposure.
+    pub score: Score,
+    /// The most that the exposure may be, in hundredths, for the run to end as done.
+    pub threshold: u32,
+}
+
+// How a run ends behind a score.
+fn ending_by(score: &Score, threshold: u32) -> Ending
+    ensures { result ≡ ending_by score.now threshold }
+{
+    if score.exposure > threshold {
+        Ending::AboveThreshold
+    } else {
+        Ending::Done
+    }
+}
+
+impl Ready for Scored {
+    ghost use Rattle.score_command.specs.Prints.{ending_of, scored_text};
+
+    ghost text = { scored_text };
+
+    ghost ending = { ending_of };
+
+    fn ending(&self) -> Ending {
+        ending_by(&self.score, self.threshold)
+    }
+
+    fn print<K: Sink>(&mut self, alloc: Global, out: &mut K) -> Result<(), SinkError> {
+        print_score(alloc, &self.score, self.threshold, out)
+    }
+}

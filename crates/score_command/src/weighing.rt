@@ -1,0 +1,31 @@
+//! What a policy weighs of a service.
+ghost use Rattle.std.specs.Prelude.{◌∷◌, [], IsErrOf};
+ghost use Rattle.exposure_score.specs.Rows.{counted_weight};
+ghost use Rattle.exposure_score.specs.StoredTests.{stored_by};
+ghost use Rattle.command_answers.specs.Stops.{Prepares};
+ghost use Rattle.score_command.specs.Weighed.{IsScoreOf};
+ghost use Rattle.score_command.specs.Weights.{weight_refusal};
+
+use command_answers::{Stop, refuse, refused_line};
+use exposure_score::{CustomTest, Facts, Score, ScoreError, score};
+use policy_file::Policy;
+use std::alloc::Global;
+
+/// The score of these facts by the policy of this path, or the line of a policy that weighs nothing.
+pub fn weigh(
+    alloc: Global,
+    path: &str,
+    policy: &Policy,
+    facts: &Facts,
+    tests: &[CustomTest],
+) -> Result<Score, Stop>
+    ensures weighs { Prepares (IsScoreOf (stored_by (λ test. test.id) (λ test. test.range) (λ test. ⟦<Box<dyn Fn(&Facts) -> u32> as Fn(&Facts) -> u32>⟧.post test.check) tests.now) facts.now policy.now)
+        (weight_refusal path.now (counted_weight (λ test. test.id) facts.now.tests tests.now policy.now) ∷ []) result }
+    ensures reads_nothing { IsErrOf result Stop.ReadFault → ⊥ }
+{
+    match score(alloc, policy, facts, tests) {
+        Ok(score) => Ok(score),
+        Err(ScoreError::NoWeight) => Err(refuse(refused_line(alloc, path, b"no-weight"))),
+        Err(ScoreError::Memory) => Err(Stop::Memory),
+    }
+}
