@@ -1,4 +1,5 @@
-//! Rows over what the settings of a unit come to: users, capabilities, filters, paths, mounts, and all of them.
+//! Rows over what the settings of a unit come to: users, capabilities, filters, paths, mounts, tests of a score, and all of
+//! them.
 //!
 //! Each line of the standard input is a call with its words, parted by bars; it is printed with what came
 //! out. Lines that begin with two spaces are a text, which the row behind them takes as calls.txt, as site.toml or as the
@@ -7,6 +8,7 @@
 
 mod caps;
 mod described;
+mod facts;
 mod filters;
 mod ids;
 mod inputs;

@@ -1,6 +1,6 @@
 //! The calls that rows name.
 use crate::inputs::{Inputs, inputs_of};
-use crate::{caps, described, filters, ids, mentions, plans, units};
+use crate::{caps, described, facts, filters, ids, mentions, plans, units};
 use row_text::said;
 use std::alloc::{AllocError, Global};
 
@@ -45,6 +45,7 @@ impl Rows {
                 caps::no_new(alloc, is_set, has_filter, uid, caps)
             }
             ["unit", rest @ ..] => self.of_unit(alloc, rest),
+            ["fact", id, files @ ..] => self.fact_of(alloc, id, files),
             [ask, files @ ..] => self.of_files(alloc, ask, files),
             _ => said(alloc, "no row"),
         }
@@ -59,6 +60,13 @@ impl Rows {
         );
         match &inputs {
             Some(inputs) => filters::answer(alloc, inputs, words),
+            None => said(alloc, "no unit"),
+        }
+    }
+
+    fn fact_of(&self, alloc: Global, id: &str, files: &[&str]) -> Result<String, AllocError> {
+        match &inputs_of(alloc, self.calls.as_str(), self.site.as_str(), files) {
+            Some(inputs) => facts::fact(alloc, inputs, id),
             None => said(alloc, "no unit"),
         }
     }
@@ -93,6 +101,7 @@ fn asked(alloc: Global, ask: &str, inputs: &Inputs) -> Result<String, AllocError
         "mentions" => mentions::mentions(alloc, inputs, false),
         "mentions of a dynamic user" => mentions::mentions(alloc, inputs, true),
         "plan" => plans::plan_line(alloc, inputs),
+        "facts" => facts::counts(alloc, inputs),
         _ => said(alloc, "no row"),
     }
 }
