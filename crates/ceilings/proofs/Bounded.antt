@@ -10,7 +10,7 @@ use Rattle.kernel_laws.specs.Launched.{launch_of, IsLaunchedWorld}
 use Rattle.kernel_laws.specs.Questions.{Cap, Uid, Gid}
 use Rattle.kernel_laws.proofs.Verdict.{denial_is_sound}
 use Rattle.kernel_model.specs.World.{World}
-use Rattle.ceilings.specs.Spared.{uids_of, gids_of}
+use Rattle.kernel_ways.specs.Spared.{uids_of, gids_of}
 use Rattle.ceilings.proofs.Given.{has_id}
 use Rattle.ceilings.proofs.Spares.{uid_either, gid_either}
 

@@ -10,7 +10,7 @@ use Rattle.kernel_laws.specs.Launched.{Launch}
 use Rattle.kernel_laws.specs.Questions.{some_ids}
 use Rattle.kernel_laws.specs.Reach.{Power}
 use Rattle.ceilings.specs.Owners.{owner_at, group_at, owners_at, groups_at, uids_at, gids_at}
-use Rattle.ceilings.specs.Spared.{power_using, uids_of, gids_of}
+use Rattle.kernel_ways.specs.Spared.{power_using, uids_of, gids_of}
 
 abbrev pub has_id : ℕ → List ℕ → Bool
 has_id id ids = list_any (λ own. eqb id own) ids

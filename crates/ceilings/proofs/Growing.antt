@@ -20,7 +20,7 @@ use Rattle.kernel_laws.specs.Launched.{Launch}
 use Rattle.kernel_laws.specs.Questions.{Wish, ToExec}
 use Rattle.kernel_laws.specs.Reach.{fits, shows_row, serves, reach_from, Power, Nowise, Unmounting, Mounting, reaches}
 use Rattle.kernel_laws.proofs.Bound.{gathered_has, gathered_within, within_when}
-use Rattle.ceilings.specs.Spared.{caps_by}
+use Rattle.kernel_ways.specs.Spared.{caps_by}
 
 serves_grow : (row : Path) (wish : Wish) (entry : MountStep) (later : Table) → serves false row wish entry later ≡ true → serves true row wish entry later ≡ true
 serves_grow row wish entry later h =

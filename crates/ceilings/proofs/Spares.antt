@@ -11,7 +11,7 @@ use Rattle.kernel_laws.specs.Bound.{when, caps_before, caps_at, power_by, power_
 use Rattle.kernel_laws.specs.Kinds.{ChangesMounts, RemovesMounts, TakesUid}
 use Rattle.kernel_laws.specs.Launched.{Launch, lets}
 use Rattle.kernel_laws.specs.Reach.{Power, Nowise}
-use Rattle.ceilings.specs.Spared.{power_using, uids_of, gids_of}
+use Rattle.kernel_ways.specs.Spared.{power_using, uids_of, gids_of}
 use Rattle.ceilings.proofs.Growing.{caps_grow}
 
 module _ (launch : Launch) where

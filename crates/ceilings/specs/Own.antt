@@ -6,7 +6,7 @@ use Rattle.kernel_laws.specs.Launched.{Launch}
 use Rattle.reach_paths.specs.Meanings.{meant_power}
 use Rattle.ceilings.specs.declared.bounds.Ceiling.{Ceiling}
 use Rattle.ceilings.specs.Passing.{ArePathCalls}
-use Rattle.ceilings.specs.Spared.{uids_of, gids_of}
+use Rattle.kernel_ways.specs.Spared.{uids_of, gids_of}
 
 -- the capabilities that can become effective at the power that can be had, capabilities(7); that power; whether every id can be
 -- taken by them; the ids that are had besides, each of these and no other, credentials(7); and the calls on paths that pass

@@ -7,7 +7,7 @@ ghost use Rattle.kernel_laws.specs.Bound.{when, caps_before, file_gain, gain_at}
 ghost use Rattle.kernel_laws.specs.Launched.{IsLaunchedWorld, launch_of};
 ghost use Rattle.reach_paths.specs.Meanings.{meant_power};
 ghost use Rattle.ceilings.specs.Passing.{ArePassing};
-ghost use Rattle.ceilings.specs.Spared.{caps_by};
+ghost use Rattle.kernel_ways.specs.Spared.{caps_by};
 
 use crate::first::launched_process;
 use crate::passing::Passing;

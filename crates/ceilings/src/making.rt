@@ -1,6 +1,6 @@
 //! How a ceiling is made.
 
-ghost use Rattle.std.specs.Prelude.{◌≡◌, ℕ, ◌&&◌, false, Contains, IfOk};
+ghost use Rattle.std.specs.Prelude.{◌≡◌, ℕ, ◌≤◌, ◌&&◌, true, false, Contains, IfOk};
 ghost use Rattle.linux_numbers.specs.Capabilities.{cap_sys_admin};
 ghost use Rattle.cap_sets.specs.Sets.{has};
 ghost use Rattle.kernel_laws.specs.Bound.{power_by};
@@ -8,7 +8,9 @@ ghost use Rattle.kernel_laws.specs.Denied.{IsDenied};
 ghost use Rattle.kernel_laws.specs.Kinds.{ChangesMounts, RemovesMounts};
 ghost use Rattle.kernel_laws.specs.Launched.{IsLaunchedWorld, launch_of, lets};
 ghost use Rattle.kernel_laws.specs.Questions.{Cap, Uid, Gid};
+ghost use Rattle.kernel_ways.specs.Laws.{IsServedWorld, IsShown};
 ghost use Rattle.reach_paths.specs.Meanings.{meant_power};
+ghost use Rattle.site_table.specs.Ids.{greatest_id};
 ghost use Rattle.ceilings.specs.Own.{IsCeilingOf};
 
 use crate::bounds::Ceiling;
@@ -50,6 +52,14 @@ pub fn ceiling(alloc: Global, launched: &Launched<'_>) -> Result<Ceiling, AllocE
         → top.any_uid ≡ false → ¬ Contains top.uids id → IsDenied launched.now.world (Uid id)) }
     ensures other_gids_are_denied { IfOk result (λ top. (id : ℕ)
         → top.any_gid ≡ false → ¬ Contains top.gids id → IsDenied launched.now.world (Gid id)) }
+
+    // And all of it is had by some list of calls, each of which is done.
+    ensures each_capability_is_had { IfOk result (λ top. IsServedWorld launched.now.world → (number : ℕ)
+        → has top.effective number ≡ true → IsShown launched.now.world (Cap number)) }
+    ensures every_uid_is_had { IfOk result (λ top. IsServedWorld launched.now.world → (id : ℕ)
+        → top.any_uid ≡ true → id ≤ greatest_id → IsShown launched.now.world (Uid id)) }
+    ensures every_gid_is_had { IfOk result (λ top. IsServedWorld launched.now.world → (id : ℕ)
+        → top.any_gid ≡ true → id ≤ greatest_id → IsShown launched.now.world (Gid id)) }
 {
     let world = &launched.world;
     let passing = Passing::of(world);

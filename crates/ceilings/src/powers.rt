@@ -5,7 +5,7 @@ ghost use Rattle.kernel_laws.specs.Bound.{power_by};
 ghost use Rattle.kernel_laws.specs.Launched.{IsLaunchedWorld, launch_of};
 ghost use Rattle.reach_paths.specs.Meanings.{meant_power};
 ghost use Rattle.ceilings.specs.Passing.{ArePassing};
-ghost use Rattle.ceilings.specs.Spared.{power_using};
+ghost use Rattle.kernel_ways.specs.Spared.{power_using};
 
 use crate::gains::caps_by;
 use crate::passing::Passing;

@@ -4,7 +4,15 @@ use Rattle.call_table.specs.Table as calls
 use Rattle.site_table.specs.Table.{Site}
 use Rattle.kernel_laws.specs.Questions.{Question, IsAsked, questions}
 use Rattle.kernel_laws.proofs.AskedQuestions.{all_asked}
+use Rattle.kernel_model.specs.World.{World}
+use Rattle.kernel_ways.specs.Laws.{IsServedWorld, IsExact}
+use Rattle.kernel_ways.proofs.Exact.{questions_are_exact}
 use Rattle.questions.proofs.Among.{has_contained, all_had}
 
 pub asked : (table : calls.Table) (site : Site) (question : Question) → Contains (questions table site) question → IsAsked table question
 asked table site question h = all_had (IsAsked table) (questions table site) question (all_asked table site) (has_contained (questions table site) question h)
+
+-- and its verdict is exact
+pub exact : (world : World) → IsServedWorld world → (question : Question) → Contains (questions world.calls world.site) question → IsExact world question
+exact world served question h =
+    all_had (IsExact world) (questions world.calls world.site) question (questions_are_exact world served) (has_contained (questions world.calls world.site) question h)

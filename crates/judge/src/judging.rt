@@ -5,6 +5,7 @@ ghost use Rattle.kernel_laws.specs.Bound.{is_open};
 ghost use Rattle.kernel_laws.specs.Denied.{IsDenied};
 ghost use Rattle.kernel_laws.specs.Launched.{IsLaunchedWorld, launch_of};
 ghost use Rattle.kernel_laws.specs.Questions.{questions};
+ghost use Rattle.kernel_ways.specs.Laws.{IsServedWorld, IsShown};
 ghost use Rattle.questions.specs.Meanings.{meant};
 ghost use Rattle.ceilings.specs.Own.{IsCeilingOf};
 
@@ -16,12 +17,14 @@ use questions::Question;
 
 /// The verdict on a question of the list, for a launched service and its own ceiling. It is denied where no process of any
 /// run of calls, in any order and of however many processes, ever does or has what is asked: over forks, programs that are
-/// executed, mounts, changes of ids and filters of the service's own. It takes no memory.
+/// executed, mounts, changes of ids and filters of the service's own. It is open where some list of calls, each of which is
+/// done, shows it. It takes no memory.
 pub fn verdict(launched: &Launched<'_>, ceiling: &Ceiling, question: &Question) -> Verdict
     requires launched { IsLaunchedWorld launched.now.world }
     requires its_own_ceiling { IsCeilingOf (launch_of launched.now.world) ceiling.now }
     requires asked { Contains (questions launched.now.world.calls launched.now.world.site) (meant question.now) }
     ensures denied { result ≡ Verdict.Denied → IsDenied launched.now.world (meant question.now) }
+    ensures open_is_shown { IsServedWorld launched.now.world → result ≡ Verdict.Open → IsShown launched.now.world (meant question.now) }
     ensures by_the_rule { (result ≡ Verdict.Open)
         ↔ (is_open (launch_of launched.now.world) (meant question.now) ≡ true) }
 {

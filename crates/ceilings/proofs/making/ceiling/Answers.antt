@@ -5,8 +5,9 @@ use Rattle.cap_sets.specs.Sets.{has}
 use Rattle.kernel_laws.specs.Bound.{caps_at, power_by, power_of}
 use Rattle.kernel_laws.specs.Kinds.{ChangesMounts, RemovesMounts, TakesUid, TakesGid}
 use Rattle.kernel_laws.specs.Launched.{Launch, launch_of, lets}
+use Rattle.kernel_ways.proofs.Exact.{ceiling_is_exact}
 use Rattle.reach_paths.specs.Meanings.{meant_power}
-use Rattle.ceilings.specs.Spared.{caps_by, power_using}
+use Rattle.kernel_ways.specs.Spared.{caps_by, power_using}
 use Rattle.ceilings.proofs.Bounded.{cap_denied, uid_denied, gid_denied}
 use Rattle.ceilings.proofs.Given.{has_id, uids_given, gids_given}
 use Rattle.ceilings.proofs.Spares.{power_once}
@@ -50,3 +51,18 @@ pub returns-clause-other_gids_are_denied : goal.returns-clause-other_gids_are_de
 returns-clause-other_gids_are_denied c =
     let own = returns-clause-is_its_own c in
     gid_denied c.args.launched.now.world c.requires c.can_take_any-2.result c.in_ok-gids.field-0 own.any_gid own.gids
+
+pub returns-clause-each_capability_is_had : goal.returns-clause-each_capability_is_had
+returns-clause-each_capability_is_had c =
+    let own = returns-clause-is_its_own c in
+    λ served number e. (ceiling_is_exact c.args.launched.now.world served).held number (ap (λ caps. has caps number) (sym own.effective) ∙ e)
+
+pub returns-clause-every_uid_is_had : goal.returns-clause-every_uid_is_had
+returns-clause-every_uid_is_had c =
+    let own = returns-clause-is_its_own c in
+    λ served id e small. (ceiling_is_exact c.args.launched.now.world served).any_uid (sym own.any_uid ∙ e) id small
+
+pub returns-clause-every_gid_is_had : goal.returns-clause-every_gid_is_had
+returns-clause-every_gid_is_had c =
+    let own = returns-clause-is_its_own c in
+    λ served id e small. (ceiling_is_exact c.args.launched.now.world served).any_gid (sym own.any_gid ∙ e) id small
