@@ -4,12 +4,12 @@ use Rattle.std.specs.List.{All}
 use Rattle.std.proofs.lemmas.List.{take_more}
 use Rattle.std.proofs.lemmas.List.Elements.{All-nil, All-cons, All-head, All-tail}
 use Rattle.std.proofs.lemmas.List.Sums.{sum_by-cons}
-use Rattle.bpf_code.specs.Meaning.{Answers}
+use Rattle.bpf_code.specs.Meaning.{AnswersWithin}
 use Rattle.bpf_code.specs.Reading.{Accepts, bytes_of}
 use Rattle.call_rules.specs.Action.{word_of}
 use Rattle.call_rules.specs.Sizes.{most_insns}
 use Rattle.call_table.specs.Table.{Table}
-use Rattle.filter_rules.specs.Costs.{most_room}
+use Rattle.filter_rules.specs.Costs.{HasShortCases, most_room}
 use Rattle.filter_rules.specs.Wanted.{wanted_action}
 use Rattle.filter_rules.specs.declared.installed.Filter.{Filter}
 use Rattle.filter_rules.specs.declared.settings.FilterSettings.{FilterSettings}
@@ -36,18 +36,22 @@ names (rules ∷ filters) [] are = absurd are
 names (rules ∷ filters) (one ∷ made) are = ap (λ name. name ∷ map (λ one. one.name) made) are.0.named ∙ ap (λ rest. rules.name ∷ rest) (names filters made are.1)
 
 -- a program that decides as rules do what is wanted does so too
-one_does : (settings : FilterSettings) (table : Table) (filter : Filter) (one : Compiled) → IsCompiled filter one → HasWantedRules settings table filter → DoesAsWanted settings table one
-one_does settings table filter one is wanted = λ input is_data.
-    subst (λ action. Answers one.program input (word_of action)) (wanted input ∙ ap (λ name. wanted_action name settings table input) (sym is.named)) (is.decides input is_data)
+one_does : (settings : FilterSettings) (table : Table) (filter : Filter) (one : Compiled) → IsCompiled filter one → HasWantedRules settings table filter → All HasShortCases filter.rules.calls → DoesAsWanted settings table one
+one_does settings table filter one is wanted short = λ input is_data.
+    subst (λ action. AnswersWithin 96 one.program input (word_of action)) (wanted input ∙ ap (λ name. wanted_action name settings table input) (sym is.named)) (is.decides_soon short input is_data)
 
-all_do : (settings : FilterSettings) (table : Table) (filters : List Filter) (made : List Compiled) → AreCompiled filters made → All (HasWantedRules settings table) filters → All (DoesAsWanted settings table) made
-all_do settings table [] [] are wanted = All-nil (DoesAsWanted settings table)
-all_do settings table [] (one ∷ made) are wanted = absurd are
-all_do settings table (rules ∷ filters) [] are wanted = absurd are
-all_do settings table (rules ∷ filters) (one ∷ made) are wanted =
+-- the rules of each filter have short cases
+abbrev AreShort : List Filter → Type 0
+AreShort filters = All (λ (one : Filter). All HasShortCases one.rules.calls) filters
+
+all_do : (settings : FilterSettings) (table : Table) (filters : List Filter) (made : List Compiled) → AreCompiled filters made → All (HasWantedRules settings table) filters → AreShort filters → All (DoesAsWanted settings table) made
+all_do settings table [] [] are wanted short = All-nil (DoesAsWanted settings table)
+all_do settings table [] (one ∷ made) are wanted short = absurd are
+all_do settings table (rules ∷ filters) [] are wanted short = absurd are
+all_do settings table (rules ∷ filters) (one ∷ made) are wanted short =
     All-cons (DoesAsWanted settings table) one made
-    (one_does settings table rules one are.0 (All-head (HasWantedRules settings table) rules filters wanted))
-    (all_do settings table filters made are.1 (All-tail (HasWantedRules settings table) rules filters wanted))
+    (one_does settings table rules one are.0 (All-head (HasWantedRules settings table) rules filters wanted) (All-head (λ (one : Filter). All HasShortCases one.rules.calls) rules filters short))
+    (all_do settings table filters made are.1 (All-tail (HasWantedRules settings table) rules filters wanted) (All-tail (λ (one : Filter). All HasShortCases one.rules.calls) rules filters short))
 
 all_accepted : (filters : List Filter) (made : List Compiled) → AreCompiled filters made → All (λ one. Accepts (bytes_of one.program) one.program) made
 all_accepted [] [] are = All-nil (λ one. Accepts (bytes_of one.program) one.program)
@@ -68,7 +72,7 @@ room (rules ∷ filters) (one ∷ made) are =
 pub are_filters : (settings : FilterSettings) (table : Table) (filters : List Filter) (made : List Compiled) → AreRules settings table filters → AreCompiled filters made → AreFilters settings table made
 are_filters settings table filters made rules are = record {
   named = names filters made are ∙ rules.exactly_those_on;
-  do_as_wanted = all_do settings table filters made are rules.do_as_wanted;
+  do_as_wanted = all_do settings table filters made are rules.do_as_wanted rules.cases_are_short;
   accepted = all_accepted filters made are;
   fit_into_a_stack = omega (arith, room filters made are, rules.fit_into_a_stack);
 }

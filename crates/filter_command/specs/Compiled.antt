@@ -1,7 +1,7 @@
 -- What compiled filters do (systemd.exec(5), seccomp(2)).
 use Rattle.std.specs.Prelude.{◌≡◌, ◌≤◌, ℕ, ◌+◌, List, filter, length, map}
 use Rattle.std.specs.List.{All, AllZip, sum_by}
-use Rattle.bpf_code.specs.Meaning.{Answers, IsCallData}
+use Rattle.bpf_code.specs.Meaning.{AnswersWithin, IsCallData}
 use Rattle.bpf_code.specs.Reading.{Accepts, IsProgram, bytes_of}
 use Rattle.bpf_code.specs.declared.machine.CallData.{CallData}
 use Rattle.call_rules.specs.Action.{word_of}
@@ -11,14 +11,16 @@ use Rattle.filter_rules.specs.Names.{all_filters}
 use Rattle.filter_rules.specs.Wanted.{is_on, wanted_action}
 use Rattle.filter_rules.specs.declared.installed.Filter.{Filter}
 use Rattle.filter_rules.specs.declared.settings.FilterSettings.{FilterSettings}
-use Rattle.seccomp_compile.specs.Compiled.{Decides}
+use Rattle.seccomp_compile.specs.Compiled.{Decides, DecidesWithin, longest_path}
+use Rattle.seccomp_compile.specs.ShortCases.{HaveShortCases}
 use Rattle.filter_command.specs.declared.compiled.Compiled.{Compiled}
 
--- the program of a filter: it has its name, decides every call by its rules, is no longer than they allow, and its bytes are
--- accepted
+-- the program of a filter: it has its name, decides every call by its rules, after few instructions where they have short cases, is
+-- no longer than they allow, and its bytes are accepted
 pub record IsCompiled (rules : Filter) (one : Compiled) : Type 0 where
   pub named : one.name ≡ rules.name
   pub decides : Decides one.program rules.rules
+  pub decides_soon : HaveShortCases rules.rules → DecidesWithin longest_path one.program rules.rules
   pub short : length one.program ≤ most_insns rules.rules
   pub accepted : IsProgram one.program
 
@@ -26,9 +28,10 @@ pub record IsCompiled (rules : Filter) (one : Compiled) : Type 0 where
 abbrev pub AreCompiled : List Filter → List Compiled → Type 0
 AreCompiled filters made = AllZip IsCompiled filters made
 
--- whatever the data of a call, the program answers the action that the settings want of the filter of its name
+-- whatever the data of a call, the program answers the action that the settings want of the filter of its name, after at most 96
+-- instructions
 abbrev pub DoesAsWanted : FilterSettings → Table → Compiled → Type 0
-DoesAsWanted settings table one = (input : CallData) → IsCallData input → Answers one.program input (word_of (wanted_action one.name settings table input))
+DoesAsWanted settings table one = (input : CallData) → IsCallData input → AnswersWithin 96 one.program input (word_of (wanted_action one.name settings table input))
 
 -- the room that programs take in a stack: each takes 4 beside its instructions (seccomp(2), ENOMEM)
 abbrev pub room_of : List Compiled → ℕ

@@ -1,6 +1,6 @@
 //! Rule sets, what they say of a call, and the programs that they are compiled to.
 use crate::data::{data_of, shown};
-use crate::largest::most_calls;
+use crate::largest::{even_calls, even_families, most_calls};
 use bpf_code::{CallData, Program, run};
 use call_rules::{
     Action, CallRule, CallRules, Case, Cases, RuleSet, Test, Tests, action, are_ascending,
@@ -40,6 +40,14 @@ impl Rules {
             ["set", arch, rest] => self.settle(alloc, number32(arch), action_of(rest)),
             ["largest"] => {
                 self.calls = most_calls(alloc)?;
+                said(alloc, "held")
+            }
+            ["even"] => {
+                self.calls = even_calls(alloc)?;
+                said(alloc, "held")
+            }
+            ["even families"] => {
+                self.calls = even_families(alloc)?;
                 said(alloc, "held")
             }
             ["word", action] => format!(in alloc; "{:08x}", action_of(action).word()),

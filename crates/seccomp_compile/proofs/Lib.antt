@@ -1,4 +1,10 @@
-pub mod Lengths
-pub mod Emitted
-pub mod Accepted
-pub mod Correct
+pub mod OneBit
+pub mod Steps
+pub mod Places
+pub mod Rising
+pub mod Tiles
+pub mod Bounds
+pub mod Doubles
+pub mod CaseTrees
+pub mod Calls
+pub mod Whole

@@ -1,8 +1,8 @@
--- What a compiled program does.
-use Rattle.std.specs.Prelude.{◌≤◌, List, length}
+-- What a compiled program does, and after how many instructions.
+use Rattle.std.specs.Prelude.{ℕ, ◌≤◌, List, length}
 use Rattle.bpf_code.specs.declared.machine.Insn.{Insn}
 use Rattle.bpf_code.specs.declared.machine.CallData.{CallData}
-use Rattle.bpf_code.specs.Meaning.{Answers, IsCallData}
+use Rattle.bpf_code.specs.Meaning.{Answers, AnswersWithin, IsCallData}
 use Rattle.call_rules.specs.declared.rules.CallRule.{CallRule}
 use Rattle.call_rules.specs.declared.rules.RuleSet.{RuleSet}
 use Rattle.call_rules.specs.Action.{case_action, word_of}
@@ -11,6 +11,15 @@ use Rattle.call_rules.specs.Sizes.{HaveFewTests}
 -- the program's answer is the word of the rules' action, whatever the data of the call
 abbrev pub Decides : List Insn → RuleSet → Type 0
 Decides code rules = (input : CallData) → IsCallData input → Answers code input (word_of (case_action rules input))
+
+-- it answers so after at most so many instructions, whatever the data of the call
+abbrev pub DecidesWithin : ℕ → List Insn → RuleSet → Type 0
+DecidesWithin limit code rules =
+    (input : CallData) → IsCallData input → AnswersWithin limit code input (word_of (case_action rules input))
+
+-- as many instructions as a program of rules with short cases makes at most for one call
+abbrev pub longest_path : ℕ
+longest_path = 96
 
 -- what each call of a rule set that is compiled is
 pub record CanCompileCall (call : CallRule) : Type 0 where

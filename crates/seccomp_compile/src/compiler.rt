@@ -3,27 +3,34 @@ ghost use Rattle.std.specs.Prelude.{◌≤◌, length, IfOk};
 ghost use Rattle.linux_numbers.specs.Limits.{bpf_maxinsns};
 ghost use Rattle.bpf_code.specs.Reading.{IsProgram};
 ghost use Rattle.call_rules.specs.Sizes.{CanCompile, most_insns};
-ghost use Rattle.seccomp_compile.specs.Compiled.{Decides};
+ghost use Rattle.seccomp_compile.specs.Compiled.{Decides, DecidesWithin, longest_path};
+ghost use Rattle.seccomp_compile.specs.ShortCases.{HaveShortCases};
 
-use crate::linear::emit_rules;
+use crate::decisions::rules_tree;
+use crate::emit::place;
 use bpf_code::Program;
 use call_rules::RuleSet;
 use std::alloc::{AllocError, Global};
+use std::collections::VecDeque;
 
 /// A program that decides every call as the rules do: for every number, architecture, instruction pointer and
 /// argument words its answer is the action of the rules.
 ///
 /// It has at most 16 + 5c + 2k + 4t instructions for c calls, k cases and t tests in all, which is never more than
-/// a program may have. The condition is that there are at most 512 calls, at most 128 cases over all calls
-/// together, and at most 2 tests a case, as `can_compile` tests. The only error is want of memory.
+/// a program may have. Where each call has at most 8 cases, or where each of its cases is one test of one argument
+/// with all of its low 32 bits, the program makes at most 96 instructions for a call. The condition is that there are
+/// at most 512 calls, at most 128 cases over all calls together, and at most 2 tests a case, as `can_compile` tests.
+/// The only error is want of memory.
 pub fn compile(alloc: Global, rules: &RuleSet) -> Result<Program, AllocError>
     requires { CanCompile rules.now }
     ensures decides_every_call { IfOk result (λ program. Decides program rules.now) }
     ensures is_taken_by_seccomp { IfOk result IsProgram }
     ensures keeps_within_the_length { IfOk result (λ program. length program ≤ most_insns rules.now) }
     ensures is_never_too_long { most_insns rules.now ≤ bpf_maxinsns }
+    ensures within_the_path_length { HaveShortCases rules.now → IfOk result (λ program. DecidesWithin longest_path program rules.now) }
 {
-    let mut code = Vec::new(alloc);
-    emit_rules(&mut code, rules)?;
-    Ok(Program::made(code))
+    let tree = rules_tree(alloc, rules)?;
+    let mut code = VecDeque::new(alloc);
+    place(&mut code, &tree)?;
+    Ok(Program::made(code.into_vec()))
 }

@@ -1,13 +1,12 @@
 //! The instructions that a compiled program is made of.
-ghost use Rattle.std.specs.Prelude.{◌≡◌, ◌%◌, ◌<◌};
-ghost use Rattle.seccomp_compile.specs.Code.{IsSound, load, mask_by, skip, skip_unless_equal, skip_if_equal, end};
+ghost use Rattle.std.specs.Prelude.{◌≡◌, ◌↔◌, IsTrue};
+ghost use Rattle.bpf_code.specs.Reading.{Fits};
+ghost use Rattle.seccomp_compile.specs.Code.{load, mask_by, skip, compare, code_of, end, IsEnd};
 
+use crate::tree::Comparison;
 use bpf_code::Insn;
-use bpf_code::codes::{ALU_AND_K, JMP_JA, JMP_JEQ_K, LD_W_ABS, RET_K};
+use bpf_code::codes::{ALU_AND_K, JMP_JA, JMP_JEQ_K, JMP_JGE_K, JMP_JSET_K, LD_W_ABS, RET_K};
 use call_rules::Action;
-
-/// How many instructions a comparison can skip, since its offsets have eight bits.
-pub const FARTHEST_SKIP: u32 = 255;
 
 // An instruction that is no comparison.
 fn plain(code: u16, k: u32) -> Insn
@@ -21,24 +20,10 @@ fn plain(code: u16, k: u32) -> Insn
     }
 }
 
-// A comparison of A with a number, which skips so many instructions where they are equal, and so many where not.
-fn compare(k: u32, jt: u8, jf: u8) -> Insn
-    ensures { result ≡ record { code = JMP_JEQ_K; jt = jt; jf = jf; k = k } }
-{
-    Insn {
-        code: JMP_JEQ_K,
-        jt,
-        jf,
-        k,
-    }
-}
-
 /// A = the word of the call data at this offset.
 pub fn load_word(offset: u32) -> Insn
-    requires inside { offset < 64 }
-    requires whole { offset % 4 ≡ 0 }
     ensures is { result ≡ load offset }
-    ensures sound { IsSound result }
+    ensures fits { Fits result }
 {
     plain(LD_W_ABS, offset)
 }
@@ -46,7 +31,7 @@ pub fn load_word(offset: u32) -> Insn
 /// A = A and the mask.
 pub fn and_mask(mask: u32) -> Insn
     ensures is { result ≡ mask_by mask }
-    ensures sound { IsSound result }
+    ensures fits { Fits result }
 {
     plain(ALU_AND_K, mask)
 }
@@ -54,31 +39,46 @@ pub fn and_mask(mask: u32) -> Insn
 /// Goes on behind so many instructions.
 pub fn jump(count: u32) -> Insn
     ensures is { result ≡ skip count }
-    ensures sound { IsSound result }
+    ensures fits { Fits result }
 {
     plain(JMP_JA, count)
 }
 
-/// Goes on with the next instruction where A is the number, and behind so many where A is not.
-pub fn next_if_equal(number: u32, count: u8) -> Insn
-    ensures is { result ≡ skip_unless_equal number count }
-    ensures sound { IsSound result }
+// The code of a comparison of A with the instruction's number.
+fn comparison_code(comparison: Comparison) -> u16
+    ensures { result ≡ code_of comparison }
 {
-    compare(number, 0, count)
+    match comparison {
+        Comparison::AtLeast => JMP_JGE_K,
+        Comparison::Equal => JMP_JEQ_K,
+        Comparison::AnyBit => JMP_JSET_K,
+    }
 }
 
-/// Goes on behind the next instruction where A is the number, and with it where A is not.
-pub fn next_unless_equal(number: u32) -> Insn
-    ensures is { result ≡ skip_if_equal number }
-    ensures sound { IsSound result }
+/// Skips so many instructions where the comparison of A with the number holds, and so many where it fails.
+pub fn jump_if(comparison: Comparison, number: u32, hit: u8, miss: u8) -> Insn
+    ensures is { result ≡ compare comparison number hit miss }
+    ensures fits { Fits result }
 {
-    compare(number, 1, 0)
+    Insn {
+        code: comparison_code(comparison),
+        jt: hit,
+        jf: miss,
+        k: number,
+    }
 }
 
 /// Ends with the action.
 pub fn answer(action: Action) -> Insn
     ensures is { result ≡ end action }
-    ensures sound { IsSound result }
+    ensures fits { Fits result }
 {
     plain(RET_K, action.word())
+}
+
+/// Whether the instruction ends with the action.
+pub fn is_answer(insn: Insn, action: Action) -> bool
+    ensures { IsTrue result ↔ IsEnd action insn }
+{
+    insn.code == RET_K && insn.k == action.word()
 }

@@ -1,0 +1,13 @@
+use Rattle.std.proofs.Common.{◌≡◌, length}
+use Rattle.seccomp_compile.specs.Decisions.{decision_of, ends, LooksInside}
+use Rattle.seccomp_compile.specs.Rules.{cases_onto}
+use Rattle.seccomp_compile.proofs.cases.cases_tree.Given as goal
+
+abbrev pub invariant-cases : goal.invariant-cases
+invariant-cases l = record {
+  cases : cases_onto l.left (decision_of l.tree) ≡ cases_onto l.cases (ends l.fn.rest);
+  looks : LooksInside (decision_of l.tree);
+}
+
+abbrev pub decreases-cases : goal.decreases-cases
+decreases-cases l = length l.left

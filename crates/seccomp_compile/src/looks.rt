@@ -1,0 +1,37 @@
+//! How the word of a test is looked at.
+ghost use Rattle.std.specs.Prelude.{◌≡◌};
+ghost use Rattle.seccomp_compile.specs.Looks.{asks_for_a_bit as asks, mask_of, comparison_of};
+
+use crate::offsets::WHOLE_WORD;
+use crate::tree::Comparison;
+use call_rules::Test;
+
+// Whether the test asks for one bit.
+fn asks_for_a_bit(test: Test) -> bool
+    ensures { result ≡ asks test }
+{
+    test.mask == test.value && test.mask.is_power_of_two()
+}
+
+/// The mask of the word that is compared: where a test asks for one bit, the whole word is compared by that bit, and
+/// the tests behind it can compare the same word.
+pub fn mask_for(test: Test) -> u32
+    ensures { result ≡ mask_of test }
+{
+    if asks_for_a_bit(test) {
+        WHOLE_WORD
+    } else {
+        test.mask
+    }
+}
+
+/// How the word is compared with the value of the test.
+pub fn comparison_for(test: Test) -> Comparison
+    ensures { result ≡ comparison_of test }
+{
+    if asks_for_a_bit(test) {
+        Comparison::AnyBit
+    } else {
+        Comparison::Equal
+    }
+}

@@ -1,0 +1,141 @@
+//! Decision trees over the data of a call.
+ghost use Rattle.std.specs.Prelude.{◌≡◌, IfOk};
+ghost use Rattle.seccomp_compile.specs.Decisions.{decision_of, ends, splits, ending_of, is_end, is_split, past_look};
+
+use call_rules::{Action, Test};
+use std::alloc::{AllocError, Global};
+
+/// How a word is compared with a number.
+#[derive(Clone, Copy)]
+pub enum Comparison {
+    /// The word is the number or a greater one.
+    AtLeast,
+    /// The word is the number.
+    Equal,
+    /// The word has some bit of the number.
+    AnyBit,
+}
+
+/// How a call is decided, where one word of its data is looked at.
+#[derive(Drop)]
+pub enum Tree {
+    /// Ends with the action.
+    End(Action),
+    /// Looks at the word at this offset and this mask from here on.
+    Look {
+        offset: u32,
+        mask: u32,
+        next: Box<Tree>,
+    },
+    /// Goes on with the one tree where the comparison with the number fails, and with the other one where it holds.
+    Split {
+        comparison: Comparison,
+        number: u32,
+        miss: Box<Tree>,
+        hit: Box<Tree>,
+    },
+    /// Ends with the action where both tests hold, and goes on where one fails.
+    Both {
+        first: Test,
+        second: Test,
+        action: Action,
+        otherwise: Box<Tree>,
+    },
+}
+
+impl Tree {
+    /// The action of a tree that ends at once.
+    pub fn ending(&self) -> Option<Action>
+        ensures { result ≡ ending_of (decision_of self.now) }
+    {
+        match self {
+            Tree::End(action) => Some(*action),
+            Tree::Look { .. } => None,
+            Tree::Split { .. } => None,
+            Tree::Both { .. } => None,
+        }
+    }
+
+    /// What the tree does where the word at this offset and this mask is looked at already.
+    pub fn past_look(self, offset: u32, mask: u32) -> Tree
+        ensures { decision_of result ≡ past_look offset mask (decision_of self) }
+    {
+        match self {
+            Tree::Look {
+                offset: other,
+                mask: part,
+                next,
+            } => {
+                if other == offset && part == mask {
+                    Box::into_inner(next)
+                } else {
+                    Tree::Look {
+                        offset: other,
+                        mask: part,
+                        next,
+                    }
+                }
+            }
+            Tree::End(action) => Tree::End(action),
+            Tree::Split {
+                comparison,
+                number,
+                miss,
+                hit,
+            } => Tree::Split {
+                comparison,
+                number,
+                miss,
+                hit,
+            },
+            Tree::Both {
+                first,
+                second,
+                action,
+                otherwise,
+            } => Tree::Both {
+                first,
+                second,
+                action,
+                otherwise,
+            },
+        }
+    }
+
+    /// Whether the tree ends at once.
+    pub fn is_end(&self) -> bool
+        ensures { result ≡ is_end (decision_of self.now) }
+    {
+        self.ending().is_some()
+    }
+
+    /// Whether the tree begins with a comparison.
+    pub fn is_split(&self) -> bool
+        ensures { result ≡ is_split (decision_of self.now) }
+    {
+        match self {
+            Tree::End(_) => false,
+            Tree::Look { .. } => false,
+            Tree::Split { .. } => true,
+            Tree::Both { .. } => false,
+        }
+    }
+
+    /// Ends with the action where the comparison of the word with the value holds, and goes on where it fails.
+    pub fn ends_where(
+        alloc: Global,
+        comparison: Comparison,
+        value: u32,
+        action: Action,
+        otherwise: Tree,
+    ) -> Result<Tree, AllocError>
+        ensures { IfOk result (λ tree. decision_of tree ≡ splits comparison value (decision_of otherwise) (ends action)) }
+    {
+        Ok(Tree::Split {
+            comparison,
+            number: value,
+            miss: Box::new(alloc, otherwise)?,
+            hit: Box::new(alloc, Tree::End(action))?,
+        })
+    }
+}
