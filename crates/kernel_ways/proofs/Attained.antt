@@ -21,6 +21,7 @@ use Rattle.kern_mounts.specs.Split.{Table}
 use Rattle.kernel_laws.specs.Questions.{ToExec}
 use Rattle.kernel_laws.specs.Reach.{Power, Nowise, Unmounting, Mounting, reaches}
 use Rattle.kernel_ways.specs.Offers.{Offers}
+use Rattle.kernel_ways.specs.Taking.{id_call, sets_call}
 use Rattle.kernel_ways.specs.Ways.{Way, here, by_creds}
 use Rattle.kernel_ways.proofs.Solo.{way_join}
 use Rattle.kernel_ways.proofs.Avoiding.{Avoids, avoid_one, avoid_join}
@@ -82,7 +83,7 @@ uids_after creds ids =
     uids_switch (eqb creds.uids.effective 0) (eqb ids.effective 0) (after_leaving_root p base) ∙ uids_leaving p base
 
 -- a file that is not privileged has no owner's bit and no capabilities
-unmarked : (uid gid : Option ℕ) (caps : ℕ) → ((is_set_id uid || is_set_id gid) || not (caps == none)) ≡ false → (uid ≡ None) × (caps ≡ none)
+pub unmarked : (uid gid : Option ℕ) (caps : ℕ) → ((is_set_id uid || is_set_id gid) || not (caps == none)) ≡ false → (uid ≡ None) × (caps ≡ none)
 unmarked uid gid caps e =
     let both = or_parts (is_set_id uid || is_set_id gid) (not (caps == none)) e in
     let ids = or_parts (is_set_id uid) (is_set_id gid) both.0 in
@@ -92,7 +93,7 @@ unmarked uid gid caps e =
     by None e = refl
     by (Some id) e = cc
 
-stays_zero : (owner : Option ℕ) (id : ℕ) → (is_owner 0 owner ≡ true) ⊎ (owner ≡ None) → eqb id 0 ≡ true → eqb (owner_or owner id) 0 ≡ true
+pub stays_zero : (owner : Option ℕ) (id : ℕ) → (is_owner 0 owner ≡ true) ⊎ (owner ≡ None) → eqb id 0 ≡ true → eqb (owner_or owner id) 0 ≡ true
 stays_zero None id like z = z
 stays_zero (Some owner) id (inl e) z = e
 stays_zero (Some owner) id (inr e) z = cc
@@ -215,18 +216,20 @@ module _ (launch : Launch) (l : IsLaunched launch) (o : Offers launch) where
         let own : has common number ≡ true = ap (λ s. has (cut target.caps s) number) b.bounding ∙ h in
         let small : common < 2 ^ 41 = let P : ℕ → Type 0 = λ s. cut target.caps s < 2 ^ 41 in subst P (sym b.bounding) (common_small target.caps launch.creds.bounding o.bounding) in
         let inh : creds.inheritable < 2 ^ 41 = let P : ℕ → Type 0 = λ s. s < 2 ^ 41 in subst P (sym b.inheritable) o.inheritable in
-        let set = capset_call launch o after table (some_line launch l SetsCaps z) common common creds.inheritable small small inh (gains.may_take creds (marks_of target) (off_of creds b)) in
+        let line = some_line launch l SetsCaps z in
+        let own_call = sets_call line.line.number common common creds.inheritable in
+        let set = capset_call launch o after table line common common creds.inheritable small small inh (gains.may_take creds (marks_of target) (off_of creds b)) in
         record {
-          calls = ran.call ∷ set.call ∷ [];
+          calls = ran.call ∷ own_call ∷ [];
           creds = with_sets after common common creds.inheritable;
-          way = by_creds ran.call ran.makes (by_creds set.call set.makes here);
+          way = by_creds ran.call ran.makes (by_creds own_call set.makes here);
           basis = record { bounding = b.bounding; inheritable = b.inheritable; mark = b.mark };
           holds = own;
           target = target;
           again = r;
           rootlike = inr plain;
-          no_uid = λ e. (avoid_one launch creds table _ ran.call _ ran.makes TakesUid refl, (avoid_one launch after table set.doing set.call _ set.makes TakesUid (set.no_uid refl), tt));
-          no_gid = (avoid_one launch creds table _ ran.call _ ran.makes TakesGid refl, (avoid_one launch after table set.doing set.call _ set.makes TakesGid set.no_gid, tt));
+          no_uid = λ e. (avoid_one launch creds table _ ran.call _ ran.makes TakesUid refl, (avoid_one launch after table set.doing own_call _ set.makes TakesUid (set.no_uid refl), tt));
+          no_gid = (avoid_one launch creds table _ ran.call _ ran.makes TakesGid refl, (avoid_one launch after table set.doing own_call _ set.makes TakesGid set.no_gid, tt));
         }
 
     -- what a row gives, it gives
@@ -250,7 +253,9 @@ module _ (launch : Launch) (l : IsLaunched launch) (o : Offers launch) where
     root_gains : (from creds : Creds) (start table : Table) (number : ℕ) (calls : List Call) → Avoids launch TakesGid calls → Way launch from start calls creds table → Basis launch creds → has creds.effective 7 ≡ true → (target : Row) → Runnable launch table target → IsRootlike target → lets launch TakesUid ≡ true
         → has launch.creds.bounding number ≡ true → Gained false from start table number
     root_gains from creds start table number calls no_gid way basis h target r like s own =
-        let change = uid_call launch o creds table 0 (omega arith) (some_line launch l TakesUid s) h in
+        let line = some_line launch l TakesUid s in
+        let own_call = id_call line.line.number line.own 0 in
+        let change = uid_call launch o creds table 0 (omega arith) line h in
         let after = zeroed creds in
         let b = basis_uids launch creds (all_of 0) basis in
         let off = off_of after b in
@@ -260,16 +265,16 @@ module _ (launch : Launch) (l : IsLaunched launch) (o : Offers launch) where
         let w = gains.zero_gives after (marks_of target) off root in
         let has_own : has after.bounding number ≡ true = ap (λ s. has s number) b.bounding ∙ own in
         record {
-          calls = calls ++ (change.call ∷ ran.call ∷ []);
+          calls = calls ++ (own_call ∷ ran.call ∷ []);
           creds = exec_done after (marks_of target) false;
-          way = way_join way (by_creds change.call change.makes (by_creds ran.call ran.makes here));
+          way = way_join way (by_creds own_call change.makes (by_creds ran.call ran.makes here));
           basis = basis_exec after target b;
           holds = w.each number has_own;
           target = target;
           again = r;
           rootlike = like;
           no_uid = λ e. cc;
-          no_gid = avoid_join launch TakesGid calls (change.call ∷ ran.call ∷ []) no_gid (avoid_one launch creds table change.doing change.call _ change.makes TakesGid change.no_gid, (avoid_one launch after table _ ran.call _ ran.makes TakesGid refl, tt));
+          no_gid = avoid_join launch TakesGid calls (own_call ∷ ran.call ∷ []) no_gid (avoid_one launch creds table change.doing own_call _ change.makes TakesGid change.no_gid, (avoid_one launch after table _ ran.call _ ran.makes TakesGid refl, tt));
         }
 
     -- a member of the union over rows, from credentials that may expose

@@ -37,8 +37,7 @@ use Rattle.kernel_ways.specs.Showing.{IsDoable}
 
 module _ (launch : Launch) (creds : Creds) (table : Table) where
   -- a call by this path, that is done
-  pub record PathCall (wish : Wish) (path : Path) : Type 0 where
-    pub call : Call
+  pub record PathCall (wish : Wish) (path : Path) (call : Call) : Type 0 where
     pub doing : Doing
     pub effect : Effect
     pub makes : Makes launch creds table doing call effect
@@ -46,8 +45,7 @@ module _ (launch : Launch) (creds : Creds) (table : Table) where
     pub wanted : path_for wish doing ≡ Some path
 
   -- a call that is done and asks for such a thing
-  pub record Performed (p : Doing → Bool) : Type 0 where
-    pub call : Call
+  pub record Performed (p : Doing → Bool) (call : Call) : Type 0 where
     pub doing : Doing
     pub effect : Effect
     pub makes : Makes launch creds table doing call effect
@@ -63,9 +61,8 @@ module _ (launch : Launch) (creds : Creds) (table : Table) where
 
     -- a call by the path alone that changes nothing
     by_path : (nr : ℕ) (own : Rule) (args : List ℕ) (doing : Doing) (value : ℕ) (wish : Wish) → nr < 2 ^ 32 → AreWords args → rule_at launch.calls.calls nr ≡ Some own → passes launch nr args
-        → d.doing_by own args (pay.OnePath path) ≡ Some doing → path_for wish doing ≡ Some path → effect_of (host_at launch) (caller_at launch creds table) doing ≡ f.Answer value → PathCall wish path
+        → d.doing_by own args (pay.OnePath path) ≡ Some doing → path_for wish doing ≡ Some path → effect_of (host_at launch) (caller_at launch creds table) doing ≡ f.Answer value → PathCall wish path (first_by nr args (pay.OnePath path))
     by_path nr own args doing value wish n w at t is wanted e = record {
-      call = first_by nr args (pay.OnePath path);
       doing = doing;
       effect = f.Answer value;
       makes = make launch creds table nr own args (pay.OnePath path) doing (f.Answer value) n w fit at is t e;
@@ -73,17 +70,17 @@ module _ (launch : Launch) (creds : Creds) (table : Table) where
       wanted = wanted;
     }
 
-    see_by : {own : Rule} {args : List ℕ} → (nr : ℕ) → nr < 2 ^ 32 → rule_at launch.calls.calls nr ≡ Some own → passes launch nr args → choices.Sees own args → PathCall ToSee path
+    see_by : {own : Rule} {args : List ℕ} → (nr : ℕ) → nr < 2 ^ 32 → rule_at launch.calls.calls nr ≡ Some own → passes launch nr args → choices.Sees own args → PathCall ToSee path (first_by nr args (pay.OnePath path))
     see_by nr n at t choices.sees = by_path nr (rule.Known known.See) no_words (d.See path) 0 ToSee n zeros at t refl refl (seen 0)
 
-    pub see_path : Line launch (k.ForPath ToSee) → PathCall ToSee path
+    pub see_path : (line : Line launch (k.ForPath ToSee)) → PathCall ToSee path (first_by line.line.number line.args (pay.OnePath path))
     see_path line = see_by line.line.number line.number line.at line.through (choices.of_sees line.own line.args line.are)
 
-    read_by : {own : Rule} {args : List ℕ} → (nr : ℕ) → nr < 2 ^ 32 → rule_at launch.calls.calls nr ≡ Some own → passes launch nr args → choices.Reads own args → PathCall ToRead path
+    read_by : {own : Rule} {args : List ℕ} → (nr : ℕ) → nr < 2 ^ 32 → rule_at launch.calls.calls nr ≡ Some own → passes launch nr args → choices.Reads own args → PathCall ToRead path (first_by nr args (pay.OnePath path))
     read_by nr n at t (choices.reads argument.Second) = by_path nr (rule.Known (known.Open argument.Second)) no_words (d.Open 0 path) 3 ToRead n zeros at t refl refl (seen 3)
     read_by nr n at t (choices.reads argument.Third) = by_path nr (rule.Known (known.Open argument.Third)) no_words (d.Open 0 path) 3 ToRead n zeros at t refl refl (seen 3)
 
-    pub read_path : Line launch (k.ForPath ToRead) → PathCall ToRead path
+    pub read_path : (line : Line launch (k.ForPath ToRead)) → PathCall ToRead path (first_by line.line.number line.args (pay.OnePath path))
     read_path line = read_by line.line.number line.number line.at line.through (choices.of_reads line.own line.args line.are)
 
     module _ (file : is_dir target.kind ≡ false) (writes : fits ToWrite (flags_at table path) ≡ true) where
@@ -95,7 +92,7 @@ module _ (launch : Launch) (creds : Creds) (table : Table) where
           by false true g h = cc
           by true b g h = cc
 
-      write_by : {own : Rule} {args : List ℕ} → (nr : ℕ) → nr < 2 ^ 32 → rule_at launch.calls.calls nr ≡ Some own → passes launch nr args → choices.Writes own args → PathCall ToWrite path
+      write_by : {own : Rule} {args : List ℕ} → (nr : ℕ) → nr < 2 ^ 32 → rule_at launch.calls.calls nr ≡ Some own → passes launch nr args → choices.Writes own args → PathCall ToWrite path (first_by nr args (pay.OnePath path))
       write_by nr n at t (choices.opens argument.Second) =
           by_path nr (rule.Known (known.Open argument.Second)) (one_word 1 1) (d.Open 1 path) 3 ToWrite n (six 0 1 0 0 (omega arith) (omega arith) (omega arith) (omega arith)) at t refl refl (written 3)
       write_by nr n at t (choices.opens argument.Third) =
@@ -103,7 +100,7 @@ module _ (launch : Launch) (creds : Creds) (table : Table) where
       write_by nr n at t choices.creates = by_path nr (rule.Known known.Create) no_words (d.Create path) 3 ToWrite n zeros at t refl refl (written 3)
       write_by nr n at t choices.truncates = by_path nr (rule.Known known.Truncate) no_words (d.Truncate path) 0 ToWrite n zeros at t refl refl (written 0)
 
-      pub write_path : Line launch (k.ForPath ToWrite) → PathCall ToWrite path
+      pub write_path : (line : Line launch (k.ForPath ToWrite)) → PathCall ToWrite path (first_by line.line.number line.args (pay.OnePath path))
       write_path line = write_by line.line.number line.number line.at line.through (choices.of_writes line.own line.args line.are)
 
     module _ (exe : is_exe target.kind ≡ true) (runs : fits ToExec (flags_at table path) ≡ true) (admitted : is_refused creds (marks_of target) (flags_at table path).no_suid ≡ false) where
@@ -119,16 +116,9 @@ module _ (launch : Launch) (creds : Creds) (table : Table) where
           by true true g h = cc
           by false b g h = cc
 
+      exec_by : {own : Rule} {args : List ℕ} → (nr : ℕ) → nr < 2 ^ 32 → rule_at launch.calls.calls nr ≡ Some own → passes launch nr args → choices.Execs own args → Makes launch creds table (d.Execve path) (first_by nr args (pay.OnePath path)) (SetCreds after_run)
+      exec_by nr n at t choices.execs = make launch creds table nr (rule.Known known.Execve) no_words (pay.OnePath path) (d.Execve path) (SetCreds after_run) n zeros fit at refl t exec_is
+
       -- its call
-      pub record ExecCall : Type 0 where
-        pub call : Call
-        pub makes : Makes launch creds table (d.Execve path) call (SetCreds after_run)
-
-      exec_by : {own : Rule} {args : List ℕ} → (nr : ℕ) → nr < 2 ^ 32 → rule_at launch.calls.calls nr ≡ Some own → passes launch nr args → choices.Execs own args → ExecCall
-      exec_by nr n at t choices.execs = record {
-        call = first_by nr no_words (pay.OnePath path);
-        makes = make launch creds table nr (rule.Known known.Execve) no_words (pay.OnePath path) (d.Execve path) (SetCreds after_run) n zeros fit at refl t exec_is;
-      }
-
-      pub exec_path : Line launch (k.ForPath ToExec) → ExecCall
+      pub exec_path : (line : Line launch (k.ForPath ToExec)) → Makes launch creds table (d.Execve path) (first_by line.line.number line.args (pay.OnePath path)) (SetCreds after_run)
       exec_path line = exec_by line.line.number line.number line.at line.through (choices.of_execs line.own line.args line.are)

@@ -16,6 +16,7 @@ use Rattle.kern_creds.specs.Capset.{may_capset}
 use Rattle.kernel_laws.specs.Bound.{is_barred}
 use Rattle.kernel_calls.specs.declared.call.Call.{Call}
 use Rattle.kernel_calls.specs.Doing as d
+use Rattle.kernel_calls.specs.declared.payload.Payload.TheVariants as pay
 use Rattle.kernel_model.specs.Effects.{SetCreds}
 use Rattle.kern_files.specs.Looking.{flags_at}
 use Rattle.kern_files.specs.Executing.{marks_of}
@@ -29,7 +30,7 @@ use Rattle.kernel_laws.proofs.KeptExec.{above_if}
 use Rattle.kernel_ways.specs.Offers.{Offers}
 use Rattle.kernel_ways.specs.Ways.{Makes}
 use Rattle.kernel_ways.proofs.Doings.{exec_path}
-use Rattle.kernel_ways.proofs.Lines.{some_line}
+use Rattle.kernel_ways.proofs.Lines.{Line, first_by, some_line}
 use Rattle.kernel_ways.proofs.Rows.{IsKnown}
 
 -- what each of the lists of calls keeps
@@ -99,6 +100,15 @@ common_small caps bounding h = omega (arith, and_le_r caps bounding, h)
 
 -- ---- its call
 module _ (launch : Launch) (l : IsLaunched launch) (o : Offers launch) where
+  -- by a line that execve follows
+  pub runs_by : (line : Line launch (ForPath ToExec)) (creds : Creds) (table : Table) (target : Row) → creds.bounding ≡ launch.creds.bounding → (r : Runnable launch table target) → Makes launch creds table (d.Execve r.found.path) (first_by line.line.number line.args (pay.OnePath r.found.path)) (SetCreds (exec_done creds (marks_of target) false))
+  runs_by line creds table target bounding r =
+      let path = r.found.path in
+      let admitted : is_refused creds (marks_of target) (flags_at table path).no_suid ≡ false =
+      ap (λ b. is_refused creds (marks_of target) b) r.suid ∙ ap (λ s. target.effective && not (within target.caps s)) bounding ∙ r.free in
+      let x = exec_path launch creds table path r.found.can_be_named target r.found.is_found r.exe r.found.is_allowed admitted line in
+      let P : Bool → Type 0 = λ b. Makes launch creds table (d.Execve path) (first_by line.line.number line.args (pay.OnePath path)) (SetCreds (exec_done creds (marks_of target) b)) in subst P r.suid x
+
   pub record Ran (creds : Creds) (table : Table) (target : Row) : Type 0 where
     pub call : Call
     pub path : Path
@@ -106,12 +116,5 @@ module _ (launch : Launch) (l : IsLaunched launch) (o : Offers launch) where
 
   pub runs : (creds : Creds) (table : Table) (target : Row) → creds.bounding ≡ launch.creds.bounding → Runnable launch table target → Ran creds table target
   runs creds table target bounding r =
-      let path = r.found.path in
-      let admitted : is_refused creds (marks_of target) (flags_at table path).no_suid ≡ false =
-      ap (λ b. is_refused creds (marks_of target) b) r.suid ∙ ap (λ s. target.effective && not (within target.caps s)) bounding ∙ r.free in
-      let x = exec_path launch creds table path r.found.can_be_named target r.found.is_found r.exe r.found.is_allowed admitted (some_line launch l (ForPath ToExec) o.execs) in
-      record {
-        call = x.call;
-        path = path;
-        makes = let P : Bool → Type 0 = λ b. Makes launch creds table (d.Execve path) x.call (SetCreds (exec_done creds (marks_of target) b)) in subst P r.suid x.makes;
-      }
+      let line = some_line launch l (ForPath ToExec) o.execs in
+      record { call = first_by line.line.number line.args (pay.OnePath r.found.path); path = r.found.path; makes = runs_by line creds table target bounding r }

@@ -19,6 +19,7 @@ use Rattle.kernel_laws.specs.Launched.{Launch, IsLaunched, lets}
 use Rattle.kern_mounts.specs.Split.{Table}
 use Rattle.kernel_laws.specs.Reach.{Power, Nowise, Unmounting, Mounting}
 use Rattle.kernel_ways.specs.Offers.{Offers}
+use Rattle.kernel_ways.specs.Taking.{id_call}
 use Rattle.kernel_ways.specs.Ways.{Way, here, by_creds}
 use Rattle.kernel_ways.proofs.Solo.{way_join}
 use Rattle.kernel_ways.proofs.Lines.{some_line}
@@ -93,8 +94,10 @@ module _ (launch : Launch) (l : IsLaunched launch) (o : Offers launch) where
     by_uid h s =
         let x = attained launch l o 7 h in
         let g = x.1 in
-        let change = uid_call launch o g.creds x.0 id small (some_line launch l TakesUid s) g.holds in
-        record { calls = g.calls ++ (change.call ∷ []); creds = with_uids g.creds (all_of id); now = x.0; way = way_join g.way (by_creds change.call change.makes here); has = ap (λ (ids : Ids). ids.effective) (uids_after g.creds (all_of id)) }
+        let line = some_line launch l TakesUid s in
+        let own_call = id_call line.line.number line.own id in
+        let change = uid_call launch o g.creds x.0 id small line g.holds in
+        record { calls = g.calls ++ (own_call ∷ []); creds = with_uids g.creds (all_of id); now = x.0; way = way_join g.way (by_creds own_call change.makes here); has = ap (λ (ids : Ids). ids.effective) (uids_after g.creds (all_of id)) }
 
     by_owner : launch.creds.no_new_privs ≡ false → (at : ℕ) (target : Row) → slice_get launch.site.rows at ≡ Some target → can_run launch (power_of launch) target ≡ true → is_owner id target.setuid ≡ true → Taken (λ creds. creds.uids.effective ≡ id)
     by_owner free at target listed c own =
@@ -130,8 +133,10 @@ module _ (launch : Launch) (l : IsLaunched launch) (o : Offers launch) where
     by_gid h s =
         let x = attained launch l o 6 h in
         let g = x.1 in
-        let change = gid_call launch o g.creds x.0 id small (some_line launch l TakesGid s) g.holds in
-        record { calls = g.calls ++ (change.change.call ∷ []); creds = change.now; now = x.0; way = way_join g.way (by_creds change.change.call change.change.makes here); has = change.has_gid }
+        let line = some_line launch l TakesGid s in
+        let own_call = id_call line.line.number line.own id in
+        let change = gid_call launch o g.creds x.0 id small line g.holds in
+        record { calls = g.calls ++ (own_call ∷ []); creds = change.now; now = x.0; way = way_join g.way (by_creds own_call change.change.makes here); has = change.has_gid }
 
     by_group : launch.creds.no_new_privs ≡ false → (at : ℕ) (target : Row) → slice_get launch.site.rows at ≡ Some target → can_run launch (power_of launch) target ≡ true → is_owner id target.setgid ≡ true → Taken (HasGid id)
     by_group free at target listed c own =

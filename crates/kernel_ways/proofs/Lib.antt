@@ -26,3 +26,4 @@ pub mod SparedRuns
 pub mod SparedBound
 pub mod SparedLaws
 pub mod SparedWays
+pub mod BlindShown

@@ -42,9 +42,8 @@ cap_lets creds (Some number) effect h = ap (λ b. cond b effect (f.Refuse eperm)
 module _ (launch : Launch) (creds : Creds) (table : Table) where
   -- a call without a payload, by its number and its words
   bare_call : (p : Doing → Bool) (nr : ℕ) (own : Rule) (args : List ℕ) (doing : Doing) (effect : Effect) → nr < 2 ^ 32 → AreWords args → rule_at launch.calls.calls nr ≡ Some own → passes launch nr args
-      → d.doing_by own args pay.Nothing ≡ Some doing → effect_of (host_at launch) (caller_at launch creds table) doing ≡ effect → IsDoable effect → p doing ≡ true → Performed launch creds table p
+      → d.doing_by own args pay.Nothing ≡ Some doing → effect_of (host_at launch) (caller_at launch creds table) doing ≡ effect → IsDoable effect → p doing ≡ true → Performed launch creds table p (first_by nr args pay.Nothing)
   bare_call p nr own args doing effect n w at t is e h such = record {
-    call = first_by nr args pay.Nothing;
     doing = doing;
     effect = effect;
     makes = make launch creds table nr own args pay.Nothing doing effect n w tt at is t e;
@@ -52,50 +51,46 @@ module _ (launch : Launch) (creds : Creds) (table : Table) where
     such = such;
   }
 
-  maps_by : {own : Rule} {args : List ℕ} → (nr : ℕ) → nr < 2 ^ 32 → rule_at launch.calls.calls nr ≡ Some own → passes launch nr args → choices.Maps own args → Performed launch creds table asks_map
+  maps_by : {own : Rule} {args : List ℕ} → (nr : ℕ) → nr < 2 ^ 32 → rule_at launch.calls.calls nr ≡ Some own → passes launch nr args → choices.Maps own args → Performed launch creds table asks_map (first_by nr args pay.Nothing)
   maps_by nr n at t choices.maps = bare_call asks_map nr (rule.Known known.Map) (one_word 2 6) (d.Map 6) (f.Answer 0) n (six 0 0 6 0 (omega arith) (omega arith) (omega arith) (omega arith)) at t refl refl tt refl
 
-  pub maps : Line launch k.MapsWx → Performed launch creds table asks_map
+  pub maps : (line : Line launch k.MapsWx) → Performed launch creds table asks_map (first_by line.line.number line.args pay.Nothing)
   maps line = maps_by line.line.number line.number line.at line.through (choices.of_maps line.own line.args line.are)
 
-  protects_by : {own : Rule} {args : List ℕ} → (nr : ℕ) → nr < 2 ^ 32 → rule_at launch.calls.calls nr ≡ Some own → passes launch nr args → choices.Protects own args → Performed launch creds table asks_protect
+  protects_by : {own : Rule} {args : List ℕ} → (nr : ℕ) → nr < 2 ^ 32 → rule_at launch.calls.calls nr ≡ Some own → passes launch nr args → choices.Protects own args → Performed launch creds table asks_protect (first_by nr args pay.Nothing)
   protects_by nr n at t choices.protects = bare_call asks_protect nr (rule.Known known.Protect) (one_word 2 4) (d.Protect 4) (f.Answer 0) n (six 0 0 4 0 (omega arith) (omega arith) (omega arith) (omega arith)) at t refl refl tt refl
 
-  pub protects : Line launch k.ProtectsX → Performed launch creds table asks_protect
+  pub protects : (line : Line launch k.ProtectsX) → Performed launch creds table asks_protect (first_by line.line.number line.args pay.Nothing)
   protects line = protects_by line.line.number line.number line.at line.through (choices.of_protects line.own line.args line.are)
 
-  attaches_by : {own : Rule} {args : List ℕ} → (nr : ℕ) → nr < 2 ^ 32 → rule_at launch.calls.calls nr ≡ Some own → passes launch nr args → choices.Attaches own args → Performed launch creds table asks_attach
+  attaches_by : {own : Rule} {args : List ℕ} → (nr : ℕ) → nr < 2 ^ 32 → rule_at launch.calls.calls nr ≡ Some own → passes launch nr args → choices.Attaches own args → Performed launch creds table asks_attach (first_by nr args pay.Nothing)
   attaches_by nr n at t choices.attaches = bare_call asks_attach nr (rule.Known known.Attach) (one_word 2 0x8000) (d.Attach 0x8000) (f.Answer 0) n (six 0 0 0x8000 0 (omega arith) (omega arith) (omega arith) (omega arith)) at t refl refl tt refl
 
-  pub attaches : Line launch k.AttachesX → Performed launch creds table asks_attach
+  pub attaches : (line : Line launch k.AttachesX) → Performed launch creds table asks_attach (first_by line.line.number line.args pay.Nothing)
   attaches line = attaches_by line.line.number line.number line.at line.through (choices.of_attaches line.own line.args line.are)
 
-  schedules_by : {own : Rule} {args : List ℕ} → (nr : ℕ) → nr < 2 ^ 32 → rule_at launch.calls.calls nr ≡ Some own → passes launch nr args → choices.Schedules own args → Performed launch creds table asks_realtime
+  schedules_by : {own : Rule} {args : List ℕ} → (nr : ℕ) → nr < 2 ^ 32 → rule_at launch.calls.calls nr ≡ Some own → passes launch nr args → choices.Schedules own args → Performed launch creds table asks_realtime (first_by nr args pay.Nothing)
   schedules_by nr n at t choices.schedules = bare_call asks_realtime nr (rule.Known known.Schedule) (one_word 1 1) (d.Schedule 1) (f.Answer 0) n (six 0 1 0 0 (omega arith) (omega arith) (omega arith) (omega arith)) at t refl refl tt refl
 
-  pub schedules : Line launch k.SchedulesRealtime → Performed launch creds table asks_realtime
+  pub schedules : (line : Line launch k.SchedulesRealtime) → Performed launch creds table asks_realtime (first_by line.line.number line.args pay.Nothing)
   schedules line = schedules_by line.line.number line.number line.at line.through (choices.of_schedules line.own line.args line.are)
 
-  personality_by : {own : Rule} {args : List ℕ} → (nr : ℕ) → nr < 2 ^ 32 → rule_at launch.calls.calls nr ≡ Some own → passes launch nr args → choices.Personalities own args → Performed launch creds table asks_personality
+  personality_by : {own : Rule} {args : List ℕ} → (nr : ℕ) → nr < 2 ^ 32 → rule_at launch.calls.calls nr ≡ Some own → passes launch nr args → choices.Personalities own args → Performed launch creds table asks_personality (first_by nr args pay.Nothing)
   personality_by nr n at t choices.personality = bare_call asks_personality nr (rule.Known known.Personality) (one_word 0 8) (d.Personality 8) (f.Answer 0) n (six 8 0 0 0 (omega arith) (omega arith) (omega arith) (omega arith)) at t refl refl tt refl
 
-  pub personality : Line launch k.TakesPersonality → Performed launch creds table asks_personality
+  pub personality : (line : Line launch k.TakesPersonality) → Performed launch creds table asks_personality (first_by line.line.number line.args pay.Nothing)
   personality line = personality_by line.line.number line.number line.at line.through (choices.of_personalities line.own line.args line.are)
 
-  mode_by : {own : Rule} {args : List ℕ} → (nr : ℕ) → nr < 2 ^ 32 → rule_at launch.calls.calls nr ≡ Some own → passes launch nr args → choices.Modes own args → Performed launch creds table asks_mode
+  mode_by : {own : Rule} {args : List ℕ} → (nr : ℕ) → nr < 2 ^ 32 → rule_at launch.calls.calls nr ≡ Some own → passes launch nr args → choices.Modes own args → Performed launch creds table asks_mode (first_by nr args pay.Nothing)
   mode_by nr n at t (choices.mode argument.Second) =
       bare_call asks_mode nr (rule.Known (known.SetMode argument.Second)) (one_word 1 0x800) (d.SetMode 0x800) (f.Answer 0) n (six 0 0x800 0 0 (omega arith) (omega arith) (omega arith) (omega arith)) at t refl refl tt refl
   mode_by nr n at t (choices.mode argument.Third) =
       bare_call asks_mode nr (rule.Known (known.SetMode argument.Third)) (one_word 2 0x800) (d.SetMode 0x800) (f.Answer 0) n (six 0 0 0x800 0 (omega arith) (omega arith) (omega arith) (omega arith)) at t refl refl tt refl
 
-  pub mode : Line launch k.SetsMode → Performed launch creds table asks_mode
+  pub mode : (line : Line launch k.SetsMode) → Performed launch creds table asks_mode (first_by line.line.number line.args pay.Nothing)
   mode line = mode_by line.line.number line.number line.at line.through (choices.of_modes line.own line.args line.are)
 
   -- a plain call, with its capability
-  pub record PlainDone (nr : ℕ) : Type 0 where
-    pub performed : Performed launch creds table asks_plain
-    pub same : performed.call.nr ≡ nr
-
   abbrev pub can_for : Option Rule → Type 0
   can_for (Some (rule.Plain number)) = CapAtHand creds number
   can_for _ = Unit {0}
@@ -106,22 +101,18 @@ module _ (launch : Launch) (creds : Creds) (table : Table) where
   pub plain_rule : (line : Line launch k.PlainCall) → (number : Option ℕ) × (rule_of line.line ≡ Some (rule.Plain number))
   plain_rule line = rule_by line.line line.is (choices.of_plains line.own line.args line.are)
 
-  plain_by : {own : Rule} {args : List ℕ} → (line : CallLine) → line.number < 2 ^ 32 → rule_of line ≡ Some own → rule_at launch.calls.calls line.number ≡ Some own → passes launch line.number args → choices.Plains own args → can_for (rule_of line) → PlainDone line.number
+  plain_by : {own : Rule} {args : List ℕ} → (line : CallLine) → line.number < 2 ^ 32 → rule_of line ≡ Some own → rule_at launch.calls.calls line.number ≡ Some own → passes launch line.number args → choices.Plains own args → can_for (rule_of line) → Performed launch creds table asks_plain (first_by line.number args pay.Nothing)
   plain_by line n is at t (choices.plain number) can =
       let has' : CapAtHand creds number = subst can_for is can in
       record {
-        performed = record {
-          call = first_by line.number no_words pay.Nothing;
-          doing = d.Plain number;
-          effect = f.Answer 0;
-          makes = make launch creds table line.number (rule.Plain number) no_words pay.Nothing (d.Plain number) (f.Answer 0) n zeros tt at refl t (cap_lets creds number (f.Answer 0) has');
-          doable = tt;
-          such = refl;
-        };
-        same = refl;
+        doing = d.Plain number;
+        effect = f.Answer 0;
+        makes = make launch creds table line.number (rule.Plain number) no_words pay.Nothing (d.Plain number) (f.Answer 0) n zeros tt at refl t (cap_lets creds number (f.Answer 0) has');
+        doable = tt;
+        such = refl;
       }
 
-  pub plain : (line : Line launch k.PlainCall) → can_for (rule_of line.line) → PlainDone line.line.number
+  pub plain : (line : Line launch k.PlainCall) → can_for (rule_of line.line) → Performed launch creds table asks_plain (first_by line.line.number line.args pay.Nothing)
   plain line can = plain_by line.line line.number line.is line.at line.through (choices.of_plains line.own line.args line.are) can
 
   -- a socket of a family
@@ -129,14 +120,14 @@ module _ (launch : Launch) (creds : Creds) (table : Table) where
   low n h = omega (arith, h)
 
   socket_by : {own : Rule} {args : List ℕ} → (nr : ℕ) → nr < 2 ^ 32 → rule_at launch.calls.calls nr ≡ Some own → passes launch nr args → (family : CallLine) → family.number < 2 ^ 32 → choices.Sockets family.number own args
-      → numbered family.number launch.calls.families ≡ Some family → CapAtHand creds family.cap → (p : Doing → Bool) → p (d.Socket family.number) ≡ true → Performed launch creds table p
+      → numbered family.number launch.calls.families ≡ Some family → CapAtHand creds family.cap → (p : Doing → Bool) → p (d.Socket family.number) ≡ true → Performed launch creds table p (first_by nr args pay.Nothing)
   socket_by nr n at t family small choices.socket found can p such =
       let word : family.number % 2 ^ 32 ≡ family.number = low family.number small in
       bare_call p nr (rule.Known known.Socket) (family.number ∷ 0 ∷ 0 ∷ 0 ∷ 0 ∷ 0 ∷ []) (d.Socket family.number) (f.Answer 3) n (six family.number 0 0 0 small (omega arith) (omega arith) (omega arith)) at t
       (ap (λ w. Some (d.Socket w)) word)
       (ap (socket_effect creds) found ∙ cap_lets creds family.cap (f.Answer 3) can) tt such
 
-  pub socket : (family : CallLine) → family.number < 2 ^ 32 → Line launch (k.ForFamily family.number) → numbered family.number launch.calls.families ≡ Some family → CapAtHand creds family.cap → (p : Doing → Bool) → p (d.Socket family.number) ≡ true → Performed launch creds table p
+  pub socket : (family : CallLine) → family.number < 2 ^ 32 → (line : Line launch (k.ForFamily family.number)) → numbered family.number launch.calls.families ≡ Some family → CapAtHand creds family.cap → (p : Doing → Bool) → p (d.Socket family.number) ≡ true → Performed launch creds table p (first_by line.line.number line.args pay.Nothing)
   socket family small line found can p such = socket_by line.line.number line.number line.at line.through family small (choices.of_sockets family.number line.own line.args line.are) found can p such
 
   -- a namespace of its own
@@ -157,14 +148,14 @@ module _ (launch : Launch) (creds : Creds) (table : Table) where
         by q.Uts = omega arith
 
     unshared : (space : Space) (effect : Effect) (nr : ℕ) → nr < 2 ^ 32 → rule_at launch.calls.calls nr ≡ Some (rule.Known known.Unshare) → passes launch nr (one_word 0 (flag_of space)) → d.doing_by (rule.Known known.Unshare) (one_word 0 (flag_of space)) pay.Nothing ≡ Some (d.Unshare (flag_of space))
-        → effect_of (host_at launch) (caller_at launch creds table) (d.Unshare (flag_of space)) ≡ effect → IsDoable effect → asks_space space (d.Unshare (flag_of space)) ≡ true → Performed launch creds table (asks_space space)
+        → effect_of (host_at launch) (caller_at launch creds table) (d.Unshare (flag_of space)) ≡ effect → IsDoable effect → asks_space space (d.Unshare (flag_of space)) ≡ true → Performed launch creds table (asks_space space) (first_by nr (one_word 0 (flag_of space)) pay.Nothing)
     unshared space effect nr n at t is e h such = bare_call (asks_space space) nr (rule.Known known.Unshare) (one_word 0 (flag_of space)) (d.Unshare (flag_of space)) effect n (flag_words space) at t is e h such
 
     cloned : (space : Space) (effect : Effect) (nr : ℕ) → nr < 2 ^ 32 → rule_at launch.calls.calls nr ≡ Some (rule.Known known.Clone) → passes launch nr (one_word 0 (flag_of space)) → d.doing_by (rule.Known known.Clone) (one_word 0 (flag_of space)) pay.Nothing ≡ Some (d.Clone (flag_of space))
-        → effect_of (host_at launch) (caller_at launch creds table) (d.Clone (flag_of space)) ≡ effect → IsDoable effect → asks_space space (d.Clone (flag_of space)) ≡ true → Performed launch creds table (asks_space space)
+        → effect_of (host_at launch) (caller_at launch creds table) (d.Clone (flag_of space)) ≡ effect → IsDoable effect → asks_space space (d.Clone (flag_of space)) ≡ true → Performed launch creds table (asks_space space) (first_by nr (one_word 0 (flag_of space)) pay.Nothing)
     cloned space effect nr n at t is e h such = bare_call (asks_space space) nr (rule.Known known.Clone) (one_word 0 (flag_of space)) (d.Clone (flag_of space)) effect n (flag_words space) at t is e h such
 
-    unshare_by : (space : Space) → is_user space ≡ false → (nr : ℕ) → nr < 2 ^ 32 → rule_at launch.calls.calls nr ≡ Some (rule.Known known.Unshare) → passes launch nr (one_word 0 (flag_of space)) → Performed launch creds table (asks_space space)
+    unshare_by : (space : Space) → is_user space ≡ false → (nr : ℕ) → nr < 2 ^ 32 → rule_at launch.calls.calls nr ≡ Some (rule.Known known.Unshare) → passes launch nr (one_word 0 (flag_of space)) → Performed launch creds table (asks_space space) (first_by nr (one_word 0 (flag_of space)) pay.Nothing)
     unshare_by q.Cgroup u nr n at t = unshared q.Cgroup (f.Answer 0) nr n at t refl (admits (f.Answer 0)) tt refl
     unshare_by q.Ipc u nr n at t = unshared q.Ipc (f.Answer 0) nr n at t refl (admits (f.Answer 0)) tt refl
     unshare_by q.Net u nr n at t = unshared q.Net (f.Answer 0) nr n at t refl (admits (f.Answer 0)) tt refl
@@ -173,7 +164,7 @@ module _ (launch : Launch) (creds : Creds) (table : Table) where
     unshare_by q.User u nr n at t = cc
     unshare_by q.Uts u nr n at t = unshared q.Uts (f.Answer 0) nr n at t refl (admits (f.Answer 0)) tt refl
 
-    clone_by : (space : Space) → is_user space ≡ false → (nr : ℕ) → nr < 2 ^ 32 → rule_at launch.calls.calls nr ≡ Some (rule.Known known.Clone) → passes launch nr (one_word 0 (flag_of space)) → Performed launch creds table (asks_space space)
+    clone_by : (space : Space) → is_user space ≡ false → (nr : ℕ) → nr < 2 ^ 32 → rule_at launch.calls.calls nr ≡ Some (rule.Known known.Clone) → passes launch nr (one_word 0 (flag_of space)) → Performed launch creds table (asks_space space) (first_by nr (one_word 0 (flag_of space)) pay.Nothing)
     clone_by q.Cgroup u nr n at t = cloned q.Cgroup (f.Child false) nr n at t refl (admits (f.Child false)) tt refl
     clone_by q.Ipc u nr n at t = cloned q.Ipc (f.Child false) nr n at t refl (admits (f.Child false)) tt refl
     clone_by q.Net u nr n at t = cloned q.Net (f.Child false) nr n at t refl (admits (f.Child false)) tt refl
@@ -182,9 +173,9 @@ module _ (launch : Launch) (creds : Creds) (table : Table) where
     clone_by q.User u nr n at t = cc
     clone_by q.Uts u nr n at t = cloned q.Uts (f.Child false) nr n at t refl (admits (f.Child false)) tt refl
 
-    space_by : {own : Rule} {args : List ℕ} → (space : Space) → is_user space ≡ false → (nr : ℕ) → nr < 2 ^ 32 → rule_at launch.calls.calls nr ≡ Some own → passes launch nr args → choices.Spaces space own args → Performed launch creds table (asks_space space)
+    space_by : {own : Rule} {args : List ℕ} → (space : Space) → is_user space ≡ false → (nr : ℕ) → nr < 2 ^ 32 → rule_at launch.calls.calls nr ≡ Some own → passes launch nr args → choices.Spaces space own args → Performed launch creds table (asks_space space) (first_by nr args pay.Nothing)
     space_by space u nr n at t choices.unshare = unshare_by space u nr n at t
     space_by space u nr n at t choices.clone = clone_by space u nr n at t
 
-    pub own_space : (space : Space) → is_user space ≡ false → Line launch (k.ForSpace space) → Performed launch creds table (asks_space space)
+    pub own_space : (space : Space) → is_user space ≡ false → (line : Line launch (k.ForSpace space)) → Performed launch creds table (asks_space space) (first_by line.line.number line.args pay.Nothing)
     own_space space u line = space_by space u line.line.number line.number line.at line.through (choices.of_spaces space line.own line.args line.are)

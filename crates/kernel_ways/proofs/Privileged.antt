@@ -29,6 +29,7 @@ use Rattle.call_names.specs.declared.rule.CallRule.TheVariants as known
 use Rattle.kernel_calls.specs.declared.rule.Rule.{Rule}
 use Rattle.kernel_calls.specs.Rules.{rule_at}
 use Rattle.kernel_ways.specs.Offers.{Offers, is_unlooked}
+use Rattle.kernel_ways.specs.Taking.{id_call, sets_call}
 use Rattle.kernel_ways.specs.Ways.{Makes}
 use Rattle.kernel_ways.proofs.Choices as choices
 use Rattle.kernel_ways.proofs.Lines.{Line, make, six, zeros, first_by}
@@ -47,15 +48,13 @@ module _ (launch : Launch) (o : Offers launch) (creds : Creds) (table : Table) w
     pub no_uid : asks k.TakesUid doing ≡ false
     pub no_gid : asks k.TakesGid doing ≡ false
 
-  pub record CredsCall (spares : Bool) (now : Creds) : Type 0 where
-    pub call : Call
+  pub record CredsCall (spares : Bool) (now : Creds) (call : Call) : Type 0 where
     pub doing : Doing
     pub makes : Makes launch creds table doing call (SetCreds now)
     pub no_uid : spares ≡ true → asks k.TakesUid doing ≡ false
     pub no_gid : asks k.TakesGid doing ≡ false
 
-  pub record GroupCall (now : Creds) : Type 0 where
-    pub call : Call
+  pub record GroupCall (now : Creds) (call : Call) : Type 0 where
     pub doing : Doing
     pub makes : Makes launch creds table doing call (SetCreds now)
 
@@ -111,9 +110,8 @@ module _ (launch : Launch) (o : Offers launch) (creds : Creds) (table : Table) w
     mount_call line = mount_by line.line.number line.number line.at line.through (choices.of_mounts line.own line.args line.are)
 
   capset_by : {own : Rule} {args : List ℕ} → (nr : ℕ) → nr < 2 ^ 32 → rule_at launch.calls.calls nr ≡ Some own → passes launch nr args → choices.SetsCaps own args
-      → (p e i : ℕ) → p < 2 ^ 41 → e < 2 ^ 41 → i < 2 ^ 41 → may_capset creds p e i ≡ true → CredsCall true (with_sets creds p e i)
+      → (p e i : ℕ) → p < 2 ^ 41 → e < 2 ^ 41 → i < 2 ^ 41 → may_capset creds p e i ≡ true → CredsCall true (with_sets creds p e i) (sets_call nr p e i)
   capset_by nr n at t choices.capset p e i hp he hi may = record {
-    call = first_by nr no_words (pay.Sets p e i);
     doing = d.Capset p e i;
     makes = make launch creds table nr (rule.Known known.Capset) no_words (pay.Sets p e i) (d.Capset p e i) (SetCreds (with_sets creds p e i)) n zeros (hp, he, hi) at refl t
         (ap (λ b. creds_effect (cond {A = Result Creds ℕ} b (Ok (with_sets creds p e i)) (Err 1))) may);
@@ -121,7 +119,7 @@ module _ (launch : Launch) (o : Offers launch) (creds : Creds) (table : Table) w
     no_gid = refl;
   }
 
-  pub capset_call : Line launch k.SetsCaps → (p e i : ℕ) → p < 2 ^ 41 → e < 2 ^ 41 → i < 2 ^ 41 → may_capset creds p e i ≡ true → CredsCall true (with_sets creds p e i)
+  pub capset_call : (line : Line launch k.SetsCaps) (p e i : ℕ) → p < 2 ^ 41 → e < 2 ^ 41 → i < 2 ^ 41 → may_capset creds p e i ≡ true → CredsCall true (with_sets creds p e i) (sets_call line.line.number p e i)
   capset_call line = capset_by line.line.number line.number line.at line.through (choices.of_setscaps line.own line.args line.are)
 
   -- all three ids by the capability
@@ -129,11 +127,10 @@ module _ (launch : Launch) (o : Offers launch) (creds : Creds) (table : Table) w
     word : id < 2 ^ 32
     word = omega (arith, small)
 
-    uid_by : {own : Rule} {args : List ℕ} → (nr : ℕ) → nr < 2 ^ 32 → rule_at launch.calls.calls nr ≡ Some own → passes launch nr args → choices.Uids own args → has creds.effective 7 ≡ true → CredsCall false (with_uids creds (all_of id))
+    uid_by : {own : Rule} {args : List ℕ} → (nr : ℕ) → nr < 2 ^ 32 → rule_at launch.calls.calls nr ≡ Some own → passes launch nr args → choices.Uids own args → has creds.effective 7 ≡ true → CredsCall false (with_uids creds (all_of id)) (id_call nr own id)
     uid_by nr n at t choices.setuid h =
         let w = six id 0 0 0 word (omega arith) (omega arith) (omega arith) in
         record {
-          call = first_by nr (id ∷ 0 ∷ 0 ∷ 0 ∷ 0 ∷ 0 ∷ []) pay.Nothing;
           doing = d.Setuid id;
           makes = make launch creds table nr (rule.Known known.Setuid) (id ∷ 0 ∷ 0 ∷ 0 ∷ 0 ∷ 0 ∷ []) pay.Nothing (d.Setuid id) (SetCreds (with_uids creds (all_of id))) n w tt at (ap (λ w. Some (d.Setuid w)) (low id word))
               (other nr (rule.Known known.Setuid) (id ∷ 0 ∷ 0 ∷ 0 ∷ 0 ∷ 0 ∷ []) n w at refl t) (rw (not_none id small, h) refl);
@@ -143,7 +140,6 @@ module _ (launch : Launch) (o : Offers launch) (creds : Creds) (table : Table) w
     uid_by nr n at t choices.setresuid h =
         let w = six id id id 0 word word word (omega arith) in
         record {
-          call = first_by nr (id ∷ id ∷ id ∷ 0 ∷ 0 ∷ 0 ∷ []) pay.Nothing;
           doing = d.Setresuid id id id;
           makes = make launch creds table nr (rule.Known known.Setresuid) (id ∷ id ∷ id ∷ 0 ∷ 0 ∷ 0 ∷ []) pay.Nothing (d.Setresuid id id id) (SetCreds (with_uids creds (all_of id))) n w tt at (ap (λ w. Some (d.Setresuid w w w)) (low id word))
               (other nr (rule.Known known.Setresuid) (id ∷ id ∷ id ∷ 0 ∷ 0 ∷ 0 ∷ []) n w at refl t) (rw (not_none id small, h) refl);
@@ -151,21 +147,20 @@ module _ (launch : Launch) (o : Offers launch) (creds : Creds) (table : Table) w
           no_gid = refl;
         }
 
-    pub uid_call : Line launch k.TakesUid → has creds.effective 7 ≡ true → CredsCall false (with_uids creds (all_of id))
+    pub uid_call : (line : Line launch k.TakesUid) → has creds.effective 7 ≡ true → CredsCall false (with_uids creds (all_of id)) (id_call line.line.number line.own id)
     uid_call line = uid_by line.line.number line.number line.at line.through (choices.of_uids line.own line.args line.are)
 
-    pub record GidCall : Type 0 where
+    pub record GidCall (call : Call) : Type 0 where
       pub now : Creds
-      pub change : GroupCall now
+      pub change : GroupCall now call
       pub has_gid : HasGid id now
 
-    gid_by : {own : Rule} {args : List ℕ} → (nr : ℕ) → nr < 2 ^ 32 → rule_at launch.calls.calls nr ≡ Some own → passes launch nr args → choices.Gids own args → has creds.effective 6 ≡ true → GidCall
+    gid_by : {own : Rule} {args : List ℕ} → (nr : ℕ) → nr < 2 ^ 32 → rule_at launch.calls.calls nr ≡ Some own → passes launch nr args → choices.Gids own args → has creds.effective 6 ≡ true → GidCall (id_call nr own id)
     gid_by nr n at t choices.setgid h =
         let w = six id 0 0 0 word (omega arith) (omega arith) (omega arith) in
         record {
           now = record creds { gids = all_of id };
           change = record {
-            call = first_by nr (id ∷ 0 ∷ 0 ∷ 0 ∷ 0 ∷ 0 ∷ []) pay.Nothing;
             doing = d.Setgid id;
             makes = make launch creds table nr (rule.Known known.Setgid) (id ∷ 0 ∷ 0 ∷ 0 ∷ 0 ∷ 0 ∷ []) pay.Nothing (d.Setgid id) (SetCreds (record creds { gids = all_of id })) n w tt at (ap (λ w. Some (d.Setgid w)) (low id word))
                 (other nr (rule.Known known.Setgid) (id ∷ 0 ∷ 0 ∷ 0 ∷ 0 ∷ 0 ∷ []) n w at refl t) (rw (not_none id small, h) refl);
@@ -177,7 +172,6 @@ module _ (launch : Launch) (o : Offers launch) (creds : Creds) (table : Table) w
         record {
           now = record creds { gids = all_of id };
           change = record {
-            call = first_by nr (id ∷ id ∷ id ∷ 0 ∷ 0 ∷ 0 ∷ []) pay.Nothing;
             doing = d.Setresgid id id id;
             makes = make launch creds table nr (rule.Known known.Setresgid) (id ∷ id ∷ id ∷ 0 ∷ 0 ∷ 0 ∷ []) pay.Nothing (d.Setresgid id id id) (SetCreds (record creds { gids = all_of id })) n w tt at (ap (λ w. Some (d.Setresgid w w w)) (low id word))
                 (other nr (rule.Known known.Setresgid) (id ∷ id ∷ id ∷ 0 ∷ 0 ∷ 0 ∷ []) n w at refl t) (rw (not_none id small, h) refl);
@@ -188,12 +182,11 @@ module _ (launch : Launch) (o : Offers launch) (creds : Creds) (table : Table) w
         record {
           now = record creds { groups = id ∷ [] };
           change = record {
-            call = first_by nr no_words (pay.Ids (id ∷ []));
             doing = d.Setgroups (id ∷ []);
             makes = make launch creds table nr (rule.Known known.Setgroups) no_words (pay.Ids (id ∷ [])) (d.Setgroups (id ∷ [])) (SetCreds (record creds { groups = id ∷ [] })) n zeros (word, tt) at refl t (rw h refl);
           };
           has_gid = inr (or_left (eqb id id) false (eq-eqb id id refl));
         }
 
-    pub gid_call : Line launch k.TakesGid → has creds.effective 6 ≡ true → GidCall
+    pub gid_call : (line : Line launch k.TakesGid) → has creds.effective 6 ≡ true → GidCall (id_call line.line.number line.own id)
     gid_call line = gid_by line.line.number line.number line.at line.through (choices.of_gids line.own line.args line.are)

@@ -18,6 +18,7 @@ use Rattle.call_table.specs.Table as calls
 use Rattle.cap_sets.specs.Sets.{all, within, IsWithin}
 use Rattle.cap_sets.proofs.Words.{and_below}
 use Rattle.cap_sets.proofs.Members.{within-from_IsWithin, within_through}
+use Rattle.filter_rules.specs.Refusing.{AreRefusing}
 use Rattle.filter_rules.specs.declared.settings.FilterSettings.{FilterSettings}
 use Rattle.linux_numbers.specs.Errnos.{eacces, eperm}
 use Rattle.linux_numbers.specs.Limits.{no_id}
@@ -54,7 +55,7 @@ use Rattle.kernel_laws.specs.Reach.{fits, Nowise}
 use Rattle.kernel_laws.proofs.Filters.{has_rule, found_number, lets_through}
 use Rattle.kernel_laws.proofs.Reach.{leads}
 use Rattle.kernel_laws.proofs.ReachLaws.{reach_of_the_table}
-use Rattle.launcher.specs.Launch.{Wanted, LaunchStep, Launched, PrivilegedProgram, number_of, first_call, launch_from, launch_steps, mount_steps, with_unshare, identity_steps, filter_steps, program_steps, is_privileged_row}
+use Rattle.launcher.specs.Launch.{Wanted, LaunchStep, Launched, launch, PrivilegedProgram, number_of, first_call, launch_from, launch_steps, mount_steps, with_unshare, identity_steps, filter_steps, program_steps, is_privileged_row}
 use Rattle.launcher.specs.LaunchedWorlds.{IsMeant}
 use Rattle.launcher.specs.Launches.{HasLaunchCalls, AreRead}
 use Rattle.launcher.proofs.HostRoot.{BeginsAtHostRoot, begins_at_host}
@@ -68,8 +69,8 @@ use Rattle.mount_plan.specs.Host.{host_of as site_host}
 use Rattle.reach_paths.specs.Finding.{FindsRow}
 use Rattle.reach_paths.proofs.Found.{exactly}
 use Rattle.kernel_ways.specs.Laws.{IsServedWorld}
-use Rattle.kernel_ways.specs.Launching.{LaunchedIsServed}
-use Rattle.kernel_ways.specs.Offers.{Offers, HasProgram}
+use Rattle.kernel_ways.specs.Launching.{LaunchedIsServed, LaunchedRunsProgram}
+use Rattle.kernel_ways.specs.Offers.{Offers, HasProgram, RunsProgram}
 use Rattle.kernel_ways.proofs.Counting.{few_tables}
 use Rattle.kernel_ways.proofs.Lines.{zeros}
 use Rattle.kernel_ways.proofs.Rows.{known_found}
@@ -246,31 +247,52 @@ read_means settings table [] (code ∷ stack) read each = absurd read
 read_means settings table (bytes ∷ programs) [] read each = absurd read
 read_means settings table (bytes ∷ programs) (code ∷ stack) read each = (each.0 code read.0, read_means settings table programs stack read.1 each.1)
 
+-- the facts of the world that a launch leaves
+record Facts (launch : Launch) (path : Path) (last : World) : Type 0 where
+  served : IsServedWorld last
+  is : launch_of last ≡ launch
+  program : Row
+  found : finds (row_at launch.site.rows) launch.table path ≡ row program
+  exe : is_exe program.kind ≡ true
+  leave : (flags_at launch.table path).no_exec ≡ false
+  plain : is_privileged (marks_of program) ≡ false
+
+module _ (settings : FilterSettings) (table : calls.Table) (site : Site) (wanted : Wanted) (plan : Table) (last : World) (steps : ℕ) (whole : IsWhole table) (arch : table.arch < 2 ^ 32) (is : IsSite site) (refusing : AreRefusing settings) (can : CanBeMounted (site_host site) plan) (small : wanted.uid < no_id) (meant : AllByRecursion (IsMeant settings table) wanted.programs) (e : launch table site wanted plan ≡ Launched last steps) where
+  facts_by : (b : Bool) → is_privileged_row (finds (row_at site.rows) plan wanted.program) ≡ b
+      → cond b (PrivilegedProgram wanted.program) (launch_from (start_world table site) (launch_steps table.calls wanted plan) 0) ≡ Launched last steps → (own : Launch) × Facts own wanted.program last
+  facts_by true priv e' = cc
+  facts_by false unmarked e' =
+      let calls' = launch_calls table whole in
+      let l = (launched_leads (start_world table site) (launch_steps table.calls wanted plan) 0 last steps e').0 in
+      let x = launches table site calls' wanted plan last (begins_at_host (site_host site) plan can) small l in
+      let ran' = x.ends.ran in
+      let own : Launch = record { calls = table; site = site; creds = ran'.after; stack = x.stack; table = plan } in
+      let world : IsLaunchedWorld last = launched_is_world settings table site wanted plan last steps whole arch refusing can small meant e in
+      let launched : IsLaunched own = subst IsLaunched x.ends.is world.launched in
+      let bounded : IsWithin ran'.after.bounding all = subst (λ (set : ℕ). IsWithin set all) (sym ran'.bounding) x.ends.ready.has.bounding in
+      let plain : is_privileged (marks_of ran'.program) ≡ false = ap (λ b. b && is_privileged (marks_of ran'.program)) (sym ran'.exe) ∙ ap is_privileged_row (sym ran'.is) ∙ unmarked in
+      let offers : Offers own = record {
+        calls = whole.sound;
+        site = is;
+        plan = can;
+        program = has_program own launched whole is can wanted.program ran'.program ran'.is ran'.exe ran'.leave plain;
+        execs = execs own launched whole is can (number_of table.calls (codes "execve")) calls'.execve x.ends.through;
+        bounding = small_set ran'.after.bounding bounded;
+        inheritable = small_set ran'.after.inheritable (within_through ran'.after.inheritable ran'.after.bounding all launched.inheritable_bounding bounded);
+        alike = settings_pass_alike own settings arch (read_means settings table wanted.programs x.stack x.read meant) launched.plain;
+      } in
+      let few = few_tables table calls' wanted site plan last l in
+      (own, record { served = record { launched = world; few = omega (arith, few); offers = subst Offers (sym x.ends.is) offers }; is = x.ends.is; program = ran'.program; found = ran'.is; exe = ran'.exe; leave = ran'.leave; plain = plain })
+
+  facts : (own : Launch) × Facts own wanted.program last
+  facts = facts_by (is_privileged_row (finds (row_at site.rows) plan wanted.program)) refl e
+
 pub launched_is_served : LaunchedIsServed
-launched_is_served settings table site wanted plan last steps whole arch is refusing can small meant e = by (is_privileged_row (finds (row_at site.rows) plan wanted.program)) refl e
-  where
-    by : (b : Bool) → is_privileged_row (finds (row_at site.rows) plan wanted.program) ≡ b
-        → cond b (PrivilegedProgram wanted.program) (launch_from (start_world table site) (launch_steps table.calls wanted plan) 0) ≡ Launched last steps → IsServedWorld last
-    by true priv e' = cc
-    by false unmarked e' =
-        let calls' = launch_calls table whole in
-        let l = (launched_leads (start_world table site) (launch_steps table.calls wanted plan) 0 last steps e').0 in
-        let x = launches table site calls' wanted plan last (begins_at_host (site_host site) plan can) small l in
-        let ran' = x.ends.ran in
-        let own : Launch = record { calls = table; site = site; creds = ran'.after; stack = x.stack; table = plan } in
-        let world : IsLaunchedWorld last = launched_is_world settings table site wanted plan last steps whole arch refusing can small meant e in
-        let launched : IsLaunched own = subst IsLaunched x.ends.is world.launched in
-        let bounded : IsWithin ran'.after.bounding all = subst (λ (set : ℕ). IsWithin set all) (sym ran'.bounding) x.ends.ready.has.bounding in
-        let plain : is_privileged (marks_of ran'.program) ≡ false = ap (λ b. b && is_privileged (marks_of ran'.program)) (sym ran'.exe) ∙ ap is_privileged_row (sym ran'.is) ∙ unmarked in
-        let offers : Offers own = record {
-          calls = whole.sound;
-          site = is;
-          plan = can;
-          program = has_program own launched whole is can wanted.program ran'.program ran'.is ran'.exe ran'.leave plain;
-          execs = execs own launched whole is can (number_of table.calls (codes "execve")) calls'.execve x.ends.through;
-          bounding = small_set ran'.after.bounding bounded;
-          inheritable = small_set ran'.after.inheritable (within_through ran'.after.inheritable ran'.after.bounding all launched.inheritable_bounding bounded);
-          alike = settings_pass_alike own settings arch (read_means settings table wanted.programs x.stack x.read meant) launched.plain;
-        } in
-        let few = few_tables table calls' wanted site plan last l in
-        record { launched = world; few = omega (arith, few); offers = subst Offers (sym x.ends.is) offers }
+launched_is_served settings table site wanted plan last steps whole arch is refusing can small meant e = (facts settings table site wanted plan last steps whole arch is refusing can small meant e).1.served
+
+pub launched_runs_program : LaunchedRunsProgram
+launched_runs_program settings table site wanted plan last steps whole arch is refusing can small meant named e =
+    let f = facts settings table site wanted plan last steps whole arch is refusing can small meant e in
+    let found : FindsRow (row_at f.0.site.rows) f.0.table ToExec f.1.program = record { path = wanted.program; can_be_named = named; is_found = f.1.found; is_allowed = ap not f.1.leave } in
+    let runs : RunsProgram f.0 wanted.program = (record { program = f.1.program; found = found; exe = f.1.exe; plain = f.1.plain }, refl) in
+    subst (λ (l : Launch). RunsProgram l wanted.program) (sym f.1.is) runs

@@ -16,6 +16,7 @@ use Rattle.kernel_calls.specs.declared.call.Call.{Call}
 use Rattle.kernel_calls.specs.Calls.{IsPath}
 use Rattle.kernel_laws.specs.Denied.{asks_space, asks_map, asks_protect, asks_attach, asks_realtime, asks_personality, asks_mode, asks_family, is_family}
 use Rattle.kernel_calls.specs.Doing as d
+use Rattle.kernel_calls.specs.declared.payload.Payload.TheVariants as pay
 use Rattle.kernel_calls.specs.Doing.{Doing}
 use Rattle.kernel_model.specs.Effects.{SetCreds}
 use Rattle.kern_files.specs.Looking.{flags_at}
@@ -37,7 +38,7 @@ use Rattle.kernel_ways.specs.Offers.{Offers}
 use Rattle.kernel_ways.specs.Showing.{Answers}
 use Rattle.kernel_ways.specs.Ways.{Way, here, IsSolo}
 use Rattle.kernel_ways.proofs.Solo.{way_join}
-use Rattle.kernel_ways.proofs.Lines.{Line, low_number, some_line, line_at}
+use Rattle.kernel_ways.proofs.Lines.{Line, first_by, low_number, some_line, line_at}
 use Rattle.kernel_ways.proofs.Doings.{PathCall, Performed, see_path, read_path, write_path, exec_path}
 use Rattle.kernel_ways.proofs.Performing as performing
 use Rattle.kernel_ways.proofs.Performing.{CapAtHand}
@@ -56,15 +57,15 @@ unmarked = 4130
 module _ (world : World) (launch : Launch) (l : IsLaunched launch) (o : Offers launch) (s : IsSolo launch launch.creds launch.table world) where
   -- ---- rows
   by_path : (wish : Wish) (place : ℕ) (target : Row) → slice_get launch.site.rows place ≡ Some target → {calls : List Call} → (creds : Creds) (now : Table) → Way launch launch.creds launch.table calls creds now
-      → (path : Path) → finds (row_at launch.site.rows) now path ≡ row target → PathCall launch creds now wish path → IsShown world (q.ByPath wish place)
-  by_path wish place target listed {calls = calls} creds now way path found c =
-      (calls ++ c.call ∷ [], calls_show launch launch.creds creds launch.table now world calls (q.ByPath wish place) c.doing c.call c.effect s way c.makes c.doable (path, target, c.wanted, listed, found))
+      → (path : Path) → finds (row_at launch.site.rows) now path ≡ row target → {call : Call} → PathCall launch creds now wish path call → IsShown world (q.ByPath wish place)
+  by_path wish place target listed {calls = calls} creds now way path found {call = call} c =
+      (calls ++ call ∷ [], calls_show launch launch.creds creds launch.table now world calls (q.ByPath wish place) c.doing call c.effect s way c.makes c.doable (path, target, c.wanted, listed, found))
 
   exec_call : (creds : Creds) (now : Table) (path : Path) → IsPath path → (target : Row) → finds (row_at launch.site.rows) now path ≡ row target → is_exe target.kind ≡ true → fits ToExec (flags_at now path) ≡ true
-      → is_refused creds (marks_of target) (flags_at now path).no_suid ≡ false → Line launch (k.ForPath ToExec) → PathCall launch creds now ToExec path
+      → is_refused creds (marks_of target) (flags_at now path).no_suid ≡ false → (line : Line launch (k.ForPath ToExec)) → PathCall launch creds now ToExec path (first_by line.line.number line.args (pay.OnePath path))
   exec_call creds now path fit target found exe runs admitted line =
       let x = exec_path launch creds now path fit target found exe runs admitted line in
-      record { call = x.call; doing = d.Execve path; effect = SetCreds (exec_done creds (marks_of target) (flags_at now path).no_suid); makes = x.makes; doable = tt; wanted = refl }
+      record { doing = d.Execve path; effect = SetCreds (exec_done creds (marks_of target) (flags_at now path).no_suid); makes = x; doable = tt; wanted = refl }
 
   -- from the launch to the row at the launch's power
   module _ (place : ℕ) (target : Row) (listed : slice_get launch.site.rows place ≡ Some target) where
@@ -150,10 +151,10 @@ module _ (world : World) (launch : Launch) (l : IsLaunched launch) (o : Offers l
   having None e = record { calls = []; creds = launch.creds; now = launch.table; way = here; can = tt }
   having (Some number) e = let x = attained launch l o number e in let g = x.1 in record { calls = g.calls; creds = g.creds; now = x.0; way = g.way; can = g.holds }
 
-  by_performed : (question : Question) (p : Doing → Bool) {calls : List Call} (creds : Creds) (now : Table) → Way launch launch.creds launch.table calls creds now → (x : Performed launch creds now p) → Answers launch now question x.call x.doing → IsShown world question
-  by_performed question p {calls = calls} creds now way x a = (calls ++ x.call ∷ [], calls_show launch launch.creds creds launch.table now world calls question x.doing x.call x.effect s way x.makes x.doable a)
+  by_performed : (question : Question) (p : Doing → Bool) {calls : List Call} (creds : Creds) (now : Table) → Way launch launch.creds launch.table calls creds now → {call : Call} → (x : Performed launch creds now p call) → Answers launch now question call x.doing → IsShown world question
+  by_performed question p {calls = calls} creds now way {call = call} x a = (calls ++ call ∷ [], calls_show launch launch.creds creds launch.table now world calls question x.doing call x.effect s way x.makes x.doable a)
 
-  at_once : (question : Question) (p : Doing → Bool) → (x : Performed launch launch.creds launch.table p) → Answers launch launch.table question x.call x.doing → IsShown world question
+  at_once : (question : Question) (p : Doing → Bool) → {call : Call} → (x : Performed launch launch.creds launch.table p call) → Answers launch launch.table question call x.doing → IsShown world question
   at_once question p x = by_performed question p launch.creds launch.table here x
 
   shown_map : lets launch k.MapsWx ≡ true → IsShown world q.MapWx
@@ -188,8 +189,8 @@ module _ (world : World) (launch : Launch) (l : IsLaunched launch) (o : Offers l
       let w = having r.0 cap' in
       let can = subst (performing.can_for launch w.creds w.now) (sym r.1) w.can in
       let x = performing.plain launch w.creds w.now own.0 can in
-      let number : x.performed.call.nr ≡ line.number = x.same ∙ ap (λ (c : CallLine). c.number) own.1 in
-      by_performed (q.Call place) k.asks_plain w.creds w.now w.way x.performed (line, listed, number)
+      let number : own.0.line.number ≡ line.number = ap (λ (c : CallLine). c.number) own.1 in
+      by_performed (q.Call place) k.asks_plain w.creds w.now w.way x (line, listed, number)
 
   shown_socket : (place : ℕ) (line : CallLine) → slice_get launch.calls.families place ≡ Some line → lets launch (k.ForFamily line.number) ≡ true → can_have_cap (ceiling launch) line.cap ≡ true → IsShown world (q.Socket place)
   shown_socket place line listed e h =

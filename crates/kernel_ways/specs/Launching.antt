@@ -12,7 +12,8 @@ use Rattle.filter_rules.specs.declared.settings.FilterSettings.{FilterSettings}
 use Rattle.kern_mounts.specs.Launch.{CanBeMounted}
 use Rattle.kern_mounts.specs.Split.{Table}
 use Rattle.kernel_laws.specs.FirstChoice.{Means}
-use Rattle.kernel_laws.specs.Launched.{Launch}
+use Rattle.kernel_calls.specs.Calls.{IsPath}
+use Rattle.kernel_laws.specs.Launched.{Launch, launch_of}
 use Rattle.kernel_model.specs.World.{World}
 use Rattle.launcher.specs.Launch.{Wanted, Launched, launch}
 use Rattle.launcher.specs.LaunchedWorlds.{IsMeant}
@@ -20,7 +21,7 @@ use Rattle.linux_numbers.specs.Limits.{no_id}
 use Rattle.mount_plan.specs.Host.{host_of}
 use Rattle.site_table.specs.Table.{Site, IsSite}
 use Rattle.kernel_ways.specs.Laws.{IsServedWorld}
-use Rattle.kernel_ways.specs.Offers.{PassesAlike}
+use Rattle.kernel_ways.specs.Offers.{PassesAlike, RunsProgram}
 
 -- programs that decide as filters of settings let execve(2), mount(2), umount2(2), capset(2) and the calls that set ids through by
 -- their numbers alone
@@ -34,3 +35,10 @@ LaunchedIsServed = (settings : FilterSettings) (table : calls.Table) (site : Sit
     → IsWhole table → table.arch < 2 ^ 32 → IsSite site → AreRefusing settings → CanBeMounted (host_of site) plan
     → wanted.uid < no_id → AllByRecursion (IsMeant settings table) wanted.programs
     → launch table site wanted plan ≡ Launched last steps → IsServedWorld last
+
+-- and the path that the settings give finds its program, with no mark, on a mount that runs programs
+abbrev pub LaunchedRunsProgram : Type 0
+LaunchedRunsProgram = (settings : FilterSettings) (table : calls.Table) (site : Site) (wanted : Wanted) (plan : Table) (last : World) (steps : ℕ)
+    → IsWhole table → table.arch < 2 ^ 32 → IsSite site → AreRefusing settings → CanBeMounted (host_of site) plan
+    → wanted.uid < no_id → AllByRecursion (IsMeant settings table) wanted.programs → IsPath wanted.program
+    → launch table site wanted plan ≡ Launched last steps → RunsProgram (launch_of last) wanted.program

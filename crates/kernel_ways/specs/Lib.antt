@@ -3,6 +3,8 @@ pub mod Laws
 pub mod Ways
 pub mod Showing
 pub mod Uncovering
+pub mod Taking
 pub mod Exposures
 pub mod Launching
 pub mod Spared
+pub mod Blindness

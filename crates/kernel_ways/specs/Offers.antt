@@ -1,6 +1,7 @@
 -- What a launched service has beside the facts that bound it: tables that were read, a plan that was mounted, a program that runs,
 -- and filters that do not look at the words of some calls. With these, what is open can be shown.
 use Rattle.std.specs.Prelude.{◌≡◌, ℕ, ◌<◌, ◌^◌, Bool, true, false, List, Some}
+use Rattle.abs_path.specs.Paths.{Path}
 use Rattle.call_names.specs.declared.rule.CallRule.TheVariants.{Execve, Mount, Umount, Setuid, Setgid, Setresuid, Setresgid, Setgroups, Capset}
 use Rattle.call_table.specs.Facts.{IsTable}
 use Rattle.site_table.specs.declared.row.Row.{Row}
@@ -41,6 +42,10 @@ pub record HasProgram (launch : Launch) : Type 0 where
   pub found : FindsRow (row_at launch.site.rows) launch.table ToExec program
   pub exe : is_exe program.kind ≡ true
   pub plain : is_privileged (marks_of program) ≡ false
+
+-- this path finds it
+abbrev pub RunsProgram : Launch → Path → Type 0
+RunsProgram launch path = (runs : HasProgram launch) × (runs.found.path ≡ path)
 
 pub record Offers (launch : Launch) : Type 0 where
   pub calls : IsTable launch.calls

@@ -5,8 +5,9 @@
 //! crates that judge and that print calls cite its words.
 #![tactic(auto)]
 
+ghost use Rattle.kernel_ways.specs.Blindness.{BlindIsExact};
 ghost use Rattle.kernel_ways.specs.Exposures.{UnmountsShowRow, UnmountsShowRowAtOnce, TwoMountsShowRows, TwoMountsShowRowsAtOnce};
-ghost use Rattle.kernel_ways.specs.Launching.{SettingsPassAlike, LaunchedIsServed};
+ghost use Rattle.kernel_ways.specs.Launching.{SettingsPassAlike, LaunchedIsServed, LaunchedRunsProgram};
 ghost use Rattle.kernel_ways.specs.Laws.{OpenIsShown, VerdictIsExact, ListedAreFit, QuestionsAreExact, CeilingIsExact};
 ghost use Rattle.kernel_ways.specs.Showing.{WaysAreDone, ServedIsSolo, CallsShow, CredsShow};
 ghost use Rattle.kernel_ways.specs.Spared.{SparedIdsAreBounded, SparedIdsAreReached};
@@ -24,6 +25,7 @@ pub fn openness()
 pub fn launches()
     ensures pass_alike { SettingsPassAlike }
     ensures leave_a_served_world { LaunchedIsServed }
+    ensures run_their_program { LaunchedRunsProgram }
 {}
 
 /// The uids that are reached without the use of CAP_SETUID, and the gids without the use of CAP_SETGID.
@@ -48,4 +50,10 @@ pub fn exposures()
     ensures by_unmounts_at_once { UnmountsShowRowAtOnce }
     ensures by_mounts { TwoMountsShowRows }
     ensures by_mounts_at_once { TwoMountsShowRowsAtOnce }
+{}
+
+/// A folder of the host is blind by the launched mount table exactly where no list of calls leads to a world in which a path shows
+/// what lies below it; where it is not blind, some list of calls, each of which is done, leads to one.
+pub fn blindness()
+    ensures exact { BlindIsExact }
 {}

@@ -1,0 +1,247 @@
+-- What is not blind by the launched table calls expose: no call, calls of umount2(2), or one of mount(2).
+use Rattle.std.proofs.Common.{◌≡◌, ◌∙◌, ◌≤◌, ℕ, Bool, true, false, List, [], ◌∷◌, ◌++◌, Option, Some, None, Result, Ok, Err, refl, cond, ap, sym, subst, length, length-append, arith}
+use Rattle.std.specs.Prelude.{codes, slice_get, nat_lt, option_and_then, ◌+◌, ◌-◌}
+use Rattle.std.specs.List.{AllByRecursion}
+use Rattle.std.proofs.lemmas.Bool.{and_from, not-false}
+use Rattle.std.proofs.lemmas.List.Folds.{list_all-append}
+use Rattle.linux_numbers.specs.Errnos.{enospc, enotdir}
+use Rattle.linux_numbers.specs.Limits.{mount_max}
+use Rattle.abs_path.specs.Paths.{Path, tail_of, text_of, is_part}
+use Rattle.abs_path.specs.Prefix.{is_prefix, is_below, rest_of}
+use Rattle.abs_path.proofs.ByteOrder.{tail-append}
+use Rattle.abs_path.proofs.Prefixes.{prefix-append}
+use Rattle.cap_sets.specs.Sets.{has}
+use Rattle.site_table.specs.declared.row.Row.{Row}
+use Rattle.site_table.specs.Table.{row_at}
+use Rattle.kern_creds.specs.declared.creds.Creds.{Creds}
+use Rattle.kern_mounts.specs.Bind.{bound, bound_entry, object_at, after_bind}
+use Rattle.kern_mounts.specs.Entry.{leads_to, entry_of}
+use Rattle.kern_mounts.specs.Finds.{finds, host_place, host_place_by}
+use Rattle.kern_mounts.specs.Launch.{BeginsAtRoot, HasShortPlace, proc}
+use Rattle.kern_mounts.specs.Split.{Table, Split, split_at}
+use Rattle.kern_mounts.specs.Unmounts.{IsOrdered, IsPart, nothing, keeps, leaves}
+use Rattle.kern_mounts.specs.declared.step.MountStep.{MountStep}
+use Rattle.kern_mounts.specs.declared.step.What.TheVariants.{Host}
+use Rattle.kern_mounts.proofs.Entries.{entry_push}
+use Rattle.kern_mounts.proofs.Leaving.{ascending_is_ordered}
+use Rattle.kern_mounts.proofs.Splits.{IsSplit, split_some}
+use Rattle.kern_mounts.proofs.Unmounting.{append_all, trimmed_part, unmounts_trim}
+use Rattle.kern_files.specs.MountCall.{ms_bind, ms_remount_bind, kind_found, is_same_kind, target_kind, bind_found, mount_onto, after_mount}
+use Rattle.kernel_calls.specs.Calls.{IsPath}
+use Rattle.kernel_calls.specs.declared.call.Call.{Call}
+use Rattle.kernel_model.specs.Runs.{run}
+use Rattle.kernel_model.specs.World.{World, table_of, table_or}
+use Rattle.kernel_laws.specs.Blind.{exposes, blind_at, is_blind, IsSmall, IsFolder}
+use Rattle.kernel_laws.specs.Bound.{caps_at, power_of}
+use Rattle.kernel_laws.specs.Denied.{Exposes, IsBlind}
+use Rattle.kernel_laws.specs.Kinds.{ChangesMounts, RemovesMounts}
+use Rattle.kernel_laws.specs.Launched.{Launch, IsLaunched, launch_of, lets}
+use Rattle.kernel_laws.specs.Reach.{Power, Nowise, Unmounting, Mounting}
+use Rattle.kernel_laws.proofs.Blind.{blind_is_sound, seen_exposes}
+use Rattle.kernel_laws.proofs.Exposed.{below_by_part, exposed_at_once, exposes_by_unmounts, exposes_seen}
+use Rattle.reach_paths.proofs.Mounted.{mounted_twice}
+use Rattle.reach_paths.proofs.Parts.{part_all}
+use Rattle.kernel_ways.specs.Blindness.{IsExposed, IsBlindExactly, BlindIsExact}
+use Rattle.kernel_ways.specs.Laws.{IsServedWorld}
+use Rattle.kernel_ways.specs.Offers.{Offers}
+use Rattle.kernel_ways.specs.Ways.{Way, here, by_table, IsSolo, solo_world, solo_process}
+use Rattle.kernel_ways.proofs.Attained.{admin_gained}
+use Rattle.kernel_ways.proofs.Exposing.{way_unmounts, unmounts_pass, mounts_pass}
+use Rattle.kernel_ways.proofs.Lines.{some_line}
+use Rattle.kernel_ways.proofs.Privileged.{mount_call}
+use Rattle.kernel_ways.proofs.Solo.{way_join, way_runs}
+use Rattle.kernel_ways.proofs.Starts.{starts_solo}
+
+-- ---- a bind of the root at the folder of the processes
+-- it adds the object of the entry that the root belongs to
+record AddsAtProc (table now : Table) : Type 0 where
+  split : Split
+  own : split_at [] table ≡ Some split
+  now_is : now ≡ table ++ bound_entry [] proc split.entry ∷ []
+
+adds_at_proc : (rows : Path → Option Row) (table now : Table) → after_mount rows table [] proc ms_bind ≡ Ok now → AddsAtProc table now
+adds_at_proc rows table now e = by_target (target_kind rows table proc) e
+  where
+    by_room : (split : Split) → split_at [] table ≡ Some split → (full : Bool) → cond {A = Result Table ℕ} full (Err enospc) (Ok (table ++ bound_entry [] proc split.entry ∷ [])) ≡ Ok now → AddsAtProc table now
+    by_room split is true e = cc
+    by_room split is false e = (let same : table ++ bound_entry [] proc split.entry ∷ [] ≡ now = cc in record { split = split; own = is; now_is = sym same })
+
+    by_split : (o : Option Split) → split_at [] table ≡ o → bound table [] proc false o ≡ Ok now → AddsAtProc table now
+    by_split None is e = cc
+    by_split (Some split) is e = by_room split is (nat_lt mount_max (length table + 1)) e
+
+    by_kind : (same : Bool) → cond {A = Result Table ℕ} same (after_bind table [] proc false) (Err enotdir) ≡ Ok now → AddsAtProc table now
+    by_kind true e = by_split (split_at [] table) refl e
+    by_kind false e = cc
+
+    by_source : (own : Result Bool ℕ) (directory : Bool) → bind_found table [] proc false directory own ≡ Ok now → AddsAtProc table now
+    by_source (Err errno) directory e = cc
+    by_source (Ok own) directory e = by_kind (is_same_kind own directory) e
+
+    by_target : (target : Result Bool ℕ) → mount_onto rows table [] proc ms_bind target ≡ Ok now → AddsAtProc table now
+    by_target (Err errno) e = cc
+    by_target (Ok directory) e = by_source (kind_found (finds rows table [])) directory e
+
+-- and that is the first entry, the root of the host
+record IsHostRoot (entry : MountStep) : Type 0 where
+  place : entry.place ≡ []
+  host : entry.what ≡ Host []
+
+leads_root : (place : Path) → is_prefix place [] ≡ true → place ≡ []
+leads_root [] h = refl
+leads_root (part ∷ place) h = cc
+
+root_entry : (table : Table) → BeginsAtRoot table → IsOrdered table → (split : Split) → split_at [] table ≡ Some split → IsHostRoot split.entry
+root_entry [] begins ordered split e = absurd begins
+root_entry (first ∷ rest) begins ordered split e = by split.earlier is.whole
+  where
+    is : IsSplit (leads_to []) (first ∷ rest) split
+    is = split_some (leads_to []) (first ∷ rest) split e
+
+    by : (earlier : Table) → first ∷ rest ≡ earlier ++ split.entry ∷ split.later → IsHostRoot split.entry
+    by [] whole =
+        let same : first ≡ split.entry = cc in
+        subst (λ (step : MountStep). IsHostRoot step) same (record { place = begins.0; host = begins.1 })
+    by (head ∷ earlier) whole =
+        let tail : rest ≡ earlier ++ split.entry ∷ split.later = cc in
+        let apart : is_prefix split.entry.place first.place ≡ false = append_all (λ other. is_prefix other.place first.place ≡ false) earlier split.entry split.later (subst (AllByRecursion (λ other. is_prefix other.place first.place ≡ false)) tail ordered.0) in
+        let clash : true ≡ false = ap (λ (place : Path). is_prefix place first.place) (sym (leads_root split.entry.place is.has)) ∙ apart in
+        cc
+
+-- so each path of the host is shown below that folder
+shown_below_proc : (table now : Table) → BeginsAtRoot table → IsOrdered table → AddsAtProc table now → (path : Path) → host_place now (proc ++ path) ≡ Some path
+shown_below_proc table now begins ordered adds path =
+    let entry = adds.split.entry in
+    let root = root_entry table begins ordered adds.split adds.own in
+    let new = bound_entry [] proc entry in
+    let what : new.what ≡ Host [] = ap (object_at [] entry) root.host ∙ ap (λ (place : Path). Host (rest_of place [])) root.place in
+    let own : entry_of (table ++ new ∷ []) (proc ++ path) ≡ Some new = entry_push table new (proc ++ path) ∙ ap (λ b. cond b (Some new) (entry_of table (proc ++ path))) (prefix-append proc path) in
+    ap (λ (t : Table). host_place t (proc ++ path)) adds.now_is
+    ∙ ap (λ o. option_and_then (λ step. host_place_by step.what step.place (proc ++ path)) o) own
+    ∙ ap (λ w. host_place_by w proc (proc ++ path)) what
+
+-- ---- paths that a call can name
+root_named : IsPath []
+root_named = record { normal = refl; short = omega arith }
+
+proc_named : IsPath proc
+proc_named = record { normal = refl; short = omega arith }
+
+tail_short : (path : Path) → length (text_of path) ≤ 250 → length (tail_of path) ≤ 250
+tail_short [] h = omega arith
+tail_short (part ∷ path) h = h
+
+abbrev part : List ℕ
+part = codes "x"
+
+-- a part below the folder, below the folder of the processes
+part_named : (folder : Path) → IsFolder folder → IsPath (proc ++ (folder ++ part ∷ []))
+part_named folder f =
+    let tail : tail_of (folder ++ part ∷ []) ≡ tail_of folder ++ tail_of (part ∷ []) = tail-append folder (part ∷ []) in
+    let size : length (tail_of (folder ++ part ∷ [])) ≡ length (tail_of folder) + 2 = ap (λ (text : List ℕ). length text) tail ∙ length-append (tail_of folder) (tail_of (part ∷ [])) in
+    let whole : length (tail_of (proc ++ (folder ++ part ∷ []))) ≡ 5 + length (tail_of (folder ++ part ∷ [])) = omega (arith, length-append (codes "proc") (tail_of (folder ++ part ∷ []))) in
+    record {
+      normal = list_all-append is_part folder (part ∷ []) ∙ and_from _ _ f.normal refl;
+      short = omega (arith, whole, size, tail_short folder f.short);
+    }
+
+-- ---- tables of ways
+-- a path that a call can name shows a place below the folder
+record Sees (folder : Path) (table : Table) : Type 0 where
+  path : Path
+  fits : IsPath path
+  place : Path
+  shown : host_place table path ≡ Some place
+  below : is_below place folder ≡ true
+
+part_length : {part table : Table} → IsPart part table → length part ≤ length table
+part_length nothing = omega arith
+part_length (keeps entry p) = omega (arith, part_length p)
+part_length (leaves entry p) = omega (arith, part_length p)
+
+sees_exposes : (launch : Launch) (creds : Creds) (table : Table) (world : World) → IsSolo launch creds table world → (folder : Path) → Sees folder table → Exposes folder world
+sees_exposes launch creds table world s folder sees =
+    let own : World = solo_world launch creds s.namespace s.tables in
+    let table_is : table_of own s.namespace ≡ table = ap (λ b. table_or (cond b None (slice_get s.tables (s.namespace - 1)))) s.numbered ∙ ap table_or s.own in
+    subst (λ (w : World). Exposes folder w) (sym s.is) (record {
+      pid = 1;
+      process = solo_process launch creds s.namespace;
+      lives = refl;
+      path = sees.path;
+      fits = sees.fits;
+      place = sees.place;
+      shown = ap (λ (t : Table). host_place t sees.path) table_is ∙ sees.shown;
+      below = sees.below;
+    })
+
+module _ (world : World) (s : IsServedWorld world) (folder : Path) (f : IsFolder folder) where
+  abbrev launch : Launch
+  launch = launch_of world
+
+  abbrev l : IsLaunched launch
+  l = s.launched.launched
+
+  abbrev o : Offers launch
+  o = s.offers
+
+  small : IsSmall launch.table
+  small = record { few = o.plan.few; places = o.plan.places_are_short }
+
+  ordered : IsOrdered launch.table
+  ordered = ascending_is_ordered launch.table o.plan.places_ascend
+
+  -- a part of the launched table is as small
+  small_part : (now : Table) → IsPart now launch.table → IsSmall now
+  small_part now part = record { few = omega (arith, part_length part, o.plan.few); places = part_all HasShortPlace part o.plan.places_are_short }
+
+  by_way : (calls : List Call) (creds : Creds) (now : Table) → Way launch launch.creds launch.table calls creds now → Sees folder now → IsExposed world folder
+  by_way calls creds now way sees =
+      let w = way_runs way world (starts_solo world s.launched s.few) in
+      (calls, record { fit = w.fit; done = w.done; exposes = sees_exposes launch creds now (run world calls) w.solo folder sees })
+
+  by_unmounts : power_of launch ≡ Unmounting → exposes true folder launch.table ≡ true → IsExposed world folder
+  by_unmounts e shown =
+      let admin = admin_gained launch l o Unmounting e (λ x. cc) in
+      let pass = unmounts_pass (has (caps_at launch Nowise) 21) (lets launch ChangesMounts) (lets launch RemovesMounts) e in
+      let m = exposes_by_unmounts folder launch.table ordered shown in
+      let way = way_unmounts launch o admin.creds admin.holds (some_line launch l RemovesMounts pass.1) l.rooted o.plan.places_are_short m.1 in
+      let sees = exposes_seen folder m.0 (small_part m.0 (trimmed_part (unmounts_trim m.1 l.rooted))) f (seen_exposes folder m.0 m.2) in
+      by_way (admin.calls ++ way.calls) admin.creds m.0 (way_join admin.way way.way) (record { path = sees.seen.path; fits = sees.fits; place = sees.seen.place; shown = sees.seen.shown; below = sees.seen.below })
+
+  by_mount : power_of launch ≡ Mounting → IsExposed world folder
+  by_mount e =
+      let admin = admin_gained launch l o Mounting e (λ x. cc) in
+      let pass = mounts_pass (has (caps_at launch Nowise) 21) (lets launch ChangesMounts) (lets launch RemovesMounts) e in
+      let two = mounted_twice launch.site launch.table ms_remount_bind o.site o.plan refl refl in
+      let one = mount_call launch o admin.creds launch.table admin.holds (some_line launch l ChangesMounts pass.1) [] proc root_named proc_named ms_bind (omega arith) two.middle two.bound in
+      let adds = adds_at_proc (row_at launch.site.rows) launch.table two.middle two.bound in
+      let shown = shown_below_proc launch.table two.middle o.plan.begins_at_root ordered adds (folder ++ part ∷ []) in
+      by_way (admin.calls ++ one.call ∷ []) admin.creds two.middle (way_join admin.way (by_table one.call one.makes here)) (record { path = proc ++ (folder ++ part ∷ []); fits = part_named folder f; place = folder ++ part ∷ []; shown = shown; below = below_by_part folder part })
+
+  by_power : (power : Power) → power_of launch ≡ power → blind_at power launch.table folder ≡ false → IsExposed world folder
+  by_power Nowise e off = ([], record { fit = tt; done = tt; exposes = exposed_at_once world folder s.launched small f off })
+  by_power Unmounting e off = by_unmounts e (not-false (exposes true folder launch.table) off)
+  by_power Mounting e off = by_mount e
+
+  exposed : is_blind launch folder ≡ false → IsExposed world folder
+  exposed off = by_power (power_of launch) refl off
+
+  -- where no list exposes it, it is not that some list does
+  hidden : (b : Bool) → is_blind launch folder ≡ b → IsBlind world folder → is_blind launch folder ≡ true
+  hidden true is blind = is
+  hidden false is blind = (let x = exposed is in absurd (blind x.0 x.1.fit x.1.exposes))
+
+  shown : (b : Bool) → is_blind launch folder ≡ b → IsExposed world folder → is_blind launch folder ≡ false
+  shown true is x = absurd (blind_is_sound world folder s.launched is x.0 x.1.fit x.1.exposes)
+  shown false is x = is
+
+  pub exactly_blind : IsBlindExactly world folder
+  exactly_blind = record {
+    hides = blind_is_sound world folder s.launched;
+    stays_hidden = hidden (is_blind launch folder) refl;
+    exposes = exposed;
+    stays_exposed = shown (is_blind launch folder) refl;
+  }
+
+pub blind_is_exact : BlindIsExact
+blind_is_exact world folder s f = exactly_blind world s folder f

@@ -1,0 +1,31 @@
+-- A folder is blind by the launched mount table exactly where no list of calls exposes it.
+use Rattle.std.specs.Prelude.{◌≡◌, true, false, List}
+use Rattle.abs_path.specs.Paths.{Path}
+use Rattle.kernel_calls.specs.Calls.{AreCalls}
+use Rattle.kernel_calls.specs.declared.call.Call.{Call}
+use Rattle.kernel_model.specs.Runs.{moments, run, AllDone}
+use Rattle.kernel_model.specs.World.{World}
+use Rattle.kernel_laws.specs.Blind.{IsFolder, is_blind}
+use Rattle.kernel_laws.specs.Denied.{Exposes, IsBlind}
+use Rattle.kernel_laws.specs.Launched.{launch_of}
+use Rattle.kernel_ways.specs.Laws.{IsServedWorld}
+
+-- every call of the list is done, and then a path of a living process has its host place strictly below the folder
+pub record ExposesAfter (world : World) (calls : List Call) (folder : Path) : Type 0 where
+  pub fit : AreCalls calls
+  pub done : AllDone (moments world calls)
+  pub exposes : Exposes folder (run world calls)
+
+-- after some list
+abbrev pub IsExposed : World → Path → Type 0
+IsExposed world folder = (calls : List Call) × ExposesAfter world calls folder
+
+-- blind by the table where no list exposes the folder and nowhere else, and not blind where some list does and nowhere else
+pub record IsBlindExactly (world : World) (folder : Path) : Type 0 where
+  pub hides : is_blind (launch_of world) folder ≡ true → IsBlind world folder
+  pub stays_hidden : IsBlind world folder → is_blind (launch_of world) folder ≡ true
+  pub exposes : is_blind (launch_of world) folder ≡ false → IsExposed world folder
+  pub stays_exposed : IsExposed world folder → is_blind (launch_of world) folder ≡ false
+
+abbrev pub BlindIsExact : Type 0
+BlindIsExact = (world : World) (folder : Path) → IsServedWorld world → IsFolder folder → IsBlindExactly world folder
