@@ -12,10 +12,10 @@ use call_table::CallLine;
 use kernel_calls::Rule;
 use kernel_model::World;
 
-// The rule of a line of the table, by its name; None where the kernel lacks the call.
+/// The rule of a line of the table, by its name; None where the kernel lacks the call.
 #[tactic(auto, unfolding(kernel_calls::specs::Rules::rule_of))]
-fn rule_of(line: &CallLine) -> Option<Rule>
-    ensures { result ≡ rule_of line.now }
+pub fn rule_of(line: &CallLine) -> Option<Rule>
+    ensures by_its_name { result ≡ rule_of line.now }
 {
     match known_call(line.name.as_str()) {
         None => Some(Rule::Plain(line.cap)),

@@ -143,8 +143,8 @@ fn plain_words(kind: CallKind, cap: Option<u8>) -> Option<[u64; 6]>
 }
 
 /// The words with which a call of the rule asks for the kind first; None where no call of the rule asks for it.
-pub(crate) fn words(kind: CallKind, rule: Rule) -> Option<[u64; 6]>
-    ensures { result ≡ words (meant_kind kind) rule }
+pub fn words(kind: CallKind, rule: Rule) -> Option<[u64; 6]>
+    ensures ask_first { result ≡ words (meant_kind kind) rule }
 {
     match rule {
         Rule::Known(rule) => known_words(kind, rule),

@@ -18,10 +18,10 @@ mod powers;
 mod programs;
 
 pub use bounds::Ceiling;
-pub use calls::{lets, lets_line};
+pub use calls::{lets, lets_line, rule_of};
 pub use first::{launched_process, launched_table};
 pub use ids::IdList;
-pub use kinds::CallKind;
+pub use kinds::{CallKind, words};
 pub use making::ceiling;
 pub use passing::PathCalls;
-pub use programs::is_barred;
+pub use programs::{can_run, is_barred};

@@ -19,10 +19,10 @@ pub fn is_barred(world: &World<'_>, row: &Row) -> bool
     row.effective && !row.caps.within(launched_process(world).creds.bounding())
 }
 
-// Whether the row is a program that some table of the power leads to, and that execve does not refuse.
-pub(crate) fn can_run(world: &World<'_>, power: Power, row: &Row) -> bool
-    requires { IsLaunchedWorld world.now }
-    ensures { result ≡ can_run (launch_of world.now) (meant_power power) row.now }
+/// Whether the row is a program that some mount table of the power leads to, and that execve(2) does not refuse.
+pub fn can_run(world: &World<'_>, power: Power, row: &Row) -> bool
+    requires launched { IsLaunchedWorld world.now }
+    ensures runs { result ≡ can_run (launch_of world.now) (meant_power power) row.now }
 {
     match row.kind {
         RowKind::Dir | RowKind::File => false,

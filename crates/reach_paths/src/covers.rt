@@ -40,10 +40,11 @@ fn leads_to(place: &AbsPath, front: &AbsPath, rest: &str) -> bool
     }
 }
 
-// Whether an entry from this number on leads to the path that the front and the rest make.
-pub(crate) fn is_covered(table: &MountTable, from: usize, front: &AbsPath, rest: &str) -> bool
-    requires { IsRest rest.now }
-    ensures { result ≡ list_any (leads_to (front.now ++ parts_of rest.now)) (drop from table.now) }
+/// Whether an entry of this number or a later one covers the path that the front and the rest make: its place is that path or leads
+/// to it. What `AbsPath::rest` answers is a rest, and so is nothing. It takes no memory.
+pub fn is_covered(table: &MountTable, from: usize, front: &AbsPath, rest: &str) -> bool
+    requires may_be_joined { IsRest rest.now }
+    ensures some_place_leads_there { result ≡ list_any (leads_to (front.now ++ parts_of rest.now)) (drop from table.now) }
 {
     for at in from..table.len() {
         if leads_to(&table.entry(at).place, front, rest) {
