@@ -1,2 +1,4 @@
 pub mod Asked
 pub mod PlainCaps
+pub mod Exposing
+pub mod Folders

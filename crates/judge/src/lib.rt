@@ -1,4 +1,5 @@
-//! What a launched service can never do: the verdict on each question that is asked of it.
+//! What a launched service can never do and never see: the verdict on each question that is asked of it, and whether it is blind to
+//! what lies below a folder.
 //!
 //! A question is denied or open, by the ceiling of the launched world and by the calls that its filters let through; what is
 //! denied is reached by no list of calls, of however many processes. It rests on `ceilings` for what processes can have, on
@@ -7,11 +8,15 @@
 #![tactic(auto)]
 
 mod answer;
+mod blindness;
 mod ids;
 mod judging;
 mod lines;
 mod open;
 mod rows;
+mod two_sites;
 
 pub use answer::Verdict;
+pub use blindness::blind;
 pub use judging::verdict;
+pub use two_sites::alike;

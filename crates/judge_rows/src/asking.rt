@@ -8,11 +8,22 @@ pub struct Judged {
     pub is_open: bool,
 }
 
+/// What is found about a service: the questions, and the folders that it is blind to.
+#[derive(Drop)]
+pub struct Report<'a> {
+    pub judged: Vec<Judged>,
+    pub blind: Vec<&'a str>,
+}
+
 /// The answers to all asks, each on lines of its own.
-pub fn answer_asks(alloc: Global, judged: &[Judged], asks: &[&str]) -> Result<String, AllocError> {
+pub fn answer_asks(
+    alloc: Global,
+    report: &Report<'_>,
+    asks: &[&str],
+) -> Result<String, AllocError> {
     let mut text = String::from_str(alloc, "launched")?;
     for ask in asks {
-        push_answer(alloc, &mut text, judged, ask)?;
+        push_answer(alloc, &mut text, report, ask)?;
     }
     Ok(text)
 }
@@ -20,12 +31,23 @@ pub fn answer_asks(alloc: Global, judged: &[Judged], asks: &[&str]) -> Result<St
 fn push_answer(
     alloc: Global,
     text: &mut String,
+    report: &Report<'_>,
+    ask: &str,
+) -> Result<(), AllocError> {
+    match ask {
+        "denied" => push_denied(text, report.judged.as_slice()),
+        "blind" => push_blind(alloc, text, report.blind.as_slice()),
+        ask => push_found(alloc, text, report.judged.as_slice(), ask),
+    }
+}
+
+// What is found about questions.
+fn push_found(
+    alloc: Global,
+    text: &mut String,
     judged: &[Judged],
     ask: &str,
 ) -> Result<(), AllocError> {
-    if ask == "denied" {
-        return push_denied(text, judged);
-    }
     let line = match ask.strip_prefix("some ") {
         Some(front) => counted(alloc, judged, front)?,
         None if ask == "summary" => counted(alloc, judged, "")?,
@@ -48,6 +70,16 @@ fn push_denied(text: &mut String, judged: &[Judged]) -> Result<(), AllocError> {
         }
     }
     Ok(())
+}
+
+// Every folder that the service is blind to, and how many they are.
+fn push_blind(alloc: Global, text: &mut String, folders: &[&str]) -> Result<(), AllocError> {
+    for folder in folders {
+        push_line(text, "blind ")?;
+        text.push_str(folder)?;
+    }
+    let count = format!(in alloc; "blind folders {}", folders.len())?;
+    push_line(text, count.as_str())
 }
 
 // How many questions that begin so are denied, and how many open.

@@ -1,16 +1,20 @@
-//! The verdicts on all questions of a launched service.
-ghost use Rattle.std.specs.Prelude.{◌≡◌, map};
+//! The verdicts on all questions of a launched service, and the folders that it is blind to.
+ghost use Rattle.std.specs.Prelude.{◌≡◌, map, Some};
 ghost use Rattle.kernel_laws.specs.Launched.{IsLaunchedWorld, launch_of};
 ghost use Rattle.kernel_laws.specs.Questions.{questions};
 ghost use Rattle.questions.specs.Meanings.{meant};
+ghost use Rattle.site_table.specs.Table.{kind_at};
+ghost use Rattle.site_table.specs.declared.kinds.RowKind.TheVariants.{Dir};
 ghost use Rattle.ceilings.specs.Own.{IsCeilingOf};
 
-use crate::asking::{Judged, answer_asks};
+use crate::asking::{Judged, Report, answer_asks};
 use crate::shown::shown;
+use abs_path::AbsPath;
 use ceilings::{Ceiling, ceiling};
-use judge::{Verdict, verdict};
+use judge::{Verdict, blind, verdict};
 use launcher::Launched;
 use questions::{Question, questions};
+use site_table::RowKind;
 use std::alloc::{AllocError, Global};
 
 /// What is found, ask by ask.
@@ -22,7 +26,8 @@ pub fn judged(alloc: Global, service: &Launched<'_>, asks: &[&str]) -> Result<St
     let top = ceiling(alloc, service)?;
     let verdicts = verdicts_of(alloc, service, &top, all.as_slice())?;
     let judged = judged_of(alloc, service, all.as_slice(), verdicts.as_slice())?;
-    answer_asks(alloc, judged.as_slice(), asks)
+    let blind = blind_folders(alloc, service, &top)?;
+    answer_asks(alloc, &Report { judged, blind }, asks)
 }
 
 // The verdict on each question.
@@ -60,4 +65,39 @@ fn judged_of(
         })?;
     }
     Ok(judged)
+}
+
+// The paths of the folders of the site that the service is blind to, in byte order.
+fn blind_folders<'a>(
+    alloc: Global,
+    service: &'a Launched<'_>,
+    top: &Ceiling,
+) -> Result<Vec<&'a str>, AllocError>
+    requires launched { IsLaunchedWorld service.now.world }
+    requires its_own_ceiling { IsCeilingOf (launch_of service.now.world) top.now }
+{
+    let mut folders = Vec::new(alloc);
+    for row in service.world.site_table().rows() {
+        if let RowKind::Dir = row.kind {
+            push_if_blind(&mut folders, service, top, &row.path)?;
+        }
+    }
+    Ok(folders)
+}
+
+// Puts the path of a folder behind the others, if the service is blind to the folder.
+fn push_if_blind<'a>(
+    folders: &mut Vec<&'a str>,
+    service: &'a Launched<'_>,
+    top: &Ceiling,
+    folder: &'a AbsPath,
+) -> Result<(), AllocError>
+    requires launched { IsLaunchedWorld service.now.world }
+    requires its_own_ceiling { IsCeilingOf (launch_of service.now.world) top.now }
+    requires folder { kind_at service.now.world.site.rows folder.now ≡ Some Dir }
+{
+    if blind(service, top, folder) {
+        folders.push(folder.text())?;
+    }
+    Ok(())
 }

@@ -1,0 +1,191 @@
+-- A launch on a site that differs below a folder alone which the launched service is blind to.
+use Rattle.std.proofs.Common.{◌≡◌, ◌∙◌, ℕ, suc, Bool, true, false, cond, codes, List, [], ◌∷◌, ◌++◌, Option, Some, None, refl, ap, sym, subst, length, arith, eqb}
+use Rattle.std.specs.Prelude.{map, filter, not, ◌+◌}
+use Rattle.std.specs.List.{AllByRecursion}
+use Rattle.bpf_code.specs.declared.machine.Insn.{Insn}
+use Rattle.cap_sets.specs.Sets.{has}
+use Rattle.call_table.specs.Table as calls
+use Rattle.site_table.specs.Table.{Site, row_at}
+use Rattle.kern_creds.specs.declared.creds.Creds.{Creds}
+use Rattle.kern_mounts.specs.Finds.{finds}
+use Rattle.kern_mounts.specs.Split.{Table}
+use Rattle.kern_mounts.specs.declared.step.MountStep.{MountStep}
+use Rattle.kernel_calls.specs.declared.payload.Payload.{Payload}
+use Rattle.kernel_calls.specs.declared.payload.Payload.TheVariants as pay
+use Rattle.kernel_model.specs.MountStep.{stepped_by}
+use Rattle.kernel_model.specs.Runs.{IsDone}
+use Rattle.kernel_model.specs.World.{World, start_world, living_of, table_of, table_or, of_number, if_alive}
+use Rattle.kernel_model.specs.declared.process.Process.{Process}
+use Rattle.kernel_model.specs.declared.reply.Reply.{Reply}
+use Rattle.kernel_model.specs.declared.reply.Reply.TheVariants as w
+use Rattle.kernel_laws.specs.Questions.{if_so, count_from}
+use Rattle.launcher.specs.Launch.{Wanted, LaunchStep, Makes, Mounts, Launched, PrivilegedProgram, makes, first_call, prctl_step, launch_step, launch_steps, launch_on, launch_from, is_privileged_row, mount_steps, with_unshare, if_user, has_flags, capbset_drop, cap_ambient, ambient_raise, set_mode_filter, identity_steps, filter_steps, program_steps, group_steps, drop_steps, inherit_steps, user_steps, raise_steps, left_steps, privilege_steps}
+use Rattle.launcher.specs.Launches.{HasLaunchCalls, Leaves}
+use Rattle.launcher.proofs.HostRoot.{begins_at_host}
+use Rattle.launcher.proofs.LaunchCalls.{launch_calls}
+use Rattle.launcher.proofs.LaunchCreds.{IsReady}
+use Rattle.launcher.proofs.LaunchWorld.{launch_leaves, ready_at, filtered}
+use Rattle.launcher.proofs.Leading.{Leads, launched_leads, leads_parts, append_parts}
+use Rattle.launcher.proofs.Solo.{At}
+use Rattle.mount_plan.specs.Host.{host_of}
+use Rattle.view_map.proofs.Lists.{all_appended}
+use Rattle.alike_laws.specs.Worlds.{with_site, LaunchIsBlind}
+use Rattle.alike_laws.proofs.Runs.{FindsSame, PayloadSame, sited, step_sited, finds_same, not_shown, site_kept}
+
+-- ---- steps that are all done make a launch
+leads_launched : (world : World) (steps : List LaunchStep) (count : ℕ) (last : World) → Leads world steps last → launch_from world steps count ≡ Launched last (count + length steps)
+leads_launched world [] count last l = let same : count ≡ count + 0 = omega arith in ap (λ (v : World). Launched v count) l ∙ ap (Launched last) same
+leads_launched world (step ∷ steps) count last l = by (launch_step world step).0 refl l.0 ∙ leads_launched (launch_step world step).1 steps (count + 1) last l.1 ∙ ap (Launched last) number
+  where
+    number : count + 1 + length steps ≡ count + suc (length steps)
+    number = omega arith
+
+    by : (reply : Reply) → (launch_step world step).0 ≡ reply → IsDone reply → launch_from world (step ∷ steps) count ≡ launch_from (launch_step world step).1 steps (count + 1)
+    by (w.Done value) is done = ap (λ (r : Reply). launch_on r (count + 1) (launch_from (launch_step world step).1 steps (count + 1))) is
+    by (w.Refused errno) is done = absurd done
+    by w.Killed is done = absurd done
+
+leads_join : (world : World) (first then : List LaunchStep) (mid last : World) → Leads world first mid → Leads mid then last → Leads world (first ++ then) last
+leads_join world [] then mid last l m = subst (λ (v : World). Leads v then last) (sym l) m
+leads_join world (step ∷ first) then mid last l m = (l.0, leads_join (launch_step world step).1 first then mid last l.1 m)
+
+-- ---- steps that name no path
+abbrev NoPath : Payload → Type 0
+NoPath pay.Nothing = Unit {0}
+NoPath (pay.OnePath path) = ⊥
+NoPath (pay.TwoPaths source target) = ⊥
+NoPath (pay.Sets p e i) = Unit {0}
+NoPath (pay.Ids ids) = Unit {0}
+NoPath (pay.Code bytes) = Unit {0}
+
+abbrev NamesNone : LaunchStep → Type 0
+NamesNone (Makes call) = NoPath call.payload
+NamesNone (Mounts entry) = Unit {0}
+
+all_map : {X Y : Type 0} (P : Y → Type 0) (f : X → Y) (xs : List X) → ((x : X) → P (f x)) → AllByRecursion P (map f xs)
+all_map P f [] each = tt
+all_map P f (x ∷ xs) each = (each x, all_map P f xs each)
+
+all_if : {X : Type 0} (P : X → Type 0) (b : Bool) (x : X) → P x → AllByRecursion P (if_so b x)
+all_if P true x p = (p, tt)
+all_if P false x p = tt
+
+module _ (site other : Site) where
+  none_same : (payload : Payload) (table : Table) → NoPath payload → PayloadSame site other table payload
+  none_same pay.Nothing table none = tt
+  none_same (pay.OnePath path) table none = absurd none
+  none_same (pay.TwoPaths source target) table none = absurd none
+  none_same (pay.Sets p e i) table none = tt
+  none_same (pay.Ids ids) table none = tt
+  none_same (pay.Code bytes) table none = tt
+
+  mounted_there : (world : World) (entry : MountStep) (o : Option Process) → stepped_by (with_site other world) entry o ≡ with_site other (stepped_by world entry o)
+  mounted_there world entry None = refl
+  mounted_there world entry (Some process) = refl
+
+  mounted_site : (world : World) (entry : MountStep) (o : Option Process) → (stepped_by world entry o).site ≡ world.site
+  mounted_site world entry None = refl
+  mounted_site world entry (Some process) = refl
+
+  step_there : (world : World) (step : LaunchStep) → world.site ≡ site → NamesNone step → launch_step (with_site other world) step ≡ sited site other (launch_step world step)
+  step_there world (Makes call) at none = step_sited site other world call at (λ process lives. none_same call.payload (table_of world process.namespace) none)
+  step_there world (Mounts entry) at none = ap (λ (v : World). (w.Done 0, v)) (mounted_there world entry (living_of world 1))
+
+  site_there : (world : World) (step : LaunchStep) → (launch_step world step).1.site ≡ world.site
+  site_there world (Makes call) = site_kept world call
+  site_there world (Mounts entry) = mounted_site world entry (living_of world 1)
+
+  leads_there : (world last : World) (steps : List LaunchStep) → world.site ≡ site → AllByRecursion NamesNone steps → Leads world steps last → Leads (with_site other world) steps (with_site other last) × (last.site ≡ site)
+  leads_there world last [] at none l = (ap (with_site other) l, ap (λ (v : World). v.site) (sym l) ∙ at)
+  leads_there world last (step ∷ steps) at none l =
+      let there = step_there world step at none.0 in
+      let more = leads_there (launch_step world step).1 last steps (site_there world step ∙ at) none.1 l.1 in
+      ((subst (λ (out : Reply × World). IsDone out.0) (sym there) l.0, subst (λ (out : Reply × World). Leads out.1 steps (with_site other last)) (sym there) more.0), more.1)
+
+-- ---- the steps before the program
+module _ (lines : calls.Table) where
+  none_mounts : (first : MountStep) (rest : Table) (b : Bool) → AllByRecursion NamesNone (with_unshare lines.calls (if_so b (Mounts first) ++ map Mounts rest))
+  none_mounts first rest true = (tt, (tt, all_map NamesNone Mounts rest (λ entry. tt)))
+  none_mounts first [] false = tt
+  none_mounts first (entry ∷ rest) false = (tt, (tt, all_map NamesNone Mounts rest (λ entry. tt)))
+
+  none_plan : (plan : Table) → AllByRecursion NamesNone (with_unshare lines.calls (mount_steps plan))
+  none_plan [] = tt
+  none_plan (first ∷ rest) = none_mounts first rest (has_flags first.flags)
+
+  none_user : (uid : ℕ) (steps : List LaunchStep) → AllByRecursion NamesNone steps → AllByRecursion NamesNone (if_user uid steps)
+  none_user uid steps all' = by (eqb uid 0)
+    where
+      by : (b : Bool) → AllByRecursion NamesNone (cond b [] steps)
+      by true = tt
+      by false = all'
+
+  none_identity : (wanted : Wanted) → AllByRecursion NamesNone (identity_steps lines.calls wanted)
+  none_identity wanted =
+      let own = lines.calls in
+      let grouped : AllByRecursion NamesNone (group_steps own wanted) = (tt, (tt, tt)) in
+      let dropped = all_map NamesNone (λ cap. prctl_step own capbset_drop cap 0) (filter (λ cap. not (has wanted.bounding cap)) (count_from 0 41)) (λ cap. tt) in
+      let raised = all_map NamesNone (λ cap. prctl_step own cap_ambient ambient_raise cap) (filter (has wanted.ambient) (count_from 0 41)) (λ cap. tt) in
+      let one = all_appended NamesNone (group_steps own wanted) (drop_steps own wanted) grouped dropped in
+      let two = all_appended NamesNone (group_steps own wanted ++ drop_steps own wanted) (inherit_steps own wanted) one (tt, tt) in
+      let three = all_appended NamesNone (group_steps own wanted ++ drop_steps own wanted ++ inherit_steps own wanted) (user_steps own wanted) two (none_user wanted.uid _ (tt, (tt, tt))) in
+      let four = all_appended NamesNone (group_steps own wanted ++ drop_steps own wanted ++ inherit_steps own wanted ++ user_steps own wanted) (raise_steps own wanted) three raised in
+      let five = all_appended NamesNone (group_steps own wanted ++ drop_steps own wanted ++ inherit_steps own wanted ++ user_steps own wanted ++ raise_steps own wanted) (left_steps own wanted) four (none_user wanted.uid _ (tt, tt)) in
+      all_appended NamesNone (group_steps own wanted ++ drop_steps own wanted ++ inherit_steps own wanted ++ user_steps own wanted ++ raise_steps own wanted ++ left_steps own wanted) (privilege_steps own wanted) five (all_if NamesNone wanted.no_new_privs _ tt)
+
+  none_filters : (programs : List (List ℕ)) → AllByRecursion NamesNone (filter_steps lines.calls programs)
+  none_filters programs = all_map NamesNone (λ bytes. makes lines.calls (codes "seccomp") set_mode_filter 0 0 (pay.Code bytes)) programs (λ bytes. tt)
+
+-- process 1 has the plan before its program runs
+living_solo : (lines : calls.Table) (site : Site) (Q : Creds → Type 0) (stack : List (List Insn)) (plan : Table) (world : World) → At lines site Q stack plan world → (process : Process) → living_of world 1 ≡ Some process → table_of world process.namespace ≡ plan
+living_solo lines site Q stack plan world at process lives =
+    let own : Some _ ≡ Some process = sym (ap (λ (v : World). living_of v 1) at.is) ∙ lives in
+    let number : process.namespace ≡ at.namespace = by process own in
+    ap (table_of world) number ∙ ap (λ (v : World). table_of v at.namespace) at.is ∙ ap table_or at.own
+  where
+    by : (process : Process) → ◌≡◌ {A = Option Process} (Some (record { creds = at.creds; stack = stack; namespace = at.namespace; alive = true })) (Some process) → process.namespace ≡ at.namespace
+    by process e = let same : record { creds = at.creds; stack = stack; namespace = at.namespace; alive = true } ≡ process = cc in ap (λ (p : Process). p.namespace) (sym same)
+
+abbrev before_filters : calls.Table → Wanted → Table → List LaunchStep
+before_filters lines wanted plan = with_unshare lines.calls (mount_steps plan) ++ identity_steps lines.calls wanted
+
+abbrev before_program : calls.Table → Wanted → Table → List LaunchStep
+before_program lines wanted plan = before_filters lines wanted plan ++ filter_steps lines.calls wanted.programs
+
+pub launch_is_blind : LaunchIsBlind
+launch_is_blind folder lines site other wanted plan last steps whole can small fit agree blind e = by (is_privileged_row (finds (row_at site.rows) plan wanted.program)) refl e
+  where
+    -- the program finds the same: the launched service is blind, and has the plan as its table
+    same : FindsSame site other plan wanted.program
+    same =
+        let l : Leaves lines site wanted plan last = (launch_leaves lines site wanted plan last steps whole can small e).0 in
+        let process : Process = record { creds = l.creds; stack = l.stack; namespace = l.namespace; alive = true } in
+        let lives : living_of last 1 ≡ Some process = ap (λ (ps : List Process). if_alive (of_number ps 1)) l.alone in
+        let table : table_of last l.namespace ≡ plan = ap table_or l.own in
+        subst (λ (t : Table). FindsSame site other t wanted.program) table (finds_same folder site other agree (table_of last l.namespace) wanted.program (not_shown folder site other agree last 1 process wanted.program lives fit (blind [] tt)))
+
+    joined : launch_steps lines.calls wanted plan ≡ before_program lines wanted plan ++ program_steps lines.calls wanted.program
+    joined = sym (append_parts (with_unshare lines.calls (mount_steps plan)) (identity_steps lines.calls wanted) (filter_steps lines.calls wanted.programs) (program_steps lines.calls wanted.program))
+
+    by : (b : Bool) → is_privileged_row (finds (row_at site.rows) plan wanted.program) ≡ b
+        → cond b (PrivilegedProgram wanted.program) (launch_from (start_world lines site) (launch_steps lines.calls wanted plan) 0) ≡ Launched last steps
+        → cond (is_privileged_row (finds (row_at other.rows) plan wanted.program)) (PrivilegedProgram wanted.program) (launch_from (start_world lines other) (launch_steps lines.calls wanted plan) 0) ≡ Launched (with_site other last) steps
+    by true is e = cc
+    by false is e =
+        let calls' : HasLaunchCalls lines.calls = launch_calls lines whole in
+        let done = launched_leads (start_world lines site) (launch_steps lines.calls wanted plan) 0 last steps e in
+        let parts = leads_parts (start_world lines site) (before_program lines wanted plan) (program_steps lines.calls wanted.program) last (subst (λ (list : List LaunchStep). Leads (start_world lines site) list last) joined done.0) in
+        let filters = leads_parts (start_world lines site) (before_filters lines wanted plan) (filter_steps lines.calls wanted.programs) parts.mid parts.before in
+        let ready = ready_at lines site calls' wanted plan filters.mid (begins_at_host (host_of site) plan can) small filters.before in
+        let pushed = filtered lines site calls' [] plan (IsReady wanted.uid wanted.ambient) wanted.programs [] filters.mid parts.mid ready filters.after in
+        let none = all_appended NamesNone (before_filters lines wanted plan) (filter_steps lines.calls wanted.programs) (all_appended NamesNone (with_unshare lines.calls (mount_steps plan)) (identity_steps lines.calls wanted) (none_plan lines plan) (none_identity lines wanted)) (none_filters lines wanted.programs) in
+        let there = leads_there site other (start_world lines site) parts.mid (before_program lines wanted plan) refl none parts.before in
+        let stepped = step_sited site other parts.mid (first_call lines.calls (codes "execve") (0 ∷ 0 ∷ 0 ∷ 0 ∷ 0 ∷ 0 ∷ []) (pay.OnePath wanted.program)) there.1
+        (λ process lives. subst (λ (t : Table). FindsSame site other t wanted.program) (sym (living_solo lines site (IsReady wanted.uid wanted.ambient) pushed.codes' plan parts.mid pushed.at process lives)) same) in
+        let exec : Leads (with_site other parts.mid) (program_steps lines.calls wanted.program) (with_site other last) =
+        (subst (λ (out : Reply × World). IsDone out.0) (sym stepped) parts.after.0, ap (λ (out : Reply × World). out.1) stepped ∙ ap (with_site other) parts.after.1) in
+        let there' = leads_join (start_world lines other) (before_program lines wanted plan) (program_steps lines.calls wanted.program) (with_site other parts.mid) (with_site other last) there.0 exec in
+        let all' : Leads (start_world lines other) (launch_steps lines.calls wanted plan) (with_site other last) = subst (λ (list : List LaunchStep). Leads (start_world lines other) list (with_site other last)) (sym joined) there' in
+        let number : 0 + length (launch_steps lines.calls wanted plan) ≡ steps = sym done.1 in
+        ap (λ (b : Bool). cond b (PrivilegedProgram wanted.program) (launch_from (start_world lines other) (launch_steps lines.calls wanted plan) 0)) (ap is_privileged_row same ∙ is)
+        ∙ leads_launched (start_world lines other) (launch_steps lines.calls wanted plan) 0 (with_site other last) all' ∙ ap (Launched (with_site other last)) number

@@ -1,0 +1,7 @@
+pub mod Asking
+pub mod PlanIsBlind
+pub mod Sites
+pub mod Runs
+pub mod LaunchIsBlind
+pub mod ShownNothing
+pub mod Noninterference

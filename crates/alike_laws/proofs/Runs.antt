@@ -1,0 +1,276 @@
+-- What a world asks its site for: what the paths of calls find.
+use Rattle.std.proofs.Common.{◌≡◌, ◌∙◌, ℕ, Bool, true, false, cond, List, [], ◌∷◌, ◌++◌, Option, Some, None, Result, Ok, Err, refl, ap, sym, subst, length}
+use Rattle.std.specs.Prelude.{nat_lt, not, ◌+◌, option_and_then}
+use Rattle.abs_path.specs.Paths.{Path, is_root}
+use Rattle.abs_path.specs.Prefix.{is_below, rest_of}
+use Rattle.bpf_code.specs.declared.decision.Decision.{Decision}
+use Rattle.bpf_code.specs.declared.decision.Decision.TheVariants as decision
+use Rattle.bpf_code.specs.Stack.{decision_on}
+use Rattle.call_names.specs.Known.{place_of}
+use Rattle.call_names.specs.declared.rule.CallRule.{CallRule}
+use Rattle.call_names.specs.declared.rule.CallRule.TheVariants as known
+use Rattle.linux_numbers.specs.Errnos.{ebusy, einval, enotdir, eagain, enospc}
+use Rattle.site_table.specs.declared.row.Row.{Row}
+use Rattle.site_table.specs.Table.{Site, row_at}
+use Rattle.kern_mounts.specs.Entry.{entry_of}
+use Rattle.kern_mounts.specs.Finds.{Found, finds, found_at, found_by, row_or_nothing, host_place, host_place_by}
+use Rattle.kern_mounts.specs.Push.{after_push}
+use Rattle.kern_mounts.specs.Remount.{after_remount}
+use Rattle.kern_mounts.specs.Split.{Table}
+use Rattle.kern_mounts.specs.declared.step.What.{What}
+use Rattle.kern_mounts.specs.declared.step.What.TheVariants.{Host, Empty, Hidden}
+use Rattle.kern_mounts.specs.declared.step.MountStep.{MountStep}
+use Rattle.kern_files.specs.Bits.{has_some, has_all}
+use Rattle.kern_files.specs.Executing.{exec_answer}
+use Rattle.kern_files.specs.Looking.{flags_at, see_answer, write_answer, open_answer}
+use Rattle.kern_files.specs.MountCall.{ms_bind, ms_rec, ms_remount, ms_remount_bind, after_mount, mount_onto, bind_found, target_kind, or_found, hidden_at, kind_found, flags_of, has_other_kind}
+use Rattle.kernel_calls.specs.Calls.{FitsPayload, IsPath}
+use Rattle.kernel_calls.specs.Doing as d
+use Rattle.kernel_calls.specs.Doing.{Doing, doing_by, known_doing, asked_if, asked_by, asked_of, bare, by_path, by_paths, by_sets, by_ids, by_code}
+use Rattle.kernel_calls.specs.Rules.{rule_at}
+use Rattle.kernel_calls.specs.Words.{low_word}
+use Rattle.kernel_calls.specs.declared.call.Call.{Call}
+use Rattle.kernel_calls.specs.declared.payload.Payload.{Payload}
+use Rattle.kernel_calls.specs.declared.payload.Payload.TheVariants as pay
+use Rattle.kernel_calls.specs.declared.rule.Rule.{Rule}
+use Rattle.kernel_calls.specs.declared.rule.Rule.TheVariants as rule
+use Rattle.kernel_model.specs.Effects as f
+use Rattle.kernel_model.specs.Effects.{Effect, effect_of, looks, creds_effect, table_effect, with_admin}
+use Rattle.kernel_model.specs.Runs.{run, replies}
+use Rattle.kernel_model.specs.Step.{most_processes, most_namespaces, step, step_by, decided, answered, applied, child_of, data_of}
+use Rattle.kernel_model.specs.World.{World, living_of, table_of, with_process, with_copy, with_child, moved_to, host_of, caller_of}
+use Rattle.kernel_model.specs.declared.process.Process.{Process}
+use Rattle.kernel_model.specs.declared.reply.Reply.{Reply}
+use Rattle.kernel_model.specs.declared.reply.Reply.TheVariants as w
+use Rattle.kernel_model.proofs.Kernels.{told_stays}
+use Rattle.kernel_laws.specs.Denied.{Exposes}
+use Rattle.alike_laws.specs.Sites.{AgreeOutside}
+use Rattle.alike_laws.specs.Worlds.{with_site, RepliesAreBlind}
+use Rattle.alike_laws.proofs.Sites.{same_row}
+
+module _ (site other : Site) where
+  -- the path finds the same on both
+  abbrev pub FindsSame : Table → Path → Type 0
+  FindsSame table path = finds (row_at other.rows) table path ≡ finds (row_at site.rows) table path
+
+  -- and so does each path of the payload
+  abbrev pub PayloadSame : Table → Payload → Type 0
+  PayloadSame table pay.Nothing = Unit {0}
+  PayloadSame table (pay.OnePath path) = FindsSame table path
+  PayloadSame table (pay.TwoPaths source target) = FindsSame table source × FindsSame table target
+  PayloadSame table (pay.Sets p e i) = Unit {0}
+  PayloadSame table (pay.Ids ids) = Unit {0}
+  PayloadSame table (pay.Code bytes) = Unit {0}
+
+  mount_same : (table : Table) (source target : Path) (flags : ℕ) → FindsSame table source → FindsSame table target → after_mount (row_at other.rows) table source target flags ≡ after_mount (row_at site.rows) table source target flags
+  mount_same table source target flags same same' =
+      ap (λ (r : Result Table ℕ). cond (has_other_kind flags) (Err einval) (cond (has_all ms_remount_bind flags) (after_remount table target (flags_of flags)) (cond (has_some ms_remount flags) (Err einval) (cond (is_root target) (Err ebusy) r))))
+      (ap (λ (found : Found Row). mount_onto (row_at other.rows) table source target flags (or_found (hidden_at target (entry_of table target)) (kind_found found))) same' ∙ onto (target_kind (row_at site.rows) table target))
+    where
+      onto : (r : Result Bool ℕ) → mount_onto (row_at other.rows) table source target flags r ≡ mount_onto (row_at site.rows) table source target flags r
+      onto (Err errno) = refl
+      onto (Ok directory) =
+          ap (λ (found : Found Row). cond (has_some ms_bind flags) (bind_found table source target (has_some ms_rec flags) directory (kind_found found)) (cond (not directory) (Err enotdir) (after_push table (record { place = target; what = Empty; flags = flags_of flags })))) same
+
+  -- ---- a step
+  abbrev pub sited : Reply × World → Reply × World
+  sited out = (out.0, with_site other out.1)
+
+  module _ (world : World) (at_site : world.site ≡ site) (pid : ℕ) (process : Process) where
+    abbrev table : Table
+    table = table_of world process.namespace
+
+    born : (own : Bool) → child_of (with_site other world) process own ≡ sited (child_of world process own)
+    born false = refl
+    born true = by (nat_lt (length world.tables) most_namespaces)
+      where
+        by : (b : Bool) → cond {A = Reply × World} b (w.Done (length world.processes + 1), with_site other (with_child (with_copy world process.namespace) (moved_to process (length world.tables)))) (w.Refused enospc, with_site other world)
+            ≡ sited (cond {A = Reply × World} b (w.Done (length world.processes + 1), with_child (with_copy world process.namespace) (moved_to process (length world.tables))) (w.Refused enospc, world))
+        by true = refl
+        by false = refl
+
+    applied_sited : (effect : Effect) → applied (with_site other world) pid process effect ≡ sited (applied world pid process effect)
+    applied_sited (f.Refuse errno) = refl
+    applied_sited (f.Answer value) = refl
+    applied_sited (f.SetCreds creds) = refl
+    applied_sited (f.SetTable new) = refl
+    applied_sited (f.Push program) = refl
+    applied_sited (f.Child own) =
+        ap (λ (out : Reply × World). cond {A = Reply × World} (nat_lt (length world.processes) most_processes) out (w.Refused eagain, with_site other world)) (born own) ∙ by (nat_lt (length world.processes) most_processes)
+      where
+        by : (b : Bool) → cond {A = Reply × World} b (sited (child_of world process own)) (w.Refused eagain, with_site other world) ≡ sited (cond {A = Reply × World} b (child_of world process own) (w.Refused eagain, world))
+        by true = refl
+        by false = refl
+    applied_sited f.OwnTable = by (nat_lt (length world.tables) most_namespaces)
+      where
+        by : (b : Bool) → cond {A = Reply × World} b (w.Done 0, with_site other (with_process (with_copy world process.namespace) pid (moved_to process (length world.tables)))) (w.Refused enospc, with_site other world)
+            ≡ sited (cond {A = Reply × World} b (w.Done 0, with_process (with_copy world process.namespace) pid (moved_to process (length world.tables))) (w.Refused enospc, world))
+        by true = refl
+        by false = refl
+    applied_sited f.End = refl
+
+    -- what is asked for comes to the same
+    abbrev Same : Doing → Type 0
+    Same doing = effect_of (host_of (with_site other world)) (caller_of world process) doing ≡ effect_of (host_of world) (caller_of world process) doing
+
+    abbrev Goes : Option Doing → Type 0
+    Goes doing = answered (with_site other world) pid process (asked_if doing) ≡ sited (answered world pid process (asked_if doing))
+
+    doing_goes : (doing : Doing) → Same doing → Goes (Some doing)
+    doing_goes doing same = ap (applied (with_site other world) pid process) same ∙ applied_sited (effect_of (host_of world) (caller_of world process) doing)
+
+    bare_goes : (doing : Doing) → Same doing → (payload : Payload) → Goes (bare doing payload)
+    bare_goes doing same pay.Nothing = doing_goes doing same
+    bare_goes doing same (pay.OnePath path) = refl
+    bare_goes doing same (pay.TwoPaths source target) = refl
+    bare_goes doing same (pay.Sets p e i) = refl
+    bare_goes doing same (pay.Ids ids) = refl
+    bare_goes doing same (pay.Code bytes) = refl
+
+    path_goes : (doing : Path → Doing) → ((path : Path) → FindsSame table path → Same (doing path)) → (payload : Payload) → PayloadSame table payload → Goes (by_path doing payload)
+    path_goes doing same pay.Nothing found = refl
+    path_goes doing same (pay.OnePath path) found = doing_goes (doing path) (same path found)
+    path_goes doing same (pay.TwoPaths source target) found = refl
+    path_goes doing same (pay.Sets p e i) found = refl
+    path_goes doing same (pay.Ids ids) found = refl
+    path_goes doing same (pay.Code bytes) found = refl
+
+    paths_goes : (doing : Path → Path → Doing) → ((source target : Path) → FindsSame table source → FindsSame table target → Same (doing source target)) → (payload : Payload) → PayloadSame table payload → Goes (by_paths doing payload)
+    paths_goes doing same pay.Nothing found = refl
+    paths_goes doing same (pay.OnePath path) found = refl
+    paths_goes doing same (pay.TwoPaths source target) found = doing_goes (doing source target) (same source target found.0 found.1)
+    paths_goes doing same (pay.Sets p e i) found = refl
+    paths_goes doing same (pay.Ids ids) found = refl
+    paths_goes doing same (pay.Code bytes) found = refl
+
+    sets_goes : (payload : Payload) → Goes (by_sets d.Capset payload)
+    sets_goes pay.Nothing = refl
+    sets_goes (pay.OnePath path) = refl
+    sets_goes (pay.TwoPaths source target) = refl
+    sets_goes (pay.Sets p e i) = doing_goes (d.Capset p e i) refl
+    sets_goes (pay.Ids ids) = refl
+    sets_goes (pay.Code bytes) = refl
+
+    ids_goes : (payload : Payload) → Goes (by_ids d.Setgroups payload)
+    ids_goes pay.Nothing = refl
+    ids_goes (pay.OnePath path) = refl
+    ids_goes (pay.TwoPaths source target) = refl
+    ids_goes (pay.Sets p e i) = refl
+    ids_goes (pay.Ids ids) = doing_goes (d.Setgroups ids) refl
+    ids_goes (pay.Code bytes) = refl
+
+    code_goes : (operation flags : ℕ) (payload : Payload) → Goes (by_code (d.Seccomp operation flags) payload)
+    code_goes operation flags pay.Nothing = refl
+    code_goes operation flags (pay.OnePath path) = refl
+    code_goes operation flags (pay.TwoPaths source target) = refl
+    code_goes operation flags (pay.Sets p e i) = refl
+    code_goes operation flags (pay.Ids ids) = refl
+    code_goes operation flags (pay.Code bytes) = doing_goes (d.Seccomp operation flags bytes) refl
+
+    here : (path : Path) → FindsSame table path → finds (row_at other.rows) table path ≡ finds (row_at world.site.rows) table path
+    here path same = same ∙ ap (λ (s : Site). finds (row_at s.rows) table path) (sym at_site)
+
+    mount_here : (flags : ℕ) (source target : Path) → FindsSame table source → FindsSame table target → Same (d.Mount source target flags)
+    mount_here flags source target s t =
+        ap (λ (r : Result Table ℕ). with_admin process.creds (table_effect r)) (mount_same table source target flags s t ∙ ap (λ (own : Site). after_mount (row_at own.rows) table source target flags) (sym at_site))
+
+    known_goes : (own : CallRule) (args : List ℕ) (payload : Payload) → PayloadSame table payload → Goes (known_doing own args payload)
+    known_goes known.See args payload same = path_goes d.See (λ path s. ap (λ found. looks (see_answer 0 found)) (here path s)) payload same
+    known_goes (known.Open at) args payload same = path_goes (d.Open (low_word args (place_of at))) (λ path s. ap (λ found. looks (open_answer (low_word args (place_of at)) (flags_at table path) found)) (here path s)) payload same
+    known_goes known.Create args payload same = path_goes d.Create (λ path s. ap (λ found. looks (write_answer 3 (flags_at table path) found)) (here path s)) payload same
+    known_goes known.Truncate args payload same = path_goes d.Truncate (λ path s. ap (λ found. looks (write_answer 0 (flags_at table path) found)) (here path s)) payload same
+    known_goes known.Execve args payload same = path_goes d.Execve (λ path s. ap (λ found. creds_effect (exec_answer process.creds (flags_at table path) found)) (here path s)) payload same
+    known_goes (known.SetMode at) args payload same = bare_goes _ refl payload
+    known_goes known.Map args payload same = bare_goes _ refl payload
+    known_goes known.Protect args payload same = bare_goes _ refl payload
+    known_goes known.Attach args payload same = bare_goes _ refl payload
+    known_goes known.Schedule args payload same = bare_goes _ refl payload
+    known_goes known.Personality args payload same = bare_goes _ refl payload
+    known_goes known.Socket args payload same = bare_goes _ refl payload
+    known_goes known.Enter args payload same = bare_goes _ refl payload
+    known_goes known.Fork args payload same = bare_goes _ refl payload
+    known_goes known.Clone args payload same = bare_goes _ refl payload
+    known_goes known.Unshare args payload same = bare_goes _ refl payload
+    known_goes known.Exit args payload same = bare_goes _ refl payload
+    known_goes known.Mount args payload same = paths_goes (λ source target. d.Mount source target (low_word args 3)) (mount_here (low_word args 3)) payload same
+    known_goes known.Umount args payload same = path_goes (λ path. d.Umount path (low_word args 1)) (λ path s. refl) payload same
+    known_goes known.Setuid args payload same = bare_goes _ refl payload
+    known_goes known.Setgid args payload same = bare_goes _ refl payload
+    known_goes known.Setresuid args payload same = bare_goes _ refl payload
+    known_goes known.Setresgid args payload same = bare_goes _ refl payload
+    known_goes known.Setgroups args payload same = ids_goes payload
+    known_goes known.Capset args payload same = sets_goes payload
+    known_goes known.Prctl args payload same = bare_goes _ refl payload
+    known_goes known.Seccomp args payload same = code_goes _ _ payload
+
+    rule_goes : (own : Rule) (args : List ℕ) (payload : Payload) → PayloadSame table payload → Goes (doing_by own args payload)
+    rule_goes (rule.Known own) args payload same = known_goes own args payload same
+    rule_goes (rule.Plain number) args payload same = bare_goes _ refl payload
+
+    asked_goes : (call : Call) (o : Option Rule) → PayloadSame table call.payload → answered (with_site other world) pid process (asked_by o call) ≡ sited (answered world pid process (asked_by o call))
+    asked_goes call None same = refl
+    asked_goes call (Some own) same = rule_goes own call.args call.payload same
+
+    decided_goes : (call : Call) → call.pid ≡ pid → PayloadSame table call.payload → (c : Decision) → decided (with_site other world) call process c ≡ sited (decided world call process c)
+    decided_goes call own same decision.Pass =
+        ap (λ n. answered (with_site other world) n process (asked_of world.calls.calls call)) own ∙ asked_goes call (rule_at world.calls.calls call.nr) same ∙ ap (λ n. sited (answered world n process (asked_of world.calls.calls call))) (sym own)
+    decided_goes call own same (decision.Errno errno) = refl
+    decided_goes call own same decision.Kill = refl
+
+  pub step_sited : (world : World) (call : Call) → world.site ≡ site → ((process : Process) → living_of world call.pid ≡ Some process → PayloadSame (table_of world process.namespace) call.payload)
+      → step (with_site other world) call ≡ sited (step world call)
+  step_sited world call at_site same = by (living_of world call.pid) refl
+    where
+      by : (o : Option Process) → living_of world call.pid ≡ o → step_by (with_site other world) call o ≡ sited (step_by world call o)
+      by None is = refl
+      by (Some process) is = decided_goes world at_site call.pid process call refl (same process is) (decision_on process.stack (data_of world call))
+
+-- ---- runs
+module _ (folder : Path) (site other : Site) (agree : AgreeOutside folder site other) where
+  -- what a path finds that shows nothing below the folder
+  pub finds_same : (table : Table) (path : Path) → ((place : Path) → host_place table path ≡ Some place → is_below place folder ≡ false) → FindsSame site other table path
+  finds_same table path out = by (entry_of table path) refl
+    where
+      by_what : (entry : MountStep) (what : What) → entry.what ≡ what → entry_of table path ≡ Some entry → found_by (row_at other.rows) what entry.place path ≡ found_by (row_at site.rows) what entry.place path
+      by_what entry (Host source) is own =
+          let place : Path = source ++ rest_of entry.place path in
+          let shown : host_place table path ≡ Some place = ap (option_and_then (λ (s : MountStep). host_place_by s.what s.place path)) own ∙ ap (λ (h : What). host_place_by h entry.place path) is in
+          ap row_or_nothing (same_row folder place site other agree (out place shown))
+      by_what entry Empty is own = refl
+      by_what entry (Hidden directory) is own = refl
+
+      by : (o : Option MountStep) → entry_of table path ≡ o → found_at (row_at other.rows) path o ≡ found_at (row_at site.rows) path o
+      by None is = refl
+      by (Some entry) is = by_what entry entry.what refl is
+
+  pub not_shown : (world : World) (pid : ℕ) (process : Process) (path : Path) → living_of world pid ≡ Some process → IsPath path → (Exposes folder world → ⊥) → (place : Path) → host_place (table_of world process.namespace) path ≡ Some place → is_below place folder ≡ false
+  not_shown world pid process path lives fit blind place shown = by (is_below place folder) refl
+    where
+      by : (b : Bool) → is_below place folder ≡ b → b ≡ false
+      by false below = refl
+      by true below = absurd (blind (record { pid = pid; process = process; lives = lives; path = path; fits = fit; place = place; shown = shown; below = below }))
+
+  payload_same : (world : World) (pid : ℕ) (process : Process) → living_of world pid ≡ Some process → (Exposes folder world → ⊥) → (payload : Payload) → FitsPayload payload → PayloadSame site other (table_of world process.namespace) payload
+  payload_same world pid process lives blind pay.Nothing fit = tt
+  payload_same world pid process lives blind (pay.OnePath path) fit = finds_same (table_of world process.namespace) path (not_shown world pid process path lives fit blind)
+  payload_same world pid process lives blind (pay.TwoPaths source target) fit =
+      (finds_same (table_of world process.namespace) source (not_shown world pid process source lives fit.0 blind), finds_same (table_of world process.namespace) target (not_shown world pid process target lives fit.1 blind))
+  payload_same world pid process lives blind (pay.Sets p e i) fit = tt
+  payload_same world pid process lives blind (pay.Ids ids) fit = tt
+  payload_same world pid process lives blind (pay.Code bytes) fit = tt
+
+-- the site of a world stays
+pub site_kept : (world : World) (call : Call) → (step world call).1.site ≡ world.site
+site_kept world call = (told_stays world (call ∷ [])).1
+
+pub replies_are_blind : RepliesAreBlind
+replies_are_blind folder other world [] agree blind fit = record { replies = refl; runs = refl }
+replies_are_blind folder other world (call ∷ calls) agree blind fit =
+    let now : Exposes folder world → ⊥ = blind [] tt in
+    let stepped = step_sited world.site other world call refl (λ process lives. payload_same folder world.site other agree world call.pid process lives now call.payload fit.0.payload) in
+    let next : World = (step world call).1 in
+    let more = replies_are_blind folder other next calls (subst (λ (s : Site). AgreeOutside folder s other) (sym (site_kept world call)) agree) (λ list fits. blind (call ∷ list) (fit.0, fits)) fit.1 in
+    record {
+      replies = ap (λ (out : Reply × World). out.0 ∷ replies out.1 calls) stepped ∙ ap (λ (rs : List Reply). (step world call).0 ∷ rs) more.replies;
+      runs = ap (λ (out : Reply × World). run out.1 calls) stepped ∙ more.runs;
+    }

@@ -1,0 +1,54 @@
+-- Two sites that agree but below a folder which a launched service is blind to: the service cannot tell them apart.
+use Rattle.std.specs.Prelude.{◌≡◌, ◌<◌, ◌^◌, List, Ok}
+use Rattle.abs_path.specs.Paths.{Path}
+use Rattle.call_table.specs.Facts.{IsWhole}
+use Rattle.call_table.specs.Table as calls
+use Rattle.dropin_merge.specs.declared.resolved.Resolved.{Resolved}
+use Rattle.exec_settings.specs.AreSettings.{AreSettings}
+use Rattle.exec_settings.specs.declared.service.Settings.{Settings}
+use Rattle.kern_mounts.specs.Launch.{CanBeMounted}
+use Rattle.kern_mounts.specs.Split.{Table}
+use Rattle.kernel_calls.specs.Calls.{IsPath, AreCalls}
+use Rattle.kernel_calls.specs.declared.call.Call.{Call}
+use Rattle.kernel_model.specs.Runs.{replies}
+use Rattle.kernel_laws.specs.Blind.{IsFolder}
+use Rattle.kernel_laws.specs.Denied.{IsBlind}
+use Rattle.launcher.specs.Answers.{LaunchesTo}
+use Rattle.launcher.specs.declared.launched.Launched.{Launched}
+use Rattle.mount_plan.specs.Answers.{Plans}
+use Rattle.mount_plan.specs.Host.{host_of}
+use Rattle.path_settings.specs.Mentions.{AreKept}
+use Rattle.site_table.specs.Table.{Site, IsSite}
+use Rattle.alike_laws.specs.Sites.{AgreeForUnit}
+use Rattle.alike_laws.specs.Worlds.{with_site}
+
+-- a service of the unit on the site: a table and a site that were read, the settings of the unit, whose paths are paths as they are
+-- kept, their plan, and its launch with one program for each filter
+pub record IsServiceOf (unit : Resolved) (table : calls.Table) (site : Site) (made : Settings) (plan : Table) (service : Launched) : Type 0 where
+  pub whole : IsWhole table
+  pub arch : table.arch < 2 ^ 32
+  pub is_site : IsSite site
+  pub settings : AreSettings unit table site made
+  pub mentions : AreKept made.mentions
+  pub program : IsPath made.program
+  pub planned : Plans (host_of site) made.mentions (Ok plan)
+  pub mounts : CanBeMounted (host_of site) plan
+  pub launches : LaunchesTo table site made plan service
+
+-- the same service, but for the site
+abbrev pub moved_to : Site → Launched → Launched
+moved_to site service = record service { world = with_site site service.world }
+
+-- on the other site the unit has the same settings and the same plan, its launch with the same programs leaves the same world but for
+-- the site, after as many steps, and every list of calls has the same replies
+pub record IsAlike (unit : Resolved) (table : calls.Table) (other : Site) (made : Settings) (plan : Table) (service : Launched) : Type 0 where
+  pub settings : AreSettings unit table other made
+  pub planned : Plans (host_of other) made.mentions (Ok plan)
+  pub launches : LaunchesTo table other made plan (moved_to other service)
+  pub replies : (calls : List Call) → AreCalls calls → replies (with_site other service.world) calls ≡ replies service.world calls
+
+-- for every two sites that agree outside a folder for the unit, where the service is blind to the folder on one of them
+abbrev pub BlindToOthers : Type 0
+BlindToOthers = (folder : Path) (unit : Resolved) (table : calls.Table) (site other : Site) (made : Settings) (plan : Table) (service : Launched)
+    → IsServiceOf unit table site made plan service → IsFolder folder → IsBlind service.world folder → AgreeForUnit folder unit site other
+    → IsAlike unit table other made plan service

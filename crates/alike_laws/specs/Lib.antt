@@ -1,0 +1,4 @@
+pub mod Hosts
+pub mod Sites
+pub mod Worlds
+pub mod Alike

@@ -1,0 +1,46 @@
+-- Worlds on sites that agree but below a folder, and launches on them.
+use Rattle.std.specs.Prelude.{◌≡◌, ℕ, ◌<◌, List}
+use Rattle.abs_path.specs.Paths.{Path}
+use Rattle.call_table.specs.Facts.{IsWhole}
+use Rattle.call_table.specs.Table as calls
+use Rattle.kern_mounts.specs.Launch.{CanBeMounted}
+use Rattle.kern_mounts.specs.Split.{Table}
+use Rattle.kernel_calls.specs.Calls.{IsPath, AreCalls}
+use Rattle.kernel_calls.specs.declared.call.Call.{Call}
+use Rattle.kernel_model.specs.Runs.{run, replies}
+use Rattle.kernel_model.specs.World.{World}
+use Rattle.kernel_laws.specs.Blind.{IsSmall, IsFolder}
+use Rattle.kernel_laws.specs.Denied.{IsBlind}
+use Rattle.kernel_laws.specs.Launched.{IsLaunchedWorld, launch_of}
+use Rattle.linux_numbers.specs.Limits.{no_id}
+use Rattle.mount_plan.specs.Host.{host_of}
+use Rattle.site_table.specs.Table.{Site}
+use Rattle.launcher.specs.Launch.{Wanted, Launched, launch}
+use Rattle.alike_laws.specs.Hosts.{ShowsNothingOf}
+use Rattle.alike_laws.specs.Sites.{AgreeOutside}
+
+-- the world on another site
+abbrev pub with_site : Site → World → World
+with_site site world = record world { site = site }
+
+-- the calls have the same replies there, and lead to the same world but for the site
+pub record IsSameRun (world : World) (other : Site) (calls : List Call) : Type 0 where
+  pub replies : replies (with_site other world) calls ≡ replies world calls
+  pub runs : run (with_site other world) calls ≡ with_site other (run world calls)
+
+-- in a world that is blind to the folder what lies below it changes no reply
+abbrev pub RepliesAreBlind : Type 0
+RepliesAreBlind = (folder : Path) (other : Site) (world : World) (calls : List Call)
+    → AgreeOutside folder world.site other → IsBlind world folder → AreCalls calls → IsSameRun world other calls
+
+-- and a launch that leaves such a world leaves it there too
+abbrev pub LaunchIsBlind : Type 0
+LaunchIsBlind = (folder : Path) (table : calls.Table) (site other : Site) (wanted : Wanted) (plan : Table) (last : World) (steps : ℕ)
+    → IsWhole table → CanBeMounted (host_of site) plan → wanted.uid < no_id → IsPath wanted.program
+    → AgreeOutside folder site other → IsBlind last folder → launch table site wanted plan ≡ Launched last steps
+    → launch table other wanted plan ≡ Launched (with_site other last) steps
+
+-- a launched service that is blind to a folder is shown neither the folder nor what lies below it
+abbrev pub BlindIsShownNothing : Type 0
+BlindIsShownNothing = (world : World) (folder : Path)
+    → IsLaunchedWorld world → IsSmall (launch_of world).table → IsFolder folder → IsBlind world folder → ShowsNothingOf (launch_of world).table folder

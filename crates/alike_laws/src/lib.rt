@@ -1,0 +1,39 @@
+//! What lies below a folder that a service is blind to, the service cannot tell: two sites that agree elsewhere give it the same
+//! settings, the same plan, the same launch and the same replies.
+//!
+//! There is no code: the definitions stand in specs/, and each function's contract is a law over them.
+//! It rests on `exec_settings`, `mount_plan` and `launcher` for how a service comes to run, and on `kernel_laws` for what it can see.
+#![tactic(auto)]
+
+ghost use Rattle.alike_laws.specs.Alike.{BlindToOthers};
+ghost use Rattle.alike_laws.specs.Hosts.{KeptRestsOnWhatIsAsked, PlanRestsOnItsPlaces, PlanIsBlind};
+ghost use Rattle.alike_laws.specs.Sites.{SettingsAreAlike};
+ghost use Rattle.alike_laws.specs.Worlds.{RepliesAreBlind, LaunchIsBlind, BlindIsShownNothing};
+
+/// Which mentions are kept and what they are planned to show rests on few paths of the host: on what stands beneath them and on the
+/// sources of binds. What a plan does not show of a host does not change it.
+pub fn plans_rest_on_what_they_show()
+    ensures kept { KeptRestsOnWhatIsAsked }
+    ensures planned { PlanRestsOnItsPlaces }
+    ensures blind { PlanIsBlind }
+{}
+
+/// Sites that agree but below a folder give a unit the same settings, where they have the same at the paths that the unit implies and
+/// at the sources of its binds.
+pub fn settings_are_alike()
+    ensures same_settings { SettingsAreAlike }
+{}
+
+/// In a world that is blind to a folder no call asks the site for anything below it, and neither does the launch of that world.
+pub fn worlds_are_blind()
+    ensures replies { RepliesAreBlind }
+    ensures launches { LaunchIsBlind }
+    ensures shown_nothing { BlindIsShownNothing }
+{}
+
+/// What lies below a folder that a launched service is blind to, the service cannot tell. On every other site that agrees outside the
+/// folder, and at the paths that the unit implies and the sources of its binds, the unit has the same settings and the same plan, its
+/// launch with the same programs leaves the same world but for the site, and every list of calls has the same replies.
+pub fn alike()
+    ensures blind { BlindToOthers }
+{}

@@ -1,0 +1,7 @@
+use Rattle.std.proofs.Common.{◌≡◌, drop}
+use Rattle.kernel_laws.specs.Blind.{exposes}
+use Rattle.judge.proofs.blindness.exposes.Given as goal
+
+-- what is looked for stands from here on
+abbrev pub invariant-loop-at : goal.invariant-loop-at
+invariant-loop-at l = exposes l.uncover l.folder (drop l.at l.table) ≡ exposes l.uncover l.folder l.table

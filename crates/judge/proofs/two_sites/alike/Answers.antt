@@ -1,0 +1,21 @@
+use Rattle.alike_laws.proofs.Noninterference.{blind_to_others}
+use Rattle.judge.proofs.Folders.{dir_is_folder}
+use Rattle.judge.proofs.two_sites.alike.Goals as goal
+
+pub returns : goal.returns
+returns c = record {
+  to_what_is_blind = λ settings plan service are kept path planned mounts launches filters blind agree.
+      blind_to_others c.args.folder.now c.args.unit.now c.args.calls.now c.args.site.now c.args.other.now settings plan service
+      (record {
+        whole = c.know_table.ensures.whole;
+        arch = c.know_table.ensures.arch;
+        is_site = c.know_site.ensures;
+        settings = are;
+        mentions = kept;
+        program = path;
+        planned = planned;
+        mounts = mounts;
+        launches = launches;
+      })
+      (dir_is_folder c.args.site.now c.args.folder.now c.know_site.ensures c.requires.folder) blind agree;
+}

@@ -1,0 +1,118 @@
+//! Whether a service can see anything of what lies below a folder.
+
+ghost use Rattle.std.specs.Prelude.{◌≡◌, ◌+◌, ◌<◌, ◌≤◌, ◌&&◌, ◌++◌, true, false, drop, length, Some};
+ghost use Rattle.abs_path.specs.Paths.{parts_of};
+ghost use Rattle.abs_path.specs.Prefix.{IsRest, is_below, is_prefix, rest_of};
+ghost use Rattle.linux_numbers.specs.Limits.{mount_max};
+ghost use Rattle.site_table.specs.Table.{kind_at};
+ghost use Rattle.site_table.specs.declared.kinds.RowKind.TheVariants.{Dir};
+ghost use Rattle.kernel_laws.specs.Blind.{exposes, is_blind, is_clear, shows_below};
+ghost use Rattle.kernel_laws.specs.Denied.{IsBlind};
+ghost use Rattle.kernel_laws.specs.Launched.{IsLaunchedWorld, launch_of};
+ghost use Rattle.kernel_ways.specs.Blindness.{IsExposed};
+ghost use Rattle.kernel_ways.specs.Laws.{IsServedWorld};
+ghost use Rattle.ceilings.specs.Own.{IsCeilingOf};
+
+use abs_path::AbsPath;
+use ceilings::{Ceiling, launched_table};
+use kern_mounts::{MountStep, MountTable, What};
+use kernel_model::World;
+use launcher::Launched;
+use reach_paths::{Power, is_covered};
+
+// Whether no entry behind this number covers the path that the front and the rest make, or what covers it can be taken away.
+fn is_clear(table: &MountTable, at: usize, front: &AbsPath, rest: &str, uncover: bool) -> bool
+    requires few { length table.now ≤ mount_max }
+    requires in_range { at < length table.now }
+    requires may_be_joined { IsRest rest.now }
+    ensures { result ≡ is_clear uncover (front.now ++ parts_of rest.now) (drop (at + 1) table.now) }
+{
+    uncover || !is_covered(table, at + 1, front, rest)
+}
+
+// Whether an entry of this number and place whose source is the folder or leads to it shows what lies below the folder.
+fn shows_folder(
+    table: &MountTable,
+    at: usize,
+    place: &AbsPath,
+    source: &AbsPath,
+    folder: &AbsPath,
+    uncover: bool,
+) -> bool
+    requires few { length table.now ≤ mount_max }
+    requires in_range { at < length table.now }
+    ensures { result ≡ (is_prefix source.now folder.now
+        && is_clear uncover (place.now ++ rest_of source.now folder.now) (drop (at + 1) table.now)) }
+{
+    match source.rest(folder) {
+        None => false,
+        Some(rest) => is_clear(table, at, place, rest, uncover),
+    }
+}
+
+// Whether the entry, which has this number, shows what lies below the folder: its source lies there itself, or is the folder or leads
+// to it.
+fn shows_below(
+    table: &MountTable,
+    at: usize,
+    entry: &MountStep,
+    folder: &AbsPath,
+    uncover: bool,
+) -> bool
+    requires few { length table.now ≤ mount_max }
+    requires in_range { at < length table.now }
+    ensures { result ≡ shows_below uncover folder.now entry.now (drop (at + 1) table.now) entry.now.what }
+{
+    let place = &entry.place;
+    match &entry.what {
+        What::Host(source) => {
+            (source.is_below(folder) && is_clear(table, at, place, "", uncover))
+                || shows_folder(table, at, place, source, folder, uncover)
+        }
+        What::Empty | What::Hidden(_) => false,
+    }
+}
+
+// Whether some entry of the table does.
+fn exposes(table: &MountTable, folder: &AbsPath, uncover: bool) -> bool
+    ensures { result ≡ exposes uncover folder.now table.now }
+{
+    for at in 0..table.len() {
+        if shows_below(table, at, table.entry(at), folder, uncover) {
+            return true;
+        }
+    }
+    false
+}
+
+// By the mounts of the launch, and by how far the service can change them.
+fn is_blind(world: &World<'_>, ceiling: &Ceiling, folder: &AbsPath) -> bool
+    requires launched { IsLaunchedWorld world.now }
+    requires its_own_ceiling { IsCeilingOf (launch_of world.now) ceiling.now }
+    ensures { result ≡ is_blind (launch_of world.now) folder.now }
+{
+    let table = launched_table(world);
+    match ceiling.power {
+        Power::None => !exposes(table, folder, false),
+        Power::Unmount => !exposes(table, folder, true),
+        Power::Mount => false,
+    }
+}
+
+/// Whether a launched service is blind to what lies below a folder of its site: in no world that any calls of its processes lead to,
+/// in any order and of however many processes, has a path that a call can name its place on the host strictly below the folder, in
+/// the mount table of a living process. Nothing need be there. Where the service is not blind, some list of calls, each of which is
+/// done, leads to such a path.
+///
+/// What the launched mounts show decides where the service can change none of them; where it can take them away, umount2(2), what
+/// each of them shows; and where it can mount, mount(2), it sees everything. It takes no memory.
+pub fn blind(launched: &Launched<'_>, ceiling: &Ceiling, folder: &AbsPath) -> bool
+    requires launched { IsLaunchedWorld launched.now.world }
+    requires its_own_ceiling { IsCeilingOf (launch_of launched.now.world) ceiling.now }
+    requires folder { kind_at launched.now.world.site.rows folder.now ≡ Some Dir }
+    ensures by_the_rule { result ≡ is_blind (launch_of launched.now.world) folder.now }
+    ensures blind { result ≡ true → IsBlind launched.now.world folder.now }
+    ensures exposed { IsServedWorld launched.now.world → result ≡ false → IsExposed launched.now.world folder.now }
+{
+    is_blind(&launched.world, ceiling, folder)
+}

@@ -1,0 +1,70 @@
+//! What lies below a folder that a launched service is blind to, the service cannot tell.
+
+ghost use Rattle.std.specs.Prelude.{◌≡◌, ◌<◌, ◌^◌, Ok, Some};
+ghost use Rattle.call_table.specs.Facts.{IsWhole};
+ghost use Rattle.exec_settings.specs.AreSettings.{AreSettings};
+ghost use Rattle.exec_settings.specs.declared.service.Settings.{Settings};
+ghost use Rattle.kern_mounts.specs.Launch.{CanBeMounted};
+ghost use Rattle.kern_mounts.specs.Split.{Table};
+ghost use Rattle.kernel_calls.specs.Calls.{IsPath};
+ghost use Rattle.kernel_laws.specs.Denied.{IsBlind};
+ghost use Rattle.launcher.specs.Answers.{LaunchesTo};
+ghost use Rattle.launcher.specs.declared.launched.Launched.{Launched};
+ghost use Rattle.mount_plan.specs.Answers.{Plans};
+ghost use Rattle.mount_plan.specs.Host.{host_of};
+ghost use Rattle.path_settings.specs.Mentions.{AreKept};
+ghost use Rattle.site_table.specs.Table.{IsSite, kind_at};
+ghost use Rattle.site_table.specs.declared.kinds.RowKind.TheVariants.{Dir};
+ghost use Rattle.alike_laws.specs.Alike.{IsAlike};
+ghost use Rattle.alike_laws.specs.Sites.{AgreeForUnit};
+
+use abs_path::AbsPath;
+use call_table::CallTable;
+use dropin_merge::Resolved;
+use launcher::FilterProgram;
+use site_table::SiteTable;
+
+// What holds of every table and of every site; their parts are lent with it.
+fn know_table(table: &CallTable)
+    ensures whole { IsWhole table.now }
+    ensures arch { table.now.arch < 2 ^ 32 }
+{
+    let _arch = table.arch();
+    let _calls = table.calls();
+    let _families = table.families();
+    let _groups = table.groups();
+}
+
+fn know_site(site: &SiteTable)
+    ensures { IsSite site.now }
+{
+    let _uid = site.dynamic_uid();
+}
+
+/// What lies below a folder that a launched service is blind to, the service cannot tell. Where the settings of the unit on the site,
+/// their plan and these programs launch a service, and no list of its calls looks below the folder, the other site is the same to
+/// it: with the same ids and accounts, the same rows but below the folder, and rows of the same kinds at the paths that the unit
+/// implies and at the sources of its binds. The unit has the same settings and the same plan there, the launch with the same
+/// programs leaves the same world but for the site, after as many steps, and every list of calls has the same replies.
+///
+/// It takes no memory, and does nothing: its contract is the law.
+pub fn alike(
+    unit: &Resolved,
+    calls: &CallTable,
+    site: &SiteTable,
+    other: &SiteTable,
+    programs: &[FilterProgram],
+    folder: &AbsPath,
+)
+    requires folder { kind_at site.now.rows folder.now ≡ Some Dir }
+    // The premises are what `settings`, `plan` and `launch` ensure of what they make, and what the types of these keep.
+    ensures to_what_is_blind { (settings : Settings) (plan : Table) (service : Launched)
+        → AreSettings unit.now calls.now site.now settings → AreKept settings.mentions → IsPath settings.program
+        → Plans (host_of site.now) settings.mentions (Ok plan) → CanBeMounted (host_of site.now) plan
+        → LaunchesTo calls.now site.now settings plan service → service.filters ≡ programs.now
+        → IsBlind service.world folder.now → AgreeForUnit folder.now unit.now site.now other.now
+        → IsAlike unit.now calls.now other.now settings plan service }
+{
+    know_table(calls);
+    know_site(site);
+}
