@@ -1,0 +1,10 @@
+pub mod Lists
+pub mod FirstLines
+pub mod Exposed
+pub mod Running
+pub mod Gained
+pub mod Complete
+pub mod Rows
+pub mod Ids
+pub mod Shown
+pub mod Leading

@@ -1,0 +1,150 @@
+-- The calls that are chosen for an open question show it.
+use Rattle.std.proofs.Common.{◌≡◌, ℕ, Bool, true, false, List, [], ◌∷◌, ◌++◌, Option, Some, None, refl, ap, ◌∙◌, sym, subst}
+use Rattle.std.specs.Prelude.{slice_get, not, ◌&&◌}
+use Rattle.std.specs.Option.{option_map_or}
+use Rattle.std.proofs.lemmas.Bool.{and_parts, not-true, eq-eqb}
+use Rattle.abs_path.specs.Paths.{Path}
+use Rattle.cap_sets.specs.Sets.{has}
+use Rattle.call_table.specs.declared.listed.CallLine.{CallLine}
+use Rattle.call_table.specs.Lookups.{numbered}
+use Rattle.kern_creds.specs.declared.creds.Creds.{Creds}
+use Rattle.kern_mounts.specs.Split.{Table}
+use Rattle.kernel_calls.specs.Doing as d
+use Rattle.kernel_calls.specs.Doing.{Doing}
+use Rattle.kernel_calls.specs.Rules.{rule_of}
+use Rattle.kernel_calls.specs.declared.call.Call.{Call}
+use Rattle.kernel_calls.specs.declared.payload.Payload.TheVariants.{Nothing}
+use Rattle.kernel_calls.specs.declared.rule.Rule.{Rule}
+use Rattle.kernel_model.specs.World.{World}
+use Rattle.kernel_laws.specs.Bound.{is_user, can_reach, can_have_cap, can_have_for, if_listed, power_of, ceiling, is_open}
+use Rattle.kernel_laws.specs.Denied.{asks_space, asks_map, asks_protect, asks_attach, asks_realtime, asks_personality, asks_mode, asks_family, is_family, Shows}
+use Rattle.kernel_laws.specs.Kinds as k
+use Rattle.kernel_laws.specs.Kinds.{Kind}
+use Rattle.kernel_laws.specs.Launched.{Launch, IsLaunched, launch_of, lets, lets_line}
+use Rattle.kernel_laws.specs.PlainCalls.{bare_call}
+use Rattle.kernel_laws.specs.Questions as q
+use Rattle.kernel_laws.specs.Questions.{Space, Question}
+use Rattle.kernel_laws.proofs.Filters.{at_position}
+use Rattle.kernel_ways.specs.Laws.{IsFit}
+use Rattle.kernel_ways.specs.Offers.{Offers, RunsProgram}
+use Rattle.kernel_ways.specs.Showing.{Answers}
+use Rattle.kernel_ways.specs.Ways.{Way, here, IsSolo}
+use Rattle.kernel_ways.proofs.Choices as choices
+use Rattle.kernel_ways.proofs.Doings.{Performed}
+use Rattle.kernel_ways.proofs.Lines.{Line, first_by, low_number, line_at}
+use Rattle.kernel_ways.proofs.Performing as performing
+use Rattle.kernel_ways.proofs.Performing.{CapAtHand}
+use Rattle.kernel_ways.proofs.Showing.{calls_show, creds_show}
+use Rattle.kernel_ways.proofs.Starts.{starts_solo}
+use Rattle.chosen_calls.specs.Chosen.{plain_cap, row_calls, plain_calls, socket_calls, calls_for}
+use Rattle.chosen_calls.specs.First.{call_by}
+use Rattle.chosen_calls.specs.Gaining.{gaining, gaining_if}
+use Rattle.chosen_calls.specs.Laws.{ChoiceShows}
+use Rattle.chosen_calls.proofs.FirstLines.{chosen, call_is}
+use Rattle.chosen_calls.proofs.Ids.{uid_shown, gid_shown}
+use Rattle.chosen_calls.proofs.Rows.{gained, row_shown}
+
+module _ (world : World) (launch : Launch) (l : IsLaunched launch) (o : Offers launch) (s : IsSolo launch launch.creds launch.table world) (program : Path) (p : RunsProgram launch program) where
+  -- a call behind a way
+  by_performed : (question : Question) (asks : Doing → Bool) {front : List Call} (creds : Creds) (now : Table) → Way launch launch.creds launch.table front creds now → {call : Call} → (x : Performed launch creds now asks call) → Answers launch now question call x.doing → Shows world question (front ++ call ∷ [])
+  by_performed question asks {front = front} creds now way {call = call} x a = calls_show launch launch.creds creds launch.table now world front question x.doing call x.effect s way x.makes x.doable a
+
+  -- the first call of a kind, at once
+  at_once : (question : Question) (asks : Doing → Bool) (kind : Kind) → lets launch kind ≡ true → ((line : Line launch kind) → Performed launch launch.creds launch.table asks (first_by line.line.number line.args Nothing))
+      → ((call : Call) (x : Performed launch launch.creds launch.table asks call) → Answers launch launch.table question call x.doing) → Shows world question (call_by launch kind Nothing ∷ [])
+  at_once question asks kind e performs answers =
+      let c = chosen launch l kind e in
+      let P : Call → Type 0 = λ call. Performed launch launch.creds launch.table asks call in
+      let x = subst P (sym (call_is c Nothing)) (performs c.line) in
+      by_performed question asks launch.creds launch.table here x (answers (call_by launch kind Nothing) x)
+
+  -- a way to credentials that have the capability, if one is asked for
+  record Having (number : Option ℕ) : Type 0 where
+    creds : Creds
+    now : Table
+    way : Way launch launch.creds launch.table (gaining_if launch program number) creds now
+    can : CapAtHand creds number
+
+  having : (number : Option ℕ) → can_have_cap (ceiling launch) number ≡ true → Having number
+  having None e = record { creds = launch.creds; now = launch.table; way = here; can = tt }
+  having (Some number) e = let g = gained launch l o program p number e in record { creds = g.creds; now = g.now; way = g.way; can = g.holds }
+
+  shown_space : (space : Space) → is_user space ≡ false → lets launch (k.ForSpace space) ≡ true → has (ceiling launch).effective 21 ≡ true → Shows world (q.Ns space) (gaining launch program 21 ++ call_by launch (k.ForSpace space) Nothing ∷ [])
+  shown_space space u e h =
+      let g = gained launch l o program p 21 h in
+      let c = chosen launch l (k.ForSpace space) e in
+      let P : Call → Type 0 = λ call. Performed launch g.creds g.now (asks_space space) call in
+      let x = subst P (sym (call_is c Nothing)) (performing.own_space launch g.creds g.now g.holds space u c.line) in
+      by_performed (q.Ns space) (asks_space space) g.creds g.now g.way x x.such
+
+  shown_call : (place : ℕ) (line : CallLine) → slice_get launch.calls.calls place ≡ Some line → lets_line launch k.PlainCall line ≡ true → can_have_for (ceiling launch) (rule_of line) ≡ true → Shows world (q.Call place) (plain_calls launch program line)
+  shown_call place line listed e h =
+      let own = line_at launch l k.PlainCall place line listed e in
+      let r = performing.plain_rule launch launch.creds launch.table own.0 in
+      let cap' : can_have_cap (ceiling launch) r.0 ≡ true = ap (can_have_for (ceiling launch)) (sym r.1) ∙ ap (λ (c : CallLine). can_have_for (ceiling launch) (rule_of c)) own.1 ∙ h in
+      let same : plain_cap (rule_of line) ≡ r.0 = ap (λ (c : CallLine). plain_cap (rule_of c)) (sym own.1) ∙ ap plain_cap r.1 in
+      let w = having r.0 cap' in
+      let can = subst (performing.can_for launch w.creds w.now) (sym r.1) w.can in
+      let x = performing.plain launch w.creds w.now own.0 can in
+      let number : own.0.line.number ≡ line.number = ap (λ (c : CallLine). c.number) own.1 in
+      let shown = by_performed (q.Call place) k.asks_plain w.creds w.now w.way x (line, listed, number) in
+      let args : first_by own.0.line.number own.0.args Nothing ≡ bare_call line.number = ap (λ nr. first_by nr own.0.args Nothing) number ∙ ap (λ words. first_by line.number words Nothing) (bare own.0) in
+      let P : List Call → Type 0 = λ calls. Shows world (q.Call place) calls in
+      subst P (ap (λ call. gaining_if launch program r.0 ++ call ∷ []) args ∙ ap (λ number. gaining_if launch program number ++ bare_call line.number ∷ []) (sym same)) shown
+    where
+      bare_by : {own : Rule} {args : List ℕ} → choices.Plains own args → args ≡ k.no_words
+      bare_by (choices.plain number) = refl
+
+      bare : (line : Line launch k.PlainCall) → line.args ≡ k.no_words
+      bare line = bare_by (choices.of_plains line.own line.args line.are)
+
+  shown_socket : (place : ℕ) (line : CallLine) → slice_get launch.calls.families place ≡ Some line → lets launch (k.ForFamily line.number) ≡ true → can_have_cap (ceiling launch) line.cap ≡ true → Shows world (q.Socket place) (socket_calls launch program line)
+  shown_socket place line listed e h =
+      let w = having line.cap h in
+      let found : numbered line.number launch.calls.families ≡ Some line = at_position launch.calls.families line.number place line (l.families_once place line listed) listed in
+      let asks : Doing → Bool = asks_family launch.calls.families place in
+      let such : asks (d.Socket line.number) ≡ true = ap (λ (c : Option CallLine). is_family c line.number) listed ∙ eq-eqb line.number line.number refl in
+      let c = chosen launch l (k.ForFamily line.number) e in
+      let P : Call → Type 0 = λ call. Performed launch w.creds w.now asks call in
+      let x = subst P (sym (call_is c Nothing)) (performing.socket launch w.creds w.now line (low_number launch.calls.families o.calls.families.in_range place line listed) c.line found w.can asks such) in
+      by_performed (q.Socket place) asks w.creds w.now w.way x x.such
+
+  -- ---- each question
+  listed_is : {X : Type 0} (holds : X → Bool) (c : Option X) → if_listed holds c ≡ true → (x : X) × (c ≡ Some x) × (holds x ≡ true)
+  listed_is holds None e = cc
+  listed_is holds (Some x) e = (x, refl, e)
+
+  -- of a listed thing
+  of_listed : {X : Type 0} (question : Question) (calls : X → List Call) (listed : Option X) (x : X) → listed ≡ Some x → Shows world question (calls x) → Shows world question (option_map_or calls listed [])
+  of_listed question calls listed x e h = let P : List Call → Type 0 = λ list. Shows world question list in subst P (sym (ap (λ o. option_map_or calls o []) e)) h
+
+  pub shown : (question : Question) → IsFit launch.site question → is_open launch question ≡ true → Shows world question (calls_for launch program question)
+  unfolding calls_for
+  shown (q.ByPath wish place) fit e =
+      let x = listed_is (can_reach launch (power_of launch) wish) (slice_get launch.site.rows place) e in
+      of_listed (q.ByPath wish place) (row_calls launch program wish) (slice_get launch.site.rows place) x.0 x.1 (row_shown world launch l o s program p place x.0 x.1 wish fit x.2)
+  shown (q.Call place) fit e =
+      let x = listed_is (λ line. lets_line launch k.PlainCall line && can_have_for (ceiling launch) (rule_of line)) (slice_get launch.calls.calls place) e in
+      let both = and_parts (lets_line launch k.PlainCall x.0) (can_have_for (ceiling launch) (rule_of x.0)) x.2 in
+      of_listed (q.Call place) (plain_calls launch program) (slice_get launch.calls.calls place) x.0 x.1 (shown_call place x.0 x.1 both.0 both.1)
+  shown (q.Socket place) fit e =
+      let x = listed_is (λ line. lets launch (k.ForFamily line.number) && can_have_cap (ceiling launch) line.cap) (slice_get launch.calls.families place) e in
+      let both = and_parts (lets launch (k.ForFamily x.0.number)) (can_have_cap (ceiling launch) x.0.cap) x.2 in
+      of_listed (q.Socket place) (socket_calls launch program) (slice_get launch.calls.families place) x.0 x.1 (shown_socket place x.0 x.1 both.0 both.1)
+  shown (q.Ns space) fit e =
+      let both = and_parts (not (is_user space)) (lets launch (k.ForSpace space) && has (ceiling launch).effective 21) e in
+      let more = and_parts (lets launch (k.ForSpace space)) (has (ceiling launch).effective 21) both.1 in
+      shown_space space (not-true (is_user space) both.0) more.0 more.1
+  shown q.MapWx fit e = at_once q.MapWx asks_map k.MapsWx e (performing.maps launch launch.creds launch.table) (λ call x. x.such)
+  shown q.ProtectX fit e = at_once q.ProtectX asks_protect k.ProtectsX e (performing.protects launch launch.creds launch.table) (λ call x. x.such)
+  shown q.ShmX fit e = at_once q.ShmX asks_attach k.AttachesX e (performing.attaches launch launch.creds launch.table) (λ call x. x.such)
+  shown q.Realtime fit e = at_once q.Realtime asks_realtime k.SchedulesRealtime e (performing.schedules launch launch.creds launch.table) (λ call x. x.such)
+  shown q.Personality fit e = at_once q.Personality asks_personality k.TakesPersonality e (performing.personality launch launch.creds launch.table) (λ call x. x.such)
+  shown q.SuidBit fit e = at_once q.SuidBit asks_mode k.SetsMode e (performing.mode launch launch.creds launch.table) (λ call x. x.such)
+  shown (q.Cap number) fit e = let g = gained launch l o program p number e in creds_show launch launch.creds g.creds launch.table g.now world (gaining launch program number) (q.Cap number) s g.way g.holds
+  shown (q.Uid id) fit e = uid_shown world launch l o s program p id fit e
+  shown (q.Gid id) fit e = gid_shown world launch l o s program p id fit e
+
+pub choice_shows : ChoiceShows
+choice_shows world program question served runs fit e =
+    shown world (launch_of world) served.launched.launched served.offers (starts_solo world served.launched served.few) program runs question fit e

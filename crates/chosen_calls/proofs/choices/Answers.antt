@@ -1,0 +1,5 @@
+use Rattle.chosen_calls.proofs.Shown.{choice_shows}
+use Rattle.chosen_calls.proofs.choices.Goals as goal
+
+pub returns : goal.returns
+returns c = record { shown = choice_shows }

@@ -1,0 +1,64 @@
+-- Which call of a kind is made: of those that the filters let through the first in an order of names (syscalls(2)), and behind these
+-- the first of the table.
+use Rattle.std.specs.Prelude.{ℕ, Bool, false, codes, List, [], ◌∷◌, find, Option, None, option_and_then, unwrap_or}
+use Rattle.std.specs.Option.{option_or, option_map_or}
+use Rattle.call_table.specs.declared.listed.CallLine.{CallLine}
+use Rattle.call_table.specs.Lookups.{named}
+use Rattle.kernel_calls.specs.declared.call.Call.{Call}
+use Rattle.kernel_calls.specs.declared.payload.Payload.{Payload}
+use Rattle.kernel_calls.specs.declared.rule.Rule.{Rule}
+use Rattle.kernel_calls.specs.declared.rule.Rule.TheVariants.{Plain}
+use Rattle.kernel_calls.specs.Rules.{rule_of}
+use Rattle.kernel_laws.specs.Kinds.{Kind, ForPath, PlainCall, ForFamily, ForSpace, MapsWx, ProtectsX, AttachesX, SchedulesRealtime, TakesPersonality, SetsMode, ChangesMounts, RemovesMounts, SetsCaps, TakesUid, TakesGid, words, no_words}
+use Rattle.kernel_laws.specs.Launched.{Launch, lets_line}
+use Rattle.kernel_laws.specs.Questions.{ToSee, ToRead, ToWrite, ToExec}
+
+-- the names of the calls of a kind, in the order in which they are tried
+abbrev pub names_of : Kind → List (List ℕ)
+names_of (ForPath ToSee) = codes "stat" ∷ codes "lstat" ∷ codes "newfstatat" ∷ codes "statx" ∷ codes "access" ∷ codes "faccessat" ∷ codes "faccessat2" ∷ []
+names_of (ForPath ToRead) = codes "open" ∷ codes "openat" ∷ []
+names_of (ForPath ToWrite) = codes "open" ∷ codes "openat" ∷ codes "creat" ∷ codes "truncate" ∷ []
+names_of (ForPath ToExec) = codes "execve" ∷ []
+names_of PlainCall = []
+names_of (ForFamily family) = codes "socket" ∷ []
+names_of (ForSpace space) = codes "unshare" ∷ codes "clone" ∷ []
+names_of MapsWx = codes "mmap" ∷ []
+names_of ProtectsX = codes "mprotect" ∷ codes "pkey_mprotect" ∷ []
+names_of AttachesX = codes "shmat" ∷ []
+names_of SchedulesRealtime = codes "sched_setscheduler" ∷ []
+names_of TakesPersonality = codes "personality" ∷ []
+names_of SetsMode = codes "chmod" ∷ codes "fchmod" ∷ codes "fchmodat" ∷ codes "mkdir" ∷ codes "mkdirat" ∷ codes "mknod" ∷ codes "mknodat" ∷ []
+names_of ChangesMounts = codes "mount" ∷ []
+names_of RemovesMounts = codes "umount2" ∷ []
+names_of SetsCaps = codes "capset" ∷ []
+names_of TakesUid = codes "setuid" ∷ codes "setresuid" ∷ []
+names_of TakesGid = codes "setgid" ∷ codes "setresgid" ∷ codes "setgroups" ∷ []
+
+-- the table has a call of the name that asks for the kind, and the filters let it through
+abbrev pub lets_name : Launch → Kind → List ℕ → Bool
+lets_name launch kind name = option_map_or (lets_line launch kind) (named name launch.calls.calls) false
+
+-- the line of the first such name, else the first line of the table that they let through
+abbrev pub first_line : Launch → Kind → Option CallLine
+first_line launch kind =
+    option_or (option_and_then (λ name. named name launch.calls.calls) (find (lets_name launch kind) (names_of kind))) (find (lets_line launch kind) launch.calls.calls)
+
+-- a line of no table
+abbrev pub no_line : CallLine
+no_line = record { name = []; number = 0; cap = None }
+
+-- that line, where there is one
+unfoldable pub line_of : Launch → Kind → CallLine
+line_of launch kind = unwrap_or (first_line launch kind) no_line
+
+-- the words with which the call of a line asks for the kind
+abbrev pub args_of : Kind → CallLine → List ℕ
+args_of kind line = unwrap_or (option_and_then (words kind) (rule_of line)) no_words
+
+-- the rule of its call
+abbrev pub own_rule : CallLine → Rule
+own_rule line = unwrap_or (rule_of line) (Plain None)
+
+-- the first call of a kind, by process 1, with the words that ask for it first
+abbrev pub call_by : Launch → Kind → Payload → Call
+call_by launch kind payload = record { pid = 1; nr = (line_of launch kind).number; args = args_of kind (line_of launch kind); payload = payload }

@@ -1,0 +1,5 @@
+pub mod First
+pub mod Exposing
+pub mod Gaining
+pub mod Chosen
+pub mod Laws

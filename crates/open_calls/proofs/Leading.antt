@@ -1,0 +1,53 @@
+-- The entry that leads to a row of a served world, and the lengths of the paths that name rows.
+use Rattle.std.proofs.Common.{◌≡◌, ℕ, true, [], ◌∷◌, Option, Some, None, refl, sym, subst, arith, ◌≤◌, ◌<◌, length, ◌⊎◌, inl, inr}
+use Rattle.std.specs.Prelude.{is_some, unwrap_or}
+use Rattle.std.proofs.lemmas.Option.{slice_get_within}
+use Rattle.abs_path.specs.Paths.{Path, tail_of, text_of}
+use Rattle.kern_mounts.specs.Split.{Table}
+use Rattle.site_table.specs.declared.row.Row.{Row}
+use Rattle.site_table.specs.Table.{row_at}
+use Rattle.kernel_laws.specs.Launched.{launch_of}
+use Rattle.kernel_laws.specs.Questions.{Wish}
+use Rattle.kernel_laws.specs.Reach.{Power, Nowise, Unmounting, Mounting, reach, reaches}
+use Rattle.kernel_model.specs.World.{World}
+use Rattle.kernel_ways.specs.Laws.{IsServedWorld}
+use Rattle.reach_paths.proofs.RowsOfSites.{found_row}
+use Rattle.chosen_calls.specs.Exposing.{IsLead, lead}
+use Rattle.chosen_calls.proofs.Leading.{leads_nowise, leads_unmounting}
+
+-- the text of a path has its tail, or is a lone slash
+tail_within : (path : Path) → length (tail_of path) ≤ length (text_of path)
+tail_within [] = omega arith
+tail_within (part ∷ path) = omega arith
+
+-- there is an entry, so its number is that
+lead_is : (power : Power) (table : Table) (row : Path) (wish : Wish) → reaches power table row wish ≡ true → reach power table row wish ≡ Some (lead power table row wish)
+unfolding lead
+lead_is power table row wish e = by (reach power table row wish) e
+  where
+    by : (o : Option ℕ) → is_some o ≡ true → o ≡ Some (unwrap_or o 0)
+    by None e = cc
+    by (Some at) e = refl
+
+module _ (world : World) (served : IsServedWorld world) (row : Row) (known : row_at world.site.rows row.path ≡ Some row) where
+  -- a row's path is short enough to stand below the folder of the processes
+  pub below_proc : length (tail_of row.path) ≤ 250
+  below_proc = let own = found_row world.site row.path row served.offers.site known in omega (arith, own.short, tail_within row.path)
+
+  pub record Leads (table : Table) (at : ℕ) : Type 0 where
+    pub in_range : at < length table
+    pub leads : IsLead table row.path at
+
+  lead_by : (wish : Wish) (power : Power) → (power ≡ Nowise) ⊎ (power ≡ Unmounting) → reaches power (launch_of world).table row.path wish ≡ true → IsLead (launch_of world).table row.path (lead power (launch_of world).table row.path wish)
+  lead_by wish Nowise some e = leads_nowise (launch_of world) served.offers row known wish (lead Nowise (launch_of world).table row.path wish) (lead_is Nowise (launch_of world).table row.path wish e)
+  lead_by wish Unmounting some e = leads_unmounting (launch_of world) served.offers row known wish (lead Unmounting (launch_of world).table row.path wish) (lead_is Unmounting (launch_of world).table row.path wish e)
+  lead_by wish Mounting (inl e') e = cc
+  lead_by wish Mounting (inr e') e = cc
+
+  pub leads_by : (wish : Wish) (power : Power) → (power ≡ Nowise) ⊎ (power ≡ Unmounting) → reaches power (launch_of world).table row.path wish ≡ true → (table : Table) (at : ℕ) → table ≡ (launch_of world).table → at ≡ lead power (launch_of world).table row.path wish → Leads table at
+  leads_by wish power some e table at same number =
+      let own = lead_by wish power some e in
+      let at_own : IsLead (launch_of world).table row.path at = subst (IsLead (launch_of world).table row.path) (sym number) own in
+      let P : Table → Type 0 = λ t. IsLead t row.path at in
+      let here' : IsLead table row.path at = subst P (sym same) at_own in
+      record { in_range = slice_get_within table at here'.entry here'.own; leads = here' }

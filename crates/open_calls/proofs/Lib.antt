@@ -1,0 +1,5 @@
+pub mod Finding
+pub mod Opening
+pub mod Leading
+pub mod Listed
+pub mod Uncovering

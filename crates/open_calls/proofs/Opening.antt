@@ -1,0 +1,41 @@
+-- What leaves an id open that the launch does not have, and what gives it.
+use Rattle.std.proofs.Common.{◌≡◌, ℕ, Bool, true, false, cond, Option, Some, None, refl, ap, ◌∙◌, sym, eqb, inl, inr}
+use Rattle.std.specs.Prelude.{find, ◌&&◌, ◌||◌, not}
+use Rattle.std.specs.List.{list_any}
+use Rattle.site_table.specs.declared.row.Row.{Row}
+use Rattle.kernel_laws.specs.Bound.{any_gid, any_uid, can_run, caps_at, ceiling, grouped_by, owned_by, power_of}
+use Rattle.kernel_laws.specs.Kinds.{Kind, TakesUid, TakesGid}
+use Rattle.kernel_laws.specs.Launched.{Launch, lets}
+use Rattle.kernel_laws.specs.Reach.{Power, Nowise}
+use Rattle.kernel_ways.specs.Offers.{Offers}
+use Rattle.chosen_calls.specs.Chosen.{IsIdOpen, runner}
+use Rattle.chosen_calls.specs.Gaining.{CapWay, CapCanBeMade, IsRunner, at_once}
+use Rattle.chosen_calls.proofs.Gained.{found_runner, once_can_be_made}
+use Rattle.chosen_calls.proofs.Ids.{uid_open, gid_open}
+use Rattle.open_calls.specs.Meanings.{gives}
+use Rattle.open_calls.specs.declared.ids.IdKind.TheVariants.{User, Group}
+
+module _ (launch : Launch) (o : Offers launch) where
+  pub runs : (power : Power) (gives : Row → Bool) (row : Row) → runner launch power gives ≡ Some row → IsRunner launch power row
+  runs power gives row e = by launch.creds.no_new_privs refl e
+    where
+      by : (n : Bool) → launch.creds.no_new_privs ≡ n → cond {A = Option Row} n None (find (λ row. gives row && can_run launch power row) launch.site.rows) ≡ Some row → IsRunner launch power row
+      by true off e = cc
+      by false off e = (found_runner launch o off power gives row e).0
+
+  pub serves : (kind : Kind) (number : ℕ) (way : CapWay) → cond {A = Option CapWay} (lets launch kind) (at_once launch number) None ≡ Some way → CapCanBeMade launch Nowise way
+  serves kind number way e = by (lets launch kind) e
+    where
+      by : (b : Bool) → cond {A = Option CapWay} b (at_once launch number) None ≡ Some way → CapCanBeMade launch Nowise way
+      by true e = once_can_be_made launch o number way e
+      by false e = cc
+
+pub uid_is_open : (launch : Launch) (id : ℕ) → (ceiling launch).uid id ≡ true → eqb id launch.creds.uids.effective ≡ false → IsIdOpen launch TakesUid (gives User id)
+uid_is_open launch id h off =
+    let e = ap (λ b. any_uid launch (caps_at launch (power_of launch)) || (b || (not launch.creds.no_new_privs && list_any (owned_by launch (power_of launch) id) launch.site.rows))) off in
+    elim (uid_open launch id (sym e ∙ h)) [ inl both ↦ inl both.1 | inr own ↦ inr own ]
+
+pub gid_is_open : (launch : Launch) (id : ℕ) → (ceiling launch).gid id ≡ true → (eqb id launch.creds.gids.effective || list_any (λ group. eqb id group) launch.creds.groups) ≡ false → IsIdOpen launch TakesGid (gives Group id)
+gid_is_open launch id h off =
+    let e = ap (λ b. any_gid launch (caps_at launch (power_of launch)) || (b || (not launch.creds.no_new_privs && list_any (grouped_by launch (power_of launch) id) launch.site.rows))) off in
+    elim (gid_open launch id (sym e ∙ h)) [ inl both ↦ inl both.1 | inr own ↦ inr own ]

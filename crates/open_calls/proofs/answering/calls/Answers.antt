@@ -1,0 +1,18 @@
+use Rattle.std.proofs.Common.{◌∙◌, ◌++◌, ap, sym, subst, List}
+use Rattle.kernel_calls.specs.declared.call.Call.{Call}
+use Rattle.chosen_calls.specs.Chosen.{calls_for}
+use Rattle.chosen_calls.proofs.Shown.{choice_shows}
+use Rattle.kernel_laws.specs.Denied.{Shows}
+use Rattle.kernel_laws.specs.Launched.{launch_of}
+use Rattle.questions.specs.Meanings.{meant}
+use Rattle.open_calls.proofs.Listed.{fit}
+use Rattle.open_calls.proofs.answering.calls.Goals as goal
+
+pub returns-clause-shown : goal.returns-clause-shown
+returns-clause-shown c =
+    let world = c.args.launched.now.world in
+    let question = meant c.args.question.now in
+    let chosen = choice_shows world c.args.launched.now.program question c.requires.served c.requires.program (fit world c.requires.served question c.requires.asked) c.requires.reachable in
+    let same = c.in_ok-push_calls.ensures ∙ ap (λ (calls : List Call). calls ++ calls_for (launch_of world) c.args.launched.now.program question) c.new-calls.ensures.items in
+    let P : List Call → Type 0 = λ calls. Shows world question calls in
+    subst P (sym same) chosen

@@ -1,0 +1,7 @@
+use Rattle.std.proofs.Common.{◌≡◌, ◌≤◌, ◌++◌}
+use Rattle.open_calls.proofs.Uncovering.{calls_from}
+use Rattle.open_calls.proofs.exposing.push_uncovering.Given as goal
+
+-- the calls for the entries from this number on
+abbrev pub invariant-loop-at : goal.invariant-loop-at
+invariant-loop-at l = (l.from ≤ l.at) × (l.calls.items ≡ l.initial.calls.items ++ calls_from l.nr l.path l.table l.at)

@@ -1,0 +1,43 @@
+-- What a way of gaining a capability means, over the rows of the site; and what gives and takes an id.
+use Rattle.std.specs.Prelude.{ℕ, Bool}
+use Rattle.chosen_calls.specs.Gaining as way
+use Rattle.kernel_laws.specs.Bound.{is_owner}
+use Rattle.kernel_laws.specs.Kinds.{Kind, TakesUid, TakesGid}
+use Rattle.linux_numbers.specs.Capabilities.{cap_setuid, cap_setgid}
+use Rattle.site_table.specs.declared.row.Row.{Row}
+use Rattle.open_calls.specs.declared.ids.IdKind.{IdKind}
+use Rattle.open_calls.specs.declared.ids.IdKind.TheVariants.{User, Group}
+use Rattle.open_calls.specs.declared.ways.FileWay.{FileWay}
+use Rattle.open_calls.specs.declared.ways.FileWay.TheVariants.{Held, Run, Capset}
+use Rattle.open_calls.specs.declared.ways.CapWay.{CapWay}
+use Rattle.open_calls.specs.declared.ways.CapWay.TheVariants.{File, Root}
+use Rattle.open_calls.specs.declared.ways.GainWay.{GainWay}
+use Rattle.open_calls.specs.declared.ways.GainWay.TheVariants.{AtOnce, Behind}
+
+abbrev pub meant_file : FileWay → way.FileWay
+meant_file Held = way.Held
+meant_file (Run row) = way.ByRun row.now
+meant_file (Capset row) = way.ByCapset row.now
+
+abbrev pub meant_cap : CapWay → way.CapWay
+meant_cap (File file) = way.ByFile (meant_file file)
+meant_cap (Root file) = way.ByRoot (meant_file file)
+
+abbrev pub meant_gain : GainWay → way.GainWay
+meant_gain (AtOnce cap) = way.AtOnce (meant_cap cap)
+meant_gain (Behind admin cap) = way.Behind (meant_cap admin) (meant_cap cap)
+
+-- the calls that take such an id, setuid(2), setgid(2)
+abbrev pub meant_kind : IdKind → Kind
+meant_kind User = TakesUid
+meant_kind Group = TakesGid
+
+-- the capability that they ask for
+abbrev pub meant_number : IdKind → ℕ
+meant_number User = cap_setuid
+meant_number Group = cap_setgid
+
+-- a set-id bit of the row gives it, inode(7)
+abbrev pub gives : IdKind → ℕ → Row → Bool
+gives User id row = is_owner id row.setuid
+gives Group id row = is_owner id row.setgid

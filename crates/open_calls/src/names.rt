@@ -1,0 +1,53 @@
+//! The names of the calls of a kind, in the order in which they are tried.
+
+ghost use Rattle.std.specs.Prelude.{◌≡◌, map};
+ghost use Rattle.chosen_calls.specs.First.{names_of};
+ghost use Rattle.ceilings.specs.Meanings.{meant_kind};
+
+use ceilings::CallKind;
+use questions::Wish;
+
+// Those that do what is wished of a path.
+fn path_names(wish: Wish) -> &'static [&'static str]
+    ensures { map (λ name. name.now) result.now ≡ names_of (meant_kind (CallKind.ForPath wish)) }
+{
+    match wish {
+        Wish::See => &[
+            "stat",
+            "lstat",
+            "newfstatat",
+            "statx",
+            "access",
+            "faccessat",
+            "faccessat2",
+        ],
+        Wish::Read => &["open", "openat"],
+        Wish::Write => &["open", "openat", "creat", "truncate"],
+        Wish::Exec => &["execve"],
+    }
+}
+
+/// The names of the calls of a kind, in the order in which they are tried; none of plain calls.
+pub(crate) fn names_of(kind: CallKind) -> &'static [&'static str]
+    ensures { map (λ name. name.now) result.now ≡ names_of (meant_kind kind) }
+{
+    match kind {
+        CallKind::ForPath(wish) => path_names(wish),
+        CallKind::PlainCall => &[],
+        CallKind::ForFamily(_) => &["socket"],
+        CallKind::ForNamespace(_) => &["unshare", "clone"],
+        CallKind::MapsWx => &["mmap"],
+        CallKind::ProtectsX => &["mprotect", "pkey_mprotect"],
+        CallKind::AttachesX => &["shmat"],
+        CallKind::SchedulesRealtime => &["sched_setscheduler"],
+        CallKind::TakesPersonality => &["personality"],
+        CallKind::SetsMode => &[
+            "chmod", "fchmod", "fchmodat", "mkdir", "mkdirat", "mknod", "mknodat",
+        ],
+        CallKind::ChangesMounts => &["mount"],
+        CallKind::RemovesMounts => &["umount2"],
+        CallKind::SetsCaps => &["capset"],
+        CallKind::TakesUid => &["setuid", "setresuid"],
+        CallKind::TakesGid => &["setgid", "setresgid", "setgroups"],
+    }
+}

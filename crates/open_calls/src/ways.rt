@@ -1,0 +1,179 @@
+//! How a capability is gained, capabilities(7): which way is taken of those that serve. It takes no memory.
+
+ghost use Rattle.std.specs.Prelude.{◌≡◌, ◌&&◌, find, option_copied, option_map};
+ghost use Rattle.chosen_calls.specs.Gaining.{at_once, at_power, behind_way, by_launch, by_rows, capset_way, gain, gives_at_once, gives_by_capset, takes_root};
+ghost use Rattle.kernel_laws.specs.Bound.{can_run, power_of};
+ghost use Rattle.kernel_laws.specs.Launched.{IsLaunchedWorld, launch_of};
+ghost use Rattle.reach_paths.specs.Meanings.{meant_power};
+ghost use Rattle.open_calls.specs.Meanings.{meant_file, meant_cap, meant_gain};
+
+use ceilings::{CallKind, can_run, launched_process, lets};
+use kernel_model::World;
+use linux_numbers::capabilities::{CAP_SETUID, CAP_SYS_ADMIN};
+use reach_paths::Power;
+use site_table::Row;
+
+/// How a capability becomes effective by a file.
+#[derive(Clone, Copy)]
+pub(crate) enum FileWay<'a> {
+    /// It is so at launch.
+    Held,
+    /// By execve(2) of the row.
+    Run(&'a Row),
+    /// And by capset(2) behind it.
+    Capset(&'a Row),
+}
+
+/// And by uid 0.
+#[derive(Clone, Copy)]
+pub(crate) enum CapWay<'a> {
+    /// By a file.
+    File(FileWay<'a>),
+    /// CAP_SETUID by a file, then setuid(2), and execve(2) behind it.
+    Root(FileWay<'a>),
+}
+
+/// On which mount table.
+#[derive(Clone, Copy)]
+pub(crate) enum GainWay<'a> {
+    /// On the launched one.
+    AtOnce(CapWay<'a>),
+    /// On what CAP_SYS_ADMIN makes of it, which is gained first.
+    Behind(CapWay<'a>, CapWay<'a>),
+}
+
+// Whether execve of the row makes the capability effective.
+fn gives_at_once(world: &World<'_>, cap: u8, row: &Row) -> bool
+    requires { IsLaunchedWorld world.now }
+    ensures { result ≡ gives_at_once (launch_of world.now) cap row.now }
+{
+    let bounding = launched_process(world).creds.bounding();
+    (row.setuid == Some(0) && bounding.contains(cap)) || (row.effective && row.caps.contains(cap))
+}
+
+// Whether it makes the capability permitted, for capset to make it effective.
+fn gives_by_capset(world: &World<'_>, cap: u8, row: &Row) -> bool
+    requires { IsLaunchedWorld world.now }
+    ensures { result ≡ gives_by_capset (launch_of world.now) cap row.now }
+{
+    let bounding = launched_process(world).creds.bounding();
+    !row.effective && row.caps.cut(bounding).contains(cap)
+}
+
+// The first row that gives it at once and that can be run.
+fn runner<'a>(world: &'a World<'_>, power: Power, cap: u8) -> Option<&'a Row>
+    requires { IsLaunchedWorld world.now }
+    ensures { let launch = launch_of world.now in
+        option_copied result ≡ find (λ row. gives_at_once launch cap row && can_run launch (meant_power power) row) launch.site.rows }
+{
+    let rows = world.site_table().rows();
+    rows.iter().find(|row| gives_at_once(world, cap, row) && can_run(world, power, row))
+}
+
+// The first row that gives it by capset and that can be run.
+fn setter<'a>(world: &'a World<'_>, power: Power, cap: u8) -> Option<&'a Row>
+    requires { IsLaunchedWorld world.now }
+    ensures { let launch = launch_of world.now in
+        option_copied result ≡ find (λ row. gives_by_capset launch cap row && can_run launch (meant_power power) row) launch.site.rows }
+{
+    let rows = world.site_table().rows();
+    rows.iter().find(|row| gives_by_capset(world, cap, row) && can_run(world, power, row))
+}
+
+// By a row and capset, where capset passes.
+fn by_capset<'a>(world: &'a World<'_>, power: Power, cap: u8) -> Option<FileWay<'a>>
+    requires { IsLaunchedWorld world.now }
+    ensures { let launch = launch_of world.now in
+        option_map meant_file result ≡ capset_way launch (meant_power power) cap }
+{
+    if !lets(world, CallKind::SetsCaps) {
+        return None;
+    }
+    let row = setter(world, power, cap)?;
+    Some(FileWay::Capset(row))
+}
+
+// By a row, without no_new_privs.
+fn by_rows<'a>(world: &'a World<'_>, power: Power, cap: u8) -> Option<FileWay<'a>>
+    requires { IsLaunchedWorld world.now }
+    ensures { option_map meant_file result ≡ by_rows (launch_of world.now) (meant_power power) cap }
+{
+    if launched_process(world).creds.no_new_privs() {
+        return None;
+    }
+    match runner(world, power, cap) {
+        Some(row) => Some(FileWay::Run(row)),
+        None => by_capset(world, power, cap),
+    }
+}
+
+// Held at launch, else by a row of the launched table.
+fn by_launch<'a>(world: &'a World<'_>, cap: u8) -> Option<FileWay<'a>>
+    requires { IsLaunchedWorld world.now }
+    ensures { option_map meant_file result ≡ by_launch (launch_of world.now) cap }
+{
+    if launched_process(world).creds.effective().contains(cap) {
+        Some(FileWay::Held)
+    } else {
+        by_rows(world, Power::None, cap)
+    }
+}
+
+// Whether who takes uid 0 has the capability.
+fn takes_root(world: &World<'_>, cap: u8) -> bool
+    requires { IsLaunchedWorld world.now }
+    ensures { result ≡ takes_root (launch_of world.now) cap }
+{
+    let creds = &launched_process(world).creds;
+    !creds.no_new_privs() && lets(world, CallKind::TakesUid) && creds.bounding().contains(cap)
+}
+
+/// How the capability is gained on the launched table, if it is.
+#[tactic(auto, unfolding(chosen_calls::specs::Gaining::at_once))]
+pub(crate) fn at_once<'a>(world: &'a World<'_>, cap: u8) -> Option<CapWay<'a>>
+    requires { IsLaunchedWorld world.now }
+    ensures { option_map meant_cap result ≡ at_once (launch_of world.now) cap }
+{
+    match by_launch(world, cap) {
+        Some(file) => Some(CapWay::File(file)),
+        None if takes_root(world, cap) => by_launch(world, CAP_SETUID).map(CapWay::Root),
+        None => None,
+    }
+}
+
+// With the launch's power over mount tables.
+#[tactic(auto, unfolding(chosen_calls::specs::Gaining::at_power))]
+fn at_power<'a>(world: &'a World<'_>, power: Power, cap: u8) -> Option<CapWay<'a>>
+    requires launched { IsLaunchedWorld world.now }
+    requires its_own { meant_power power ≡ power_of (launch_of world.now) }
+    ensures { option_map meant_cap result ≡ at_power (launch_of world.now) cap }
+{
+    match by_rows(world, power, cap) {
+        Some(file) => Some(CapWay::File(file)),
+        None if takes_root(world, cap) => by_rows(world, power, CAP_SETUID).map(CapWay::Root),
+        None => None,
+    }
+}
+
+// Behind CAP_SYS_ADMIN.
+fn behind<'a>(world: &'a World<'_>, power: Power, cap: u8) -> Option<GainWay<'a>>
+    requires launched { IsLaunchedWorld world.now }
+    requires its_own { meant_power power ≡ power_of (launch_of world.now) }
+    ensures { option_map meant_gain result ≡ behind_way (launch_of world.now) cap }
+{
+    let admin = at_once(world, CAP_SYS_ADMIN)?;
+    let own = at_power(world, power, cap)?;
+    Some(GainWay::Behind(admin, own))
+}
+
+/// How the capability is gained, if it is: on the launched table, else behind CAP_SYS_ADMIN.
+pub(crate) fn gain<'a>(world: &'a World<'_>, power: Power, cap: u8) -> Option<GainWay<'a>>
+    requires launched { IsLaunchedWorld world.now }
+    requires its_own { meant_power power ≡ power_of (launch_of world.now) }
+    ensures { option_map meant_gain result ≡ gain (launch_of world.now) cap }
+{
+    match at_once(world, cap) {
+        Some(own) => Some(GainWay::AtOnce(own)),
+        None => behind(world, power, cap),
+    }
+}
