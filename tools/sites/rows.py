@@ -1,0 +1,135 @@
+"""The rows of a site: files, folders and programs, each with its parents, up to the limit."""
+import errno
+import fnmatch
+import os
+import re
+import stat
+from typing import NamedTuple
+
+from sites.privileges import NONE, is_program, privileges_of
+from sites.root import folded, parts_of
+
+# How many rows a site may have, and how many bytes a path.
+LIMIT = 2048
+LONGEST = 250
+# Files of a process, to which /proc/self leads: of the one that looks.
+OF_A_PROCESS = re.compile(rb"/proc/[0-9]+(/|$)")
+
+
+class Row(NamedTuple):
+    """A kind, `dir`, `file` or `exe`, and what the program gives."""
+
+    kind: str
+    gives: object = NONE
+
+
+def kind_of(mode):
+    """The kind of what has this mode. Devices, sockets and pipes are files."""
+    if stat.S_ISDIR(mode):
+        return "dir"
+    return "exe" if is_program(mode) else "file"
+
+
+def parents_of(path):
+    """The folders above a path, from the root on."""
+    parts = parts_of(path)
+    return [b"/" + b"/".join(parts[:count]) for count in range(len(parts))]
+
+
+def fault_of(path):
+    """Why a path can be no row; None where it can."""
+    if folded(path) is None:
+        return "left out, paths that are not absolute"
+    if len(path) > LONGEST:
+        return f"left out, paths of more than {LONGEST} bytes"
+    try:
+        path.decode("utf-8")
+    except UnicodeDecodeError:
+        return "left out, names that are not UTF-8"
+    return None
+
+
+class Rows:
+    """Rows of a root by their paths, in the order in which they were added."""
+
+    def __init__(self, root, told):
+        self.root = root
+        self.told = told
+        self.rows = {}
+
+    def is_full(self):
+        """Whether no further row can be taken."""
+        return len(self.rows) >= LIMIT
+
+    def look_at(self, path):
+        """Where a path leads, and the row of what is there. OSError where it leads nowhere."""
+        target = self.root.real(path)
+        file = self.root.outside(target)
+        status = os.lstat(file)
+        return target, Row(kind_of(status.st_mode), privileges_of(file, status, path, self.told))
+
+    def leave(self, path):
+        """Counts a path for which there is no room."""
+        self.told.add(f"left out, above the limit of {LIMIT} rows", path)
+
+    def put(self, path, row):
+        """Takes a row with the parents that it lacks, if there is room for all of them."""
+        if path in self.rows:
+            return
+        if self.is_full():
+            self.leave(path)
+            return
+        missing = [folder for folder in parents_of(path) if folder not in self.rows]
+        if len(self.rows) + len(missing) + 1 > LIMIT:
+            self.leave(path)
+            return
+        for folder in missing:
+            self.rows[folder] = Row("dir")
+        self.rows[path] = row
+
+    def add(self, path, made=None, wanted=False):
+        """Takes the row of a path, and that of what it leads to where there are links in it.
+
+        Where nothing is there, the row has the kind `made`, if that is given; a path that is `wanted` is told.
+        """
+        fault = fault_of(path)
+        if fault:
+            self.told.add(fault, path)
+            return
+        path = folded(path)
+        if path in self.rows:
+            return
+        try:
+            target, row = self.look_at(path)
+        except OSError as error:
+            self.add_unseen(path, error, made, wanted)
+            return
+        self.put(path, row)
+        if fault_of(target) is None and not OF_A_PROCESS.match(target):
+            self.put(target, row)
+
+    def add_unseen(self, path, error, made, wanted):
+        """Takes the row of a path where nothing is, or nothing that can be looked at."""
+        missing = error.errno in (errno.ENOENT, errno.ENOTDIR)
+        if not missing:
+            self.told.add(f"paths that could not be looked at ({error.strerror})", path)
+        elif wanted:
+            self.told.add("named paths that are not there", path)
+        if made and error.errno != errno.ENOTDIR:
+            self.put(path, Row(made))
+
+    def add_pattern(self, pattern):
+        """Takes the rows of all paths of a pattern in which `*` stands for any part of a name."""
+        for path in matches(self.root, pattern):
+            self.add(path)
+
+
+def matches(root, pattern):
+    """The paths that a pattern stands for, in byte order."""
+    found = [b""]
+    for part in parts_of(pattern):
+        if b"*" in part:
+            found = [path + b"/" + name for path in found for name in fnmatch.filter(root.names(path), part)]
+        else:
+            found = [path + b"/" + part for path in found]
+    return found

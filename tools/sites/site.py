@@ -1,0 +1,181 @@
+"""The site of a root: which rows it has, in the order in which they are chosen, and which users and groups."""
+import stat
+
+from sites import people, places, toml, units
+from sites.root import folded
+from sites.rows import Rows, Row, fault_of
+from sites.walk import walk
+
+
+class Fault(Exception):
+    """Why there is no site."""
+
+
+def is_below(path, folder):
+    """Whether the path stands below the folder."""
+    return path.startswith(folder + b"/")
+
+
+def add_running(rows):
+    """Takes rows for what a running system has, where this one does not run: nothing stands in its /proc."""
+    if rows.root.names(b"/proc"):
+        return
+    for path, kind in [(path, kind) for kind, paths in places.RUNNING.items() for path in paths.split()]:
+        path = path.encode()
+        if not rows.root.stands(path):
+            rows.told.add("rows of what a running system has, since nothing is in this /proc", path)
+        rows.add(path, made=kind)
+
+
+def tell_links(rows, path):
+    """Tells a path of a unit that leads elsewhere, since the program takes the two for different files."""
+    path = folded(path)
+    if path is None or not rows.root.stands(path):
+        return
+    target = rows.root.real(path)
+    if target != path:
+        rows.told.add("paths of the units that lead through links, and are judged apart from what they lead to", path)
+
+
+def add_said(rows, says):
+    """Takes the rows of what a unit says."""
+    for path in says.programs:
+        if path.startswith(b"/"):
+            rows.add(path, wanted=True)
+    for path in says.paths:
+        rows.add(path, wanted=True)
+    for path in says.optional:
+        rows.add(path)
+    for path in says.folders:
+        rows.add(path, made="dir")
+    for path in says.paths + says.optional:
+        tell_links(rows, path)
+
+
+def walks(root, also, told):
+    """The walks over the file systems of the root, of /usr, and of the folders that are to be walked as well."""
+    seen = set()
+    found = []
+    for start in [b"/", b"/usr"] + also:
+        try:
+            start = root.real(start)
+            status = root.status(start)
+        except OSError:
+            continue
+        if stat.S_ISDIR(status.st_mode) and (status.st_dev, status.st_ino) not in seen:
+            seen.add((status.st_dev, status.st_ino))
+            found.append((start, walk(root, start, told, seen)))
+    starts = [start for start, _ in found]
+    for path in [path for _, it in found for path in it.elsewhere if path not in starts]:
+        told.add("not walked, folders of other file systems (--also walks one)", path)
+    return [it for _, it in found]
+
+
+def add_sockets(rows, found):
+    """Takes the rows of the sockets below /run, which may be a file system of its own."""
+    sockets = {path for it in found for path in it.sockets if is_below(path, b"/run")}
+    if any(b"/run" in it.elsewhere for it in found):
+        sockets.update(walk(rows.root, b"/run", rows.told, set()).sockets)
+    for path in sorted(sockets):
+        rows.add(path)
+
+
+def add_folders(rows, found):
+    """Takes the rows of folders level by level, and of links to folders, until there is no room."""
+    levels = max(len(it.folders) for it in found)
+    for level in range(levels):
+        here = [it for it in found if level < len(it.folders)]
+        folders = {path for it in here for path in it.folders[level]}
+        links = {path for it in here for path in it.links[level]} if not rows.is_full() else set()
+        for path in sorted(folders | links):
+            if any(is_below(path, passing) for passing in places.PASSING):
+                continue
+            if path in folders or leads_to_folder(rows.root, path):
+                add_folder(rows, path)
+
+
+def leads_to_folder(root, link):
+    """Whether a link leads to a folder."""
+    try:
+        return stat.S_ISDIR(root.status(link).st_mode)
+    except OSError:
+        return False
+
+
+def add_folder(rows, path):
+    """Takes the row of a folder of the walk."""
+    fault = fault_of(path)
+    if fault:
+        rows.told.add(fault, path)
+    else:
+        rows.put(path, Row("dir"))
+
+
+def add_rows(rows, all_said, also):
+    """Takes all rows, the most telling first."""
+    rows.put(b"/", Row("dir"))
+    rows.put(b"/proc", Row("dir"))
+    for path in places.PROTECTED:
+        rows.add(path.encode())
+    add_running(rows)
+    for says in all_said:
+        add_said(rows, says)
+    for path in also:
+        rows.add(path, wanted=True)
+    found = walks(rows.root, also, rows.told)
+    for path in sorted(path for it in found for path in it.privileged):
+        rows.add(path)
+    for pattern in places.SENSITIVE:
+        rows.add_pattern(pattern.encode())
+    add_sockets(rows, found)
+    add_folders(rows, found)
+
+
+def read_people(root, says, told):
+    """The users and groups, at most as many as a site has."""
+    try:
+        passwd = root.read(b"/etc/passwd")
+    except OSError as error:
+        raise Fault(f"{root.folder.decode(errors='replace')} has no etc/passwd that can be read ({error.strerror})")
+    try:
+        group = root.read(b"/etc/group")
+    except OSError as error:
+        told.add(f"without groups, since there is no file that can be read ({error.strerror})", b"/etc/group")
+        group = b""
+    groups = people.read_groups(group, told)
+    users = people.read_users(passwd, groups, told)
+    wanted_users = {name for it in says for name in it.users}
+    wanted_groups = {name for it in says for name in it.groups}
+    users = people.at_most(users, wanted_users, "etc/passwd", told)
+    return users, people.at_most(groups, wanted_groups, "etc/group", told)
+
+
+def all_said(unit_root, names, told):
+    """What each of the units says; a name of no unit is told."""
+    found = []
+    for text in names:
+        name = units.read_name(text)
+        if name is None or units.fragment(unit_root, name) is None:
+            told.add("units that are not there", text.encode("utf-8", "surrogateescape"))
+        else:
+            found.append(units.said(unit_root, name, told))
+    return found
+
+
+def tell_owner(root, told):
+    """Tells a root that another user unpacked, who then owns its set-user-ID programs."""
+    if root.status(b"/").st_uid != 0:
+        told.add("not owned by root, so that set-user-ID bits may stand for other uids once it runs", b"/")
+
+
+def make_site(head, root, unit_root, names, also, told):
+    """The bytes of site.toml, and how many rows, users and groups it has."""
+    says = all_said(unit_root, names, told)
+    users, groups = read_people(root, says, told)
+    rows = Rows(root, told)
+    tell_owner(root, told)
+    add_rows(rows, says, also)
+    text = toml.site_text(head, people.dynamic_uid(users, groups), rows.rows, users, groups)
+    if len(text) > toml.LONGEST:
+        raise Fault(f"the site has {len(text)} bytes, and the program reads {toml.LONGEST}")
+    return text, (len(rows.rows), len(users), len(groups))

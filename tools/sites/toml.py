@@ -1,0 +1,52 @@
+"""The text of site.toml."""
+
+# Up to which size the program reads a file.
+LONGEST = 1 << 20
+
+
+def quoted(text):
+    """A basic string of TOML."""
+    escaped = text.replace("\\", "\\\\").replace('"', '\\"')
+    return '"' + "".join(f"\\u{ord(c):04x}" if c < " " or c == "\x7f" else c for c in escaped) + '"'
+
+
+def table(kind, fields):
+    """A table of an array of tables, by the texts of its values."""
+    return "\n".join([f"[[{kind}]]"] + [f"{key} = {value}" for key, value in fields]) + "\n"
+
+
+def row_text(path, row):
+    """The table of a row; its path is text."""
+    fields = [("path", quoted(path)), ("kind", quoted(row.kind))]
+    gives = row.gives
+    if gives.setuid is not None:
+        fields.append(("setuid", gives.setuid))
+    if gives.setgid is not None:
+        fields.append(("setgid", gives.setgid))
+    if gives.caps:
+        fields.append(("caps", "[" + ", ".join(quoted(name) for name in gives.caps) + "]"))
+    if gives.effective:
+        fields.append(("effective", "true"))
+    return table("row", fields)
+
+
+def user_text(user):
+    """The table of a user."""
+    fields = [("name", quoted(user.name)), ("uid", user.uid), ("gid", user.gid)]
+    if user.groups:
+        fields.append(("groups", list(user.groups)))
+    return table("user", fields)
+
+
+def group_text(group):
+    """The table of a group."""
+    return table("group", [("name", quoted(group.name)), ("gid", group.gid)])
+
+
+def site_text(head, dynamic_uid, rows, users, groups):
+    """The whole text, with a first line that says where it comes from. Rows stand in byte order of their paths."""
+    tables = [f"# {head}\ndynamic_uid = {dynamic_uid}\n"]
+    tables += [row_text(path.decode("utf-8"), row) for path, row in sorted(rows.items())]
+    tables += [user_text(user) for user in users]
+    tables += [group_text(group) for group in groups]
+    return "\n".join(tables).encode("utf-8")
