@@ -2,3 +2,4 @@ pub mod FileCommands
 pub mod Refusing
 pub mod Texts
 pub mod Runs
+pub mod Stopped

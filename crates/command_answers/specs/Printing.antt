@@ -45,9 +45,13 @@ pub record PrintsText (ending : Ending) (text : List ℕ) (ended : Ending) (outp
   pub cause : HasWriteCause output.faults_before output.faults_after put
   pub ends : ended ≡ ending_of_put put ending
 
--- what is ready is printed, or the line of the refusal, and a stop without a line prints nothing
+-- the line of a refusal is printed, and a stop without a line prints nothing
+abbrev pub FinishesStop : Stop → Ending → Output → Type 0
+FinishesStop (stop.Refused line) ended output = PrintsText Refused line.items ended output
+FinishesStop stop.ReadFault ended output = (ended ≡ ReadFault) × IsUntouched output
+FinishesStop stop.Memory ended output = (ended ≡ OutOfMemory) × IsUntouched output
+
+-- what is ready is printed, or what stopped it
 abbrev pub Finishes : {R : Type 0} → (R → Ending) → (R → List ℕ) → Result R Stop → Ending → Output → Type 0
 Finishes behind text (Ok ready) ended output = PrintsText (behind ready) (text ready) ended output
-Finishes behind text (Err (stop.Refused line)) ended output = PrintsText Refused line.items ended output
-Finishes behind text (Err stop.ReadFault) ended output = (ended ≡ ReadFault) × IsUntouched output
-Finishes behind text (Err stop.Memory) ended output = (ended ≡ OutOfMemory) × IsUntouched output
+Finishes behind text (Err why) ended output = FinishesStop why ended output

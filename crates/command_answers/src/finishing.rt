@@ -1,6 +1,6 @@
 // How a run goes on behind what a command prepared.
 ghost use Rattle.std.specs.Prelude.{◌≡◌};
-ghost use Rattle.command_answers.specs.Printing.{Finishes, ending_of_put};
+ghost use Rattle.command_answers.specs.Printing.{Finishes, FinishesStop, ending_of_put};
 
 use crate::ending::Ending;
 use crate::printing::put_line;
@@ -9,14 +9,28 @@ use crate::stop::Stop;
 use host_io::{Sink, SinkError};
 use std::alloc::Global;
 
-// How a run ends whose text was printed so.
-fn ending_after(put: Result<(), SinkError>, ending: Ending) -> Ending
-    ensures { result ≡ ending_of_put put ending }
+/// How a run ends whose text was printed so, behind a whole text with this ending.
+pub fn ending_after(put: Result<(), SinkError>, ending: Ending) -> Ending
+    ensures as_it_was_put { result ≡ ending_of_put put ending }
 {
     match put {
         Ok(()) => ending,
         Err(SinkError::Failed) => Ending::WriteFault,
         Err(SinkError::Memory) => Ending::OutOfMemory,
+    }
+}
+
+/// Prints the line of what stopped a command, if it has one, and says how the run ends.
+pub fn finish_stop<K: Sink>(stop: Stop, out: &mut K) -> Ending
+    ensures finishes { FinishesStop stop result (record { faults_before = K.faults out.old; faults_after = K.faults out.new; taken_before = K.taken out.old; taken_after = K.taken out.new }) }
+{
+    match stop {
+        Stop::Refused(line) => {
+            let put = put_line(out, Ok(line));
+            ending_after(put, Ending::Refused)
+        }
+        Stop::ReadFault => Ending::ReadFault,
+        Stop::Memory => Ending::OutOfMemory,
     }
 }
 
@@ -30,11 +44,6 @@ pub fn finish<R: Ready, K: Sink>(alloc: Global, prepared: Result<R, Stop>, out: 
             let put = ready.print(alloc, out);
             ending_after(put, ending)
         }
-        Err(Stop::Refused(line)) => {
-            let put = put_line(out, Ok(line));
-            ending_after(put, Ending::Refused)
-        }
-        Err(Stop::ReadFault) => Ending::ReadFault,
-        Err(Stop::Memory) => Ending::OutOfMemory,
+        Err(stop) => finish_stop(stop, out),
     }
 }

@@ -17,7 +17,7 @@ mod stop;
 
 pub use ending::Ending;
 pub use files::{FileRead, TABLE_PATH, read_file};
-pub use finishing::finish;
+pub use finishing::{ending_after, finish, finish_stop};
 pub use printing::{put_line, put_piece};
 pub use ready::Ready;
 pub use refusals::refused_line;

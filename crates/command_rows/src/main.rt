@@ -1,15 +1,20 @@
 //! Rows of whole runs over files in memory: what is printed, and how it ends.
 //!
 //! The standard input has the rows, a line each step. `file PATH` begins a file, which further rows keep; `|TEXT` adds a line
-//! to it, `>TEXT` a text, `nul` a zero byte, `many N` so many letters and `times N TEXT` so many lines; `no-file PATH` takes
-//! it away. `word WORD` adds a word, `take N` says how much the sink takes at once, `fail-read N` and `fail-put N` which call
+//! to it, `>TEXT` a text, `nul` a zero byte, `many N` so many letters and `times N TEXT` so many lines; `more PATH` goes on with
+//! a file, and `no-file PATH` takes it away. `word WORD` adds a word, `take N` says how much the sink takes at once, `fail-read N` and `fail-put N` which call
 //! fails. `run` runs these words, prints them with the status and what was taken, and begins the next row. `ask NUMBER WORD ..`
 //! asks the filters that are printed of a call, `i386` before the number of one of that architecture: they are read back, and
-//! what each answers is told in their place. A line that begins with `#` says what the next rows show.
+//! what each answers is told in their place. `seek LINE` seeks a line in what is printed: in the place of the text it is told
+//! whether the text has it, with the lines that are set in below it, or lacks it; `seek FRONT*` counts the lines that begin so.
+//! `circle` judges the unit of the first word, and replays the list of calls below each open question; it tells how many lists
+//! are done whole, and which are not. A line that begins with `#` says what the next rows show.
 #![tactic(auto)]
 
 mod asked;
+mod circle;
 mod rows;
+mod sought;
 mod whole;
 
 use rows::Rows;
@@ -28,8 +33,11 @@ fn follow(rt: &HostRuntime, rows: &mut Rows, line: &str) -> io::Result<()> {
     if line.starts_with('#') {
         return rt.println(line);
     }
-    if line == "run" {
-        let said = whole::run_row(rt.alloc(), rows)?;
+    if line == "run" || line == "circle" {
+        let said = match line {
+            "run" => whole::run_row(rt.alloc(), rows)?,
+            _ => circle::circle(rt.alloc(), rows)?,
+        };
         rows.begin_row(rt.alloc());
         return rt.println(said.as_str());
     }

@@ -17,6 +17,8 @@ pub struct Rows {
     pub take: u64,
     /// The calls that the printed filters are asked of.
     pub asked: Vec<String>,
+    /// The lines that are sought in what is printed.
+    pub sought: Vec<String>,
 }
 
 impl Rows {
@@ -29,6 +31,7 @@ impl Rows {
             puts: Vec::new(alloc),
             take: 7,
             asked: Vec::new(alloc),
+            sought: Vec::new(alloc),
         }
     }
 
@@ -39,6 +42,7 @@ impl Rows {
         self.puts = Vec::new(alloc);
         self.take = 7;
         self.asked = Vec::new(alloc);
+        self.sought = Vec::new(alloc);
     }
 
     /// Follows a line that is no run.
@@ -64,8 +68,10 @@ impl Rows {
                 self.remove(rest);
                 Ok(())
             }
+            "more" => self.go_on(rest),
             "word" => Ok(self.words.push(String::from_str(alloc, rest)?)?),
             "ask" => Ok(self.asked.push(String::from_str(alloc, rest)?)?),
+            "seek" => Ok(self.sought.push(String::from_str(alloc, rest)?)?),
             "take" => {
                 self.take = number(rest);
                 Ok(())
@@ -94,6 +100,17 @@ impl Rows {
                 return;
             }
         }
+    }
+
+    // Goes on with a file: it becomes the newest.
+    fn go_on(&mut self, path: &str) -> Result<(), AllocError> {
+        for at in 0..self.files.len() {
+            if self.files[at].0.as_str() == path {
+                let file = self.files.remove(at);
+                return Ok(self.files.push(file)?);
+            }
+        }
+        Ok(())
     }
 
     // Adds bytes to the newest file.

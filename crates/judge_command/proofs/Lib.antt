@@ -1,4 +1,7 @@
-pub mod Prepared
 pub mod Answered
-pub mod Lines
-pub mod Bare
+pub mod Named
+pub mod Listed
+pub mod Counted
+pub mod Texts
+pub mod Prepared
+pub mod Runs

@@ -1,4 +1,8 @@
-pub mod Report
 pub mod Answers
-pub mod Launching
+pub mod Folders
+pub mod Report
+pub mod ByRule
+pub mod Asked
+pub mod Prepared
+pub mod Started
 pub mod Prints

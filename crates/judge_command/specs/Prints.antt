@@ -1,23 +1,47 @@
 -- What `judge` prints, by the files.
 use Rattle.std.specs.Prelude.{◌≡◌, ◌⊎◌, ℕ, IsSome, List, Some}
+use Rattle.abs_path.specs.Paths.{Path}
 use Rattle.host_io.specs.Files.{Files}
 use Rattle.kern_mounts.specs.declared.step.MountStep.{MountStep}
 use Rattle.mount_plan.specs.Host.{host_of}
 use Rattle.exec_settings.specs.Mounts.{unit_mentions}
 use Rattle.exec_settings.specs.declared.service.Settings.{Settings}
+use Rattle.call_table.specs.Table as calls
+use Rattle.site_table.specs.Table.{Site}
 use Rattle.command_answers.specs.Laws.{FileLaws}
 use Rattle.command_answers.specs.declared.ending.Ending.{Ending}
 use Rattle.command_answers.specs.declared.ending.Ending.TheVariants.{Done, LaunchRefused}
+use Rattle.launcher.specs.declared.launched.Launched.{Launched as Service}
 use Rattle.unit_inputs.specs.Inputs.{Inputs, inputs_of}
 use Rattle.unit_names.specs.Cutting.{name_of}
 use Rattle.unit_settings.specs.Settled.{AreSettled}
+use Rattle.unit_launch.specs.Launching.{ComesTo}
+use Rattle.unit_launch.specs.Refusals.{refusal_line}
+use Rattle.unit_launch.specs.Told.{told_of}
+use Rattle.unit_launch.specs.declared.launching.UnitLaunch.{UnitLaunch}
+use Rattle.unit_launch.specs.declared.launching.UnitLaunch.TheVariants.{Launched, Refused}
 use Rattle.plan_command.specs.Planned.{IsPlan}
 use Rattle.plan_command.specs.Prints.{plan_refusals}
-use Rattle.judge_command.specs.Launching.{CameTo}
-use Rattle.judge_command.specs.Report.{ending_behind, report_text}
-use Rattle.judge_command.specs.declared.report.Outcome.{Outcome}
+use Rattle.judge_command.specs.Answers.{Answer, AreAnswers}
+use Rattle.judge_command.specs.Folders.{AreBlind}
+use Rattle.judge_command.specs.Report.{report_text, service_text}
 
--- the report on a unit: by its inputs, its settings and the plan of its mounts it is launched, and its outcome is told
+-- a launched service is told: with one answer to each question, in their order, each denied or open as it is, and with exactly
+-- the folders of the site that are blind, in byte order
+pub record TellsService (table : calls.Table) (site : Site) (service : Service) (text : List ℕ) : Type 0 where
+  pub answers : List Answer
+  pub are_answers : AreAnswers table site service.world answers
+  pub folders : List Path
+  pub are_blind : AreBlind service.world site folders
+  pub is_its_text : text ≡ service_text table site (told_of service.world service.steps) answers folders
+
+-- or the line of a launch that is refused, with the ending behind either
+abbrev pub TellsLaunch : calls.Table → Site → UnitLaunch → Ending → List ℕ → Type 0
+TellsLaunch table site (Launched service) ending text = (ending ≡ Done) × TellsService table site service text
+TellsLaunch table site (Refused refusal) ending text = (ending ≡ LaunchRefused) × (text ≡ refusal_line refusal)
+
+-- the report on a unit: by its inputs, its settings and the plan of its mounts it is launched, and what that came to is told
+-- behind the unit and the notes
 pub record PrintsReport (files : Files) (unit : List ℕ) (ending : Ending) (text : List ℕ) : Type 0 where
   pub inputs : Inputs
   pub inputs_are : inputs_of files unit ≡ Some inputs
@@ -25,10 +49,11 @@ pub record PrintsReport (files : Files) (unit : List ℕ) (ending : Ending) (tex
   pub are_settings : AreSettled inputs settings
   pub plan : List MountStep
   pub is_plan : IsPlan (host_of inputs.site) (unit_mentions inputs.unit inputs.site) plan
-  pub outcome : Outcome
-  pub came_to : CameTo inputs.calls inputs.site settings plan outcome
-  pub is_its_text : text ≡ report_text unit inputs.unit.files settings.notes.items inputs.calls.calls outcome
-  pub is_its_ending : ending ≡ ending_behind outcome
+  pub launch : UnitLaunch
+  pub comes_to : ComesTo inputs.calls inputs.site settings plan launch
+  pub told : List ℕ
+  pub tells : TellsLaunch inputs.calls inputs.site launch ending told
+  pub is_its_text : text ≡ report_text unit inputs.unit.files settings.notes.items told
 
 -- the refusals are those of `plan`; a launch that is refused is told behind the notes, with status 7
 abbrev pub judge_laws : List ℕ → FileLaws

@@ -1,53 +1,31 @@
--- The text of a report, and how a run ends behind it.
-use Rattle.std.specs.Prelude.{ℕ, List, [], ◌++◌, filter, flat_map, length, not, slice_get, string_bytes, if◌then◌else◌}
-use Rattle.std.specs.Option.{option_map_or}
-use Rattle.call_table.specs.declared.listed.CallLine.{CallLine}
+-- The text of a report.
+use Rattle.std.specs.Prelude.{ℕ, List, ◌++◌, filter, flat_map, length, not}
+use Rattle.abs_path.specs.Paths.{Path}
+use Rattle.call_table.specs.Table as calls
+use Rattle.site_table.specs.Table.{Site}
 use Rattle.dropin_merge.specs.declared.resolved.UnitFile.{UnitFile}
 use Rattle.unit_values.specs.declared.value.FileNote.{FileNote}
-use Rattle.command_answers.specs.declared.ending.Ending.{Ending}
-use Rattle.command_answers.specs.declared.ending.Ending.TheVariants.{Done, LaunchRefused}
-use Rattle.report_text.specs.Answers.{denied_call_line, open_call_line, plain_call_line, summary_line}
+use Rattle.judge.specs.declared.answer.Verdict.TheVariants as verdict
+use Rattle.report_text.specs.Answers.{blind_line, call_line, summary_line, verdict_line}
 use Rattle.report_text.specs.Launches.{launched_line}
 use Rattle.report_text.specs.Notes.{note_line, unit_line}
-use Rattle.unit_launch.specs.Refusals.{refusal_line}
-use Rattle.judge_command.specs.declared.report.Answer.{Answer}
-use Rattle.judge_command.specs.declared.report.Outcome.{Outcome}
-use Rattle.judge_command.specs.declared.report.Outcome.TheVariants.{Launched, Refused}
-use Rattle.judge_command.specs.declared.report.Report.{Report}
+use Rattle.report_text.specs.declared.launches.Launched.{Launched as Line}
+use Rattle.judge_command.specs.Answers.{Answer, Denied, Open, is_denied}
 
--- the name of the call at a place of calls.txt
-abbrev pub name_at : List CallLine → ℕ → List ℕ
-name_at calls place = option_map_or (λ call. call.name) (slice_get calls place) []
+-- a question that is denied, or one that is open with the calls of its list below it
+abbrev pub answer_lines : calls.Table → Site → Answer → List ℕ
+answer_lines table site (Denied question) = verdict_line table site question verdict.Denied
+answer_lines table site (Open question list) = verdict_line table site question verdict.Open ++ flat_map (call_line table.calls) list
 
--- a call that is denied, or one that is open with the call that performs it
-abbrev pub answer_lines : List CallLine → Answer → List ℕ
-answer_lines calls answer =
-    if answer.denied then denied_call_line (name_at calls answer.place)
-    else open_call_line (name_at calls answer.place) ++ plain_call_line (name_at calls answer.place)
+-- how many answers are of each kind
+abbrev pub count_line : List Answer → List ℕ
+count_line answers = summary_line (length (filter is_denied answers)) (length (filter (λ answer. not (is_denied answer)) answers))
 
--- all answers in their order, and how many there are of each kind
-abbrev pub answers_text : List CallLine → List Answer → List ℕ
-answers_text calls answers =
-    flat_map (answer_lines calls) answers
-    ++ summary_line (length (filter (λ answer. answer.denied) answers)) (length (filter (λ answer. not answer.denied) answers))
+-- a launched service: its launch, the answers in their order, the folders that are blind, and the count
+abbrev pub service_text : calls.Table → Site → Line → List Answer → List Path → List ℕ
+service_text table site launched answers folders =
+    launched_line launched ++ (flat_map (answer_lines table site) answers ++ (flat_map blind_line folders ++ count_line answers))
 
--- the launch, and what it left is asked; or why there is none
-abbrev pub outcome_text : List CallLine → Outcome → List ℕ
-outcome_text calls (Launched launched answers) = launched_line launched ++ answers_text calls answers.items
-outcome_text calls (Refused refusal) = refusal_line refusal
-
--- the unit, what was passed over in its files, and the outcome
-abbrev pub report_text : List ℕ → List UnitFile → List FileNote → List CallLine → Outcome → List ℕ
-report_text unit files notes calls outcome = unit_line unit ++ (flat_map (note_line files) notes ++ outcome_text calls outcome)
-
-abbrev pub ending_behind : Outcome → Ending
-ending_behind (Launched launched answers) = Done
-ending_behind (Refused refusal) = LaunchRefused
-
--- what is ready
-abbrev pub text_of : Report → List ℕ
-text_of report =
-    report_text (string_bytes report.name) report.unit.inputs.unit.value.files report.unit.settings.value.notes.items report.unit.inputs.calls.value.calls report.outcome
-
-abbrev pub ending_of : Report → Ending
-ending_of report = ending_behind report.outcome
+-- the unit, what was passed over in its files, and what its launch came to
+abbrev pub report_text : List ℕ → List UnitFile → List FileNote → List ℕ → List ℕ
+report_text unit files notes told = unit_line unit ++ (flat_map (note_line files) notes ++ told)

@@ -1,73 +1,98 @@
-//! What is found about the plain calls of a launched service.
-ghost use Rattle.std.specs.Prelude.{◌≡◌, ◌++◌, IfOk, OnOk};
-ghost use Rattle.kernel_laws.specs.Launched.{IsLaunchedWorld};
-ghost use Rattle.judge_command.specs.Answers.{AreAnswers, answer_at, answers_of, is_bare, is_stopped};
+//! The answers to questions, found and printed one by one.
+ghost use Rattle.std.specs.Prelude.{◌≡◌, ◌↔◌, true, Contains, OnOk, flat_map, map};
+ghost use Rattle.command_answers.specs.Printing.{HasWriteCause, TakesText};
+ghost use Rattle.judge.specs.declared.answer.Verdict.{Verdict};
+ghost use Rattle.kernel_laws.specs.Bound.{is_open};
+ghost use Rattle.kernel_laws.specs.Launched.{launch_of};
+ghost use Rattle.kernel_laws.specs.Questions.{questions};
+ghost use Rattle.questions.specs.Meanings.{meant};
+ghost use Rattle.report_text.specs.Answers.{call_line};
+ghost use Rattle.judge_command.specs.Asked.{IsAsked, IsVerdict, answer_text, denied_among, denied_once};
 
-use crate::report::Answer;
-use bpf_code::{CallData, Decision};
-use call_names::is_known;
-use call_table::CallLine;
-use kernel_model::World;
-use std::alloc::{AllocError, Global};
+use crate::asking::Asked;
+use call_table::CallTable;
+use command_answers::put_line;
+use host_io::{Sink, SinkError};
+use judge::{Verdict, verdict};
+use kernel_calls::Call;
+use open_calls::calls;
+use questions::Question;
+use report_text::{call_line, verdict_line};
+use std::alloc::Global;
 
-// Whether a call is plain and asks for no capability: the kernel does nothing else for it than to say that it is done.
-fn is_bare(line: &CallLine) -> bool
-    ensures { result ≡ is_bare line.now }
+// Prints calls, one behind the other.
+fn print_calls<K: Sink>(
+    alloc: Global,
+    list: &[Call],
+    table: &CallTable,
+    out: &mut K,
+) -> Result<(), SinkError>
+    ensures takes_the_text { TakesText (K.taken out.old) (K.taken out.new) (flat_map (call_line table.now.calls) list.now) result }
+    ensures fault_rose { HasWriteCause (K.faults out.old) (K.faults out.new) result }
 {
-    line.cap.is_none() && !is_known(line.name.as_str())
-}
-
-// Whether the filters of the first process stop the call of this number, made without words.
-fn is_stopped(world: &World, number: u32) -> bool
-    ensures { result ≡ is_stopped world.now number }
-{
-    let Some(process) = world.process(1) else {
-        return false;
-    };
-    let data = CallData {
-        nr: number,
-        arch: world.call_table().arch(),
-        ip: 0,
-        args: [0; 6],
-    };
-    match process.stack.decide(&data) {
-        Decision::Pass => false,
-        Decision::Errno(_) | Decision::Kill => true,
-    }
-}
-
-// Adds the answer about the call of this line, where one is asked for.
-fn push_answer(
-    answers: &mut Vec<Answer>,
-    world: &World,
-    place: usize,
-    line: &CallLine,
-) -> Result<(), AllocError>
-    ensures { OnOk result (answers.new.items ≡ answers.old.items ++ answer_at world.now (place, line.now)) }
-{
-    if is_bare(line) {
-        let denied = is_stopped(world, line.number);
-        answers.push(Answer { place, denied })?;
+    'calls: for call in list {
+        put_line(out, call_line(alloc, call, table))?;
     }
     Ok(())
 }
 
-// The answers about all calls, as the filters decide.
-fn filtered(alloc: Global, world: &World, calls: &[CallLine]) -> Result<Vec<Answer>, AllocError>
-    ensures { IfOk result (λ answers. answers.items ≡ answers_of world.now calls.now) }
+// Prints the answer to a question, of which this is found; below it the calls that show what is open.
+fn print_answer<K: Sink>(
+    alloc: Global,
+    asked: &Asked<'_>,
+    question: &Question,
+    found: Verdict,
+    out: &mut K,
+) -> Result<(), SinkError>
+    requires asked { IsAsked asked.now }
+    requires listed { Contains (questions asked.now.service.world.calls asked.now.service.world.site) (meant question.now) }
+    requires found { IsVerdict asked.now question.now found }
+    ensures takes_the_text { TakesText (K.taken out.old) (K.taken out.new) (answer_text asked.now question.now) result }
+    ensures fault_rose { HasWriteCause (K.faults out.old) (K.faults out.new) result }
 {
-    let mut answers = Vec::new(alloc);
-    for (place, line) in calls.iter().enumerate() {
-        push_answer(&mut answers, world, place, line)?;
+    let world = &asked.service.world;
+    let table = world.call_table();
+    let line = verdict_line(alloc, question, found, table, world.site_table());
+    match found {
+        Verdict::Denied => put_line(out, line),
+        Verdict::Open => {
+            let list = calls(alloc, &asked.service, &asked.ceiling, question)?;
+            put_line(out, line)?;
+            print_calls(alloc, list.as_slice(), table, out)
+        }
     }
-    Ok(answers)
 }
 
-/// The answers about the plain calls that ask for no capability, in the order of calls.txt: one is denied where no list of
-/// calls of the service and its descendants ever gets it done, and open where one does.
-pub fn answers(alloc: Global, world: &World) -> Result<Vec<Answer>, AllocError>
-    requires launched { IsLaunchedWorld world.now }
-    ensures about_each_plain_call { IfOk result (λ answers. AreAnswers world.now answers.items) }
+// How many of one answer are denied.
+fn denied_once(found: Verdict) -> usize
+    ensures { result ≡ denied_once found }
 {
-    filtered(alloc, world, world.call_table().calls())
+    match found {
+        Verdict::Denied => 1,
+        Verdict::Open => 0,
+    }
+}
+
+/// Asks these questions, all that are asked of the service, and prints the answer to each as it is found; then `denied` is how
+/// many are denied.
+pub fn print_answers<K: Sink>(
+    alloc: Global,
+    asked: &Asked<'_>,
+    list: &[Question],
+    denied: &mut usize,
+    out: &mut K,
+) -> Result<(), SinkError>
+    requires asked { IsAsked asked.now }
+    requires all { map meant list.now ≡ questions asked.now.service.world.calls asked.now.service.world.site }
+    ensures takes_the_text { TakesText (K.taken out.old) (K.taken out.new) (flat_map (answer_text asked.now) list.now) result }
+    ensures counts { OnOk result (denied.new ≡ denied_among asked.now list.now) }
+    ensures fault_rose { HasWriteCause (K.faults out.old) (K.faults out.new) result }
+{
+    *denied = 0;
+    'questions: for question in list {
+        let found = verdict(&asked.service, &asked.ceiling, question);
+        print_answer(alloc, asked, question, found, out)?;
+        *denied += denied_once(found);
+    }
+    Ok(())
 }

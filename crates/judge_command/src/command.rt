@@ -1,57 +1,49 @@
 //! The command `judge` and the name of a unit.
-ghost use Rattle.std.specs.Prelude.{◌≡◌, IfOk, IsErrOf, IsSome};
+ghost use Rattle.std.specs.Prelude.{◌≡◌, IsSome};
 ghost use Rattle.unit_names.specs.Cutting.{name_of};
-ghost use Rattle.command_answers.specs.Laws.{IsAdmitted, laws_over};
-ghost use Rattle.command_answers.specs.Stops.{HasReadCause};
-ghost use Rattle.kern_mounts.specs.Launch.{CanBeMounted};
-ghost use Rattle.mount_plan.specs.Host.{host_of};
-ghost use Rattle.unit_inputs.specs.Inputs.{inputs_view};
-ghost use Rattle.unit_settings.specs.Settled.{AreSettled};
-ghost use Rattle.judge_command.specs.Launching.{CameTo};
+ghost use Rattle.command_answers.specs.Laws.{laws_over};
+ghost use Rattle.command_answers.specs.Runs.{IsRun};
+ghost use Rattle.judge_command.specs.Prepared.{CanBeStarted};
 ghost use Rattle.judge_command.specs.Prints.{judge_laws};
-ghost use Rattle.judge_command.specs.Report.{ending_of, text_of};
+ghost use Rattle.judge_command.specs.Started.{FinishesStarted};
 
-use crate::launching::launch_and_ask;
-use crate::report::{Outcome, Report};
-use command_answers::Stop;
-use host_io::Shelf;
-use mount_plan::MountSteps;
-use plan_command::plan_mounts;
-use std::alloc::{AllocError, Global};
-use unit_settings::{SettledUnit, settle_unit};
+use crate::launching::{ending_behind, start};
+use crate::preparing::{Prepared, prepare};
+use crate::printing::print_report;
+use crate::truths::truths;
+use command_answers::{Ending, ending_after, finish_stop};
+use host_io::{Shelf, Sink};
+use std::alloc::Global;
 
-// What the launch of a unit with this plan came to.
-fn outcome_of(alloc: Global, one: &SettledUnit, plan: &MountSteps) -> Result<Outcome, AllocError>
-    requires settled { AreSettled (inputs_view one.now.inputs) one.now.settings.value }
-    requires plan { CanBeMounted (host_of one.now.inputs.site.value) plan.now }
-    ensures came_to { IfOk result (CameTo one.now.inputs.calls.value one.now.inputs.site.value one.now.settings.value plan.now) }
+// Launches what is prepared and prints the report.
+fn answer_prepared<K: Sink>(alloc: Global, unit: &str, prepared: &Prepared, out: &mut K) -> Ending
+    requires can_be_started { CanBeStarted prepared.now }
+    ensures finishes { FinishesStarted unit.now prepared.now result (record { faults_before = K.faults out.old; faults_after = K.faults out.new; taken_before = K.taken out.old; taken_after = K.taken out.new }) }
 {
-    let inputs = &one.inputs;
-    launch_and_ask(
-        alloc,
-        &one.settings,
-        plan.list(),
-        &inputs.calls,
-        &inputs.site,
-    )
+    match start(alloc, prepared) {
+        Ok(outcome) => {
+            let ending = ending_behind(&outcome);
+            let put = print_report(alloc, unit, &prepared.unit, &outcome, out);
+            ending_after(put, ending)
+        }
+        Err(_) => Ending::OutOfMemory,
+    }
 }
 
-/// Prepares `judge` and the name of a unit: reads the unit, calls.txt and site.toml, finds the first refusal of them, of the
-/// settings and of the paths that they mention, launches the service, and finds what it still can do.
-pub fn prepare<S: Shelf>(alloc: Global, shelf: &mut S, unit: &str) -> Result<Report, Stop>
-    ensures prepares { IsAdmitted (laws_over (S.told shelf.old) (judge_laws unit.now)) ending_of text_of result }
-    ensures reads_for_a_name { IsErrOf result Stop.ReadFault → IsSome (name_of unit.now) }
+/// Does `judge` for the name of a unit: reads the unit, calls.txt and site.toml, finds the first refusal of them, of the settings
+/// and of the paths that they mention, launches the service, asks every question, and prints the answer to each as it is found:
+/// denied where no list of calls reaches it, and otherwise open, above a list that does. A launch that is refused prints its
+/// line in their place.
+pub fn answer<S: Shelf, K: Sink>(alloc: Global, shelf: &mut S, unit: &str, out: &mut K) -> Ending
+    ensures runs { IsRun (laws_over (S.told shelf.old) (judge_laws unit.now)) result
+        (record { shelf_before = S.faults shelf.old; shelf_after = S.faults shelf.new; sink = record { faults_before = K.faults out.old; faults_after = K.faults out.new; taken_before = K.taken out.old; taken_after = K.taken out.new } }) }
     ensures unread_without_a_name { (IsSome (name_of unit.now) → ⊥) → shelf.new ≡ shelf.old }
     ensures map_stays { S.told shelf.new ≡ S.told shelf.old }
-    ensures fault_rose { HasReadCause (S.faults shelf.old) (S.faults shelf.new) result }
 {
-    let one = settle_unit(alloc, shelf, unit)?;
-    let plan = plan_mounts(alloc, unit, &one.settings.mentions, &one.inputs.site)?;
-    let outcome = outcome_of(alloc, &one, &plan)?;
-    let name = String::from_str(alloc, unit)?;
-    Ok(Report {
-        name,
-        unit: one,
-        outcome,
-    })
+    // Why the answers are true.
+    truths();
+    match prepare(alloc, shelf, unit) {
+        Ok(prepared) => answer_prepared(alloc, unit, &prepared, out),
+        Err(stop) => finish_stop(stop, out),
+    }
 }

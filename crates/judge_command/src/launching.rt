@@ -1,45 +1,48 @@
-//! The launch of a unit, and what is found about what it leaves.
-ghost use Rattle.std.specs.Prelude.{IfOk};
-ghost use Rattle.dropin_merge.specs.declared.resolved.Resolved.{Resolved};
-ghost use Rattle.exec_settings.specs.AreSettings.{AreSettings};
-ghost use Rattle.kern_mounts.specs.Launch.{CanBeMounted};
-ghost use Rattle.kernel_laws.specs.Launched.{IsLaunchedWorld};
-ghost use Rattle.mount_plan.specs.Host.{host_of};
-ghost use Rattle.judge_command.specs.Launching.{CameTo, IsAsked};
+//! The launch of what is prepared.
+ghost use Rattle.std.specs.Prelude.{◌≡◌, IfOk};
+ghost use Rattle.judge_command.specs.Prepared.{CanBeStarted};
+ghost use Rattle.judge_command.specs.Started.{IsStarted, ending_of};
 
-use crate::answers::answers;
-use crate::report::Outcome;
-use call_table::CallTable;
-use exec_settings::Settings;
-use kern_mounts::MountStep;
-use launcher::Launched;
-use site_table::SiteTable;
+use crate::asking::{Asked, ask};
+use crate::preparing::Prepared;
+use command_answers::Ending;
 use std::alloc::{AllocError, Global};
-use unit_launch::{UnitLaunch, launch_unit, told};
+use unit_launch::{LaunchRefusal, UnitLaunch, launch_unit};
 
-// What is found about a launched service.
-fn asked(alloc: Global, service: &Launched) -> Result<Outcome, AllocError>
-    requires launched { IsLaunchedWorld service.now.world }
-    ensures { IfOk result (IsAsked service.now) }
-{
-    let answers = answers(alloc, &service.world)?;
-    Ok(Outcome::Launched(told(service), answers))
+/// What the launch of a unit came to.
+#[derive(Drop)]
+pub enum Outcome<'a> {
+    /// It ended well, and this is asked of the service.
+    Asked(Asked<'a>),
+    /// It is refused.
+    Refused(LaunchRefusal),
 }
 
-/// Launches a unit with these settings and this plan of its mounts, and asks what it left about the plain calls.
-pub fn launch_and_ask(
-    alloc: Global,
-    settings: &Settings,
-    plan: &[MountStep],
-    calls: &CallTable,
-    site: &SiteTable,
-) -> Result<Outcome, AllocError>
-    requires plan { CanBeMounted (host_of site.now) plan.now }
-    requires settings { (unit : Resolved) × AreSettings unit calls.now site.now settings.now }
-    ensures came_to { IfOk result (CameTo calls.now site.now settings.now plan.now) }
+/// Launches the unit that is prepared. What is asked of it borrows what the kernel is told.
+pub fn start<'a>(alloc: Global, prepared: &'a Prepared) -> Result<Outcome<'a>, AllocError>
+    requires can_be_started { CanBeStarted prepared.now }
+    ensures starts { IfOk result (IsStarted prepared.now) }
 {
-    match launch_unit(alloc, settings, plan, calls, site)? {
-        UnitLaunch::Launched(service) => asked(alloc, &service),
+    let unit = &prepared.unit;
+    let launch = launch_unit(
+        alloc,
+        &unit.settings,
+        prepared.plan.list(),
+        &unit.inputs.calls,
+        &unit.inputs.site,
+    )?;
+    match launch {
+        UnitLaunch::Launched(service) => Ok(Outcome::Asked(ask(alloc, service)?)),
         UnitLaunch::Refused(refusal) => Ok(Outcome::Refused(refusal)),
+    }
+}
+
+/// How a run ends behind a launch that came to this.
+pub fn ending_behind(outcome: &Outcome<'_>) -> Ending
+    ensures ends_so { result ≡ ending_of outcome.now }
+{
+    match outcome {
+        Outcome::Asked(_) => Ending::Done,
+        Outcome::Refused(_) => Ending::LaunchRefused,
     }
 }

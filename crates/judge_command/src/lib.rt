@@ -1,17 +1,20 @@
 //! The command `judge`: what the sandbox of a unit lets its service do, as text.
 //!
 //! The settings of the unit are taken from its inputs, its mounts are planned, and it is launched in the modelled kernel;
-//! then the launch is told, and of each plain call whether any process of the service ever gets it done. It stands on
-//! `launcher` for the launch, on `kernel_laws` for what the launched programs decide, and on `plan_command` for the plan.
+//! then every question is asked of the launched service, and the answer to each is printed as it is found, with calls below
+//! what is open. It stands on `unit_launch` for the launch, on `questions`, `judge` and `open_calls` for what is asked and
+//! found, on `report_text` for the lines, and on `plan_command` for the plan.
 //!
-//! `prepare(alloc, &mut shelf, "web.service")?` has the report, and `print` puts its lines.
+//! `answer(alloc, &mut shelf, "web.service", &mut out)` does it, and says how it ended.
 #![tactic(auto)]
 
 mod answers;
+mod asking;
 mod command;
+mod folders;
 mod launching;
+mod preparing;
 mod printing;
-mod report;
+mod truths;
 
-pub use command::prepare;
-pub use report::{Answer, Outcome, Report};
+pub use command::answer;

@@ -1,20 +1,23 @@
 //! Reports, printed line by line.
-ghost use Rattle.std.specs.Prelude.{◌≡◌, flat_map, filter, length, not};
+ghost use Rattle.std.specs.Prelude.{flat_map};
 ghost use Rattle.command_answers.specs.Printing.{HasWriteCause, TakesText};
 ghost use Rattle.report_text.specs.Notes.{note_line};
-ghost use Rattle.judge_command.specs.Report.{answer_lines, answers_text, name_at, outcome_text, report_text, text_of};
+ghost use Rattle.judge_command.specs.Asked.{IsAsked, asked_text};
+ghost use Rattle.judge_command.specs.Prepared.{settings_in, unit_in};
+ghost use Rattle.judge_command.specs.Report.{report_text};
+ghost use Rattle.judge_command.specs.Started.{CanBeTold, told_text};
 
-use crate::report::{Answer, Outcome, Report};
-use call_table::CallLine;
+use crate::answers::print_answers;
+use crate::asking::Asked;
+use crate::folders::print_folders;
+use crate::launching::Outcome;
 use command_answers::put_line;
 use dropin_merge::Resolved;
 use host_io::{Sink, SinkError};
-use report_text::{
-    denied_call_line, launched_line, note_line, open_call_line, plain_call_line, summary_line,
-    unit_line,
-};
+use report_text::{launched_line, note_line, summary_line, unit_line};
 use std::alloc::Global;
-use unit_launch::refusal_line;
+use unit_launch::{refusal_line, told};
+use unit_settings::SettledUnit;
 use unit_values::FileNote;
 
 // Prints notes, one behind the other.
@@ -33,96 +36,33 @@ fn print_notes<K: Sink>(
     Ok(())
 }
 
-// The name of the call at a place.
-fn name_at(calls: &[CallLine], place: usize) -> &str
-    ensures { result.now ≡ name_at calls.now place }
-{
-    match calls.get(place) {
-        Some(call) => call.name.as_str(),
-        None => "",
-    }
-}
-
-// Prints what is found about a call; below one that is open the call that performs it.
-fn print_answer<K: Sink>(
-    alloc: Global,
-    calls: &[CallLine],
-    answer: &Answer,
-    out: &mut K,
-) -> Result<(), SinkError>
-    ensures takes_the_text { TakesText (K.taken out.old) (K.taken out.new) (answer_lines calls.now answer.now) result }
+// Prints a launched service: its launch, the answers, the folders that are blind, and the count.
+fn print_asked<K: Sink>(alloc: Global, asked: &Asked<'_>, out: &mut K) -> Result<(), SinkError>
+    requires asked { IsAsked asked.now }
+    ensures takes_the_text { TakesText (K.taken out.old) (K.taken out.new) (asked_text asked.now) result }
     ensures fault_rose { HasWriteCause (K.faults out.old) (K.faults out.new) result }
 {
-    let name = name_at(calls, answer.place);
-    if answer.denied {
-        return put_line(out, denied_call_line(alloc, name));
-    }
-    put_line(out, open_call_line(alloc, name))?;
-    put_line(out, plain_call_line(alloc, name))
-}
-
-// Prints what is found about calls, one behind the other.
-fn print_each<K: Sink>(
-    alloc: Global,
-    calls: &[CallLine],
-    answers: &[Answer],
-    out: &mut K,
-) -> Result<(), SinkError>
-    ensures takes_the_text { TakesText (K.taken out.old) (K.taken out.new) (flat_map (answer_lines calls.now) answers.now) result }
-    ensures fault_rose { HasWriteCause (K.faults out.old) (K.faults out.new) result }
-{
-    'answers: for answer in answers {
-        print_answer(alloc, calls, answer, out)?;
-    }
-    Ok(())
-}
-
-// How many of these are denied.
-fn count_denied(answers: &[Answer]) -> usize
-    ensures { result ≡ length (filter (λ answer. answer.denied) answers.now) }
-{
-    answers.iter().filter(|answer| answer.denied).count()
-}
-
-// How many of these are open.
-fn count_open(answers: &[Answer]) -> usize
-    ensures { result ≡ length (filter (λ answer. not answer.denied) answers.now) }
-{
-    answers.iter().filter(|answer| !answer.denied).count()
-}
-
-// Prints all answers, and how many there are of each kind.
-fn print_answers<K: Sink>(
-    alloc: Global,
-    calls: &[CallLine],
-    answers: &[Answer],
-    out: &mut K,
-) -> Result<(), SinkError>
-    ensures takes_the_text { TakesText (K.taken out.old) (K.taken out.new) (answers_text calls.now answers.now) result }
-    ensures fault_rose { HasWriteCause (K.faults out.old) (K.faults out.new) result }
-{
-    print_each(alloc, calls, answers, out)?;
-    put_line(
-        out,
-        summary_line(alloc, count_denied(answers), count_open(answers)),
-    )
+    let questions = asked.questions.as_slice();
+    let rows = asked.service.world.site_table().rows();
+    let mut denied = 0;
+    put_line(out, launched_line(alloc, told(&asked.service)))?;
+    print_answers(alloc, asked, questions, &mut denied, out)?;
+    print_folders(alloc, asked, rows, out)?;
+    put_line(out, summary_line(alloc, denied, questions.len() - denied))
 }
 
 // Prints what a launch came to.
 fn print_outcome<K: Sink>(
     alloc: Global,
-    calls: &[CallLine],
-    outcome: &Outcome,
+    outcome: &Outcome<'_>,
     out: &mut K,
 ) -> Result<(), SinkError>
-    ensures takes_the_text { TakesText (K.taken out.old) (K.taken out.new) (outcome_text calls.now outcome.now) result }
+    requires can_be_told { CanBeTold outcome.now }
+    ensures takes_the_text { TakesText (K.taken out.old) (K.taken out.new) (told_text outcome.now) result }
     ensures fault_rose { HasWriteCause (K.faults out.old) (K.faults out.new) result }
 {
     match outcome {
-        Outcome::Launched(launched, answers) => {
-            put_line(out, launched_line(alloc, *launched))?;
-            print_answers(alloc, calls, answers.as_slice(), out)
-        }
+        Outcome::Asked(asked) => print_asked(alloc, asked, out),
         Outcome::Refused(refusal) => put_line(out, refusal_line(alloc, refusal)),
     }
 }
@@ -133,33 +73,30 @@ fn print_parts<K: Sink>(
     name: &str,
     unit: &Resolved,
     notes: &[FileNote],
-    calls: &[CallLine],
-    outcome: &Outcome,
+    outcome: &Outcome<'_>,
     out: &mut K,
 ) -> Result<(), SinkError>
-    ensures takes_the_text { TakesText (K.taken out.old) (K.taken out.new) (report_text name.now unit.now.files notes.now calls.now outcome.now) result }
+    requires can_be_told { CanBeTold outcome.now }
+    ensures takes_the_text { TakesText (K.taken out.old) (K.taken out.new) (report_text name.now unit.now.files notes.now (told_text outcome.now)) result }
     ensures fault_rose { HasWriteCause (K.faults out.old) (K.faults out.new) result }
 {
     put_line(out, unit_line(alloc, name))?;
     print_notes(alloc, unit, notes, out)?;
-    print_outcome(alloc, calls, outcome, out)
+    print_outcome(alloc, outcome, out)
 }
 
-/// Prints a report: the unit, the notes, and what its launch came to.
-pub fn print_report<K: Sink>(alloc: Global, report: &Report, out: &mut K) -> Result<(), SinkError>
-    ensures takes_the_text { TakesText (K.taken out.old) (K.taken out.new) (text_of report.now) result }
+/// Prints a report: the unit, the notes, and what its launch came to, each line as it is made.
+pub fn print_report<K: Sink>(
+    alloc: Global,
+    name: &str,
+    unit: &SettledUnit,
+    outcome: &Outcome<'_>,
+    out: &mut K,
+) -> Result<(), SinkError>
+    requires can_be_told { CanBeTold outcome.now }
+    ensures takes_the_text { TakesText (K.taken out.old) (K.taken out.new) (report_text name.now (unit_in unit.now).files (settings_in unit.now).notes.items (told_text outcome.now)) result }
     ensures fault_rose { HasWriteCause (K.faults out.old) (K.faults out.new) result }
 {
-    let inputs = &report.unit.inputs;
-    let notes = report.unit.settings.notes.as_slice();
-    let name = report.name.as_str();
-    print_parts(
-        alloc,
-        name,
-        &inputs.unit,
-        notes,
-        inputs.calls.calls(),
-        &report.outcome,
-        out,
-    )
+    let notes = unit.settings.notes.as_slice();
+    print_parts(alloc, name, &unit.inputs.unit, notes, outcome, out)
 }

@@ -1,21 +1,33 @@
--- The lines of questions about calls, and the count of all questions.
+-- The lines of answers to questions, those of blind folders, and the count of all questions.
 use Rattle.std.specs.Prelude.{ℕ, List, [], ◌∷◌, ◌++◌, codes}
 use Rattle.std.specs.Fmt.{decimal}
+use Rattle.abs_path.specs.Paths.{Path, text_of}
+use Rattle.call_table.specs.declared.listed.CallLine.{CallLine}
+use Rattle.call_table.specs.Table as calls
+use Rattle.site_table.specs.Table.{Site}
 use Rattle.text_forms.specs.Escaped.{escaped_word}
+use Rattle.kernel_calls.specs.declared.call.Call.{Call}
+use Rattle.kernel_laws.specs.Questions.{Question}
+use Rattle.judge.specs.declared.answer.Verdict.{Verdict}
+use Rattle.judge.specs.declared.answer.Verdict.TheVariants.{Denied, Open}
+use Rattle.script_text.specs.Printed.{call_text}
+use Rattle.report_text.specs.Wording.{question_words}
 
--- a line that ends in a name
-abbrev pub line_with : List ℕ → List ℕ → List ℕ
-line_with front name = front ++ (escaped_word name ++ 10 ∷ [])
+abbrev pub verdict_word : Verdict → List ℕ
+verdict_word Denied = codes "denied"
+verdict_word Open = codes "open"
 
-abbrev pub denied_call_line : List ℕ → List ℕ
-denied_call_line name = line_with (codes "denied call ") name
+-- a question, and what is found about it
+abbrev pub verdict_line : calls.Table → Site → Question → Verdict → List ℕ
+verdict_line table site question verdict = verdict_word verdict ++ (codes " " ++ (question_words table site question ++ 10 ∷ []))
 
-abbrev pub open_call_line : List ℕ → List ℕ
-open_call_line name = line_with (codes "open call ") name
+-- a call of a list that shows an open question, as a script has it
+abbrev pub call_line : List CallLine → Call → List ℕ
+call_line calls call = codes "  " ++ (call_text calls call ++ 10 ∷ [])
 
--- a call by process 1 without words
-abbrev pub plain_call_line : List ℕ → List ℕ
-plain_call_line name = line_with (codes "  1 ") name
+-- a folder that is blind
+abbrev pub blind_line : Path → List ℕ
+blind_line folder = codes "blind " ++ (escaped_word (text_of folder) ++ 10 ∷ [])
 
 -- how many questions are denied, and how many open
 abbrev pub summary_line : ℕ → ℕ → List ℕ

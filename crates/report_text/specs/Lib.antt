@@ -1,4 +1,5 @@
 pub mod Notes
 pub mod Launches
+pub mod Wording
 pub mod Answers
 pub mod Scores

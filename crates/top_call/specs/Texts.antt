@@ -24,7 +24,8 @@ help_lines =
     [] ∷
     codes "  filter UNIT    print the compiled seccomp filters of the unit" ∷
     codes "  plan UNIT      print the mounts that give the service its view of files" ∷
-    codes "  judge UNIT     launch the service in a model, print what it can reach" ∷
+    codes "  judge UNIT     launch the service in a model, print what no calls of it reach," ∷
+    codes "                 and calls that reach the rest" ∷
     codes "  replay UNIT SCRIPT" ∷
     codes "                 launch it, make the calls of SCRIPT, print what each comes to" ∷
     codes "  score UNIT POLICY [THRESHOLD]" ∷

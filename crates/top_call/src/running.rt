@@ -33,7 +33,7 @@ fn answer_request<S: Shelf, K: Sink>(
         Request::Version => finish(alloc, Ok(texts::version()), out),
         Request::Filter(unit) => finish(alloc, filter_command::prepare(alloc, shelf, unit), out),
         Request::Plan(unit) => finish(alloc, plan_command::prepare(alloc, shelf, unit), out),
-        Request::Judge(unit) => finish(alloc, judge_command::prepare(alloc, shelf, unit), out),
+        Request::Judge(unit) => judge_command::answer(alloc, shelf, unit, out),
         Request::Replay(unit, script) => replay_command::answer(alloc, shelf, unit, script, out),
         Request::Score(unit, policy, threshold) => finish(
             alloc,

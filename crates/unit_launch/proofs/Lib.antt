@@ -1,1 +1,2 @@
 pub mod OtherPrograms
+pub mod Served

@@ -4,7 +4,9 @@ use Rattle.call_table.specs.Table as calls
 use Rattle.site_table.specs.Table.{Site}
 use Rattle.exec_settings.specs.declared.service.Settings.{Settings}
 use Rattle.kern_mounts.specs.Split.{Table}
-use Rattle.kernel_laws.specs.Launched.{IsLaunchedWorld}
+use Rattle.kernel_laws.specs.Launched.{IsLaunchedWorld, launch_of}
+use Rattle.kernel_ways.specs.Laws.{IsServedWorld}
+use Rattle.kernel_ways.specs.Offers.{RunsProgram}
 use Rattle.launcher.specs.Answers.{EndsAs, LaunchesTo, LeavesService}
 use Rattle.launcher.specs.declared.error.LaunchError.TheVariants as error
 use Rattle.launcher.specs.declared.launched.Launched.{Launched as Service}
@@ -16,12 +18,15 @@ use Rattle.unit_launch.specs.declared.refusal.LaunchRefusal.TheVariants as refus
 
 -- the settings are launched to this service, by programs that match their filters: process 1 alone, with those programs in
 -- their order and the plan as its table, in a world that a judgement can stand on; and whichever programs match the filters,
--- its calls are answered alike
+-- its calls are answered alike; what is open there can be shown, and its program can be executed again by the path that the
+-- settings give
 pub record IsLaunched (table : calls.Table) (site : Site) (settings : Settings) (plan : Table) (service : Service) : Type 0 where
   pub launches : LaunchesTo table site settings plan service
   pub leaves_one_process : LeavesService table site settings plan service
   pub is_a_launched_world : IsLaunchedWorld service.world
   pub whichever_programs : WhicheverPrograms table site settings plan service
+  pub is_served : IsServedWorld service.world
+  pub runs_its_program : RunsProgram (launch_of service.world) service.program
 
 -- the first step that is not done, whatever programs match the filters; or the program is privileged
 abbrev pub IsRefused : calls.Table → Site → Settings → Table → LaunchRefusal → Type 0

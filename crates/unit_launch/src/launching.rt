@@ -47,8 +47,9 @@ pub fn launch_unit<'a>(
     requires settings { (unit : Resolved) × AreSettings unit calls.now site.now settings.now }
     ensures comes_to { IfOk result (ComesTo calls.now site.now settings.now plan.now) }
 {
-    // What holds of each site is said by the calls that lend its parts.
+    // What holds of each site and each path is said by the calls that lend their parts.
     let _uid = site.dynamic_uid();
+    let _program = settings.program.text();
     look_at(calls);
     match launch(alloc, settings, plan, calls, site) {
         Ok(service) => Ok(UnitLaunch::Launched(service)),

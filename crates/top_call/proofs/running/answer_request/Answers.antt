@@ -6,9 +6,6 @@ use Rattle.filter_command.specs.Prints.{filter_laws, filters_text, ending_of as 
 use Rattle.filter_command.proofs.Prepared.{together as filter_together}
 use Rattle.plan_command.specs.Prints.{plan_laws, mounts_text, ending_of as plan_ending}
 use Rattle.plan_command.proofs.Prepared.{together as plan_together}
-use Rattle.judge_command.specs.Prints.{judge_laws}
-use Rattle.judge_command.specs.Report.{ending_of as judge_ending, text_of as report_text}
-use Rattle.judge_command.proofs.Prepared.{together as judge_together}
 use Rattle.exposure_score.specs.StoredTests.{stored_by}
 use Rattle.score_command.specs.Prints.{score_laws, scored_text, ending_of as score_ending}
 use Rattle.score_command.proofs.Prepared.{together as score_together}
@@ -39,13 +36,10 @@ returns-in-Plan-clause-runs g c =
     c.prepare-in-Plan.ensures.prepares c.prepare-in-Plan.ensures.reads_for_a_name c.prepare-in-Plan.ensures.fault_rose c.finish-in-Plan.ensures.finishes)
 
 pub returns-in-Judge-clause-runs : goal.returns-in-Judge-clause-runs
-returns-in-Judge-clause-runs g c =
-    rw c.in-Judge.is
-    (ran (laws_over (g.S.Shelf.told c.args.shelf.now) (judge_laws c.in-Judge.unit.now)) (judge_together (g.S.Shelf.told c.args.shelf.now) c.in-Judge.unit.now) _ judge_ending report_text c.prepare-in-Judge.result c.finish-in-Judge.result
-    c.prepare-in-Judge.ensures.prepares c.prepare-in-Judge.ensures.reads_for_a_name c.prepare-in-Judge.ensures.fault_rose c.finish-in-Judge.ensures.finishes)
+returns-in-Judge-clause-runs g c = rw c.in-Judge.is c.answer.ensures.runs
 
 pub returns-in-Replay-clause-runs : goal.returns-in-Replay-clause-runs
-returns-in-Replay-clause-runs g c = rw c.in-Replay.is c.answer.ensures.runs
+returns-in-Replay-clause-runs g c = rw c.in-Replay.is c.answer-in-Replay.ensures.runs
 
 pub returns-in-Score-clause-runs : goal.returns-in-Score-clause-runs
 returns-in-Score-clause-runs g c =

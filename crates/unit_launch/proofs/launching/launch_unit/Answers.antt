@@ -1,7 +1,8 @@
-use Rattle.std.proofs.Common.{ap}
+use Rattle.std.proofs.Common.{ap, subst, List, ℕ, length, ◌≤◌}
 use Rattle.kernel_laws.specs.Launched.{Launch}
 use Rattle.launcher.proofs.Conditions.{settings_can_be_launched}
 use Rattle.unit_launch.proofs.OtherPrograms.{whichever}
+use Rattle.unit_launch.proofs.Served.{served, runs_program}
 use Rattle.unit_launch.proofs.launching.launch_unit.Goals as goal
 
 pub launch-requires-clause-settings : goal.launch-requires-clause-settings
@@ -21,5 +22,10 @@ returns-in-Ok c =
         whichever_programs =
             whichever table c.args.site.now c.args.settings.now c.args.plan.now service c.look_at.ensures.arch c.requires.settings.0 c.look_at.ensures.whole c.dynamic_uid-uid.ensures.holds_of_each_site c.requires.plan c.requires.settings.1
             c.in-Ok.ensures.ends_as_its_steps_do (ap (λ (launch : Launch). launch.calls) left.leaves.is);
+        is_served =
+            served c.requires.settings.0 table c.args.site.now c.args.settings.now c.args.plan.now service c.look_at.ensures.whole c.look_at.ensures.arch c.dynamic_uid-uid.ensures.holds_of_each_site c.requires.plan c.requires.settings.1 c.in-Ok.ensures.ends_as_its_steps_do;
+        runs_its_program =
+            runs_program c.requires.settings.0 table c.args.site.now c.args.settings.now c.args.plan.now service c.look_at.ensures.whole c.look_at.ensures.arch c.dynamic_uid-uid.ensures.holds_of_each_site c.requires.plan c.requires.settings.1 c.in-Ok.ensures.ends_as_its_steps_do
+            (record { normal = c.text-program.ensures.normal; short = subst (λ (text : List ℕ). length text ≤ 512) c.text-program.ensures.whole c.text-program.ensures.short });
       };
     }

@@ -1,0 +1,96 @@
+-- The counts of answers.
+use Rattle.std.proofs.Common.{◌≡◌, ◌∙◌, ℕ, suc, ◌+◌, ◌-◌, ◌<◌, ◌≤◌, Bool, true, false, List, [], ◌∷◌, ◌++◌, ap, ap₂, refl, sym, arith, length, get_or, take, length-append}
+use Rattle.std.specs.Prelude.{cond, filter, map, not, ◌↔◌, if◌then◌else◌}
+use Rattle.std.proofs.lemmas.List.{length-map, take_more}
+use Rattle.std.proofs.lemmas.List.Elements.{filter-append}
+use Rattle.abs_path.specs.Paths.{Path}
+use Rattle.chosen_calls.specs.Chosen.{calls_for}
+use Rattle.kernel_laws.specs.Bound.{is_open}
+use Rattle.kernel_laws.specs.Launched.{Launch}
+use Rattle.kernel_laws.specs.Questions.{questions}
+use Rattle.judge.specs.declared.answer.Verdict.{Verdict}
+use Rattle.judge.specs.declared.answer.Verdict.TheVariants as verdict
+use Rattle.questions.specs.Meanings.{meant}
+use Rattle.questions.specs.declared.question.Question.{Question}
+use Rattle.judge_command.specs.Answers.{Denied, Open, is_denied}
+use Rattle.judge_command.specs.Report.{count_line}
+use Rattle.report_text.specs.Answers.{summary_line}
+use Rattle.judge_command.specs.Asked.{IsAsked, IsVerdict, denied_among, denied_once, launch_in, world_in}
+use Rattle.judge_command.specs.ByRule.{answer_of, answers_of}
+use Rattle.judge_command.specs.declared.asking.Asked.{Asked}
+
+-- of each answer that is denied or open
+pub few : {X : Type 0} (test : X → Bool) (xs : List X) → length (filter test xs) ≤ length xs
+few test [] = omega arith
+few test (x ∷ xs) = by (test x) (few test xs) where
+  by : (b : Bool) → length (filter test xs) ≤ length xs → length (cond b (x ∷ filter test xs) (filter test xs)) ≤ suc (length xs)
+  by true h = omega (arith, h)
+  by false h = omega (arith, h)
+
+pub both : {X : Type 0} (test : X → Bool) (xs : List X) → length (filter test xs) + length (filter (λ x. not (test x)) xs) ≡ length xs
+both test [] = refl
+both test (x ∷ xs) = by (test x) (both test xs) where
+  by : (b : Bool) → length (filter test xs) + length (filter (λ x. not (test x)) xs) ≡ length xs
+      → length (cond b (x ∷ filter test xs) (filter test xs)) + length (cond (not b) (x ∷ filter (λ x. not (test x)) xs) (filter (λ x. not (test x)) xs)) ≡ suc (length xs)
+  by true h = omega (arith, h)
+  by false h = omega (arith, h)
+
+module _ (launch : Launch) (program : Path) where
+  -- those that are denied are those whose questions are not open
+  pub denied_are : (list : List Question) → length (filter (λ question. not (is_open launch (meant question))) list) ≡ length (filter is_denied (map (answer_of launch program) (map meant list)))
+  denied_are [] = refl
+  denied_are (question ∷ list) = by (is_open launch (meant question)) (denied_are list) where
+    by : (b : Bool) → length (filter (λ question. not (is_open launch (meant question))) list) ≡ length (filter is_denied (map (answer_of launch program) (map meant list)))
+        → length (cond (not b) (question ∷ filter (λ question. not (is_open launch (meant question))) list) (filter (λ question. not (is_open launch (meant question))) list))
+        ≡ length (filter is_denied ((if b then Open (meant question) (calls_for launch program (meant question)) else Denied (meant question)) ∷ map (answer_of launch program) (map meant list)))
+    by true h = h
+    by false h = ap suc h
+
+-- one question more
+once : (asked : Asked) (question : Question) (found : Verdict) → IsVerdict asked question found → length (filter (λ question. not (is_open (launch_in asked) (meant question))) (question ∷ [])) ≡ denied_once found
+once asked question found is = by found (is_open (launch_in asked) (meant question)) is where
+  by : (found : Verdict) (b : Bool) → (found ≡ verdict.Open) ↔ (b ≡ true) → length (cond (not b) (question ∷ []) []) ≡ denied_once found
+  by verdict.Denied true is = (let same : verdict.Denied ≡ verdict.Open = is.1 refl in cc)
+  by verdict.Denied false is = refl
+  by verdict.Open true is = refl
+  by verdict.Open false is = (let same : false ≡ true = is.0 refl in cc)
+
+pub at_most_one : (found : Verdict) → denied_once found ≤ 1
+at_most_one verdict.Denied = omega arith
+at_most_one verdict.Open = omega arith
+
+pub one_more : (asked : Asked) (list : List Question) (i : ℕ) (d question : Question) (found : Verdict) → i < length list → question ≡ get_or list i d → IsVerdict asked question found
+    → denied_among asked (take i list) + denied_once found ≡ denied_among asked (take (i + 1) list)
+one_more asked list i d question found lt is verdict' =
+    ap (λ n. denied_among asked (take i list) + n) (sym (once asked question found verdict'))
+    ∙ sym (length-append (filter (λ question. not (is_open (launch_in asked) (meant question))) (take i list)) (filter (λ question. not (is_open (launch_in asked) (meant question))) (question ∷ [])))
+    ∙ ap length (sym (filter-append (λ question. not (is_open (launch_in asked) (meant question))) (take i list) (question ∷ [])))
+    ∙ ap (λ one. denied_among asked (take i list ++ one ∷ [])) is
+    ∙ ap (denied_among asked) (sym (take_more list i d lt))
+
+-- of all that is asked
+module _ (asked : Asked) (is : IsAsked asked) where
+  all_are : length (answers_of (world_in asked) asked.service.program) ≡ length asked.questions.items
+  all_are =
+      length-map (questions (world_in asked).calls (world_in asked).site) (answer_of (launch_in asked) asked.service.program)
+      ∙ ap length (sym is.questions)
+      ∙ length-map asked.questions.items meant
+
+  those_denied : denied_among asked asked.questions.items ≡ length (filter is_denied (answers_of (world_in asked) asked.service.program))
+  those_denied =
+      denied_are (launch_in asked) asked.service.program asked.questions.items
+      ∙ ap (λ list. length (filter is_denied (map (answer_of (launch_in asked) asked.service.program) list))) is.questions
+
+  -- the line of the count, by how many are denied of so many
+  pub count_is : (denied count : ℕ) → denied ≡ denied_among asked asked.questions.items → count ≡ length asked.questions.items → summary_line denied (count - denied) ≡ count_line (answers_of (world_in asked) asked.service.program)
+  count_is denied count told all =
+      let answers = answers_of (world_in asked) asked.service.program in
+      let closed : denied ≡ length (filter is_denied answers) = told ∙ those_denied in
+      let whole : length (filter is_denied answers) + length (filter (λ answer. not (is_denied answer)) answers) ≡ length answers = both is_denied answers in
+      let rest : count - denied ≡ length (filter (λ answer. not (is_denied answer)) answers) = omega (arith, closed, whole, all, all_are) in
+      ap₂ summary_line closed rest
+
+  pub few_are : (denied count : ℕ) → denied ≡ denied_among asked asked.questions.items → count ≡ length asked.questions.items → denied ≤ count
+  few_are denied count told all =
+      let those : denied_among asked asked.questions.items ≤ length asked.questions.items = few (λ question. not (is_open (launch_in asked) (meant question))) asked.questions.items in
+      omega (arith, told, all, those)

@@ -1,0 +1,104 @@
+-- A report that is prepared, started and printed runs by its laws.
+use Rattle.std.proofs.Common.{◌≡◌, ℕ, Option, Some, None, List, Ok, Err, refl, sym, ap, subst, inl, inr}
+use Rattle.std.specs.Prelude.{◌⊎◌, IfSome, IsTrue}
+use Rattle.host_io.specs.Files.{Files}
+use Rattle.command_answers.specs.Endings.{is_answer}
+use Rattle.command_answers.specs.Laws.{AcceptsFiles, GoTogether, laws_over}
+use Rattle.command_answers.specs.Runs.{IsRun, Outside}
+use Rattle.command_answers.specs.Stops.{HasReadCause, Prepares}
+use Rattle.command_answers.specs.declared.ending.Ending.{Ending}
+use Rattle.command_answers.specs.declared.ending.Ending.TheVariants.{Done, LaunchRefused}
+use Rattle.command_answers.specs.declared.stop.Stop.TheVariants as stop
+use Rattle.command_answers.proofs.FileCommands.{go_together, ready_is_admitted}
+use Rattle.command_answers.proofs.Refusing.{quiet}
+use Rattle.command_answers.proofs.Runs.{ran}
+use Rattle.call_table.specs.Table as calls
+use Rattle.site_table.specs.Table.{Site}
+use Rattle.unit_launch.specs.Launching.{ComesTo}
+use Rattle.unit_launch.specs.declared.launching.UnitLaunch.{UnitLaunch}
+use Rattle.unit_launch.specs.declared.launching.UnitLaunch.TheVariants as launch
+use Rattle.plan_command.specs.Prints.{plan_refusals}
+use Rattle.judge_command.specs.Asked.{IsAsked, asked_text, launch_in, world_in}
+use Rattle.judge_command.specs.ByRule.{AnswersAreTrue, BlindFoldersAreNamed, answers_of, folders_of}
+use Rattle.judge_command.specs.Prepared.{IsPrepared, inputs_in}
+use Rattle.judge_command.specs.Prints.{PrintsReport, TellsLaunch, TellsService, judge_laws}
+use Rattle.judge_command.specs.Started.{FinishesStarted, IsStarted, ending_of, text_of, told_text}
+use Rattle.judge_command.specs.declared.asking.Asked.{Asked}
+use Rattle.judge_command.specs.declared.launching.Outcome.{Outcome}
+use Rattle.judge_command.specs.declared.launching.Outcome.TheVariants as outcome
+use Rattle.judge_command.specs.declared.preparing.Prepared.{Prepared}
+
+module _ (told : Option Files) (unit : List ℕ) where
+  -- each ending behind a report is an answer
+  answered : (ending : Ending) → (judge_laws unit).may_end ending → IsTrue (is_answer ending)
+  answered ending (inl done) = subst (λ e. IsTrue (is_answer e)) (sym done) refl
+  answered ending (inr refused) = subst (λ e. IsTrue (is_answer e)) (sym refused) refl
+
+  pub together : GoTogether (laws_over told (judge_laws unit))
+  together = go_together (judge_laws unit) told answered
+
+-- a launch is done or refused
+ends_so : (came : Outcome) → (ending_of came ≡ Done) ⊎ (ending_of came ≡ LaunchRefused)
+ends_so (outcome.Asked asked) = inl refl
+ends_so (outcome.Refused refusal) = inr refl
+
+-- what a launch came to
+abbrev launch_by : Outcome → UnitLaunch
+launch_by (outcome.Asked asked) = launch.Launched asked.service
+launch_by (outcome.Refused refusal) = launch.Refused refusal
+
+module _ (answers : AnswersAreTrue) (folders : BlindFoldersAreNamed) where
+  -- over the tables that the world was launched with
+  over : (asked : Asked) → IsAsked asked → (table : calls.Table) (site : Site) → (world_in asked).calls ≡ table → (world_in asked).site ≡ site → TellsService table site asked.service (asked_text asked)
+  over asked is table site tables sites =
+      subst (λ own. TellsService own site asked.service (asked_text asked)) tables
+      (subst (λ own. TellsService (world_in asked).calls own asked.service (asked_text asked)) sites
+      (record {
+        answers = answers_of (world_in asked) asked.service.program;
+        are_answers = answers (world_in asked) asked.service.program is.served is.program;
+        folders = folders_of (launch_in asked) (world_in asked).site.rows;
+        are_blind = folders (world_in asked) is.served;
+        is_its_text = refl;
+      }))
+
+  module _ (prepared : Prepared) where
+    came_to : (came : Outcome) → IsStarted prepared came → ComesTo (inputs_in prepared).calls (inputs_in prepared).site prepared.unit.settings.value prepared.plan (launch_by came)
+    came_to (outcome.Asked asked) started = started.0
+    came_to (outcome.Refused refusal) started = started
+
+    tells_it : (came : Outcome) → IsStarted prepared came → TellsLaunch (inputs_in prepared).calls (inputs_in prepared).site (launch_by came) (ending_of came) (told_text came)
+    tells_it (outcome.Asked asked) started =
+        (refl, over asked started.1 (inputs_in prepared).calls (inputs_in prepared).site (ap (λ made. made.calls) started.0.leaves_one_process.leaves.is) (ap (λ made. made.site) started.0.leaves_one_process.leaves.is))
+    tells_it (outcome.Refused refusal) started = (refl, refl)
+
+    -- what is started prints what the files say
+    prints_it : (told : Option Files) (unit : List ℕ) (came : Outcome) → IsStarted prepared came → IfSome told (λ files. Prepares (IsPrepared files unit) (plan_refusals files unit) (Ok prepared))
+        → IfSome told (λ files. AcceptsFiles (judge_laws unit) files × PrintsReport files unit (ending_of came) (text_of unit prepared came))
+    prints_it None unit came started is = tt
+    prints_it (Some files) unit came started is = (
+      is.0,
+      record {
+        inputs = inputs_in prepared;
+        inputs_are = is.1.inputs;
+        settings = prepared.unit.settings.value;
+        are_settings = is.1.settings;
+        plan = prepared.plan;
+        is_plan = is.1.plan;
+        launch = launch_by came;
+        comes_to = came_to came started;
+        told = told_text came;
+        tells = tells_it came started;
+        is_its_text = refl;
+      },
+    )
+
+  -- a report that is prepared
+  pub ran_prepared : (told : Option Files) (unit : List ℕ) (outside : Outside) (ended : Ending) (prepared : Prepared) → IfSome told (λ files. Prepares (IsPrepared files unit) (plan_refusals files unit) (Ok prepared))
+      → HasReadCause outside.shelf_before outside.shelf_after (Ok prepared) → FinishesStarted unit prepared ended outside.sink → IsRun (laws_over told (judge_laws unit)) ended outside
+  ran_prepared told unit outside ended prepared is cause (inl printed) =
+      ran (laws_over told (judge_laws unit)) (together told unit) outside ending_of (text_of unit prepared) (Ok printed.outcome) ended
+      (ready_is_admitted (judge_laws unit) ending_of (text_of unit prepared) told printed.outcome (ends_so printed.outcome) (prints_it prepared told unit printed.outcome printed.started is))
+      (λ e. cc) (quiet outside.shelf_before outside.shelf_after (Ok printed.outcome) cause.no_other_fault (λ e. cc)) printed.prints
+  ran_prepared told unit outside ended prepared is cause (inr out) =
+      ran (laws_over told (judge_laws unit)) (together told unit) outside ending_of (text_of unit prepared) (Err stop.Memory) ended
+      tt (λ e. cc) (quiet outside.shelf_before outside.shelf_after (Err stop.Memory) cause.no_other_fault (λ e. cc)) out

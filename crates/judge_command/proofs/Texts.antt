@@ -1,0 +1,69 @@
+-- The text that is printed is that of the answers and of the folders.
+use Rattle.std.proofs.Common.{◌≡◌, ◌∙◌, ℕ, Bool, true, false, List, [], ◌∷◌, ◌++◌, ap, refl, sym, subst, append-nil}
+use Rattle.std.specs.Prelude.{◌↔◌, flat_map, map, if◌then◌else◌}
+use Rattle.std.proofs.lemmas.List.Concat.{flat_map-append}
+use Rattle.site_table.specs.declared.row.Row.{Row}
+use Rattle.kernel_laws.specs.Questions.{if_so}
+use Rattle.questions.specs.Meanings.{meant}
+use Rattle.questions.specs.declared.question.Question.{Question}
+use Rattle.std.specs.Prelude.{IfOk, Result, Vec}
+use Rattle.std.specs.declared.alloc.AllocError.{AllocError}
+use Rattle.std.specs.declared.alloc.Global.{Global}
+use Rattle.call_table.specs.Table.{Table}
+use Rattle.site_table.specs.Table.{Site}
+use Rattle.chosen_calls.specs.Chosen.{calls_for}
+use Rattle.judge.specs.declared.answer.Verdict.{Verdict}
+use Rattle.kernel_laws.specs.Bound.{is_open}
+use Rattle.judge.specs.declared.answer.Verdict.TheVariants as verdict
+use Rattle.report_text.specs.Answers.{blind_line, call_line, verdict_line}
+use Rattle.judge_command.specs.Answers.{Denied, Open}
+use Rattle.judge_command.specs.Asked.{IsAsked, answer_text, folder_text, is_named, launch_in, world_in}
+use Rattle.judge_command.specs.ByRule.{answer_of, answers_of, folders_of}
+use Rattle.judge_command.specs.Report.{answer_lines}
+use Rattle.judge_command.specs.declared.asking.Asked.{Asked}
+
+-- a question that is found denied is not open
+pub not_open : (found : Verdict) (b : Bool) → (found ≡ verdict.Open) ↔ (b ≡ true) → found ≡ verdict.Denied → b ≡ false
+not_open found true is e = (let same : verdict.Denied ≡ verdict.Open = sym e ∙ is.1 refl in cc)
+not_open found false is e = refl
+
+module _ (asked : Asked) where
+  each_answer : (list : List Question) → flat_map (answer_text asked) list ≡ flat_map (answer_lines (world_in asked).calls (world_in asked).site) (map (answer_of (launch_in asked) asked.service.program) (map meant list))
+  each_answer [] = refl
+  each_answer (question ∷ list) = ap (λ rest. answer_text asked question ++ rest) (each_answer list)
+
+  pub answers_text : IsAsked asked → flat_map (answer_text asked) asked.questions.items ≡ flat_map (answer_lines (world_in asked).calls (world_in asked).site) (answers_of (world_in asked) asked.service.program)
+  answers_text is = each_answer asked.questions.items ∙ ap (λ list. flat_map (answer_lines (world_in asked).calls (world_in asked).site) (map (answer_of (launch_in asked) asked.service.program) list)) is.questions
+
+  -- the line of what is found, by the tables of the world
+  pub own_line : (question : Question) (found own : Verdict) (table : Table) (site : Site) (line : Result (Vec ℕ Global) AllocError) → table ≡ (world_in asked).calls → site ≡ (world_in asked).site → found ≡ own
+      → IfOk line (λ told. told.items ≡ verdict_line table site (meant question) found) → IfOk line (λ told. told.items ≡ verdict_line (world_in asked).calls (world_in asked).site (meant question) own)
+  own_line question found own table site line tables sites same is =
+      subst (λ these. IfOk line (λ told. told.items ≡ verdict_line these (world_in asked).site (meant question) own)) tables
+      (subst (λ there. IfOk line (λ told. told.items ≡ verdict_line table there (meant question) own)) sites
+      (subst (λ it. IfOk line (λ told. told.items ≡ verdict_line table site (meant question) it)) same is))
+
+  -- the answer where a question is open
+  pub open_text : (question : Question) → is_open (launch_in asked) (meant question) ≡ true
+      → verdict_line (world_in asked).calls (world_in asked).site (meant question) verdict.Open ++ flat_map (call_line (world_in asked).calls.calls) (calls_for (launch_in asked) asked.service.program (meant question)) ≡ answer_text asked question
+  open_text question e = sym (ap (λ b. answer_lines (world_in asked).calls (world_in asked).site (if b then Open (meant question) (calls_for (launch_in asked) asked.service.program (meant question)) else Denied (meant question))) e)
+
+  -- and where it is denied
+  pub denied_text : (question : Question) → is_open (launch_in asked) (meant question) ≡ false
+      → verdict_line (world_in asked).calls (world_in asked).site (meant question) verdict.Denied ≡ answer_text asked question
+  denied_text question e = sym (ap (λ b. answer_lines (world_in asked).calls (world_in asked).site (if b then Open (meant question) (calls_for (launch_in asked) asked.service.program (meant question)) else Denied (meant question))) e)
+
+  -- the line of a folder that is blind
+  pub named_text : (row : Row) → is_named asked row ≡ true → blind_line row.path ≡ folder_text asked row
+  named_text row e = sym (ap (λ b. if b then blind_line row.path else []) e)
+
+  one_folder : (row : Row) (b : Bool) → (if b then blind_line row.path else []) ≡ flat_map blind_line (if_so b row.path)
+  one_folder row true = sym (append-nil (blind_line row.path))
+  one_folder row false = refl
+
+  pub folders_text : (rows : List Row) → flat_map (folder_text asked) rows ≡ flat_map blind_line (folders_of (launch_in asked) rows)
+  folders_text [] = refl
+  folders_text (row ∷ rows) =
+      ap (λ rest. folder_text asked row ++ rest) (folders_text rows)
+      ∙ ap (λ line. line ++ flat_map blind_line (folders_of (launch_in asked) rows)) (one_folder row (is_named asked row))
+      ∙ sym (flat_map-append blind_line (if_so (is_named asked row) row.path) (folders_of (launch_in asked) rows))

@@ -1,0 +1,28 @@
+use Rattle.std.proofs.Common.{ap, ◌∙◌}
+use Rattle.std.specs.Prelude.{IfSome}
+use Rattle.command_answers.specs.Stops.{Prepares}
+use Rattle.command_answers.proofs.FileCommands.{at_stop}
+use Rattle.plan_command.specs.Prints.{plan_refusals}
+use Rattle.judge_command.specs.Prepared.{IsPrepared}
+use Rattle.judge_command.proofs.Prepared.{is_prepared, stops_at_paths}
+use Rattle.judge_command.proofs.preparing.prepare.Goals as goal
+
+pub returns-in_err-plan-clause-prepares : goal.returns-in_err-plan-clause-prepares
+returns-in_err-plan-clause-prepares g c =
+    at_stop (λ result. IfSome (g.S.Shelf.told c.args.shelf.now) (λ files. Prepares (IsPrepared files c.args.unit.now) (plan_refusals files c.args.unit.now) result)) c.from_residual-in_err-plan.result c.in_err-plan.field-0.0 c.from_residual-in_err-plan.ensures.1
+    (stops_at_paths (g.S.Shelf.told c.args.shelf.now) c.args.unit.now c.in_ok-one.one c.deref.result.now.mentions c.deref-2.result.now
+    (ap (λ settings. settings.mentions) c.deref.ensures ∙ c.in_ok-one.ensures.has_settings.mentions_written_and_implied)
+    c.deref-2.ensures
+    c.in_err-plan.field-0.0
+    c.in_ok-one.ensures.settles_by_the_files
+    c.in_err-plan.ensures.plan_or_first_refusal)
+
+pub returns-clause-prepares : goal.returns-clause-prepares
+returns-clause-prepares g c =
+    is_prepared (g.S.Shelf.told c.args.shelf.now) c.args.unit.now c.in_ok-one.one c.deref.result.now.mentions c.deref-2.result.now
+    (ap (λ settings. settings.mentions) c.deref.ensures ∙ c.in_ok-one.ensures.has_settings.mentions_written_and_implied)
+    c.deref-2.ensures
+    c.in_ok-plan.plan
+    c.in_ok-one.ensures.has_settings
+    c.in_ok-one.ensures.settles_by_the_files
+    c.in_ok-plan.ensures.plan_or_first_refusal

@@ -1,0 +1,69 @@
+-- What is asked of a launched service, and what the printed text is.
+use Rattle.std.specs.Prelude.{◌≡◌, ◌↔◌, ℕ, Bool, true, List, [], filter, length, map, not, slice_get, Some, if◌then◌else◌}
+use Rattle.site_table.specs.declared.row.Row.{Row}
+use Rattle.kernel_model.specs.World.{World}
+use Rattle.kernel_laws.specs.Bound.{is_open}
+use Rattle.kernel_laws.specs.Launched.{Launch, launch_of}
+use Rattle.kernel_laws.specs.Questions.{questions}
+use Rattle.kernel_ways.specs.Laws.{IsServedWorld}
+use Rattle.ceilings.specs.Own.{IsCeilingOf}
+use Rattle.kernel_ways.specs.Offers.{RunsProgram}
+use Rattle.judge.specs.declared.answer.Verdict.{Verdict}
+use Rattle.judge.specs.declared.answer.Verdict.TheVariants as verdict
+use Rattle.questions.specs.Meanings.{meant}
+use Rattle.questions.specs.declared.question.Question.{Question}
+use Rattle.report_text.specs.Answers.{blind_line}
+use Rattle.unit_launch.specs.Told.{told_of}
+use Rattle.judge_command.specs.Answers.{Answer}
+use Rattle.judge_command.specs.ByRule.{answer_of, answers_of, folders_of, is_named_by}
+use Rattle.judge_command.specs.Report.{answer_lines, service_text}
+use Rattle.judge_command.specs.declared.asking.Asked.{Asked}
+
+abbrev pub world_in : Asked → World
+world_in asked = asked.service.world
+
+abbrev pub launch_in : Asked → Launch
+launch_in asked = launch_of (world_in asked)
+
+-- its own ceiling, and all questions of its tables
+pub record IsAsked (asked : Asked) : Type 0 where
+  pub served : IsServedWorld (world_in asked)
+  pub program : RunsProgram (launch_in asked) asked.service.program
+  pub ceiling : IsCeilingOf (launch_in asked) asked.ceiling
+  pub questions : map meant asked.questions.items ≡ questions (world_in asked).calls (world_in asked).site
+
+-- the verdict on a question
+abbrev pub IsVerdict : Asked → Question → Verdict → Type 0
+IsVerdict asked question found = (found ≡ verdict.Open) ↔ (is_open (launch_in asked) (meant question) ≡ true)
+
+-- the answer to one question, and what is printed of it
+abbrev pub answer_in : Asked → Question → Answer
+answer_in asked question = answer_of (launch_in asked) asked.service.program (meant question)
+
+abbrev pub answer_text : Asked → Question → List ℕ
+answer_text asked question = answer_lines (world_in asked).calls (world_in asked).site (answer_in asked question)
+
+abbrev pub denied_once : Verdict → ℕ
+denied_once verdict.Denied = 1
+denied_once verdict.Open = 0
+
+-- how many of some questions are denied
+abbrev pub denied_among : Asked → List Question → ℕ
+denied_among asked list = length (filter (λ question. not (is_open (launch_in asked) (meant question))) list)
+
+-- a row of the site
+abbrev pub IsRowIn : Asked → Row → Type 0
+IsRowIn asked row = (at : ℕ) × (slice_get (world_in asked).site.rows at ≡ Some row)
+
+-- the line of a row, if it is a folder that is blind
+abbrev pub is_named : Asked → Row → Bool
+is_named asked row = is_named_by (launch_in asked) row
+
+abbrev pub folder_text : Asked → Row → List ℕ
+folder_text asked row = if is_named asked row then blind_line row.path else []
+
+-- all of it
+abbrev pub asked_text : Asked → List ℕ
+asked_text asked =
+    service_text (world_in asked).calls (world_in asked).site (told_of (world_in asked) asked.service.steps)
+    (answers_of (world_in asked) asked.service.program) (folders_of (launch_in asked) (world_in asked).site.rows)

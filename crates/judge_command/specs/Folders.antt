@@ -1,0 +1,23 @@
+-- The folders into which no process of a launched service ever looks.
+use Rattle.std.specs.Prelude.{◌≡◌, List, [], ◌∷◌, true, false}
+use Rattle.abs_path.specs.ByteOrder.{AreAscending}
+use Rattle.abs_path.specs.Paths.{Path}
+use Rattle.site_table.specs.declared.row.Row.{Row}
+use Rattle.site_table.specs.Kinds.{is_dir}
+use Rattle.site_table.specs.Table.{Site}
+use Rattle.kernel_model.specs.World.{World}
+use Rattle.kernel_laws.specs.Denied.{IsBlind}
+use Rattle.kernel_ways.specs.Blindness.{IsExposed}
+
+-- of rows, in their order: a folder is named where no list of calls exposes what lies below it, and left out where one does;
+-- what is no folder is left out
+pub data NamesBlind (world : World) : List Row → List Path → Type 0 where
+  no_more : NamesBlind world [] []
+  named : (row : Row) (rows : List Row) (folders : List Path) → is_dir row.kind ≡ true → IsBlind world row.path → NamesBlind world rows folders → NamesBlind world (row ∷ rows) (row.path ∷ folders)
+  exposed : (row : Row) (rows : List Row) (folders : List Path) → is_dir row.kind ≡ true → IsExposed world row.path → NamesBlind world rows folders → NamesBlind world (row ∷ rows) folders
+  no_folder : (row : Row) (rows : List Row) (folders : List Path) → is_dir row.kind ≡ false → NamesBlind world rows folders → NamesBlind world (row ∷ rows) folders
+
+-- exactly these folders of a site are blind, in byte order of their paths
+pub record AreBlind (world : World) (site : Site) (folders : List Path) : Type 0 where
+  pub exactly : NamesBlind world site.rows folders
+  pub in_byte_order : AreAscending folders

@@ -1,0 +1,44 @@
+-- A unit that is launched, and how a run goes on behind what is prepared.
+use Rattle.std.specs.Prelude.{◌≡◌, ◌⊎◌, ℕ, List}
+use Rattle.command_answers.specs.Printing.{IsUntouched, Output, PrintsText}
+use Rattle.command_answers.specs.declared.ending.Ending.{Ending}
+use Rattle.command_answers.specs.declared.ending.Ending.TheVariants.{Done, LaunchRefused, OutOfMemory}
+use Rattle.unit_launch.specs.Launching.{IsLaunched, IsRefused}
+use Rattle.unit_launch.specs.Refusals.{refusal_line}
+use Rattle.judge_command.specs.Asked.{IsAsked, asked_text}
+use Rattle.judge_command.specs.Prepared.{inputs_in, settings_in, unit_in}
+use Rattle.judge_command.specs.Report.{report_text}
+use Rattle.judge_command.specs.declared.launching.Outcome.{Outcome}
+use Rattle.judge_command.specs.declared.launching.Outcome.TheVariants.{Asked, Refused}
+use Rattle.judge_command.specs.declared.preparing.Prepared.{Prepared}
+
+-- the launch of what is prepared came to this: a service that is asked, or a refusal
+abbrev pub IsStarted : Prepared → Outcome → Type 0
+IsStarted prepared (Asked asked) = IsLaunched (inputs_in prepared).calls (inputs_in prepared).site prepared.unit.settings.value prepared.plan asked.service × IsAsked asked
+IsStarted prepared (Refused refusal) = IsRefused (inputs_in prepared).calls (inputs_in prepared).site prepared.unit.settings.value prepared.plan refusal
+
+abbrev pub CanBeTold : Outcome → Type 0
+CanBeTold (Asked asked) = IsAsked asked
+CanBeTold (Refused refusal) = Unit {0}
+
+abbrev pub told_text : Outcome → List ℕ
+told_text (Asked asked) = asked_text asked
+told_text (Refused refusal) = refusal_line refusal
+
+abbrev pub ending_of : Outcome → Ending
+ending_of (Asked asked) = Done
+ending_of (Refused refusal) = LaunchRefused
+
+-- the whole text of a unit by its name
+abbrev pub text_of : List ℕ → Prepared → Outcome → List ℕ
+text_of unit prepared outcome = report_text unit (unit_in prepared.unit).files (settings_in prepared.unit).notes.items (told_text outcome)
+
+-- it is printed
+pub record PrintsStarted (unit : List ℕ) (prepared : Prepared) (ended : Ending) (output : Output) : Type 0 where
+  pub outcome : Outcome
+  pub started : IsStarted prepared outcome
+  pub prints : PrintsText (ending_of outcome) (text_of unit prepared outcome) ended output
+
+-- or memory ran out, and nothing was printed
+abbrev pub FinishesStarted : List ℕ → Prepared → Ending → Output → Type 0
+FinishesStarted unit prepared ended output = PrintsStarted unit prepared ended output ⊎ ((ended ≡ OutOfMemory) × IsUntouched output)

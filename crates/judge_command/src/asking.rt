@@ -1,0 +1,41 @@
+//! A launched service, and what is asked of it.
+ghost use Rattle.std.specs.Prelude.{◌≡◌, IfOk};
+ghost use Rattle.kernel_laws.specs.Launched.{launch_of};
+ghost use Rattle.kernel_ways.specs.Laws.{IsServedWorld};
+ghost use Rattle.kernel_ways.specs.Offers.{RunsProgram};
+ghost use Rattle.judge_command.specs.Asked.{IsAsked};
+
+use ceilings::{Ceiling, ceiling};
+use launcher::Launched;
+use questions::{Question, questions};
+use std::alloc::{AllocError, Global};
+
+/// A launched service, with what bounds its processes, and all that is asked of it.
+#[derive(Drop)]
+pub struct Asked<'a> {
+    /// The service, as the launch left it.
+    pub service: Launched<'a>,
+    /// Its own ceiling.
+    pub ceiling: Ceiling,
+    /// All questions of its tables, in their order.
+    pub questions: Vec<Question>,
+}
+
+/// Makes the ceiling of a launched service and the list of questions, each once.
+pub fn ask<'a>(alloc: Global, service: Launched<'a>) -> Result<Asked<'a>, AllocError>
+    requires served { IsServedWorld service.world }
+    requires program { RunsProgram (launch_of service.world) service.program }
+    ensures asks { IfOk result (λ asked. (asked.service ≡ service.entry) × IsAsked asked) }
+{
+    let top = ceiling(alloc, &service)?;
+    let list = questions(
+        alloc,
+        service.world.call_table(),
+        service.world.site_table(),
+    )?;
+    Ok(Asked {
+        service,
+        ceiling: top,
+        questions: list,
+    })
+}

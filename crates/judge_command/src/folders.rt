@@ -1,0 +1,61 @@
+//! The folders that are blind, found and printed one by one.
+ghost use Rattle.std.specs.Prelude.{◌≡◌, flat_map};
+ghost use Rattle.command_answers.specs.Printing.{HasWriteCause, TakesText};
+ghost use Rattle.judge_command.specs.Asked.{IsAsked, IsRowIn, folder_text, is_named};
+
+use crate::asking::Asked;
+use command_answers::put_line;
+use host_io::{Sink, SinkError};
+use judge::blind;
+use report_text::blind_line;
+use site_table::{Row, RowKind};
+use std::alloc::Global;
+
+// Whether a row is a folder that is blind.
+fn is_named(asked: &Asked<'_>, row: &Row) -> bool
+    requires asked { IsAsked asked.now }
+    requires row { IsRowIn asked.now row.now }
+    ensures { result ≡ is_named asked.now row.now }
+{
+    match row.kind {
+        RowKind::Dir => blind(&asked.service, &asked.ceiling, &row.path),
+        RowKind::File | RowKind::Exe => false,
+    }
+}
+
+// Prints the line of a row, if it is a folder that is blind.
+fn print_folder<K: Sink>(
+    alloc: Global,
+    asked: &Asked<'_>,
+    row: &Row,
+    out: &mut K,
+) -> Result<(), SinkError>
+    requires asked { IsAsked asked.now }
+    requires row { IsRowIn asked.now row.now }
+    ensures takes_the_text { TakesText (K.taken out.old) (K.taken out.new) (folder_text asked.now row.now) result }
+    ensures fault_rose { HasWriteCause (K.faults out.old) (K.faults out.new) result }
+{
+    if is_named(asked, row) {
+        put_line(out, blind_line(alloc, &row.path))
+    } else {
+        Ok(())
+    }
+}
+
+/// Prints the folders that are blind among these rows, all of the site, in their order.
+pub fn print_folders<K: Sink>(
+    alloc: Global,
+    asked: &Asked<'_>,
+    rows: &[Row],
+    out: &mut K,
+) -> Result<(), SinkError>
+    requires asked { IsAsked asked.now }
+    requires all { rows.now ≡ asked.now.service.world.site.rows }
+    ensures takes_the_text { TakesText (K.taken out.old) (K.taken out.new) (flat_map (folder_text asked.now) rows.now) result }
+    ensures fault_rose { HasWriteCause (K.faults out.old) (K.faults out.new) result }
+{
+    'rows: for row in rows {
+        print_folder(alloc, asked, row, out)?;
+    }
+    Ok(())
+}

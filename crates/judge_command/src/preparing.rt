@@ -1,0 +1,37 @@
+//! What `judge` reads, and what it takes from that.
+ghost use Rattle.std.specs.Prelude.{◌≡◌, IfOk, IfSome, IsErrOf, IsSome};
+ghost use Rattle.unit_names.specs.Cutting.{name_of};
+ghost use Rattle.command_answers.specs.Stops.{HasReadCause, Prepares};
+ghost use Rattle.plan_command.specs.Prints.{plan_refusals};
+ghost use Rattle.judge_command.specs.Prepared.{CanBeStarted, IsPrepared};
+
+use command_answers::Stop;
+use host_io::Shelf;
+use mount_plan::MountSteps;
+use plan_command::plan_mounts;
+use std::alloc::Global;
+use unit_settings::{SettledUnit, settle_unit};
+
+/// All that a report starts with.
+#[derive(Drop)]
+pub struct Prepared {
+    /// The unit with its settings.
+    pub unit: SettledUnit,
+    /// The plan of the unit's mounts.
+    pub plan: MountSteps,
+}
+
+/// Reads the unit, calls.txt and site.toml, finds the first refusal of them, of the settings and of the paths that they mention,
+/// and plans the mounts.
+pub fn prepare<S: Shelf>(alloc: Global, shelf: &mut S, unit: &str) -> Result<Prepared, Stop>
+    ensures prepares { IfSome (S.told shelf.old) (λ files. Prepares (IsPrepared files unit.now) (plan_refusals files unit.now) result) }
+    ensures can_be_started { IfOk result CanBeStarted }
+    ensures reads_for_a_name { IsErrOf result Stop.ReadFault → IsSome (name_of unit.now) }
+    ensures unread_without_a_name { (IsSome (name_of unit.now) → ⊥) → shelf.new ≡ shelf.old }
+    ensures map_stays { S.told shelf.new ≡ S.told shelf.old }
+    ensures fault_rose { HasReadCause (S.faults shelf.old) (S.faults shelf.new) result }
+{
+    let one = settle_unit(alloc, shelf, unit)?;
+    let plan = plan_mounts(alloc, unit, &one.settings.mentions, &one.inputs.site)?;
+    Ok(Prepared { unit: one, plan })
+}

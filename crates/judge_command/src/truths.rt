@@ -1,0 +1,15 @@
+//! Why a report is true.
+ghost use Rattle.judge_command.specs.ByRule.{AnswersAreTrue, BlindFoldersAreNamed};
+
+use chosen_calls::choices;
+use kernel_ways::{blindness, openness};
+
+/// What is answered of a launched service is true, and the folders that are named are those that are blind.
+pub fn truths()
+    ensures answers { AnswersAreTrue }
+    ensures folders { BlindFoldersAreNamed }
+{
+    openness();
+    choices();
+    blindness();
+}

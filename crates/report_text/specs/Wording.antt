@@ -1,0 +1,53 @@
+-- Questions, as they are written.
+use Rattle.std.specs.Prelude.{ℕ, List, [], ◌++◌, codes, slice_get}
+use Rattle.std.specs.Fmt.{decimal}
+use Rattle.std.specs.Option.{option_map_or}
+use Rattle.abs_path.specs.Paths.{text_of}
+use Rattle.cap_sets.specs.Names.{name_of}
+use Rattle.call_table.specs.declared.listed.CallLine.{CallLine}
+use Rattle.call_table.specs.Table as calls
+use Rattle.site_table.specs.declared.row.Row.{Row}
+use Rattle.site_table.specs.Table.{Site}
+use Rattle.text_forms.specs.Escaped.{escaped_word}
+use Rattle.kernel_laws.specs.Questions.{Wish, ToSee, ToRead, ToWrite, ToExec, Space, Cgroup, Ipc, Net, Mnt, Pid, User, Uts, Question, ByPath, Call, Socket, Ns, MapWx, ProtectX, ShmX, Realtime, Personality, SuidBit, Cap, Uid, Gid}
+
+abbrev pub wish_word : Wish → List ℕ
+wish_word ToSee = codes "see"
+wish_word ToRead = codes "read"
+wish_word ToWrite = codes "write"
+wish_word ToExec = codes "exec"
+
+-- the types of namespaces, systemd.exec(5), RestrictNamespaces=
+abbrev pub space_word : Space → List ℕ
+space_word Cgroup = codes "cgroup"
+space_word Ipc = codes "ipc"
+space_word Net = codes "net"
+space_word Mnt = codes "mnt"
+space_word Pid = codes "pid"
+space_word User = codes "user"
+space_word Uts = codes "uts"
+
+-- the path of the row at a place of the site, from 0
+abbrev pub path_at : List Row → ℕ → List ℕ
+path_at rows at = option_map_or (λ row. text_of row.path) (slice_get rows at) []
+
+-- the name of the call or family at a place of the table, from 0
+abbrev pub name_at : List CallLine → ℕ → List ℕ
+name_at lines at = option_map_or (λ line. line.name) (slice_get lines at) []
+
+-- what is asked: rows go by their paths, calls and families by their names, ids by their numbers, and capabilities by the names
+-- of capabilities(7)
+abbrev pub question_words : calls.Table → Site → Question → List ℕ
+question_words table site (ByPath wish at) = wish_word wish ++ (codes " " ++ escaped_word (path_at site.rows at))
+question_words table site (Call at) = codes "call " ++ escaped_word (name_at table.calls at)
+question_words table site (Socket at) = codes "socket " ++ escaped_word (name_at table.families at)
+question_words table site (Ns space) = codes "ns " ++ space_word space
+question_words table site MapWx = codes "map-wx"
+question_words table site ProtectX = codes "protect-x"
+question_words table site ShmX = codes "shm-x"
+question_words table site Realtime = codes "realtime"
+question_words table site Personality = codes "personality"
+question_words table site SuidBit = codes "suid-bit"
+question_words table site (Cap number) = codes "cap " ++ name_of number
+question_words table site (Uid id) = codes "uid " ++ decimal id
+question_words table site (Gid id) = codes "gid " ++ decimal id

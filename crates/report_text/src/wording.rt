@@ -1,0 +1,105 @@
+//! Questions, as they are written.
+ghost use Rattle.std.specs.Prelude.{◌≡◌, ◌++◌, OnOk, codes};
+ghost use Rattle.std.specs.Fmt.{decimal};
+ghost use Rattle.text_forms.specs.Escaped.{escaped_word};
+ghost use Rattle.questions.specs.Listed.{IsAskedOf};
+ghost use Rattle.questions.specs.Meanings.{meant};
+ghost use Rattle.reach_paths.specs.Meanings.{meant_wish};
+ghost use Rattle.report_text.specs.Wording.{name_at, path_at, question_words, wish_word};
+
+use call_table::{CallLine, CallTable};
+use cap_sets::CapSet;
+use questions::{Question, Wish};
+use site_table::{Row, SiteTable};
+use std::alloc::AllocError;
+use text_forms::{push_u64, push_word};
+
+fn wish_word(wish: Wish) -> &'static str
+    ensures { result.now ≡ wish_word (meant_wish wish) }
+{
+    match wish {
+        Wish::See => "see",
+        Wish::Read => "read",
+        Wish::Write => "write",
+        Wish::Exec => "exec",
+    }
+}
+
+// The path of the row at a place.
+fn path_at(rows: &[Row], at: usize) -> &str
+    ensures { result.now ≡ path_at rows.now at }
+{
+    match rows.get(at) {
+        Some(row) => row.path.text(),
+        None => "",
+    }
+}
+
+// The name of the call or family at a place.
+fn name_at(lines: &[CallLine], at: usize) -> &str
+    ensures { result.now ≡ name_at lines.now at }
+{
+    match lines.get(at) {
+        Some(line) => line.name.as_str(),
+        None => "",
+    }
+}
+
+// Adds a word and what follows it.
+fn push_both(out: &mut Vec<u8>, front: &str, rest: &str) -> Result<(), AllocError>
+    ensures { OnOk result (out.new.items ≡ out.old.items ++ (front.now ++ rest.now)) }
+{
+    out.extend_from_slice(front.as_bytes())?;
+    out.extend_from_slice(rest.as_bytes())
+}
+
+// Adds a wish of a row.
+fn push_path(out: &mut Vec<u8>, wish: &str, path: &str) -> Result<(), AllocError>
+    ensures { OnOk result (out.new.items ≡ out.old.items ++ (wish.now ++ (codes " " ++ escaped_word path.now))) }
+{
+    out.extend_from_slice(wish.as_bytes())?;
+    push_named(out, " ", path)
+}
+
+// Adds a word and a name.
+fn push_named(out: &mut Vec<u8>, front: &str, name: &str) -> Result<(), AllocError>
+    ensures { OnOk result (out.new.items ≡ out.old.items ++ (front.now ++ escaped_word name.now)) }
+{
+    out.extend_from_slice(front.as_bytes())?;
+    push_word(out, name)
+}
+
+// Adds a word and an id.
+fn push_id(out: &mut Vec<u8>, front: &str, id: u32) -> Result<(), AllocError>
+    ensures { OnOk result (out.new.items ≡ out.old.items ++ (front.now ++ decimal id)) }
+{
+    out.extend_from_slice(front.as_bytes())?;
+    push_u64(out, u64::from(id))
+}
+
+/// Adds what is asked.
+pub(crate) fn push_question(
+    out: &mut Vec<u8>,
+    question: &Question,
+    calls: &CallTable,
+    site: &SiteTable,
+) -> Result<(), AllocError>
+    requires { IsAskedOf calls.now site.now (meant question.now) }
+    ensures { OnOk result (out.new.items ≡ out.old.items ++ question_words calls.now site.now (meant question.now)) }
+{
+    match question {
+        Question::Path(wish, at) => push_path(out, wish_word(*wish), path_at(site.rows(), *at)),
+        Question::Call(at) => push_named(out, "call ", name_at(calls.calls(), *at)),
+        Question::Socket(at) => push_named(out, "socket ", name_at(calls.families(), *at)),
+        Question::Namespace(kind) => push_both(out, "ns ", kind.name()),
+        Question::MapWx => out.extend_from_slice(b"map-wx"),
+        Question::ProtectX => out.extend_from_slice(b"protect-x"),
+        Question::ShmX => out.extend_from_slice(b"shm-x"),
+        Question::Realtime => out.extend_from_slice(b"realtime"),
+        Question::Personality => out.extend_from_slice(b"personality"),
+        Question::SuidBit => out.extend_from_slice(b"suid-bit"),
+        Question::Cap(cap) => push_both(out, "cap ", CapSet::name(*cap)),
+        Question::Uid(id) => push_id(out, "uid ", *id),
+        Question::Gid(id) => push_id(out, "gid ", *id),
+    }
+}
