@@ -1,5 +1,3 @@
-pub mod Asking
-pub mod PlanIsBlind
 pub mod Sites
 pub mod Runs
 pub mod LaunchIsBlind

@@ -4,6 +4,7 @@ use Rattle.std.specs.Prelude.{nat_le, length}
 use Rattle.std.specs.List.{AllByRecursion}
 use Rattle.std.proofs.lemmas.Bool.{and_parts}
 use Rattle.abs_path.specs.Paths.{text_of, is_normal}
+use Rattle.exec_settings.proofs.OtherSites.{settings_rest}
 use Rattle.kern_mounts.specs.Split.{Table}
 use Rattle.kernel_laws.specs.Blind.{IsSmall}
 use Rattle.kernel_laws.specs.Launched.{Launch, launch_of}
@@ -14,18 +15,19 @@ use Rattle.launcher.proofs.Conditions.{settings_can_be_launched}
 use Rattle.launcher.proofs.LaunchWorld.{launch_leaves}
 use Rattle.launcher.proofs.UnitLaunched.{unit_launched}
 use Rattle.mount_plan.specs.Host.{host_of}
+use Rattle.mount_plan.specs.Resting.{ShowsNothingOf}
+use Rattle.mount_plan.proofs.PlanIsBlind.{plan_is_blind}
 use Rattle.path_settings.specs.Mentions.{AreKept, is_path, is_whole, has_whole_source}
 use Rattle.path_settings.specs.declared.mentions.Mention.{Mention}
 use Rattle.site_table.specs.Table.{Site}
+use Rattle.view_map.specs.Resting.{AreSameSources}
 use Rattle.view_map.proofs.Lists.{all_from_test, all_weaker}
 use Rattle.alike_laws.specs.Alike.{BlindToOthers}
-use Rattle.alike_laws.specs.Hosts.{AreSameSources, ShowsNothingOf}
 use Rattle.alike_laws.specs.Sites.{AgreeOutside}
 use Rattle.alike_laws.proofs.LaunchIsBlind.{launch_is_blind}
-use Rattle.alike_laws.proofs.PlanIsBlind.{plan_is_blind}
 use Rattle.alike_laws.proofs.Runs.{replies_are_blind}
 use Rattle.alike_laws.proofs.ShownNothing.{blind_is_shown_nothing}
-use Rattle.alike_laws.proofs.Sites.{same_hosts, settings_are_alike}
+use Rattle.alike_laws.proofs.Sites.{same_hosts}
 
 kept_normal : (mentions : List Mention) → AreKept mentions → AllByRecursion (λ mention. is_normal mention.path ≡ true) mentions
 kept_normal mentions kept =
@@ -47,7 +49,8 @@ blind_to_others folder unit table site other made plan service s fit blind agree
     let planned = plan_is_blind folder (host_of site) (host_of other) made.mentions s.planned.0 (kept_normal made.mentions s.mentions) s.planned.1 sources (same_hosts folder site other agree.outside)
     (subst (λ (t : Table). ShowsNothingOf t folder) s.planned.2 nothing) in
     record {
-      settings = settings_are_alike folder unit table site other made agree s.settings;
+      settings = settings_rest unit table site other made
+          (record { dynamic_uid = agree.outside.dynamic_uid; users = agree.outside.users; groups = agree.outside.groups; implied = agree.implied }) s.settings;
       planned = (s.planned.0, planned.0, s.planned.2 ∙ sym planned.1);
       launches = record {
         program = s.launches.program;

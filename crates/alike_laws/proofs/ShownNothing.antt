@@ -19,7 +19,7 @@ use Rattle.kernel_laws.specs.Launched.{launch_of}
 use Rattle.kernel_laws.proofs.Blind.{Placed, seen_exposes}
 use Rattle.kernel_laws.proofs.Exposed.{exposed_at_once}
 use Rattle.kernel_laws.proofs.Reach.{none_any}
-use Rattle.alike_laws.specs.Hosts.{ShowsNothingOf}
+use Rattle.mount_plan.specs.Resting.{ShowsNothingOf}
 use Rattle.alike_laws.specs.Worlds.{BlindIsShownNothing}
 use Rattle.alike_laws.proofs.Sites.{clash}
 

@@ -1,4 +1,3 @@
-pub mod Hosts
 pub mod Sites
 pub mod Worlds
 pub mod Alike

@@ -14,9 +14,9 @@ use Rattle.kernel_laws.specs.Denied.{IsBlind}
 use Rattle.kernel_laws.specs.Launched.{IsLaunchedWorld, launch_of}
 use Rattle.linux_numbers.specs.Limits.{no_id}
 use Rattle.mount_plan.specs.Host.{host_of}
+use Rattle.mount_plan.specs.Resting.{ShowsNothingOf}
 use Rattle.site_table.specs.Table.{Site}
 use Rattle.launcher.specs.Launch.{Wanted, Launched, launch}
-use Rattle.alike_laws.specs.Hosts.{ShowsNothingOf}
 use Rattle.alike_laws.specs.Sites.{AgreeOutside}
 
 -- the world on another site

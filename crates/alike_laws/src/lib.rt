@@ -6,23 +6,7 @@
 #![tactic(auto)]
 
 ghost use Rattle.alike_laws.specs.Alike.{BlindToOthers};
-ghost use Rattle.alike_laws.specs.Hosts.{KeptRestsOnWhatIsAsked, PlanRestsOnItsPlaces, PlanIsBlind};
-ghost use Rattle.alike_laws.specs.Sites.{SettingsAreAlike};
 ghost use Rattle.alike_laws.specs.Worlds.{RepliesAreBlind, LaunchIsBlind, BlindIsShownNothing};
-
-/// Which mentions are kept and what they are planned to show rests on few paths of the host: on what stands beneath them and on the
-/// sources of binds. What a plan does not show of a host does not change it.
-pub fn plans_rest_on_what_they_show()
-    ensures kept { KeptRestsOnWhatIsAsked }
-    ensures planned { PlanRestsOnItsPlaces }
-    ensures blind { PlanIsBlind }
-{}
-
-/// Sites that agree but below a folder give a unit the same settings, where they have the same at the paths that the unit implies and
-/// at the sources of its binds.
-pub fn settings_are_alike()
-    ensures same_settings { SettingsAreAlike }
-{}
 
 /// In a world that is blind to a folder no call asks the site for anything below it, and neither does the launch of that world.
 pub fn worlds_are_blind()

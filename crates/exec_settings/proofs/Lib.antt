@@ -11,3 +11,4 @@ pub mod Reasons
 pub mod Seen
 pub mod Tabled
 pub mod Whole
+pub mod OtherSites

@@ -13,3 +13,4 @@ pub mod Settings
 pub mod AreSettings
 pub mod Bare
 pub mod Sections
+pub mod OtherSites

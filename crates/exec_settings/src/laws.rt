@@ -1,6 +1,7 @@
 //! Laws of the settings, each the contract of a function that does nothing.
 ghost use Rattle.std.specs.Prelude.{◌≡◌, true};
 ghost use Rattle.exec_settings.specs.Bare.{CommandAloneIsBare};
+ghost use Rattle.exec_settings.specs.OtherSites.{SettingsRestOnFew};
 ghost use Rattle.exec_settings.specs.Sections.{OtherSectionsChangeNothing};
 ghost use Rattle.exec_settings.specs.Keys.{ascend_strictly, has_path_keys};
 
@@ -23,4 +24,9 @@ pub fn command_alone()
 /// reason and has the same settings.
 pub fn other_sections()
     ensures no_change { OtherSectionsChangeNothing }
+{}
+
+/// The settings of a unit rest on few of a site: on its ids and accounts, and on whether it has the paths that keys in force imply.
+pub fn few_of_a_site()
+    ensures rest_on_few { SettingsRestOnFew }
 {}

@@ -7,3 +7,5 @@ pub mod Keeping
 pub mod Counted
 pub mod Planned
 pub mod Worked
+pub mod Resting
+pub mod PlanIsBlind

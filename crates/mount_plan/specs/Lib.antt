@@ -5,3 +5,4 @@ pub mod Form
 pub mod Here
 pub mod Short
 pub mod Answers
+pub mod Resting

@@ -10,6 +10,7 @@ mod error;
 mod here;
 mod host;
 mod kept;
+pub mod laws;
 mod places;
 mod planning;
 mod steps;

@@ -5,3 +5,4 @@ pub mod Carries
 pub mod KeptLaws
 pub mod BelowHidden
 pub mod Worked
+pub mod Resting

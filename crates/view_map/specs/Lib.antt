@@ -5,3 +5,4 @@ pub mod OnTheWay
 pub mod Rules
 pub mod Kept
 pub mod Asked
+pub mod Resting

@@ -8,6 +8,7 @@ ghost use Rattle.path_settings.specs.declared.mentions.Mention.{Mention};
 ghost use Rattle.path_settings.specs.Mentions.{hides};
 ghost use Rattle.abs_path.specs.ByteOrder.{in_byte_order};
 ghost use Rattle.view_map.specs.Asked.{asked_of, beneath_places};
+ghost use Rattle.view_map.specs.Resting.{KeptRestsOnWhatIsAsked};
 ghost use Rattle.view_map.specs.View.{leading_to, is_read_only, is_no_exec};
 ghost use Rattle.view_map.specs.Object.{object_at, object_behind};
 ghost use Rattle.view_map.specs.OnTheWay.{HasNoneBetween};
@@ -27,7 +28,8 @@ pub fn view_on_the_way()
 {}
 
 /// What is kept is some of what was mentioned, and what the rules keep by the kept mentions themselves: no order of paths
-/// is in it. The host is asked what stands beneath by the kept mentions. Nothing is kept below what is hidden.
+/// is in it. The host is asked what stands beneath by the kept mentions, and the sources of binds, and nothing else. Nothing
+/// is kept below what is hidden.
 pub fn kept_by_the_rules()
     ensures none_is_made_up { (row_at : Host) (mentions kept : List Mention)
         → kept_of row_at mentions ≡ Ok kept → AllByRecursion (Contains mentions) kept }
@@ -37,6 +39,7 @@ pub fn kept_by_the_rules()
     ensures asks_beneath_the_kept { (row_at : Host) (mentions kept : List Mention)
         → kept_of row_at mentions ≡ Ok kept
         → asked_of row_at mentions ≡ beneath_places kept (in_byte_order (map (λ mention. mention.path) mentions)) }
+    ensures rests_on_what_is_asked { KeptRestsOnWhatIsAsked }
     ensures none_below_what_is_hidden { (row_at : Host) (mentions kept : List Mention) (one other : Mention)
         → KeepsByRules row_at mentions kept → Contains kept one → IsTrue (hides one.kind)
         → Contains kept other → IsTrue (is_below other.path one.path) → ⊥ }

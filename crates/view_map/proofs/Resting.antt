@@ -1,4 +1,4 @@
--- The rules on mentions and their plan ask the host nowhere else.
+-- The rules on mentions ask the host nowhere else.
 use Rattle.std.proofs.Common.{◌≡◌, ◌∙◌, Bool, true, false, cond, List, [], ◌∷◌, ◌++◌, Option, Result, Ok, Err, refl, ap}
 use Rattle.std.specs.Prelude.{◌||◌, ◌&&◌, not, map, filter}
 use Rattle.std.specs.List.{AllByRecursion, list_any, filter_map, cons_option}
@@ -7,18 +7,16 @@ use Rattle.abs_path.specs.Prefix.{is_same}
 use Rattle.abs_path.specs.ByteOrder.{in_byte_order}
 use Rattle.path_settings.specs.declared.mentions.Mention.{Mention}
 use Rattle.path_settings.specs.Mentions.{is_origin, is_tmp, is_bind}
-use Rattle.view_map.specs.Asked.{place_of, beneath_place, beneath_places, asked_on, asked_from}
+use Rattle.view_map.specs.Asked.{place_of, beneath_place, asked_on, asked_from}
 use Rattle.view_map.specs.Kept.{Host, Refusal, at_path, unbeaten, unbeaten_of, is_beaten, beneath_row, beneath_by, beneath_at, source_row, is_kept, puts, fate_among, refusal_of, in_order_of_rules, refusals, unless_refused, kept_among, kept_at, goes_on, kept_from}
-use Rattle.view_map.specs.Object.{Object, on_host, empty, hidden, object_from, object_at}
+use Rattle.view_map.specs.Object.{Object, on_host, empty, hidden, object_from}
 use Rattle.view_map.specs.Rules.{fate_of}
-use Rattle.view_map.specs.View.{above, longest, is_read_only, is_no_exec}
+use Rattle.view_map.specs.View.{above, longest}
 use Rattle.view_map.specs.declared.rules.Beneath.{Beneath}
 use Rattle.view_map.proofs.Lists.{all_weaker, all_filtered, all_appended, filter_agree_on}
-use Rattle.kern_mounts.specs.declared.step.MountStep.{MountStep}
-use Rattle.mount_plan.specs.Plan.{places_of, step_at, what_of, flags_of, hides_dir, hides_dir_at}
-use Rattle.alike_laws.specs.Hosts.{AreSame, KeptRestsOnWhatIsAsked, PlanRestsOnItsPlaces}
+use Rattle.view_map.specs.Resting.{AreSame, KeptRestsOnWhatIsAsked}
 
-all_parts : {X : Type 0} (P : X → Type 0) (xs ys : List X) → AllByRecursion P (xs ++ ys) → AllByRecursion P xs × AllByRecursion P ys
+pub all_parts : {X : Type 0} (P : X → Type 0) (xs ys : List X) → AllByRecursion P (xs ++ ys) → AllByRecursion P xs × AllByRecursion P ys
 all_parts P [] ys all' = (tt, all')
 all_parts P (x ∷ xs) ys all' = let more = all_parts P xs ys all'.1 in ((all'.0, more.0), more.1)
 
@@ -39,7 +37,7 @@ module _ (row_at other : Host) where
   beneath_same empty same = refl
   beneath_same hidden same = refl
 
-  beneath_at_same : (kept : List Mention) (path : Path) → AreSame row_at other (beneath_place kept path) → beneath_at other kept path ≡ beneath_at row_at kept path
+  pub beneath_at_same : (kept : List Mention) (path : Path) → AreSame row_at other (beneath_place kept path) → beneath_at other kept path ≡ beneath_at row_at kept path
   beneath_at_same kept path same = beneath_same (object_from (longest is_origin (above path kept)) path) same
 
   module _ (beneath : Beneath) where
@@ -94,15 +92,5 @@ module _ (row_at other : Host) where
       by (Err refusal) same on = refl
       by (Ok more) same on = on more same
 
-  steps_same : (kept : List Mention) (places : List Path) → AreSame row_at other (beneath_places kept places) → map (step_at kept (hides_dir_at other kept)) places ≡ map (step_at kept (hides_dir_at row_at kept)) places
-  steps_same kept [] same = refl
-  steps_same kept (place ∷ places) same =
-      let parts = all_parts (λ p. other p ≡ row_at p) (beneath_place kept place) (beneath_places kept places) same in
-      ap (λ (b : Beneath). record { place = place; what = what_of (object_at kept place) (hides_dir b); flags = flags_of (object_at kept place) (is_read_only kept place) (is_no_exec kept place) } ∷ map (step_at kept (hides_dir_at other kept)) places) (beneath_at_same kept place parts.0)
-      ∙ ap (λ (steps : List MountStep). step_at kept (hides_dir_at row_at kept) place ∷ steps) (steps_same kept places parts.1)
-
 pub kept_rests : KeptRestsOnWhatIsAsked
 kept_rests row_at other mentions sources same = from_same row_at other mentions (in_byte_order (map (λ mention. mention.path) mentions)) [] sources same
-
-pub plan_rests : PlanRestsOnItsPlaces
-plan_rests row_at other kept same = steps_same row_at other kept (places_of kept) same

@@ -12,10 +12,12 @@ use Rattle.path_settings.specs.Mentions.{is_origin}
 use Rattle.view_map.specs.Asked.{place_of, beneath_place, beneath_places, asked_of}
 use Rattle.view_map.specs.Kept.{Host}
 use Rattle.view_map.specs.Object.{Object, on_host, empty, hidden, object_from, object_at, object_behind}
+use Rattle.view_map.specs.Resting.{AreSame}
 use Rattle.view_map.specs.View.{above, leading_to, longest, origin_of}
 use Rattle.view_map.proofs.Carries.{object_carries}
 use Rattle.view_map.proofs.Deciding.{origin_is}
 use Rattle.view_map.proofs.KeptLaws.{kept_is, asks_beneath}
+use Rattle.view_map.proofs.Resting.{kept_rests}
 use Rattle.view_map.proofs.Lists.{filter_agree_on, filter_none, all_enumerated, all_trivial, all_appended}
 use Rattle.kern_mounts.specs.Entry.{entry_of}
 use Rattle.kern_mounts.specs.Finds.{host_place_by}
@@ -25,8 +27,8 @@ use Rattle.kern_mounts.specs.declared.step.MountStep.{MountStep}
 use Rattle.mount_plan.specs.AsView.{shown_by}
 use Rattle.mount_plan.specs.Plan.{table_of, places_of}
 use Rattle.mount_plan.proofs.PlanLaws.{table_finds}
-use Rattle.alike_laws.specs.Hosts.{AreSame, AgreeButBelow, ShowsNothingOf, PlanIsBlind}
-use Rattle.alike_laws.proofs.Asking.{kept_rests, plan_rests}
+use Rattle.mount_plan.specs.Resting.{AgreeButBelow, ShowsNothingOf, PlanIsBlind}
+use Rattle.mount_plan.proofs.Resting.{plan_rests}
 
 -- what leads strictly to a path leads to the folder that it is in
 below_last : (one path : Path) (part : List ℕ) → is_below (path ++ part ∷ []) one ≡ is_prefix one path

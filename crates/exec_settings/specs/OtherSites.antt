@@ -1,0 +1,28 @@
+-- What of a site the settings of a unit rest on.
+use Rattle.std.specs.Prelude.{◌≡◌, List}
+use Rattle.std.specs.List.{AllByRecursion}
+use Rattle.call_table.specs.Table.{Table}
+use Rattle.dropin_merge.specs.declared.resolved.Resolved.{Resolved}
+use Rattle.mount_settings.specs.Implied.{asked}
+use Rattle.mount_settings.specs.Settings.{protections_of}
+use Rattle.mount_settings.specs.Written.{unit_written}
+use Rattle.path_settings.specs.declared.mentions.Mention.{Mention}
+use Rattle.site_table.specs.Table.{Site, kind_at}
+use Rattle.exec_settings.specs.AreSettings.{AreSettings}
+use Rattle.exec_settings.specs.Mounts.{unit_switches}
+use Rattle.exec_settings.specs.declared.service.Settings.{Settings}
+
+-- the paths that keys in force imply, whether or not a site has them (systemd.exec(5), Sandboxing)
+abbrev pub implied_by : Resolved → List Mention
+implied_by unit = asked (unit_switches unit) (protections_of unit (unit_switches unit)) (unit_written unit)
+
+-- the same ids and accounts; and each path that a key in force implies is a row of one kind in both or a row of neither
+pub record AreSameFor (unit : Resolved) (site other : Site) : Type 0 where
+  pub dynamic_uid : other.dynamic_uid ≡ site.dynamic_uid
+  pub users : other.users ≡ site.users
+  pub groups : other.groups ≡ site.groups
+  pub implied : AllByRecursion (λ mention. kind_at other.rows mention.path ≡ kind_at site.rows mention.path) (implied_by unit)
+
+-- such sites give a unit the same settings
+abbrev pub SettingsRestOnFew : Type 0
+SettingsRestOnFew = (unit : Resolved) (table : Table) (site other : Site) (made : Settings) → AreSameFor unit site other → AreSettings unit table site made → AreSettings unit table other made
