@@ -1,6 +1,6 @@
 -- A replay that is prepared, started and printed runs by its laws.
 use Rattle.std.proofs.Common.{◌≡◌, ◌∙◌, ℕ, Option, Some, None, List, Ok, Err, refl, sym, ap, subst, inl, inr}
-use Rattle.std.specs.Prelude.{◌⊎◌, IfSome, IsErrOf, IsTrue}
+use Rattle.std.specs.Prelude.{◌⊎◌, IfSome, IsTrue}
 use Rattle.host_io.specs.Files.{Files}
 use Rattle.exec_settings.specs.declared.service.Settings.{Settings}
 use Rattle.kern_mounts.specs.declared.step.MountStep.{MountStep}
@@ -16,16 +16,15 @@ use Rattle.command_answers.specs.Runs.{IsRun, Outside}
 use Rattle.command_answers.specs.Stops.{HasReadCause, Prepares}
 use Rattle.command_answers.specs.declared.ending.Ending.{Ending}
 use Rattle.command_answers.specs.declared.ending.Ending.TheVariants.{Done, LaunchRefused}
-use Rattle.command_answers.specs.declared.stop.Stop.{Stop}
 use Rattle.command_answers.specs.declared.stop.Stop.TheVariants as stop
-use Rattle.command_answers.proofs.FileCommands.{go_together, ready_is_admitted, stop_is_admitted}
+use Rattle.command_answers.proofs.FileCommands.{go_together, ready_is_admitted}
 use Rattle.command_answers.proofs.Refusing.{quiet}
 use Rattle.command_answers.proofs.Runs.{ran}
 use Rattle.unit_launch.specs.declared.launching.UnitLaunch.{UnitLaunch}
 use Rattle.unit_launch.specs.declared.launching.UnitLaunch.TheVariants.{Launched, Refused}
 use Rattle.replay_command.specs.Prepared.{CanBeStarted, IsPrepared, inputs_in, replay_refusals}
 use Rattle.replay_command.specs.Prints.{PrintsReplay, RepliesAlike, replay_laws}
-use Rattle.replay_command.specs.Started.{FinishesAny, FinishesStarted, IsStarted, ending_of, text_of}
+use Rattle.replay_command.specs.Started.{FinishesStarted, IsStarted, ending_of, text_of}
 use Rattle.replay_command.specs.Texts.{ending_behind, replay_text}
 use Rattle.replay_command.specs.declared.preparing.Prepared.{Prepared}
 use Rattle.replay_command.specs.declared.ready.Replay.{Replay}
@@ -36,24 +35,13 @@ module _ (told : Option Files) (unit path : List ℕ) where
   answered ending (inl done) = subst (λ e. IsTrue (is_answer e)) (sym done) refl
   answered ending (inr refused) = subst (λ e. IsTrue (is_answer e)) (sym refused) refl
 
-  together : GoTogether (laws_over told (replay_laws unit path))
+  pub together : GoTogether (laws_over told (replay_laws unit path))
   together = go_together (replay_laws unit path) told answered
 
 -- a launch is done or refused
 ends_so : (launch : UnitLaunch) → (ending_behind launch ≡ Done) ⊎ (ending_behind launch ≡ LaunchRefused)
 ends_so (Launched service) = inl refl
 ends_so (Refused refusal) = inr refl
-
--- a cause of what stopped is one whatever was wanted
-cause_of : {T U : Type 0} (before now : ℕ) (why : Stop) → HasReadCause {T = T} before now (Err why) → HasReadCause {T = U} before now (Err why)
-cause_of before now (stop.Refused line) cause = quiet before now (Err (stop.Refused line)) (cause.no_other_fault (λ e. cc)) (λ e. cc)
-cause_of before now stop.ReadFault cause = record { later = cause.later; failed = λ e. cause.failed refl; no_other_fault = λ other. absurd (other refl) }
-cause_of before now stop.Memory cause = quiet before now (Err stop.Memory) (cause.no_other_fault (λ e. cc)) (λ e. cc)
-
-reads_of : {T U : Type 0} (reads : Type 0) (why : Stop) → (IsErrOf {T = T} (Err why) stop.ReadFault → reads) → IsErrOf {T = U} (Err why) stop.ReadFault → reads
-reads_of reads (stop.Refused line) by e = cc
-reads_of reads stop.ReadFault by e = by refl
-reads_of reads stop.Memory by e = cc
 
 -- the replies rest on no programs
 replies_go_on : (table : Table) (site : Site) (settings : Settings) (plan : List MountStep) (script : List Call) (launch : UnitLaunch) → AreCalls script → ComesTo table site settings plan launch → RepliesAlike table site settings plan script launch
@@ -100,21 +88,3 @@ module _ (told : Option Files) (unit path : List ℕ) (outside : Outside) (ended
   ran_prepared prepared can is cause (inr out) =
       ran (laws_over told (replay_laws unit path)) (together told unit path) outside ending_of text_of (Err stop.Memory) ended
       tt (λ e. cc) (quiet outside.shelf_before outside.shelf_after (Err stop.Memory) cause.no_other_fault (λ e. cc)) out
-
-  -- what stopped
-  pub ran_stopped : (why : Stop) → IfSome told (λ files. Prepares (IsPrepared files unit path) (replay_refusals files unit path) (Err why))
-      → (IsErrOf {T = Prepared} (Err why) stop.ReadFault → (replay_laws unit path).reads)
-      → HasReadCause {T = Prepared} outside.shelf_before outside.shelf_after (Err why) → FinishesAny why ended outside.sink → IsRun (laws_over told (replay_laws unit path)) ended outside
-  ran_stopped why is reads cause finished =
-      ran (laws_over told (replay_laws unit path)) (together told unit path) outside ending_of text_of (Err why) ended
-      (stop_is_admitted (replay_laws unit path) ending_of text_of (λ (prepared : Prepared). Unit {0}) told why (told_stop told is))
-      (reads_of ((replay_laws unit path).reads) why reads) (cause_of outside.shelf_before outside.shelf_after why cause) finished
-    where
-      as_any : (files : Files) (why : Stop) → Prepares (IsPrepared files unit path) (replay_refusals files unit path) (Err why) → Prepares (λ (prepared : Prepared). Unit {0}) (replay_refusals files unit path) (Err why)
-      as_any files (stop.Refused line) said = said
-      as_any files stop.ReadFault said = tt
-      as_any files stop.Memory said = tt
-
-      told_stop : (told : Option Files) → IfSome told (λ files. Prepares (IsPrepared files unit path) (replay_refusals files unit path) (Err why)) → IfSome told (λ files. Prepares (λ (prepared : Prepared). Unit {0}) (replay_refusals files unit path) (Err why))
-      told_stop None said = tt
-      told_stop (Some files) said = as_any files why said

@@ -1,9 +1,8 @@
 -- A replay that is started, and how a run goes on behind what is prepared.
-use Rattle.std.specs.Prelude.{◌≡◌, ◌⊎◌, ℕ, List, Err}
-use Rattle.command_answers.specs.Printing.{Finishes, IsUntouched, Output, PrintsText}
+use Rattle.std.specs.Prelude.{◌≡◌, ◌⊎◌, ℕ, List}
+use Rattle.command_answers.specs.Printing.{IsUntouched, Output, PrintsText}
 use Rattle.command_answers.specs.declared.ending.Ending.{Ending}
 use Rattle.command_answers.specs.declared.ending.Ending.TheVariants.{OutOfMemory}
-use Rattle.command_answers.specs.declared.stop.Stop.{Stop}
 use Rattle.unit_launch.specs.Launching.{ComesTo}
 use Rattle.replay_command.specs.Prepared.{inputs_in}
 use Rattle.replay_command.specs.Texts.{ending_behind, replay_text}
@@ -32,7 +31,3 @@ pub record PrintsStarted (prepared : Prepared) (ended : Ending) (output : Output
 -- or memory ran out, and nothing was printed
 abbrev pub FinishesStarted : Prepared → Ending → Output → Type 0
 FinishesStarted prepared ended output = PrintsStarted prepared ended output ⊎ ((ended ≡ OutOfMemory) × IsUntouched output)
-
--- what stopped prints its line, if it has one
-abbrev pub FinishesAny : Stop → Ending → Output → Type 0
-FinishesAny stop ended output = Finishes {R = Replay} ending_of text_of (Err stop) ended output

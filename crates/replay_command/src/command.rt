@@ -2,16 +2,14 @@
 ghost use Rattle.std.specs.Prelude.{◌≡◌, IsSome};
 ghost use Rattle.unit_names.specs.Cutting.{name_of};
 ghost use Rattle.command_answers.specs.Laws.{laws_over};
-ghost use Rattle.command_answers.specs.Printing.{Finishes};
 ghost use Rattle.command_answers.specs.Runs.{IsRun};
 ghost use Rattle.replay_command.specs.Prepared.{CanBeStarted};
 ghost use Rattle.replay_command.specs.Prints.{replay_laws};
-ghost use Rattle.replay_command.specs.Started.{FinishesAny, FinishesStarted};
+ghost use Rattle.replay_command.specs.Started.{FinishesStarted};
 
 use crate::launching::start;
 use crate::preparing::{Prepared, prepare};
-use crate::ready::Replay;
-use command_answers::{Ending, Stop, finish};
+use command_answers::{Ending, finish, finish_stop};
 use host_io::{Shelf, Sink};
 use std::alloc::Global;
 
@@ -24,14 +22,6 @@ fn answer_prepared<K: Sink>(alloc: Global, prepared: &Prepared, out: &mut K) -> 
         Ok(replay) => finish(alloc, Ok(replay), out),
         Err(_) => Ending::OutOfMemory,
     }
-}
-
-// Prints the line of a refusal, if there is one.
-fn answer_stop<K: Sink>(alloc: Global, stop: Stop, out: &mut K) -> Ending
-    ensures finishes { FinishesAny stop result (record { faults_before = K.faults out.old; faults_after = K.faults out.new; taken_before = K.taken out.old; taken_after = K.taken out.new }) }
-{
-    let stopped: Result<Replay, Stop> = Err(stop);
-    finish(alloc, stopped, out)
 }
 
 /// Does `replay` for the name of a unit and the path of a script: reads the unit, calls.txt, site.toml and the script, finds
@@ -51,6 +41,6 @@ pub fn answer<S: Shelf, K: Sink>(
 {
     match prepare(alloc, shelf, unit, script) {
         Ok(prepared) => answer_prepared(alloc, &prepared, out),
-        Err(stop) => answer_stop(alloc, stop, out),
+        Err(stop) => finish_stop(stop, out),
     }
 }

@@ -1,4 +1,7 @@
-use Rattle.replay_command.proofs.Runs.{ran_prepared, ran_stopped}
+use Rattle.command_answers.proofs.Stopped.{ran_stopped}
+use Rattle.replay_command.proofs.Runs.{ran_prepared, together}
+use Rattle.replay_command.specs.Prepared.{IsPrepared}
+use Rattle.replay_command.specs.Prints.{replay_laws}
 use Rattle.replay_command.proofs.command.answer.Goals as goal
 
 pub returns-in-Ok-clause-runs : goal.returns-in-Ok-clause-runs
@@ -7,4 +10,4 @@ returns-in-Ok-clause-runs g c =
 
 pub returns-in-Err-clause-runs : goal.returns-in-Err-clause-runs
 returns-in-Err-clause-runs g c =
-    ran_stopped (g.S.Shelf.told c.args.shelf.now) c.args.unit.now c.args.script.now _ c.answer_stop.result c.in-Err.stop c.in-Err.ensures.prepares c.in-Err.ensures.reads_for_a_name c.in-Err.ensures.fault_rose c.answer_stop.ensures.finishes
+    ran_stopped (replay_laws c.args.unit.now c.args.script.now) (λ files. IsPrepared files c.args.unit.now c.args.script.now) (g.S.Shelf.told c.args.shelf.now) (together (g.S.Shelf.told c.args.shelf.now) c.args.unit.now c.args.script.now) _ c.finish_stop.result c.in-Err.stop c.in-Err.ensures.prepares c.in-Err.ensures.reads_for_a_name c.in-Err.ensures.fault_rose c.finish_stop.ensures.finishes
