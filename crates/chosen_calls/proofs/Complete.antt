@@ -129,7 +129,7 @@ root_parts launch false number false t h = let off = has_none number in cc
 
 module _ (launch : Launch) where
   -- on the launched table
-  nowise_free : launch.creds.no_new_privs ≡ false → (number : ℕ) → has (with_root launch (caps_before launch Nowise)) number ≡ true → Is (at_once launch number)
+  nowise_free : launch.creds.no_new_privs ≡ false → (number : ℕ) → has (with_root launch (lets launch TakesUid) (caps_before launch Nowise)) number ≡ true → Is (at_once launch number)
   nowise_free off number h = by (or_cases _ _ (sym (has_union (caps_before launch Nowise) (when (has (caps_before launch Nowise) 7 && lets launch TakesUid) launch.creds.bounding) number) ∙ h))
     where
       file_is : (other : ℕ) → has (caps_before launch Nowise) other ≡ true → Is (by_launch launch other)
@@ -144,12 +144,12 @@ module _ (launch : Launch) where
   pub nowise_is : (number : ℕ) → has (caps_at launch Nowise) number ≡ true → Is (at_once launch number)
   nowise_is number h = by launch.creds.no_new_privs refl h
     where
-      by : (n : Bool) → launch.creds.no_new_privs ≡ n → has (cond n launch.creds.effective (with_root launch (caps_before launch Nowise))) number ≡ true → Is (at_once launch number)
+      by : (n : Bool) → launch.creds.no_new_privs ≡ n → has (cond n launch.creds.effective (with_root launch (lets launch TakesUid) (caps_before launch Nowise))) number ≡ true → Is (at_once launch number)
       by true on h = once_own launch number (held_is launch number h)
       by false off h = nowise_free off number h
 
   -- with the launch's power
-  power_free : launch.creds.no_new_privs ≡ false → (number : ℕ) → has (with_root launch (caps_before launch (power_of launch))) number ≡ true → Is (at_once launch number) ⊎ Is (at_power launch number)
+  power_free : launch.creds.no_new_privs ≡ false → (number : ℕ) → has (with_root launch (lets launch TakesUid) (caps_before launch (power_of launch))) number ≡ true → Is (at_once launch number) ⊎ Is (at_power launch number)
   power_free off number h = by (or_cases _ _ (sym (has_union (caps_before launch (power_of launch)) (when (has (caps_before launch (power_of launch)) 7 && lets launch TakesUid) launch.creds.bounding) number) ∙ h))
     where
       by : (has (caps_before launch (power_of launch)) number ≡ true) ⊎ (has (when (has (caps_before launch (power_of launch)) 7 && lets launch TakesUid) launch.creds.bounding) number ≡ true) → Is (at_once launch number) ⊎ Is (at_power launch number)
@@ -186,7 +186,7 @@ module _ (launch : Launch) where
   pub gain_is : (number : ℕ) → has (caps_at launch (power_of launch)) number ≡ true → Is (gain launch number)
   gain_is number h = by_power (power_of launch) refl
     where
-      by_mark : (power_of launch ≡ Nowise → ⊥) → (n : Bool) → launch.creds.no_new_privs ≡ n → has (cond n launch.creds.effective (with_root launch (caps_before launch (power_of launch)))) number ≡ true → Is (gain launch number)
+      by_mark : (power_of launch ≡ Nowise → ⊥) → (n : Bool) → launch.creds.no_new_privs ≡ n → has (cond n launch.creds.effective (with_root launch (lets launch TakesUid) (caps_before launch (power_of launch)))) number ≡ true → Is (gain launch number)
       by_mark some true on h = gain_once number (once_own launch number (held_is launch number h))
       by_mark some false off h = elim (power_free off number h) [ inl once ↦ gain_once number once | inr own ↦ gain_behind number (admin_is some) own ]
 

@@ -44,7 +44,7 @@ use Rattle.kernel_ways.specs.Uncovering.{covering, Detaches, still, then_one, um
 use Rattle.kernel_ways.specs.Ways.{Way, here}
 use Rattle.kernel_ways.proofs.ByName.{unmounts_show_row, two_mounts_show_rows}
 use Rattle.kernel_ways.proofs.Choices as choices
-use Rattle.kernel_ways.proofs.Exposing.{HasPower, marks_count, unmounts_pass, mounts_pass}
+use Rattle.kernel_ways.proofs.Exposing.{HasPower, marks_count, remounted_fits, unmounts_pass, mounts_pass}
 use Rattle.kernel_ways.proofs.Rows.{IsKnown}
 use Rattle.chosen_calls.specs.Exposing.{shown_by, shown_if, shown_at, lead, exposing_path, exposing_calls}
 use Rattle.chosen_calls.specs.First.{line_of}
@@ -89,12 +89,6 @@ pub record ExposedAt (launch : Launch) (creds : Creds) (power : Power) (flags : 
 pub record MarkedAt (launch : Launch) (creds : Creds) (power : Power) (target : Row) (wish : Wish) : Type 0 where
   pub exposed : ExposedAt launch creds power ms_remount_bind target wish
   pub suid : (flags_at exposed.now (exposing_path launch power wish target.path)).no_suid ≡ false
-
-remounted_fits : (wish : Wish) → fits wish (flags_of ms_remount_bind) ≡ true
-remounted_fits ToSee = refl
-remounted_fits ToRead = refl
-remounted_fits ToWrite = refl
-remounted_fits ToExec = refl
 
 module _ (launch : Launch) (l : IsLaunched launch) (o : Offers launch) (creds : Creds) where
   abbrev rows : Path → Option Row

@@ -32,7 +32,8 @@ use Rattle.kernel_ways.proofs.Solo.{way_join}
 use Rattle.kernel_ways.proofs.Attained.{uids_after}
 use Rattle.kernel_ways.proofs.Gains as gains
 use Rattle.kernel_ways.proofs.Gains.{Basis}
-use Rattle.kernel_ways.proofs.Ids.{any_row, owner_is, other_way}
+use Rattle.kernel_laws.proofs.Bound.{any_listed}
+use Rattle.kernel_ways.proofs.Ids.{owner_is, other_way}
 use Rattle.kernel_ways.proofs.Privileged as privileged
 use Rattle.kernel_ways.proofs.Showing.{creds_show}
 use Rattle.chosen_calls.specs.Chosen.{runner, taking, id_at_power, id_by_cap, id_by_row, id_calls, uid_calls, gid_calls}
@@ -74,7 +75,7 @@ module _ (launch : Launch) where
   -- a row that gives the id and that can be run
   pub runner_is : (gives : Row → Bool) → launch.creds.no_new_privs ≡ false → list_any (λ row. can_run launch (power_of launch) row && gives row) launch.site.rows ≡ true → (row : Row) × (runner launch (power_of launch) gives ≡ Some row)
   runner_is gives off h =
-      let x = any_row (λ row. can_run launch (power_of launch) row && gives row) launch.site.rows h in
+      let x = any_listed (λ row. can_run launch (power_of launch) row && gives row) launch.site.rows h in
       let both = and_parts (can_run launch (power_of launch) x.1) (gives x.1) x.3 in
       let f = member_found (λ row. gives row && can_run launch (power_of launch) row) launch.site.rows x.0 x.1 x.2 (and_from _ _ both.1 both.0) in
       (f.0, ap (λ n. cond {A = Option Row} n None (find (λ row. gives row && can_run launch (power_of launch) row) launch.site.rows)) off ∙ f.1)

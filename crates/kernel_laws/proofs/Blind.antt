@@ -25,12 +25,10 @@ use Rattle.kern_mounts.proofs.Splits.{None_have, split_some, split_of}
 use Rattle.kern_mounts.proofs.Unmounting.{part_has, trimmed_part}
 use Rattle.kernel_laws.proofs.Reach.{none_any}
 use Rattle.kernel_laws.proofs.Numbered.{lives}
-use Rattle.kernel_laws.proofs.Runs.{held_run, own_allowed}
-use Rattle.kernel_laws.proofs.Filters.{lets_through}
-use Rattle.kernel_laws.proofs.Bound.{is_closed}
-use Rattle.kernel_laws.proofs.Verdict.{start_held}
+use Rattle.kernel_laws.proofs.Runs.{own_allowed}
+use Rattle.kernel_laws.proofs.Held.{launched_held, ceiling_run}
 
-none_not : (path more : Path) (table : Table) → None_have (leads_to (path ++ more)) table → None_have (leads_to path) table
+pub none_not : (path more : Path) (table : Table) → None_have (leads_to (path ++ more)) table → None_have (leads_to path) table
 none_not path more [] h = tt
 none_not path more (entry ∷ table) h = (leads_not entry.place path more h.0, none_not path more table h.1)
 
@@ -76,7 +74,7 @@ entry_shows uncover folder entry later source rest below clear =
             cc
         differs false e = refl
 
-exposes_at : (uncover : Bool) (folder : Path) (earlier : Table) (entry : MountStep) (later : Table) → shows_below uncover folder entry later entry.what ≡ true → exposes uncover folder (earlier ++ entry ∷ later) ≡ true
+pub exposes_at : (uncover : Bool) (folder : Path) (earlier : Table) (entry : MountStep) (later : Table) → shows_below uncover folder entry later entry.what ≡ true → exposes uncover folder (earlier ++ entry ∷ later) ≡ true
 exposes_at uncover folder [] entry later s = or_left _ _ s
 exposes_at uncover folder (head ∷ earlier) entry later s = or_right _ _ (exposes_at uncover folder earlier entry later s)
 
@@ -89,7 +87,7 @@ pub record Placed (table : Table) (path place : Path) : Type 0 where
   pub path_is : path ≡ split.entry.place ++ rest_of split.entry.place path
   pub place_is : place ≡ source ++ rest_of split.entry.place path
 
-placed : (table : Table) (path place : Path) → host_place table path ≡ Some place → Placed table path place
+pub placed : (table : Table) (path place : Path) → host_place table path ≡ Some place → Placed table path place
 placed table path place e = by (entry_of table path) refl e
   where
     by_what : (entry : MountStep) → entry_of table path ≡ Some entry → (what : What) → entry.what ≡ what → host_place_by what entry.place path ≡ Some place → Placed table path place
@@ -153,10 +151,8 @@ shut Mounting launched table folder any b s = cc
 pub blind_is_sound : BlindIsSound
 blind_is_sound world folder s b list fit e =
     let launch = launch_of world in
-    let closed = is_closed launch s.launched in
-    let filters = lets_through launch s.launched in
-    let held = held_run launch (power_of launch) (ceiling launch) closed filters list world fit (start_held world s) in
+    let held = ceiling_run launch s.launched list world fit (launched_held world s) in
     let now = run world list in
     let h = held.each (e.pid - 1) e.process (lives now e.pid e.process e.lives).place in
-    let allowed = own_allowed launch (power_of launch) (ceiling launch) closed filters now e.process h in
+    let allowed = own_allowed launch (power_of launch) (ceiling launch) now e.process h in
     shut (power_of launch) launch.table (table_of now e.process.namespace) folder allowed b (record { path = e.path; place = e.place; shown = e.shown; below = e.below })

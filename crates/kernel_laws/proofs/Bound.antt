@@ -1,4 +1,4 @@
--- The computed ceiling is closed.
+-- The computed bounds are closed.
 use Rattle.std.proofs.Common.{◌≡◌, ℕ, Bool, true, false, List, [], ◌∷◌, Some, ◌⊎◌, inl, inr, arith, refl, cond, ap, ◌∙◌, sym, subst, zero, suc, eqb}
 use Rattle.std.specs.Prelude.{slice_get, not, ◌&&◌, ◌||◌}
 use Rattle.std.specs.List.{list_any, AllByRecursion}
@@ -11,10 +11,10 @@ use Rattle.kernel_laws.specs.Bounds.{Bounds, IsSettled, Admits, Keeps}
 use Rattle.kernel_laws.specs.Questions.{ToExec}
 use Rattle.kern_files.specs.Executing.{marks_of}
 use Rattle.kernel_laws.specs.Reach.{Power, Nowise, Mounting}
-use Rattle.kernel_laws.specs.Kinds.{ChangesMounts, RemovesMounts, SetsCaps, TakesUid, TakesGid}
+use Rattle.kernel_laws.specs.Kinds.{ChangesMounts, RemovesMounts, SetsCaps}
 use Rattle.kernel_laws.specs.Launched.{Launch, lets, IsLaunched}
 use Rattle.kernel_laws.specs.Ceiling.{CanRun, IsClosed}
-use Rattle.kernel_laws.specs.Bound.{gathered, when, is_owner, can_run, file_gain, gain_at, caps_before, with_root, caps_at, power_by, power_of, any_uid, owned_by, any_gid, grouped_by, bounds_at, ceiling}
+use Rattle.kernel_laws.specs.Bound.{gathered, when, is_owner, can_run, file_gain, gain_at, caps_before, with_root, caps_by, power_by, power_using, any_by, owned_by, grouped_by, bounds_by}
 use Rattle.kernel_laws.proofs.KeptExec.{within_if, above_if}
 use Rattle.kernel_laws.proofs.Reach.{leads, listed, reaches_if}
 
@@ -43,7 +43,7 @@ listed_any p [] at row e h = cc
 listed_any p (first ∷ rows) zero row e h = let same : first ≡ row = cc in or_left (p first) (list_any p rows) (ap p same ∙ h)
 listed_any p (first ∷ rows) (suc at) row e h = or_right (p first) (list_any p rows) (listed_any p rows at row e h)
 
-any_listed : (p : Row → Bool) (rows : List Row) → list_any p rows ≡ true → (at : ℕ) × (row : Row) × (slice_get rows at ≡ Some row) × (p row ≡ true)
+pub any_listed : (p : Row → Bool) (rows : List Row) → list_any p rows ≡ true → (at : ℕ) × (row : Row) × (slice_get rows at ≡ Some row) × (p row ≡ true)
 any_listed p [] h = cc
 any_listed p (first ∷ rows) h = by (p first) refl h (any_listed p rows)
   where
@@ -58,39 +58,43 @@ rooted_set before number lets' set e h = by (has before number) refl (sym (has_u
     by true f g = within_union_right _ _ _ (within_when lets' set set e (within_self set))
     by false f g = let off : has none number ≡ false = has_none number in grind arith
 
-module _ (launch : Launch) (power : Power) (l : IsLaunched launch) where
+module _ (launch : Launch) (uids gids : Bool) (power : Power) (l : IsLaunched launch) where
   abbrev c : Creds
   c = launch.creds
 
   abbrev caps : ℕ
-  caps = caps_at launch power
+  caps = caps_by launch uids power
+
+  -- where no_new_privs does not hold them down
+  abbrev free_caps : ℕ
+  free_caps = with_root launch uids (caps_before launch power)
 
   abbrev top : Bounds
-  top = bounds_at launch power
+  top = bounds_by launch uids gids power
 
   abbrev files : ℕ
   files = gathered (λ row. when (can_run launch power row) (cut row.caps c.bounding)) launch.site.rows
 
   -- the launched set is below the ceiling
   eff_caps : IsWithin c.effective caps
-  eff_caps = above_if c.no_new_privs c.effective (with_root launch (caps_before launch power)) c.effective (λ n. within_self _)
+  eff_caps = above_if c.no_new_privs c.effective free_caps c.effective (λ n. within_self _)
       (λ n. within_union_left _ _ _ (within_union_left _ _ _ (within_self _)))
 
   -- each row's gain is
   gain_caps : c.no_new_privs ≡ false → (at : ℕ) (row : Row) → slice_get launch.site.rows at ≡ Some row → can_run launch power row ≡ true → IsWithin (file_gain launch row) caps
-  gain_caps n at row e r = above_if c.no_new_privs c.effective (with_root launch (caps_before launch power)) _ (λ y. let no' : false ≡ true = sym n ∙ y in cc)
+  gain_caps n at row e r = above_if c.no_new_privs c.effective free_caps _ (λ y. let no' : false ≡ true = sym n ∙ y in cc)
       (λ n. within_union_left _ _ _ (within_union_right _ _ _ (within_through _ _ _ (within_when (can_run launch power row) (file_gain launch row) _ r (within_self _)) (gathered_has (gain_at launch power) launch.site.rows at row e))))
 
-  caps_are : c.no_new_privs ≡ false → with_root launch (caps_before launch power) ≡ caps
-  caps_are n = ap (λ b. cond b c.effective (with_root launch (caps_before launch power))) (sym n)
+  caps_are : c.no_new_privs ≡ false → free_caps ≡ caps
+  caps_are n = ap (λ b. cond b c.effective free_caps) (sym n)
 
   -- with CAP_SETUID and a call for it, uid 0 can be had, and execve gives the bounding set
-  setuid_caps : c.no_new_privs ≡ false → any_uid launch caps ≡ true → IsWithin c.bounding caps
+  setuid_caps : c.no_new_privs ≡ false → any_by uids 7 caps ≡ true → IsWithin c.bounding caps
   setuid_caps n a =
       let before = caps_before launch power in
-      let parts = and_parts (has caps 7) (lets launch TakesUid) a in
-      let has7 : has (with_root launch before) 7 ≡ true = ap (λ s. has s 7) (caps_are n) ∙ parts.0 in
-      let b = rooted_set before 7 (lets launch TakesUid) c.bounding parts.1 has7 in
+      let parts = and_parts (has caps 7) uids a in
+      let has7 : has free_caps 7 ≡ true = ap (λ s. has s 7) (caps_are n) ∙ parts.0 in
+      let b = rooted_set before 7 uids c.bounding parts.1 has7 in
       subst (IsWithin c.bounding) (caps_are n) b
 
   owned_caps : c.no_new_privs ≡ false → (at : ℕ) (row : Row) → slice_get launch.site.rows at ≡ Some row → owned_by launch power 0 row ≡ true → IsWithin c.bounding caps
@@ -100,9 +104,9 @@ module _ (launch : Launch) (power : Power) (l : IsLaunched launch) where
 
   -- uid 0 makes the bounding set effective
   root_caps : c.no_new_privs ≡ false → top.uid 0 ≡ true → IsWithin c.bounding caps
-  root_caps n z = by (any_uid launch caps) (eqb 0 c.uids.effective) refl refl (list_any (owned_by launch power 0) launch.site.rows) refl (ap (λ b. any_uid launch caps || (eqb 0 c.uids.effective || (not b && list_any (owned_by launch power 0) launch.site.rows))) (sym n) ∙ z)
+  root_caps n z = by (any_by uids 7 caps) (eqb 0 c.uids.effective) refl refl (list_any (owned_by launch power 0) launch.site.rows) refl (ap (λ b. any_by uids 7 caps || (eqb 0 c.uids.effective || (not b && list_any (owned_by launch power 0) launch.site.rows))) (sym n) ∙ z)
     where
-      by : (x y : Bool) → any_uid launch caps ≡ x → eqb 0 c.uids.effective ≡ y → (o : Bool) → list_any (owned_by launch power 0) launch.site.rows ≡ o → (x || (y || o)) ≡ true → IsWithin c.bounding caps
+      by : (x y : Bool) → any_by uids 7 caps ≡ x → eqb 0 c.uids.effective ≡ y → (o : Bool) → list_any (owned_by launch power 0) launch.site.rows ≡ o → (x || (y || o)) ≡ true → IsWithin c.bounding caps
       by true y e f o g h = setuid_caps n e
       by false true e f o g h = within_through _ _ _ (l.root (sym (eqb-true 0 c.uids.effective f))) eff_caps
       by false false e f true g h = let m = any_listed (owned_by launch power 0) launch.site.rows g in owned_caps n m.0 m.1 m.2 m.3
@@ -152,8 +156,8 @@ module _ (launch : Launch) (power : Power) (l : IsLaunched launch) where
       let run = runs row r h in
       let own = listed launch.site.rows r.table r.path row r.found in
       record {
-        owner = λ id e. or_right (any_uid launch caps) _ (or_right (eqb id c.uids.effective) _ (and_from _ _ (ap not n) (listed_any (owned_by launch power id) launch.site.rows own.0 row own.1 (and_from _ _ run (ap (is_owner id) e ∙ eq-eqb id id refl)))));
-        group = λ id e. or_right (any_gid launch caps) _ (or_right (eqb id c.gids.effective || list_any (λ group. eqb id group) c.groups) _ (and_from _ _ (ap not n) (listed_any (grouped_by launch power id) launch.site.rows own.0 row own.1 (and_from _ _ run (ap (is_owner id) e ∙ eq-eqb id id refl)))));
+        owner = λ id e. or_right (any_by uids 7 caps) _ (or_right (eqb id c.uids.effective) _ (and_from _ _ (ap not n) (listed_any (owned_by launch power id) launch.site.rows own.0 row own.1 (and_from _ _ run (ap (is_owner id) e ∙ eq-eqb id id refl)))));
+        group = λ id e. or_right (any_by gids 6 caps) _ (or_right (eqb id c.gids.effective || list_any (λ group. eqb id group) c.groups) _ (and_from _ _ (ap not n) (listed_any (grouped_by launch power id) launch.site.rows own.0 row own.1 (and_from _ _ run (ap (is_owner id) e ∙ eq-eqb id id refl)))));
         permitted = above_if c.no_new_privs c.effective (union caps files) _ (λ y. let no' : false ≡ true = sym n ∙ y in cc)
             (λ n. within_union_right _ _ _ (within_through _ _ _ (within_when (can_run launch power row) _ _ run (within_self _)) (gathered_has (λ row. when (can_run launch power row) (cut row.caps c.bounding)) launch.site.rows own.0 row own.1)));
         effective = λ e. within_through _ (file_gain launch row) _
@@ -179,14 +183,14 @@ module _ (launch : Launch) (power : Power) (l : IsLaunched launch) where
   }
     where
       own_uid : (id : ℕ) → id ≡ c.uids.effective → top.uid id ≡ true
-      own_uid id e = or_right (any_uid launch caps) _ (or_left (eqb id c.uids.effective) _ (eq-eqb id c.uids.effective e))
+      own_uid id e = or_right (any_by uids 7 caps) _ (or_left (eqb id c.uids.effective) _ (eq-eqb id c.uids.effective e))
 
       own_gid : (id : ℕ) → id ≡ c.gids.effective → top.gid id ≡ true
-      own_gid id e = or_right (any_gid launch caps) _ (or_left (eqb id c.gids.effective || list_any (λ group. eqb id group) c.groups) _ (or_left (eqb id c.gids.effective) _ (eq-eqb id c.gids.effective e)))
+      own_gid id e = or_right (any_by gids 6 caps) _ (or_left (eqb id c.gids.effective || list_any (λ group. eqb id group) c.groups) _ (or_left (eqb id c.gids.effective) _ (eq-eqb id c.gids.effective e)))
 
       own_groups : (ids : List ℕ) → ((id : ℕ) → list_any (λ group. eqb id group) ids ≡ true → list_any (λ group. eqb id group) c.groups ≡ true) → AllByRecursion (λ id. top.gid id ≡ true) ids
       own_groups [] h = tt
-      own_groups (id ∷ ids) h = (or_right (any_gid launch caps) _ (or_left (eqb id c.gids.effective || list_any (λ group. eqb id group) c.groups) _ (or_right (eqb id c.gids.effective) _ (h id (or_left (eqb id id) _ (eq-eqb id id refl))))), own_groups ids (λ own e. h own (or_right (eqb own id) _ e)))
+      own_groups (id ∷ ids) h = (or_right (any_by gids 6 caps) _ (or_left (eqb id c.gids.effective || list_any (λ group. eqb id group) c.groups) _ (or_right (eqb id c.gids.effective) _ (h id (or_left (eqb id id) _ (eq-eqb id id refl))))), own_groups ids (λ own e. h own (or_right (eqb own id) _ e)))
 
 -- CAP_SYS_ADMIN enters once: what it opens gives it no second time
 power_mounts : (admin : Power → Bool) (b m u : Bool) → admin Nowise ≡ b → m ≡ true → admin (power_by b m u) ≡ true → power_by b m u ≡ Mounting
@@ -200,18 +204,18 @@ power_unmounts admin true false true e p h n = cc
 power_unmounts admin true false false e p h n = cc
 power_unmounts admin false m u e p h n = cc
 
--- the ceiling is left by no call
-pub is_closed : (launch : Launch) → IsLaunched launch → IsClosed launch (power_of launch) (ceiling launch)
-is_closed launch l =
-    let power = power_of launch in
+-- they are left by no call that uses only what may be used
+pub is_closed : (launch : Launch) (uids gids : Bool) → IsLaunched launch → IsClosed launch uids gids (power_using launch uids) (bounds_by launch uids gids (power_using launch uids))
+is_closed launch uids gids l =
+    let power = power_using launch uids in
     record {
-      settled = settled launch power l;
+      settled = settled launch uids gids power l;
       rooted = l.rooted;
-      files = admits launch power l;
-      capset_effective = λ p. capset_caps launch power l p;
+      files = admits launch uids gids power l;
+      capset_effective = λ p. capset_caps launch uids gids power l p;
       capset_inheritable = λ p. above_if (lets launch SetsCaps) launch.creds.bounding launch.creds.inheritable launch.creds.bounding (λ y. within_self _) (λ no'. cc);
-      any_uid = λ p h id. or_left (any_uid launch (caps_at launch power)) _ (and_from (has (caps_at launch power) 7) (lets launch TakesUid) h p);
-      any_gid = λ p h id. or_left (any_gid launch (caps_at launch power)) _ (and_from (has (caps_at launch power) 6) (lets launch TakesGid) h p);
-      mount = λ p h. power_mounts (λ power. has (caps_at launch power) 21) (has (caps_at launch Nowise) 21) (lets launch ChangesMounts) (lets launch RemovesMounts) refl p h;
-      umount = λ p h. power_unmounts (λ power. has (caps_at launch power) 21) (has (caps_at launch Nowise) 21) (lets launch ChangesMounts) (lets launch RemovesMounts) refl p h;
+      any_uid = λ p h id. or_left (any_by uids 7 (caps_by launch uids power)) _ (and_from (has (caps_by launch uids power) 7) uids h p);
+      any_gid = λ p h id. or_left (any_by gids 6 (caps_by launch uids power)) _ (and_from (has (caps_by launch uids power) 6) gids h p);
+      mount = λ p h. power_mounts (λ power. has (caps_by launch uids power) 21) (has (caps_by launch uids Nowise) 21) (lets launch ChangesMounts) (lets launch RemovesMounts) refl p h;
+      umount = λ p h. power_unmounts (λ power. has (caps_by launch uids power) 21) (has (caps_by launch uids Nowise) 21) (lets launch ChangesMounts) (lets launch RemovesMounts) refl p h;
     }

@@ -171,25 +171,25 @@ name_of part (other ∷ parts) h g =
     ]
 
 -- ---- paths that fit
-normal_append : (one other : Path) → is_normal one ≡ true → is_normal other ≡ true → is_normal (one ++ other) ≡ true
+pub normal_append : (one other : Path) → is_normal one ≡ true → is_normal other ≡ true → is_normal (one ++ other) ≡ true
 normal_append [] other h g = g
 normal_append (part ∷ one) other h g = let both = and_parts (is_part part) (is_normal one) h in and_from _ _ both.0 (normal_append one other both.1 g)
 
-normal_rest : (one other : Path) → is_normal (one ++ other) ≡ true → is_normal other ≡ true
+pub normal_rest : (one other : Path) → is_normal (one ++ other) ≡ true → is_normal other ≡ true
 normal_rest [] other h = h
 normal_rest (part ∷ one) other h = normal_rest one other (and_parts (is_part part) (is_normal (one ++ other)) h).1
 
-tail_append : (one other : Path) → length (tail_of (one ++ other)) ≡ length (tail_of one) + length (tail_of other)
+pub tail_append : (one other : Path) → length (tail_of (one ++ other)) ≡ length (tail_of one) + length (tail_of other)
 tail_append [] other = omega arith
 tail_append (part ∷ one) other =
     let more = tail_append one other in
     omega (arith, more, length-append part (tail_of (one ++ other)), length-append part (tail_of one))
 
-text_length : (path : Path) → length (text_of path) ≤ length (tail_of path) + 1
+pub text_length : (path : Path) → length (text_of path) ≤ length (tail_of path) + 1
 text_length [] = omega arith
 text_length (part ∷ parts) = omega arith
 
-tail_length : (path : Path) → length (tail_of path) ≤ length (text_of path)
+pub tail_length : (path : Path) → length (tail_of path) ≤ length (text_of path)
 tail_length [] = omega arith
 tail_length (part ∷ parts) = omega arith
 

@@ -23,7 +23,8 @@ use Rattle.kern_files.specs.MountCall.{bind_found, mount_onto}
 use Rattle.kern_mounts.proofs.Splits.{None_have, split_is, of_split}
 use Rattle.kernel_laws.proofs.Exposed.{below_by_part}
 
-none_leads : (rest : Table) → AllByRecursion (λ (entry : MountStep). is_root entry.place ≡ false) rest → None_have (leads_to []) rest
+-- no entry below the root leads to it
+pub none_leads : (rest : Table) → AllByRecursion (λ (entry : MountStep). is_root entry.place ≡ false) rest → None_have (leads_to []) rest
 none_leads [] h = tt
 none_leads (entry ∷ rest) h = (by entry.place h.0, none_leads rest h.1)
   where

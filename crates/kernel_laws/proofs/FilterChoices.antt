@@ -2,7 +2,7 @@
 use Rattle.std.proofs.Common.{◌≡◌, ℕ, Bool, true, false, cond, List, [], ◌∷◌, Option, Some, None, ◌⊎◌, inl, inr, refl, ap, ◌∙◌, sym, subst, arith, eqb}
 use Rattle.std.specs.Prelude.{◌&&◌, ◌||◌, not, ◌==◌, ◌%◌, ◌^◌, codes, slice_index}
 use Rattle.std.specs.Str.{bytes_eq}
-use Rattle.std.specs.List.{list_any}
+use Rattle.std.specs.List.{list_any, AllByRecursion}
 use Rattle.std.specs.Option.{option_map_or}
 use Rattle.std.specs.Int.RustNames.{bit_and}
 use Rattle.std.proofs.lemmas.Bool.{and_parts, and_from, or_left, or_right, or_cases, eqb-true, eq-eqb, not-true}
@@ -45,95 +45,19 @@ use Rattle.kernel_calls.specs.declared.rule.Rule.{Rule}
 use Rattle.kernel_calls.specs.Rules.{rule_of}
 use Rattle.kernel_laws.specs.FirstChoice.{FirstPasses}
 use Rattle.kernel_laws.proofs.Filters.{bare_is}
+use Rattle.kernel_laws.proofs.FirstWords.{no_wish}
 
-abbrev with_name : CallLine → List ℕ → CallLine
+abbrev pub with_name : CallLine → List ℕ → CallLine
 with_name line name = record { name = name; number = line.number; cap = line.cap }
-
-at_name : (line : CallLine) (name : List ℕ) (rule' : Rule) → bytes_eq line.name name ≡ true → rule_of line ≡ Some rule' → rule_of (with_name line name) ≡ Some rule'
-at_name line name rule' h e = let P : List ℕ → Type 0 = λ n. rule_of (with_name line n) ≡ Some rule' in subst P ((bytes_eq-Decides line.name name).0 h) e
 
 some_same : (own rule' : Rule) → Some own ≡ Some rule' → own ≡ rule'
 some_same own rule' e = cc
 
-rule-socket : (line : CallLine) (rule' : Rule) → bytes_eq line.name (codes "socket") ≡ true → rule_of line ≡ Some rule' → (rule.Known known.Socket) ≡ rule'
-unfolding rule_of known_call
-rule-socket line rule' h e = some_same (rule.Known known.Socket) rule' (at_name line (codes "socket") rule' h e)
-
-rule-mmap : (line : CallLine) (rule' : Rule) → bytes_eq line.name (codes "mmap") ≡ true → rule_of line ≡ Some rule' → (rule.Known known.Map) ≡ rule'
-unfolding rule_of known_call
-rule-mmap line rule' h e = some_same (rule.Known known.Map) rule' (at_name line (codes "mmap") rule' h e)
-
-rule-mprotect : (line : CallLine) (rule' : Rule) → bytes_eq line.name (codes "mprotect") ≡ true → rule_of line ≡ Some rule' → (rule.Known known.Protect) ≡ rule'
-unfolding rule_of known_call
-rule-mprotect line rule' h e = some_same (rule.Known known.Protect) rule' (at_name line (codes "mprotect") rule' h e)
-
-rule-pkey_mprotect : (line : CallLine) (rule' : Rule) → bytes_eq line.name (codes "pkey_mprotect") ≡ true → rule_of line ≡ Some rule' → (rule.Known known.Protect) ≡ rule'
-unfolding rule_of known_call
-rule-pkey_mprotect line rule' h e = some_same (rule.Known known.Protect) rule' (at_name line (codes "pkey_mprotect") rule' h e)
-
-rule-shmat : (line : CallLine) (rule' : Rule) → bytes_eq line.name (codes "shmat") ≡ true → rule_of line ≡ Some rule' → (rule.Known known.Attach) ≡ rule'
-unfolding rule_of known_call
-rule-shmat line rule' h e = some_same (rule.Known known.Attach) rule' (at_name line (codes "shmat") rule' h e)
-
-rule-sched_setscheduler : (line : CallLine) (rule' : Rule) → bytes_eq line.name (codes "sched_setscheduler") ≡ true → rule_of line ≡ Some rule' → (rule.Known known.Schedule) ≡ rule'
-unfolding rule_of known_call
-rule-sched_setscheduler line rule' h e = some_same (rule.Known known.Schedule) rule' (at_name line (codes "sched_setscheduler") rule' h e)
-
-rule-personality : (line : CallLine) (rule' : Rule) → bytes_eq line.name (codes "personality") ≡ true → rule_of line ≡ Some rule' → (rule.Known known.Personality) ≡ rule'
-unfolding rule_of known_call
-rule-personality line rule' h e = some_same (rule.Known known.Personality) rule' (at_name line (codes "personality") rule' h e)
-
-rule-chmod : (line : CallLine) (rule' : Rule) → bytes_eq line.name (codes "chmod") ≡ true → rule_of line ≡ Some rule' → (rule.Known (known.SetMode argument.Second)) ≡ rule'
-unfolding rule_of known_call
-rule-chmod line rule' h e = some_same (rule.Known (known.SetMode argument.Second)) rule' (at_name line (codes "chmod") rule' h e)
-
-rule-fchmod : (line : CallLine) (rule' : Rule) → bytes_eq line.name (codes "fchmod") ≡ true → rule_of line ≡ Some rule' → (rule.Known (known.SetMode argument.Second)) ≡ rule'
-unfolding rule_of known_call
-rule-fchmod line rule' h e = some_same (rule.Known (known.SetMode argument.Second)) rule' (at_name line (codes "fchmod") rule' h e)
-
-rule-mkdir : (line : CallLine) (rule' : Rule) → bytes_eq line.name (codes "mkdir") ≡ true → rule_of line ≡ Some rule' → (rule.Known (known.SetMode argument.Second)) ≡ rule'
-unfolding rule_of known_call
-rule-mkdir line rule' h e = some_same (rule.Known (known.SetMode argument.Second)) rule' (at_name line (codes "mkdir") rule' h e)
-
-rule-mknod : (line : CallLine) (rule' : Rule) → bytes_eq line.name (codes "mknod") ≡ true → rule_of line ≡ Some rule' → (rule.Known (known.SetMode argument.Second)) ≡ rule'
-unfolding rule_of known_call
-rule-mknod line rule' h e = some_same (rule.Known (known.SetMode argument.Second)) rule' (at_name line (codes "mknod") rule' h e)
-
-rule-creat : (line : CallLine) (rule' : Rule) → bytes_eq line.name (codes "creat") ≡ true → rule_of line ≡ Some rule' → (rule.Known known.Create) ≡ rule'
-unfolding rule_of known_call
-rule-creat line rule' h e = some_same (rule.Known known.Create) rule' (at_name line (codes "creat") rule' h e)
-
-rule-fchmodat : (line : CallLine) (rule' : Rule) → bytes_eq line.name (codes "fchmodat") ≡ true → rule_of line ≡ Some rule' → (rule.Known (known.SetMode argument.Third)) ≡ rule'
-unfolding rule_of known_call
-rule-fchmodat line rule' h e = some_same (rule.Known (known.SetMode argument.Third)) rule' (at_name line (codes "fchmodat") rule' h e)
-
-rule-mkdirat : (line : CallLine) (rule' : Rule) → bytes_eq line.name (codes "mkdirat") ≡ true → rule_of line ≡ Some rule' → (rule.Known (known.SetMode argument.Third)) ≡ rule'
-unfolding rule_of known_call
-rule-mkdirat line rule' h e = some_same (rule.Known (known.SetMode argument.Third)) rule' (at_name line (codes "mkdirat") rule' h e)
-
-rule-mknodat : (line : CallLine) (rule' : Rule) → bytes_eq line.name (codes "mknodat") ≡ true → rule_of line ≡ Some rule' → (rule.Known (known.SetMode argument.Third)) ≡ rule'
-unfolding rule_of known_call
-rule-mknodat line rule' h e = some_same (rule.Known (known.SetMode argument.Third)) rule' (at_name line (codes "mknodat") rule' h e)
-
-rule-open : (line : CallLine) (rule' : Rule) → bytes_eq line.name (codes "open") ≡ true → rule_of line ≡ Some rule' → (rule.Known (known.Open argument.Second)) ≡ rule'
-unfolding rule_of known_call
-rule-open line rule' h e = some_same (rule.Known (known.Open argument.Second)) rule' (at_name line (codes "open") rule' h e)
-
-rule-openat : (line : CallLine) (rule' : Rule) → bytes_eq line.name (codes "openat") ≡ true → rule_of line ≡ Some rule' → (rule.Known (known.Open argument.Third)) ≡ rule'
-unfolding rule_of known_call
-rule-openat line rule' h e = some_same (rule.Known (known.Open argument.Third)) rule' (at_name line (codes "openat") rule' h e)
-
-rule-unshare : (line : CallLine) (rule' : Rule) → bytes_eq line.name (codes "unshare") ≡ true → rule_of line ≡ Some rule' → (rule.Known known.Unshare) ≡ rule'
-unfolding rule_of known_call
-rule-unshare line rule' h e = some_same (rule.Known known.Unshare) rule' (at_name line (codes "unshare") rule' h e)
-
-rule-clone : (line : CallLine) (rule' : Rule) → bytes_eq line.name (codes "clone") ≡ true → rule_of line ≡ Some rule' → (rule.Known known.Clone) ≡ rule'
-unfolding rule_of known_call
-rule-clone line rule' h e = some_same (rule.Known known.Clone) rule' (at_name line (codes "clone") rule' h e)
-
-rule-setns : (line : CallLine) (rule' : Rule) → bytes_eq line.name (codes "setns") ≡ true → rule_of line ≡ Some rule' → (rule.Known known.Enter) ≡ rule'
-unfolding rule_of known_call
-rule-setns line rule' h e = some_same (rule.Known known.Enter) rule' (at_name line (codes "setns") rule' h e)
+-- a line of this name has the rule of the name
+pub rule_named : (line : CallLine) (rule' : Rule) → rule_of line ≡ Some rule' → (name : List ℕ) (own : Rule) → rule_of (with_name line name) ≡ Some own → bytes_eq line.name name ≡ true → own ≡ rule'
+rule_named line rule' e name own named h =
+    let P : List ℕ → Type 0 = λ n. rule_of (with_name line n) ≡ Some rule' in
+    some_same own rule' (sym named ∙ subst P ((bytes_eq-Decides line.name name).0 h) e)
 
 -- the words that ask first have this in their place
 first_is : (one first : List ℕ) → Some one ≡ Some first → one ≡ first
@@ -143,34 +67,22 @@ below : (n word : ℕ) → eqb (word % 2 ^ 32) n ≡ true → n % 2 ^ 32 ≡ wor
 below n word h = let e = eqb-true (word % 2 ^ 32) n h in omega (arith, e)
 
 kind-Socket : (kind : Kind) (args first : List ℕ) → asks kind (d.Socket (low_word args 0)) ≡ true → words kind (rule.Known known.Socket) ≡ Some first → low_word first 0 ≡ low_word args 0
-kind-Socket (k.ForPath q.ToSee) args first h e = cc
-kind-Socket (k.ForPath q.ToRead) args first h e = cc
-kind-Socket (k.ForPath q.ToWrite) args first h e = cc
-kind-Socket (k.ForPath q.ToExec) args first h e = cc
+kind-Socket (k.ForPath wish) args first h e = no_wish (d.Socket (low_word args 0)) refl wish h
 kind-Socket (k.ForFamily family) args first h e = ap (λ (w : List ℕ). low_word w 0) (sym (first_is (one_word 0 family) first e)) ∙ below family (slice_index args 0) h
 kind-Socket kind args first h e = cc
 
 kind-Map : (kind : Kind) (args first : List ℕ) → asks kind (d.Map (low_word args 2)) ≡ true → words kind (rule.Known known.Map) ≡ Some first → has_bits (low_word args 2) 6 ≡ true
-kind-Map (k.ForPath q.ToSee) args first h e = cc
-kind-Map (k.ForPath q.ToRead) args first h e = cc
-kind-Map (k.ForPath q.ToWrite) args first h e = cc
-kind-Map (k.ForPath q.ToExec) args first h e = cc
+kind-Map (k.ForPath wish) args first h e = no_wish (d.Map (low_word args 2)) refl wish h
 kind-Map k.MapsWx args first h e = h
 kind-Map kind args first h e = cc
 
 kind-Protect : (kind : Kind) (args first : List ℕ) → asks kind (d.Protect (low_word args 2)) ≡ true → words kind (rule.Known known.Protect) ≡ Some first → has_bits (low_word args 2) 4 ≡ true
-kind-Protect (k.ForPath q.ToSee) args first h e = cc
-kind-Protect (k.ForPath q.ToRead) args first h e = cc
-kind-Protect (k.ForPath q.ToWrite) args first h e = cc
-kind-Protect (k.ForPath q.ToExec) args first h e = cc
+kind-Protect (k.ForPath wish) args first h e = no_wish (d.Protect (low_word args 2)) refl wish h
 kind-Protect k.ProtectsX args first h e = h
 kind-Protect kind args first h e = cc
 
 kind-Attach : (kind : Kind) (args first : List ℕ) → asks kind (d.Attach (low_word args 2)) ≡ true → words kind (rule.Known known.Attach) ≡ Some first → has_bits (low_word args 2) 0x8000 ≡ true
-kind-Attach (k.ForPath q.ToSee) args first h e = cc
-kind-Attach (k.ForPath q.ToRead) args first h e = cc
-kind-Attach (k.ForPath q.ToWrite) args first h e = cc
-kind-Attach (k.ForPath q.ToExec) args first h e = cc
+kind-Attach (k.ForPath wish) args first h e = no_wish (d.Attach (low_word args 2)) refl wish h
 kind-Attach k.AttachesX args first h e = h
 kind-Attach kind args first h e = cc
 
@@ -178,18 +90,12 @@ realtime_is : (policy : ℕ) → (policy == 1 || policy == 2) ≡ true → not (
 realtime_is policy h = grind (arith, nat_tests)
 
 kind-Schedule : (kind : Kind) (args first : List ℕ) → asks kind (d.Schedule (low_word args 1)) ≡ true → words kind (rule.Known known.Schedule) ≡ Some first → not (is_ordinary (low_word args 1)) ≡ true
-kind-Schedule (k.ForPath q.ToSee) args first h e = cc
-kind-Schedule (k.ForPath q.ToRead) args first h e = cc
-kind-Schedule (k.ForPath q.ToWrite) args first h e = cc
-kind-Schedule (k.ForPath q.ToExec) args first h e = cc
+kind-Schedule (k.ForPath wish) args first h e = no_wish (d.Schedule (low_word args 1)) refl wish h
 kind-Schedule k.SchedulesRealtime args first h e = realtime_is (low_word args 1) h
 kind-Schedule kind args first h e = cc
 
 kind-Personality : (kind : Kind) (args first : List ℕ) → asks kind (d.Personality (low_word args 0)) ≡ true → words kind (rule.Known known.Personality) ≡ Some first → not (keeps_domain (low_word args 0)) ≡ true
-kind-Personality (k.ForPath q.ToSee) args first h e = cc
-kind-Personality (k.ForPath q.ToRead) args first h e = cc
-kind-Personality (k.ForPath q.ToWrite) args first h e = cc
-kind-Personality (k.ForPath q.ToExec) args first h e = cc
+kind-Personality (k.ForPath wish) args first h e = no_wish (d.Personality (low_word args 0)) refl wish h
 kind-Personality k.TakesPersonality args first h e = h
 kind-Personality kind args first h e = cc
 
@@ -249,10 +155,7 @@ id_bit mode h = by (has mode 11) (has mode 10) refl refl
         cc
 
 kind-SetMode : (kind : Kind) (args first : List ℕ) (at : Argument) → asks kind (d.SetMode (low_word args (place_of at))) ≡ true → words kind (rule.Known (known.SetMode at)) ≡ Some first → sets_id_bit (low_word args (place_of at)) ≡ true
-kind-SetMode (k.ForPath q.ToSee) args first at h e = cc
-kind-SetMode (k.ForPath q.ToRead) args first at h e = cc
-kind-SetMode (k.ForPath q.ToWrite) args first at h e = cc
-kind-SetMode (k.ForPath q.ToExec) args first at h e = cc
+kind-SetMode (k.ForPath wish) args first at h e = no_wish (d.SetMode (low_word args (place_of at))) refl wish h
 kind-SetMode k.SetsMode args first at h e = id_bit (low_word args (place_of at)) h
 kind-SetMode kind args first at h e = cc
 
@@ -279,18 +182,12 @@ space_bits space args first h e mask g =
     more_bits (q.flag_of space) (low_word args 0) mask h (ap (λ n. has_bits n mask) (sym low') ∙ g)
 
 kind-Unshare : (kind : Kind) (args first : List ℕ) → asks kind (d.Unshare (low_word args 0)) ≡ true → words kind (rule.Known known.Unshare) ≡ Some first → MoreBits args first
-kind-Unshare (k.ForPath q.ToSee) args first h e = cc
-kind-Unshare (k.ForPath q.ToRead) args first h e = cc
-kind-Unshare (k.ForPath q.ToWrite) args first h e = cc
-kind-Unshare (k.ForPath q.ToExec) args first h e = cc
+kind-Unshare (k.ForPath wish) args first h e = no_wish (d.Unshare (low_word args 0)) refl wish h
 kind-Unshare (k.ForSpace space) args first h e = space_bits space args first h e
 kind-Unshare kind args first h e = cc
 
 kind-Clone : (kind : Kind) (args first : List ℕ) → asks kind (d.Clone (low_word args 0)) ≡ true → words kind (rule.Known known.Clone) ≡ Some first → MoreBits args first
-kind-Clone (k.ForPath q.ToSee) args first h e = cc
-kind-Clone (k.ForPath q.ToRead) args first h e = cc
-kind-Clone (k.ForPath q.ToWrite) args first h e = cc
-kind-Clone (k.ForPath q.ToExec) args first h e = cc
+kind-Clone (k.ForPath wish) args first h e = no_wish (d.Clone (low_word args 0)) refl wish h
 kind-Clone (k.ForSpace space) args first h e = space_bits space args first h e
 kind-Clone kind args first h e = cc
 
@@ -322,8 +219,12 @@ kind-Open-2 (k.ForPath q.ToWrite) first e = ap (λ (w : List ℕ). has_bits (low
 kind-Open-2 (k.ForPath q.ToExec) first e = cc
 kind-Open-2 kind first e = cc
 
-never-true : false ≡ true → ⊥
-never-true e = cc
+-- the names of which the second word is a mode, and the third
+abbrev seconds : List (List ℕ)
+seconds = codes "chmod" ∷ codes "fchmod" ∷ codes "mkdir" ∷ codes "mknod" ∷ codes "creat" ∷ []
+
+abbrev thirds : List (List ℕ)
+thirds = codes "fchmodat" ∷ codes "mkdirat" ∷ codes "mknodat" ∷ codes "open" ∷ []
 
 -- ---- the filters
 module _ (line : CallLine) (rule' : Rule) (kind : Kind) (payload : Payload) (doing : Doing) (input first : CallData) (is : rule_of line ≡ Some rule') (does : doing_by rule' input.args payload ≡ Some doing)
@@ -331,49 +232,57 @@ module _ (line : CallLine) (rule' : Rule) (kind : Kind) (payload : Payload) (doi
   words_at : (own : Rule) → own ≡ rule' → words kind own ≡ Some first.args
   words_at own e = ap (λ (r : Rule). words kind r) e ∙ are
 
+  rule_is : (name : List ℕ) (own : Rule) → rule_of (with_name line name) ≡ Some own → bytes_eq line.name name ≡ true → own ≡ rule'
+  rule_is = rule_named line rule' is
+
   bare_at : (own : Rule) (what : Doing) → own ≡ rule' → ((p : Payload) → doing_by own input.args p ≡ bare what p) → asks kind what ≡ true
   bare_at own what e h =
       let does' : doing_by own input.args payload ≡ Some doing = ap (λ (r : Rule). doing_by r input.args payload) e ∙ does in
       ap (asks kind) (bare_is doing what payload (sym (h payload) ∙ does')) ∙ asked
 
+  -- a line of this name has this rule: the call asks by it, and the words that ask first are by it
+  by_rule : {C : Type 0} (name : List ℕ) (own : Rule) (what : Doing) → rule_of (with_name line name) ≡ Some own → ((p : Payload) → doing_by own input.args p ≡ bare what p)
+      → (asks kind what ≡ true → words kind own ≡ Some first.args → C) → bytes_eq line.name name ≡ true → C
+  by_rule name own what named bare' then' h = let e = rule_is name own named h in then' (bare_at own what e bare') (words_at own e)
+
+  -- one of these names, each of which shows it
+  one_of : {C : Type 0} (names : List (List ℕ)) → is_one_of line.name names ≡ true → AllByRecursion (λ name. bytes_eq line.name name ≡ true → C) names → C
+  one_of [] h each = cc
+  one_of (name ∷ names) h each = elim (or_cases (bytes_eq line.name name) (is_one_of line.name names) h) [ inl n ↦ each.0 n | inr m ↦ one_of names m each.1 ]
+
   family_first : (families : Option FamilyList) → refuses_family families line.name first ≡ true → refuses_family families line.name input ≡ true
+  unfolding rule_of known_call
   family_first families h =
       let parts = and_parts (bytes_eq line.name (codes "socket")) (option_map_or (λ list. is_refused_family list (low first 0)) families false) h in
-      let e = rule-socket line rule' parts.0 is in
-      let same = kind-Socket kind input.args first.args (bare_at (rule.Known known.Socket) (d.Socket (low_word input.args 0)) e (λ p. refl)) (words_at (rule.Known known.Socket) e) in
+      let same = by_rule (codes "socket") (rule.Known known.Socket) (d.Socket (low_word input.args 0)) refl (λ p. refl) (kind-Socket kind input.args first.args) parts.0 in
       and_from _ _ parts.0 (ap (λ n. option_map_or (λ list. is_refused_family list n) families false) (sym same) ∙ parts.1)
 
   mapping_first : refuses_mapping line.name first ≡ true → refuses_mapping line.name input ≡ true
+  unfolding rule_of known_call
   mapping_first h = by (bytes_eq line.name (codes "mmap")) (is_one_of line.name (codes "mprotect" ∷ codes "pkey_mprotect" ∷ [])) (bytes_eq line.name (codes "shmat")) refl refl refl h
     where
-      protect : ((rule.Known known.Protect) ≡ rule') → has_bits (low input 2) 4 ≡ true
-      protect e = kind-Protect kind input.args first.args (bare_at (rule.Known known.Protect) (d.Protect (low_word input.args 2)) e (λ p. refl)) (words_at (rule.Known known.Protect) e)
+      protect : (name : List ℕ) → rule_of (with_name line name) ≡ Some (rule.Known known.Protect) → bytes_eq line.name name ≡ true → has_bits (low input 2) 4 ≡ true
+      protect name named = by_rule name (rule.Known known.Protect) (d.Protect (low_word input.args 2)) named (λ p. refl) (kind-Protect kind input.args first.args)
 
       by : (a b c : Bool) → bytes_eq line.name (codes "mmap") ≡ a → is_one_of line.name (codes "mprotect" ∷ codes "pkey_mprotect" ∷ []) ≡ b → bytes_eq line.name (codes "shmat") ≡ c
           → cond a (has_bits (low first 2) 6) (cond b (has_bits (low first 2) 4) (cond c (has_bits (low first 2) 0x8000) false)) ≡ true
           → cond a (has_bits (low input 2) 6) (cond b (has_bits (low input 2) 4) (cond c (has_bits (low input 2) 0x8000) false)) ≡ true
-      by true b c x y z h = let e = rule-mmap line rule' x is in kind-Map kind input.args first.args (bare_at (rule.Known known.Map) (d.Map (low_word input.args 2)) e (λ p. refl)) (words_at (rule.Known known.Map) e)
-      by false true c x y z h = elim (or_cases (bytes_eq line.name (codes "mprotect")) (bytes_eq line.name (codes "pkey_mprotect") || false) y) [
-        | inl n ↦ protect (rule-mprotect line rule' n is)
-        | inr m ↦ elim (or_cases (bytes_eq line.name (codes "pkey_mprotect")) false m) [ inl n ↦ protect (rule-pkey_mprotect line rule' n is) | inr n ↦ absurd (never n) ]
-      ]
-        where
-          never : false ≡ true → ⊥
-          never e = cc
-      by false false true x y z h = let e = rule-shmat line rule' z is in kind-Attach kind input.args first.args (bare_at (rule.Known known.Attach) (d.Attach (low_word input.args 2)) e (λ p. refl)) (words_at (rule.Known known.Attach) e)
+      by true b c x y z h = by_rule (codes "mmap") (rule.Known known.Map) (d.Map (low_word input.args 2)) refl (λ p. refl) (kind-Map kind input.args first.args) x
+      by false true c x y z h = one_of (codes "mprotect" ∷ codes "pkey_mprotect" ∷ []) y (protect (codes "mprotect") refl, (protect (codes "pkey_mprotect") refl, tt))
+      by false false true x y z h = by_rule (codes "shmat") (rule.Known known.Attach) (d.Attach (low_word input.args 2)) refl (λ p. refl) (kind-Attach kind input.args first.args) z
       by false false false x y z h = cc
 
   realtime_first : refuses_policy line.name first ≡ true → refuses_policy line.name input ≡ true
+  unfolding rule_of known_call
   realtime_first h =
       let parts = and_parts (bytes_eq line.name (codes "sched_setscheduler")) (not (is_ordinary (low first 1))) h in
-      let e = rule-sched_setscheduler line rule' parts.0 is in
-      and_from _ _ parts.0 (kind-Schedule kind input.args first.args (bare_at (rule.Known known.Schedule) (d.Schedule (low_word input.args 1)) e (λ p. refl)) (words_at (rule.Known known.Schedule) e))
+      and_from _ _ parts.0 (by_rule (codes "sched_setscheduler") (rule.Known known.Schedule) (d.Schedule (low_word input.args 1)) refl (λ p. refl) (kind-Schedule kind input.args first.args) parts.0)
 
   personality_first : refuses_personality line.name first ≡ true → refuses_personality line.name input ≡ true
+  unfolding rule_of known_call
   personality_first h =
       let parts = and_parts (bytes_eq line.name (codes "personality")) (not (keeps_domain (low first 0))) h in
-      let e = rule-personality line rule' parts.0 is in
-      and_from _ _ parts.0 (kind-Personality kind input.args first.args (bare_at (rule.Known known.Personality) (d.Personality (low_word input.args 0)) e (λ p. refl)) (words_at (rule.Known known.Personality) e))
+      and_from _ _ parts.0 (by_rule (codes "personality") (rule.Known known.Personality) (d.Personality (low_word input.args 0)) refl (λ p. refl) (kind-Personality kind input.args first.args) parts.0)
 
   -- at the name that the line has
   by_name : (refuses : List ℕ → CallData → Bool) (name : List ℕ) → bytes_eq line.name name ≡ true → (refuses name first ≡ true → refuses name input ≡ true) → refuses line.name first ≡ true → refuses line.name input ≡ true
@@ -395,91 +304,54 @@ module _ (line : CallLine) (rule' : Rule) (kind : Kind) (payload : Payload) (doi
       by (own ∷ list) h = step own list (or_cases (has_bits (low first 0) (spaces.flag_of own)) (list_any (λ kind. has_bits (low first 0) (spaces.flag_of kind)) list) h) (by list)
 
   space_first : (types : NamespaceTypes) → refuses_namespace types line.name first ≡ true → refuses_namespace types line.name input ≡ true
+  unfolding rule_of known_call
   space_first types h = by (is_one_of line.name (codes "unshare" ∷ codes "clone" ∷ [])) (bytes_eq line.name (codes "setns")) refl refl h
     where
       unshares : bytes_eq line.name (codes "unshare") ≡ true → refuses_namespace types line.name input ≡ true
-      unshares n = let e = rule-unshare line rule' n is in
-          by_name (refuses_namespace types) (codes "unshare") n (forbidden_first types (kind-Unshare kind input.args first.args (bare_at (rule.Known known.Unshare) (d.Unshare (low_word input.args 0)) e (λ p. refl)) (words_at (rule.Known known.Unshare) e))) h
+      unshares n = by_name (refuses_namespace types) (codes "unshare") n (forbidden_first types (by_rule (codes "unshare") (rule.Known known.Unshare) (d.Unshare (low_word input.args 0)) refl (λ p. refl) (kind-Unshare kind input.args first.args) n)) h
 
       clones : bytes_eq line.name (codes "clone") ≡ true → refuses_namespace types line.name input ≡ true
-      clones n = let e = rule-clone line rule' n is in
-          by_name (refuses_namespace types) (codes "clone") n (forbidden_first types (kind-Clone kind input.args first.args (bare_at (rule.Known known.Clone) (d.Clone (low_word input.args 0)) e (λ p. refl)) (words_at (rule.Known known.Clone) e))) h
+      clones n = by_name (refuses_namespace types) (codes "clone") n (forbidden_first types (by_rule (codes "clone") (rule.Known known.Clone) (d.Clone (low_word input.args 0)) refl (λ p. refl) (kind-Clone kind input.args first.args) n)) h
 
       by : (a b : Bool) → is_one_of line.name (codes "unshare" ∷ codes "clone" ∷ []) ≡ a → bytes_eq line.name (codes "setns") ≡ b
           → ((b && low first 1 == 0) || option_map_or (λ at. has_forbidden types (low first at)) (cond a (Some 0) (cond b (Some 1) None)) false) ≡ true → refuses_namespace types line.name input ≡ true
-      by true b x y g = elim (or_cases (bytes_eq line.name (codes "unshare")) (bytes_eq line.name (codes "clone") || false) x) [
-        | inl n ↦ unshares n
-        | inr m ↦ elim (or_cases (bytes_eq line.name (codes "clone")) false m) [ inl n ↦ clones n | inr n ↦ absurd (never' n) ]
-      ]
-        where
-          never' : false ≡ true → ⊥
-          never' e = cc
-      by false true x y g = absurd (kind-Enter kind first.args (words_at (rule.Known known.Enter) (rule-setns line rule' y is)))
+      by true b x y g = one_of (codes "unshare" ∷ codes "clone" ∷ []) x (unshares, (clones, tt))
+      by false true x y g = absurd (kind-Enter kind first.args (words_at (rule.Known known.Enter) (rule_is (codes "setns") (rule.Known known.Enter) refl y)))
       by false false x y g = cc
 
-  suid-chmod : bytes_eq line.name (codes "chmod") ≡ true → refuses_mode line.name first ≡ true → refuses_mode line.name input ≡ true
-  suid-chmod n h = let e = rule-chmod line rule' n is in
-      by_name refuses_mode (codes "chmod") n (λ r. kind-SetMode kind input.args first.args argument.Second (bare_at (rule.Known (known.SetMode argument.Second)) (d.SetMode (low_word input.args 1)) e (λ p. refl)) (words_at (rule.Known (known.SetMode argument.Second)) e)) h
+  abbrev Suid : List ℕ → Type 0
+  Suid name = bytes_eq line.name name ≡ true → refuses_mode line.name input ≡ true
 
-  suid-fchmod : bytes_eq line.name (codes "fchmod") ≡ true → refuses_mode line.name first ≡ true → refuses_mode line.name input ≡ true
-  suid-fchmod n h = let e = rule-fchmod line rule' n is in
-      by_name refuses_mode (codes "fchmod") n (λ r. kind-SetMode kind input.args first.args argument.Second (bare_at (rule.Known (known.SetMode argument.Second)) (d.SetMode (low_word input.args 1)) e (λ p. refl)) (words_at (rule.Known (known.SetMode argument.Second)) e)) h
-
-  suid-mkdir : bytes_eq line.name (codes "mkdir") ≡ true → refuses_mode line.name first ≡ true → refuses_mode line.name input ≡ true
-  suid-mkdir n h = let e = rule-mkdir line rule' n is in
-      by_name refuses_mode (codes "mkdir") n (λ r. kind-SetMode kind input.args first.args argument.Second (bare_at (rule.Known (known.SetMode argument.Second)) (d.SetMode (low_word input.args 1)) e (λ p. refl)) (words_at (rule.Known (known.SetMode argument.Second)) e)) h
-
-  suid-mknod : bytes_eq line.name (codes "mknod") ≡ true → refuses_mode line.name first ≡ true → refuses_mode line.name input ≡ true
-  suid-mknod n h = let e = rule-mknod line rule' n is in
-      by_name refuses_mode (codes "mknod") n (λ r. kind-SetMode kind input.args first.args argument.Second (bare_at (rule.Known (known.SetMode argument.Second)) (d.SetMode (low_word input.args 1)) e (λ p. refl)) (words_at (rule.Known (known.SetMode argument.Second)) e)) h
-
-  suid-fchmodat : bytes_eq line.name (codes "fchmodat") ≡ true → refuses_mode line.name first ≡ true → refuses_mode line.name input ≡ true
-  suid-fchmodat n h = let e = rule-fchmodat line rule' n is in
-      by_name refuses_mode (codes "fchmodat") n (λ r. kind-SetMode kind input.args first.args argument.Third (bare_at (rule.Known (known.SetMode argument.Third)) (d.SetMode (low_word input.args 2)) e (λ p. refl)) (words_at (rule.Known (known.SetMode argument.Third)) e)) h
-
-  suid-mkdirat : bytes_eq line.name (codes "mkdirat") ≡ true → refuses_mode line.name first ≡ true → refuses_mode line.name input ≡ true
-  suid-mkdirat n h = let e = rule-mkdirat line rule' n is in
-      by_name refuses_mode (codes "mkdirat") n (λ r. kind-SetMode kind input.args first.args argument.Third (bare_at (rule.Known (known.SetMode argument.Third)) (d.SetMode (low_word input.args 2)) e (λ p. refl)) (words_at (rule.Known (known.SetMode argument.Third)) e)) h
-
-  suid-mknodat : bytes_eq line.name (codes "mknodat") ≡ true → refuses_mode line.name first ≡ true → refuses_mode line.name input ≡ true
-  suid-mknodat n h = let e = rule-mknodat line rule' n is in
-      by_name refuses_mode (codes "mknodat") n (λ r. kind-SetMode kind input.args first.args argument.Third (bare_at (rule.Known (known.SetMode argument.Third)) (d.SetMode (low_word input.args 2)) e (λ p. refl)) (words_at (rule.Known (known.SetMode argument.Third)) e)) h
-
-  suid-creat : bytes_eq line.name (codes "creat") ≡ true → refuses_mode line.name first ≡ true → refuses_mode line.name input ≡ true
-  suid-creat n h = by_name refuses_mode (codes "creat") n (λ r. let zero' = kind-Create kind first.args (words_at (rule.Known known.Create) (rule-creat line rule' n is)) in
-      let off : sets_id_bit (low first 1) ≡ false = ap sets_id_bit zero' in let on : sets_id_bit (low first 1) ≡ true = r in cc) h
+  -- a call that sets a mode, by the argument that is the mode
+  sets_mode : (at : Argument) (name : List ℕ) → rule_of (with_name line name) ≡ Some (rule.Known (known.SetMode at)) → refuses_mode name input ≡ sets_id_bit (low_word input.args (place_of at)) → Suid name
+  sets_mode at name named looks n =
+      ap (λ name. refuses_mode name input) ((bytes_eq-Decides line.name name).0 n) ∙ looks
+      ∙ by_rule name (rule.Known (known.SetMode at)) (d.SetMode (low_word input.args (place_of at))) named (λ p. refl) (kind-SetMode kind input.args first.args at) n
 
   off_left : (a b : Bool) → a ≡ false → (a && b) ≡ true → ⊥
   off_left true b e h = cc
   off_left false b e h = cc
 
-  suid-open : bytes_eq line.name (codes "open") ≡ true → refuses_mode line.name first ≡ true → refuses_mode line.name input ≡ true
-  suid-open n h = by_name refuses_mode (codes "open") n (λ r. absurd (off_left (has_bits (low first 1) 0x40) (sets_id_bit (low first 2)) (kind-Open-1 kind first.args (words_at (rule.Known (known.Open argument.Second)) (rule-open line rule' n is))) r)) h
-
-  suid-openat : bytes_eq line.name (codes "openat") ≡ true → refuses_mode line.name first ≡ true → refuses_mode line.name input ≡ true
-  suid-openat n h = by_name refuses_mode (codes "openat") n (λ r. absurd (off_left (has_bits (low first 2) 0x40) (sets_id_bit (low first 3)) (kind-Open-2 kind first.args (words_at (rule.Known (known.Open argument.Third)) (rule-openat line rule' n is))) r)) h
-
-  abbrev Suid : Type 0
-  Suid = refuses_mode line.name input ≡ true
-
-  either-one : (name : List ℕ) (names : List (List ℕ)) → is_one_of line.name (name ∷ names) ≡ true → (bytes_eq line.name name ≡ true → Suid) → (is_one_of line.name names ≡ true → Suid) → Suid
-  either-one name names h one rest = elim (or_cases (bytes_eq line.name name) (is_one_of line.name names) h) [ inl n ↦ one n | inr m ↦ rest m ]
-
-  none-left : false ≡ true → Suid
-  none-left e = absurd (never-true e)
-
   suid_first : refuses_mode line.name first ≡ true → refuses_mode line.name input ≡ true
-  suid_first h = by (is_one_of line.name (codes "chmod" ∷ codes "fchmod" ∷ codes "mkdir" ∷ codes "mknod" ∷ codes "creat" ∷ [])) (is_one_of line.name (codes "fchmodat" ∷ codes "mkdirat" ∷ codes "mknodat" ∷ codes "open" ∷ [])) (bytes_eq line.name (codes "openat")) refl refl refl h
+  unfolding rule_of known_call
+  suid_first h = by (is_one_of line.name seconds) (is_one_of line.name thirds) (bytes_eq line.name (codes "openat")) refl refl refl h
     where
-      by : (a b c : Bool) → is_one_of line.name (codes "chmod" ∷ codes "fchmod" ∷ codes "mkdir" ∷ codes "mknod" ∷ codes "creat" ∷ []) ≡ a → is_one_of line.name (codes "fchmodat" ∷ codes "mkdirat" ∷ codes "mknodat" ∷ codes "open" ∷ []) ≡ b → bytes_eq line.name (codes "openat") ≡ c
-          → option_map_or (λ at. has_mode line.name first && sets_id_bit (low first at)) (cond a (Some 1) (cond b (Some 2) (cond c (Some 3) None))) false ≡ true → Suid
-      by true b c x y z g =
-          either-one (codes "chmod") (codes "fchmod" ∷ codes "mkdir" ∷ codes "mknod" ∷ codes "creat" ∷ []) x (λ n. suid-chmod n h) λ x. either-one (codes "fchmod") (codes "mkdir" ∷ codes "mknod" ∷ codes "creat" ∷ []) x (λ n. suid-fchmod n h) λ x. either-one (codes "mkdir") (codes "mknod" ∷ codes "creat" ∷ []) x (λ n. suid-mkdir n h) λ x.
-          either-one (codes "mknod") (codes "creat" ∷ []) x (λ n. suid-mknod n h) λ x. either-one (codes "creat") ([]) x (λ n. suid-creat n h) λ x. none-left x
-      by false true c x y z g =
-          either-one (codes "fchmodat") (codes "mkdirat" ∷ codes "mknodat" ∷ codes "open" ∷ []) y (λ n. suid-fchmodat n h) λ y. either-one (codes "mkdirat") (codes "mknodat" ∷ codes "open" ∷ []) y (λ n. suid-mkdirat n h) λ y.
-          either-one (codes "mknodat") (codes "open" ∷ []) y (λ n. suid-mknodat n h) λ y. either-one (codes "open") ([]) y (λ n. suid-open n h) λ y. none-left y
-      by false false true x y z g = suid-openat z h
+      creates : Suid (codes "creat")
+      creates n = by_name refuses_mode (codes "creat") n (λ r.
+          let zero' = kind-Create kind first.args (words_at (rule.Known known.Create) (rule_is (codes "creat") (rule.Known known.Create) refl n)) in
+          let off : sets_id_bit (low first 1) ≡ false = ap sets_id_bit zero' in let on : sets_id_bit (low first 1) ≡ true = r in cc) h
+
+      opens : Suid (codes "open")
+      opens n = by_name refuses_mode (codes "open") n (λ r. absurd (off_left (has_bits (low first 1) 0x40) (sets_id_bit (low first 2)) (kind-Open-1 kind first.args (words_at (rule.Known (known.Open argument.Second)) (rule_is (codes "open") (rule.Known (known.Open argument.Second)) refl n))) r)) h
+
+      opens_at : Suid (codes "openat")
+      opens_at n = by_name refuses_mode (codes "openat") n (λ r. absurd (off_left (has_bits (low first 2) 0x40) (sets_id_bit (low first 3)) (kind-Open-2 kind first.args (words_at (rule.Known (known.Open argument.Third)) (rule_is (codes "openat") (rule.Known (known.Open argument.Third)) refl n))) r)) h
+
+      by : (a b c : Bool) → is_one_of line.name seconds ≡ a → is_one_of line.name thirds ≡ b → bytes_eq line.name (codes "openat") ≡ c
+          → option_map_or (λ at. has_mode line.name first && sets_id_bit (low first at)) (cond a (Some 1) (cond b (Some 2) (cond c (Some 3) None))) false ≡ true → refuses_mode line.name input ≡ true
+      by true b c x y z g = one_of seconds x (sets_mode argument.Second (codes "chmod") refl refl, (sets_mode argument.Second (codes "fchmod") refl refl, (sets_mode argument.Second (codes "mkdir") refl refl, (sets_mode argument.Second (codes "mknod") refl refl, (creates, tt)))))
+      by false true c x y z g = one_of thirds y (sets_mode argument.Third (codes "fchmodat") refl refl, (sets_mode argument.Third (codes "mkdirat") refl refl, (sets_mode argument.Third (codes "mknodat") refl refl, (opens, tt))))
+      by false false true x y z g = opens_at z
       by false false false x y z g = cc
 
 -- ---- let through exactly where not refused

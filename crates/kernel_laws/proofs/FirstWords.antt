@@ -1,7 +1,8 @@
 -- Each call that asks for a kind of thing has words that ask for it first; so filters that go by the number alone let the
 -- first choice through where they let any through.
-use Rattle.std.proofs.Common.{◌≡◌, ℕ, true, List, Option, Some, refl, ◌∙◌, subst}
-use Rattle.std.specs.Prelude.{◌<◌, ◌^◌}
+use Rattle.std.proofs.Common.{◌≡◌, ℕ, Bool, true, false, List, Option, Some, refl, ◌∙◌, subst}
+use Rattle.std.specs.Prelude.{◌<◌, ◌^◌, ◌||◌, is_some}
+use Rattle.std.proofs.lemmas.Bool.{or_left, or_right}
 use Rattle.abs_path.specs.Paths.{Path}
 use Rattle.bpf_code.specs.Stack.{decision_on}
 use Rattle.kernel_calls.specs.Words.{low_word}
@@ -15,7 +16,9 @@ use Rattle.kernel_calls.specs.declared.rule.Rule.{Rule}
 use Rattle.kernel_calls.specs.Rules.{rule_at}
 use Rattle.kernel_calls.specs.Doing as d
 use Rattle.kernel_calls.specs.Doing.{Doing, doing_by}
+use Rattle.kernel_laws.specs.Denied.{path_for}
 use Rattle.kernel_laws.specs.Questions as q
+use Rattle.kernel_laws.specs.Questions.{Wish}
 use Rattle.kernel_laws.specs.Kinds as k
 use Rattle.kernel_laws.specs.Kinds.{Kind, asks, words, AreWords}
 use Rattle.kernel_laws.specs.Launched.{Launch, data_at, passes, Chosen}
@@ -26,6 +29,19 @@ pub record Has (kind : Kind) (rule' : Rule) : Type 0 where
 
 abbrev Given : Doing → Rule → Type 0
 Given doing rule' = (kind : Kind) → asks kind doing ≡ true → Has kind rule'
+
+-- what names no path asks for nothing by path
+abbrev names : Wish → Doing → Bool
+names wish own = is_some (path_for wish own)
+
+abbrev names_path : Doing → Bool
+names_path own = names q.ToSee own || (names q.ToRead own || (names q.ToWrite own || names q.ToExec own))
+
+pub no_wish : {X : Type 0} (own : Doing) → names_path own ≡ false → (wish : Wish) → asks (k.ForPath wish) own ≡ true → X
+no_wish own off q.ToSee h = let on : names_path own ≡ true = or_left _ _ h in cc
+no_wish own off q.ToRead h = let on : names_path own ≡ true = or_right (names q.ToSee own) _ (or_left _ _ h) in cc
+no_wish own off q.ToWrite h = let on : names_path own ≡ true = or_right (names q.ToSee own) _ (or_right (names q.ToRead own) _ (or_left _ _ h)) in cc
+no_wish own off q.ToExec h = let on : names_path own ≡ true = or_right (names q.ToSee own) _ (or_right (names q.ToRead own) _ (or_right (names q.ToWrite own) _ h)) in cc
 
 given-See : (path : Path) → Given (d.See path) (rule.Known known.See)
 given-See path (k.ForPath q.ToSee) h = record { args = _; are = refl }
@@ -64,181 +80,112 @@ given-Execve path kind h = cc
 
 given-SetMode : (args : List ℕ) (at : Argument) → Given (d.SetMode (low_word args (place_of at))) (rule.Known (known.SetMode at))
 given-SetMode args at k.SetsMode h = record { args = _; are = refl }
-given-SetMode args at (k.ForPath q.ToSee) h = cc
-given-SetMode args at (k.ForPath q.ToRead) h = cc
-given-SetMode args at (k.ForPath q.ToWrite) h = cc
-given-SetMode args at (k.ForPath q.ToExec) h = cc
+given-SetMode args at (k.ForPath wish) h = no_wish (d.SetMode (low_word args (place_of at))) refl wish h
 given-SetMode args at kind h = cc
 
 given-Map : (args : List ℕ) → Given (d.Map (low_word args 2)) (rule.Known known.Map)
 given-Map args k.MapsWx h = record { args = _; are = refl }
-given-Map args (k.ForPath q.ToSee) h = cc
-given-Map args (k.ForPath q.ToRead) h = cc
-given-Map args (k.ForPath q.ToWrite) h = cc
-given-Map args (k.ForPath q.ToExec) h = cc
+given-Map args (k.ForPath wish) h = no_wish (d.Map (low_word args 2)) refl wish h
 given-Map args kind h = cc
 
 given-Protect : (args : List ℕ) → Given (d.Protect (low_word args 2)) (rule.Known known.Protect)
 given-Protect args k.ProtectsX h = record { args = _; are = refl }
-given-Protect args (k.ForPath q.ToSee) h = cc
-given-Protect args (k.ForPath q.ToRead) h = cc
-given-Protect args (k.ForPath q.ToWrite) h = cc
-given-Protect args (k.ForPath q.ToExec) h = cc
+given-Protect args (k.ForPath wish) h = no_wish (d.Protect (low_word args 2)) refl wish h
 given-Protect args kind h = cc
 
 given-Attach : (args : List ℕ) → Given (d.Attach (low_word args 2)) (rule.Known known.Attach)
 given-Attach args k.AttachesX h = record { args = _; are = refl }
-given-Attach args (k.ForPath q.ToSee) h = cc
-given-Attach args (k.ForPath q.ToRead) h = cc
-given-Attach args (k.ForPath q.ToWrite) h = cc
-given-Attach args (k.ForPath q.ToExec) h = cc
+given-Attach args (k.ForPath wish) h = no_wish (d.Attach (low_word args 2)) refl wish h
 given-Attach args kind h = cc
 
 given-Schedule : (args : List ℕ) → Given (d.Schedule (low_word args 1)) (rule.Known known.Schedule)
 given-Schedule args k.SchedulesRealtime h = record { args = _; are = refl }
-given-Schedule args (k.ForPath q.ToSee) h = cc
-given-Schedule args (k.ForPath q.ToRead) h = cc
-given-Schedule args (k.ForPath q.ToWrite) h = cc
-given-Schedule args (k.ForPath q.ToExec) h = cc
+given-Schedule args (k.ForPath wish) h = no_wish (d.Schedule (low_word args 1)) refl wish h
 given-Schedule args kind h = cc
 
 given-Personality : (args : List ℕ) → Given (d.Personality (low_word args 0)) (rule.Known known.Personality)
 given-Personality args k.TakesPersonality h = record { args = _; are = refl }
-given-Personality args (k.ForPath q.ToSee) h = cc
-given-Personality args (k.ForPath q.ToRead) h = cc
-given-Personality args (k.ForPath q.ToWrite) h = cc
-given-Personality args (k.ForPath q.ToExec) h = cc
+given-Personality args (k.ForPath wish) h = no_wish (d.Personality (low_word args 0)) refl wish h
 given-Personality args kind h = cc
 
 given-Socket : (args : List ℕ) → Given (d.Socket (low_word args 0)) (rule.Known known.Socket)
 given-Socket args (k.ForFamily family) h = record { args = _; are = refl }
-given-Socket args (k.ForPath q.ToSee) h = cc
-given-Socket args (k.ForPath q.ToRead) h = cc
-given-Socket args (k.ForPath q.ToWrite) h = cc
-given-Socket args (k.ForPath q.ToExec) h = cc
+given-Socket args (k.ForPath wish) h = no_wish (d.Socket (low_word args 0)) refl wish h
 given-Socket args kind h = cc
 
 given-Enter : Given (d.Enter) (rule.Known known.Enter)
-given-Enter (k.ForPath q.ToSee) h = cc
-given-Enter (k.ForPath q.ToRead) h = cc
-given-Enter (k.ForPath q.ToWrite) h = cc
-given-Enter (k.ForPath q.ToExec) h = cc
+given-Enter (k.ForPath wish) h = no_wish d.Enter refl wish h
 given-Enter kind h = cc
 
 given-Fork : Given (d.Fork) (rule.Known known.Fork)
-given-Fork (k.ForPath q.ToSee) h = cc
-given-Fork (k.ForPath q.ToRead) h = cc
-given-Fork (k.ForPath q.ToWrite) h = cc
-given-Fork (k.ForPath q.ToExec) h = cc
+given-Fork (k.ForPath wish) h = no_wish d.Fork refl wish h
 given-Fork kind h = cc
 
 given-Clone : (args : List ℕ) → Given (d.Clone (low_word args 0)) (rule.Known known.Clone)
 given-Clone args (k.ForSpace space) h = record { args = _; are = refl }
-given-Clone args (k.ForPath q.ToSee) h = cc
-given-Clone args (k.ForPath q.ToRead) h = cc
-given-Clone args (k.ForPath q.ToWrite) h = cc
-given-Clone args (k.ForPath q.ToExec) h = cc
+given-Clone args (k.ForPath wish) h = no_wish (d.Clone (low_word args 0)) refl wish h
 given-Clone args kind h = cc
 
 given-Unshare : (args : List ℕ) → Given (d.Unshare (low_word args 0)) (rule.Known known.Unshare)
 given-Unshare args (k.ForSpace space) h = record { args = _; are = refl }
-given-Unshare args (k.ForPath q.ToSee) h = cc
-given-Unshare args (k.ForPath q.ToRead) h = cc
-given-Unshare args (k.ForPath q.ToWrite) h = cc
-given-Unshare args (k.ForPath q.ToExec) h = cc
+given-Unshare args (k.ForPath wish) h = no_wish (d.Unshare (low_word args 0)) refl wish h
 given-Unshare args kind h = cc
 
 given-Exit : Given (d.Exit) (rule.Known known.Exit)
-given-Exit (k.ForPath q.ToSee) h = cc
-given-Exit (k.ForPath q.ToRead) h = cc
-given-Exit (k.ForPath q.ToWrite) h = cc
-given-Exit (k.ForPath q.ToExec) h = cc
+given-Exit (k.ForPath wish) h = no_wish d.Exit refl wish h
 given-Exit kind h = cc
 
 given-Mount : (args : List ℕ) (source target : Path) → Given (d.Mount source target (low_word args 3)) (rule.Known known.Mount)
 given-Mount args source target k.ChangesMounts h = record { args = _; are = refl }
-given-Mount args source target (k.ForPath q.ToSee) h = cc
-given-Mount args source target (k.ForPath q.ToRead) h = cc
-given-Mount args source target (k.ForPath q.ToWrite) h = cc
-given-Mount args source target (k.ForPath q.ToExec) h = cc
+given-Mount args source target (k.ForPath wish) h = no_wish (d.Mount source target (low_word args 3)) refl wish h
 given-Mount args source target kind h = cc
 
 given-Umount : (args : List ℕ) (path : Path) → Given (d.Umount path (low_word args 1)) (rule.Known known.Umount)
 given-Umount args path k.RemovesMounts h = record { args = _; are = refl }
-given-Umount args path (k.ForPath q.ToSee) h = cc
-given-Umount args path (k.ForPath q.ToRead) h = cc
-given-Umount args path (k.ForPath q.ToWrite) h = cc
-given-Umount args path (k.ForPath q.ToExec) h = cc
+given-Umount args path (k.ForPath wish) h = no_wish (d.Umount path (low_word args 1)) refl wish h
 given-Umount args path kind h = cc
 
 given-Setuid : (args : List ℕ) → Given (d.Setuid (low_word args 0)) (rule.Known known.Setuid)
 given-Setuid args k.TakesUid h = record { args = _; are = refl }
-given-Setuid args (k.ForPath q.ToSee) h = cc
-given-Setuid args (k.ForPath q.ToRead) h = cc
-given-Setuid args (k.ForPath q.ToWrite) h = cc
-given-Setuid args (k.ForPath q.ToExec) h = cc
+given-Setuid args (k.ForPath wish) h = no_wish (d.Setuid (low_word args 0)) refl wish h
 given-Setuid args kind h = cc
 
 given-Setgid : (args : List ℕ) → Given (d.Setgid (low_word args 0)) (rule.Known known.Setgid)
 given-Setgid args k.TakesGid h = record { args = _; are = refl }
-given-Setgid args (k.ForPath q.ToSee) h = cc
-given-Setgid args (k.ForPath q.ToRead) h = cc
-given-Setgid args (k.ForPath q.ToWrite) h = cc
-given-Setgid args (k.ForPath q.ToExec) h = cc
+given-Setgid args (k.ForPath wish) h = no_wish (d.Setgid (low_word args 0)) refl wish h
 given-Setgid args kind h = cc
 
 given-Setresuid : (args : List ℕ) → Given (d.Setresuid (low_word args 0) (low_word args 1) (low_word args 2)) (rule.Known known.Setresuid)
 given-Setresuid args k.TakesUid h = record { args = _; are = refl }
-given-Setresuid args (k.ForPath q.ToSee) h = cc
-given-Setresuid args (k.ForPath q.ToRead) h = cc
-given-Setresuid args (k.ForPath q.ToWrite) h = cc
-given-Setresuid args (k.ForPath q.ToExec) h = cc
+given-Setresuid args (k.ForPath wish) h = no_wish (d.Setresuid (low_word args 0) (low_word args 1) (low_word args 2)) refl wish h
 given-Setresuid args kind h = cc
 
 given-Setresgid : (args : List ℕ) → Given (d.Setresgid (low_word args 0) (low_word args 1) (low_word args 2)) (rule.Known known.Setresgid)
 given-Setresgid args k.TakesGid h = record { args = _; are = refl }
-given-Setresgid args (k.ForPath q.ToSee) h = cc
-given-Setresgid args (k.ForPath q.ToRead) h = cc
-given-Setresgid args (k.ForPath q.ToWrite) h = cc
-given-Setresgid args (k.ForPath q.ToExec) h = cc
+given-Setresgid args (k.ForPath wish) h = no_wish (d.Setresgid (low_word args 0) (low_word args 1) (low_word args 2)) refl wish h
 given-Setresgid args kind h = cc
 
 given-Setgroups : (ids : List ℕ) → Given (d.Setgroups ids) (rule.Known known.Setgroups)
 given-Setgroups ids k.TakesGid h = record { args = _; are = refl }
-given-Setgroups ids (k.ForPath q.ToSee) h = cc
-given-Setgroups ids (k.ForPath q.ToRead) h = cc
-given-Setgroups ids (k.ForPath q.ToWrite) h = cc
-given-Setgroups ids (k.ForPath q.ToExec) h = cc
+given-Setgroups ids (k.ForPath wish) h = no_wish (d.Setgroups ids) refl wish h
 given-Setgroups ids kind h = cc
 
 given-Capset : (p e i : ℕ) → Given (d.Capset p e i) (rule.Known known.Capset)
 given-Capset p e i k.SetsCaps h = record { args = _; are = refl }
-given-Capset p e i (k.ForPath q.ToSee) h = cc
-given-Capset p e i (k.ForPath q.ToRead) h = cc
-given-Capset p e i (k.ForPath q.ToWrite) h = cc
-given-Capset p e i (k.ForPath q.ToExec) h = cc
+given-Capset p e i (k.ForPath wish) h = no_wish (d.Capset p e i) refl wish h
 given-Capset p e i kind h = cc
 
 given-Prctl : (args : List ℕ) → Given (d.Prctl (low_word args 0) (low_word args 1) (low_word args 2)) (rule.Known known.Prctl)
-given-Prctl args (k.ForPath q.ToSee) h = cc
-given-Prctl args (k.ForPath q.ToRead) h = cc
-given-Prctl args (k.ForPath q.ToWrite) h = cc
-given-Prctl args (k.ForPath q.ToExec) h = cc
+given-Prctl args (k.ForPath wish) h = no_wish (d.Prctl (low_word args 0) (low_word args 1) (low_word args 2)) refl wish h
 given-Prctl args kind h = cc
 
 given-Seccomp : (args : List ℕ) (bytes : List ℕ) → Given (d.Seccomp (low_word args 0) (low_word args 1) bytes) (rule.Known known.Seccomp)
-given-Seccomp args bytes (k.ForPath q.ToSee) h = cc
-given-Seccomp args bytes (k.ForPath q.ToRead) h = cc
-given-Seccomp args bytes (k.ForPath q.ToWrite) h = cc
-given-Seccomp args bytes (k.ForPath q.ToExec) h = cc
+given-Seccomp args bytes (k.ForPath wish) h = no_wish (d.Seccomp (low_word args 0) (low_word args 1) bytes) refl wish h
 given-Seccomp args bytes kind h = cc
 
 given-Plain : (number : Option ℕ) → Given (d.Plain number) (rule.Plain number)
 given-Plain number k.PlainCall h = record { args = _; are = refl }
-given-Plain number (k.ForPath q.ToSee) h = cc
-given-Plain number (k.ForPath q.ToRead) h = cc
-given-Plain number (k.ForPath q.ToWrite) h = cc
-given-Plain number (k.ForPath q.ToExec) h = cc
+given-Plain number (k.ForPath wish) h = no_wish (d.Plain number) refl wish h
 given-Plain number kind h = cc
 
 by_same : (own doing : Doing) (rule' : Rule) → Given own rule' → own ≡ doing → Given doing rule'

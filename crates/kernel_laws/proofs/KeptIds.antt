@@ -63,9 +63,9 @@ module _ (top : Bounds) where
       (λ e. s.root_effective (at_zero top.uid uids.effective w.effective e))
       (kept-leaving (has_root creds.uids && not (has_root uids)) (record creds { uids = uids }) (kept-ids creds uids k w))
 
-  module _ (creds : Creds) (k : Keeps top creds) (s : IsSettled top) (any : has top.effective 7 ≡ true → (id : ℕ) → top.uid id ≡ true) where
+  module _ (creds : Creds) (k : Keeps top creds) (s : IsSettled top) (any : has creds.effective 7 ≡ true → (id : ℕ) → top.uid id ≡ true) where
     all_ids : has creds.effective 7 ≡ true → (ids : Ids) → IsIdsWithin ids top.uid
-    all_ids h ids = let every = any (k.effective.each 7 h) in record { real = every _; effective = every _; saved = every _ }
+    all_ids h ids = record { real = any h _; effective = any h _; saved = any h _ }
 
     pub kept-setuid : (id : ℕ) → Leaves (Keeps top) (after_setuid creds id)
     kept-setuid id =
@@ -97,22 +97,19 @@ each_of : (ok : ℕ → Bool) → ((id : ℕ) → ok id ≡ true) → (ids : Lis
 each_of ok every [] = tt
 each_of ok every (id ∷ ids) = (every id, each_of ok every ids)
 
-module _ (top : Bounds) (creds : Creds) (k : Keeps top creds) (any : has top.effective 6 ≡ true → (id : ℕ) → top.gid id ≡ true) where
-  every_gid : has creds.effective 6 ≡ true → (id : ℕ) → top.gid id ≡ true
-  every_gid h = any (k.effective.each 6 h)
-
+module _ (top : Bounds) (creds : Creds) (k : Keeps top creds) (any : has creds.effective 6 ≡ true → (id : ℕ) → top.gid id ≡ true) where
   with_gids : (gids : Ids) → IsIdsWithin gids top.gid → Leaves (Keeps top) (Ok (record creds { gids = gids }))
   with_gids gids w = left_ok (Keeps top) (record creds { gids = gids }) (search rules)
 
   pub kept-setgid : (id : ℕ) → Leaves (Keeps top) (after_setgid creds id)
   kept-setgid id =
       left_if (Keeps top) (eqb id no_id) _ _ (λ e. left_err (Keeps top) 22) λ e.
-      left_if (Keeps top) (has creds.effective 6) (Ok (record creds { gids = all_of id })) _ (λ h. let every = every_gid h in with_gids _ (record { real = every id; effective = every id; saved = every id })) λ h.
+      left_if (Keeps top) (has creds.effective 6) (Ok (record creds { gids = all_of id })) _ (λ h. with_gids _ (record { real = any h id; effective = any h id; saved = any h id })) λ h.
       left_if (Keeps top) (eqb id creds.gids.real || eqb id creds.gids.saved) (Ok (record creds { gids = record creds.gids { effective = id } })) (Err 1)
       (λ o. with_gids _ (record { real = k.gids.real; effective = of_two top.gid id _ _ o k.gids.real k.gids.saved; saved = k.gids.saved })) λ o. left_err (Keeps top) 1
 
   gids_taken : (r e v : ℕ) (b : Bool) → b ≡ has creds.effective 6 → (b || may_take_all creds.gids r e v) ≡ true → IsIdsWithin (kept_ids creds.gids r e v) top.gid
-  gids_taken r e v true same m = let every = every_gid (sym same) in record { real = every _; effective = every _; saved = every _ }
+  gids_taken r e v true same m = record { real = any (sym same) _; effective = any (sym same) _; saved = any (sym same) _ }
   gids_taken r e v false same m =
       let parts = and_parts (may_take creds.gids r && may_take creds.gids e) (may_take creds.gids v) m in
       let first = and_parts (may_take creds.gids r) (may_take creds.gids e) parts.0 in
@@ -131,5 +128,5 @@ module _ (top : Bounds) (creds : Creds) (k : Keeps top creds) (any : has top.eff
   kept-setgroups ids =
       left_if (Keeps top) (not (has creds.effective 6)) (Err 1) _ (λ e. left_err (Keeps top) 1) λ e.
       left_if (Keeps top) (nat_lt 65536 (length ids)) (Err 22) (Ok (record creds { groups = ids })) (λ l. left_err (Keeps top) 22) λ l.
-      let held = each_of top.gid (every_gid (not-false (has creds.effective 6) e)) ids in
+      let held = each_of top.gid (any (not-false (has creds.effective 6) e)) ids in
       left_ok (Keeps top) (record creds { groups = ids }) (search rules)

@@ -3,7 +3,6 @@ pub mod Moments
 pub mod Filters
 pub mod Done
 pub mod Living
-pub mod Stacks
 pub mod PlainCalls
 pub mod Reach
 pub mod ReachLaws
@@ -14,6 +13,7 @@ pub mod Ran
 pub mod Steps
 pub mod Runs
 pub mod Bound
+pub mod Held
 pub mod Sound
 pub mod Verdict
 pub mod AskedQuestions

@@ -1,5 +1,5 @@
 -- Plain calls without a capability are denied where the launch's filters stop them, and shown where they do not.
-use Rattle.std.proofs.Common.{◌≡◌, ℕ, true, List, [], ◌∷◌, ◌++◌, Option, Some, None, inl, inr, refl, ap, ◌∙◌, sym, subst, arith, append-nil, ◌<◌}
+use Rattle.std.proofs.Common.{◌≡◌, ℕ, true, List, [], ◌∷◌, ◌++◌, Option, Some, None, inl, inr, refl, ap, ◌∙◌, sym, subst, arith, ◌<◌}
 use Rattle.std.specs.Prelude.{slice_get, zero, suc, option_and_then, ◌-◌, ◌^◌, All}
 use Rattle.std.specs.List.{AllByRecursion}
 use Rattle.std.proofs.lemmas.List.Elements.{All-from_recursion, All-head, All-tail}
@@ -31,7 +31,7 @@ use Rattle.kernel_laws.specs.PlainCalls.{bare_call, IsPlainCall, DeniedWhereStop
 use Rattle.kernel_laws.proofs.Living.{first_lives}
 use Rattle.kernel_laws.proofs.Filters.{bare_is, asks_for, at_position, older, data_fits}
 use Rattle.kernel_laws.proofs.Done.{was_done}
-use Rattle.kernel_laws.proofs.Stacks.{StandsOn, AllStand, stand_step}
+use Rattle.kernel_laws.proofs.Held.{AllHeld, launched_held, ceiling_step}
 use Rattle.kernel_laws.proofs.Moments.{no_moment, last_any}
 
 -- ---- what is stopped
@@ -53,7 +53,7 @@ module _ (launch : Launch) (l : IsLaunched launch) (place : ℕ) (line : CallLin
   rule_is = ap (option_and_then rule_of) (at_position launch.calls.calls line.number place line (l.calls_once place line listed) listed) ∙ plain
 
   -- what is done with this number passes the launch's filters with no words too
-  done_passes : (now : World) (call : Call) → IsCall call → AllStand launch.calls launch.stack now → ReachesCall place (moment_at now call) → passes launch line.number no_words
+  done_passes : (now : World) (call : Call) → IsCall call → AllHeld launch now → ReachesCall place (moment_at now call) → passes launch line.number no_words
   done_passes now call fit all r =
       let w = was_done now call r.done in
       let own : slice_get launch.calls.calls place ≡ Some r.line = ap (λ (c : calls.Table). slice_get c.calls place) (sym all.calls) ∙ r.listed in
@@ -71,20 +71,10 @@ module _ (launch : Launch) (l : IsLaunched launch) (place : ℕ) (line : CallLin
       let c = l.chosen k.PlainCall call.nr call.args a.rule call.payload w.doing fit.nr (record { count = fit.count; each = fit.args }) a.at a.is (asks_plain_of a.rule call.args call.payload w.doing is a.is) old in
       subst (λ n. passes launch n no_words) nr (chosen_passes launch call.nr a.rule is c)
 
--- process 1 alone stands on its own programs
-start_stands : (world : World) → IsLaunchedWorld world → AllStand world.calls (first_of world).stack world
-start_stands world s = record { calls = refl; each = λ at process e. by at process (ap (λ (ps : List Process). slice_get ps at) (sym s.alone) ∙ e) }
-  where
-    by : (at : ℕ) (process : Process) → slice_get (first_of world ∷ []) at ≡ Some process → StandsOn (first_of world).stack process
-    by zero process e =
-        let same : first_of world ≡ process = cc in
-        subst (StandsOn (first_of world).stack) same (record { newer = []; stack = sym (append-nil (first_of world).stack) })
-    by (suc at) process e = cc
-
 pub denied_where_stopped : DeniedWhereStopped
 denied_where_stopped world place line s p stopped = record {
-  no_moment = λ list fit some. no_moment (AllStand world.calls (first_of world).stack) (Reaches (q.Call place)) (λ now call fit all. stand_step world.calls (first_of world).stack now call all)
-      (λ now call fit all r. stopped (done_passes (launch_of world) s.launched place line p.listed p.plain now call fit all r)) world (start_stands world s) list fit some;
+  no_moment = λ list fit some. no_moment (AllHeld (launch_of world)) (Reaches (q.Call place)) (ceiling_step (launch_of world) s.launched)
+      (λ now call fit all r. stopped (done_passes (launch_of world) s.launched place line p.listed p.plain now call fit all r)) world (launched_held world s) list fit some;
   no_world = λ list fit h. h;
 }
 

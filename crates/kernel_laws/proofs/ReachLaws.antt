@@ -40,35 +40,34 @@ serving uncover row wish (entry ∷ later) at e = by (serves uncover row wish en
     by true s e more = record { earlier = []; entry = entry; later = later; whole = refl; served = s }
     by false s e more = let m = more e in record { earlier = entry ∷ m.earlier; entry = m.entry; later = m.later; whole = ap (λ (t : Table). entry ∷ t) m.whole; served = m.served }
 
-record Served (uncover : Bool) (row : Path) (wish : Wish) (entry : MountStep) (later : Table) : Type 0 where
-  source : Path
-  host : entry.what ≡ Host source
-  rest : Path
-  row_is : row ≡ source ++ rest
-  flags : fits wish entry.flags ≡ true
-  clear : (uncover || not (list_any (leads_to (entry.place ++ rest)) later)) ≡ true
+-- what it means that an entry serves
+pub record Served (uncover : Bool) (row : Path) (wish : Wish) (entry : MountStep) (later : Table) : Type 0 where
+  pub source : Path
+  pub host : entry.what ≡ Host source
+  pub rest : Path
+  pub row_is : row ≡ source ++ rest
+  pub flags : fits wish entry.flags ≡ true
+  pub clear : (uncover || not (list_any (leads_to (entry.place ++ rest)) later)) ≡ true
 
-served_by : (uncover : Bool) (row : Path) (wish : Wish) (entry : MountStep) (later : Table) → fits wish entry.flags ≡ true → (what : What) → entry.what ≡ what → shows_row uncover entry later row what ≡ true → Served uncover row wish entry later
-served_by uncover row wish entry later f (Host source) e s =
-    let parts = and_parts (is_prefix source row) (uncover || not (list_any (leads_to (entry.place ++ rest_of source row)) later)) s in
-    record { source = source; host = e; rest = rest_of source row; row_is = behind source row parts.0; flags = f; clear = parts.1 }
-served_by uncover row wish entry later f Empty e s = cc
-served_by uncover row wish entry later f (Hidden directory) e s = cc
-
-served_of : (uncover : Bool) (row : Path) (wish : Wish) (entry : MountStep) (later : Table) → serves uncover row wish entry later ≡ true → Served uncover row wish entry later
+pub served_of : (uncover : Bool) (row : Path) (wish : Wish) (entry : MountStep) (later : Table) → serves uncover row wish entry later ≡ true → Served uncover row wish entry later
 served_of uncover row wish entry later s =
-    let parts = and_parts (fits wish entry.flags) (shows_row uncover entry later row entry.what) s in
-    served_by uncover row wish entry later parts.0 entry.what refl parts.1
+    let parts = and_parts (fits wish entry.flags) (shows_row uncover entry later row entry.what) s in by parts.0 entry.what refl parts.1
+  where
+    by : fits wish entry.flags ≡ true → (what : What) → entry.what ≡ what → shows_row uncover entry later row what ≡ true → Served uncover row wish entry later
+    by f (Host source) e s =
+        let parts = and_parts (is_prefix source row) (uncover || not (list_any (leads_to (entry.place ++ rest_of source row)) later)) s in
+        record { source = source; host = e; rest = rest_of source row; row_is = behind source row parts.0; flags = f; clear = parts.1 }
+    by f Empty e s = cc
+    by f (Hidden directory) e s = cc
 
-nowise_leads : (row : Path) (wish : Wish) (table : Table) → is_some (reach_from false row wish table 0) ≡ true → Leads table row wish
-nowise_leads row wish table e =
-    let s = serving false row wish table 0 e in
-    let v = served_of false row wish s.entry s.later s.served in
-    let clear = any_none (leads_to (s.entry.place ++ v.rest)) s.later (not-true (list_any (leads_to (s.entry.place ++ v.rest)) s.later) v.clear) in
+-- an entry that serves, and that no later one covers, leads to the row
+abbrev pub served_leads : (table : Table) (row : Path) (wish : Wish) (earlier : Table) (entry : MountStep) (later : Table) → table ≡ earlier ++ entry ∷ later → Served false row wish entry later → Leads table row wish
+served_leads table row wish earlier entry later whole v =
+    let path = entry.place ++ v.rest in
     record {
-      path = s.entry.place ++ v.rest;
-      split = record { earlier = s.earlier; entry = s.entry; later = s.later };
-      belongs = ap (split_at (s.entry.place ++ v.rest)) s.whole ∙ split_is (leads_to (s.entry.place ++ v.rest)) s.earlier s.entry s.later (prefix-append s.entry.place v.rest) clear;
+      path = path;
+      split = record { earlier = earlier; entry = entry; later = later };
+      belongs = ap (split_at path) whole ∙ split_is (leads_to path) earlier entry later (prefix-append entry.place v.rest) (any_none (leads_to path) later (not-true (list_any (leads_to path) later) v.clear));
       source = v.source;
       host = v.host;
       rest = v.rest;
@@ -76,6 +75,9 @@ nowise_leads row wish table e =
       row_is = v.row_is;
       flags = v.flags;
     }
+
+nowise_leads : (row : Path) (wish : Wish) (table : Table) → is_some (reach_from false row wish table 0) ≡ true → Leads table row wish
+nowise_leads row wish table e = let s = serving false row wish table 0 e in served_leads table row wish s.earlier s.entry s.later s.whole (served_of false row wish s.entry s.later s.served)
 
 pub reach_of_the_table : ReachOfTheTable
 reach_of_the_table table row wish = (nowise_leads row wish table, reach_nowise-complete row wish table)

@@ -1,4 +1,4 @@
--- Closed bounds hold in each world of each run, by many processes that share tables.
+-- Closed bounds hold in each world of each run that uses only what may be used, by many processes that share tables.
 use Rattle.std.proofs.Common.{◌≡◌, ℕ, Bool, true, false, List, [], ◌∷◌, ◌++◌, Option, Some, None, ◌⊎◌, inl, inr, refl, cond, ap, ◌∙◌, sym, subst, length, append_assoc, eqb}
 use Rattle.std.specs.Prelude.{slice_get, slice_set, nat_lt, ◌-◌, ◌+◌}
 use Rattle.bpf_code.specs.declared.machine.Insn.{Insn}
@@ -22,14 +22,15 @@ use Rattle.linux_numbers.specs.Errnos.{eagain, enospc}
 use Rattle.kernel_model.specs.Step.{most_processes, most_namespaces, child_of, applied, answered, decided, data_of, step_by, step}
 use Rattle.kernel_model.specs.Runs.{run}
 use Rattle.kernel_laws.specs.Reach.{Power}
-use Rattle.kernel_laws.specs.Kinds.{Kind, asks}
+use Rattle.kernel_laws.specs.Kinds.{Kind, asks, TakesUid, TakesGid}
 use Rattle.kernel_laws.specs.Launched.{Launch, data_at, lets}
 use Rattle.kernel_laws.specs.Ceiling.{CanHave, IsClosed, IsHeld, AreHeld, IsSafe}
+use Rattle.kernel_laws.specs.Spared.{Uses, Spares, AllSpare}
 use Rattle.kernel_laws.proofs.Numbered.{get_put, put_some, get_push, push_some, push_last, not_first, get_number, lives}
 use Rattle.kernel_laws.proofs.Filters.{LetsThrough}
 use Rattle.kernel_laws.proofs.Steps.{safe_effect}
 
-module _ (launch : Launch) (power : Power) (top : Bounds) (closed : IsClosed launch power top) (filters : LetsThrough launch) where
+module _ (launch : Launch) (power : Power) (top : Bounds) where
   abbrev Held : List Table → Process → Type 0
   Held = IsHeld launch power top
 
@@ -145,41 +146,59 @@ module _ (launch : Launch) (power : Power) (top : Bounds) (closed : IsClosed lau
       by false = held
   held_applied world pid process f.End held h safe = held_ended world pid process held h
 
-  -- what a living process asks for, once its stack lets it through
-  pub through_of : (world : World) (call : Call) (process : Process) → IsCall call → All world → Held world.tables process → decision_on process.stack (data_of world call) ≡ decision.Pass
-      → (doing : Doing) → asked_of world.calls.calls call ≡ Does doing → (kind : Kind) → asks kind doing ≡ true → lets launch kind ≡ true
-  through_of world call process fit held h passed doing is kind asked =
-      let own : decision_on (launch.stack ++ h.newer) (data_at launch call.nr call.args) ≡ decision.Pass =
-      ap (λ (c : calls.Table). decision_on (launch.stack ++ h.newer) (record { nr = call.nr; arch = c.arch; ip = 0; args = call.args })) (sym held.calls)
-      ∙ ap (λ (s : List (List Insn)). decision_on s (data_of world call)) (sym h.stack) ∙ passed in
-      let same : asked_of launch.calls.calls call ≡ Does doing = ap (λ (c : calls.Table). asked_of c.calls call) (sym held.calls) ∙ is in
-      filters.kinds h.newer call doing fit own same kind asked
+  module _ (filters : LetsThrough launch) where
+    -- what a living process asks for, once its stack lets it through
+    pub through_of : (world : World) (call : Call) (process : Process) → IsCall call → All world → Held world.tables process → decision_on process.stack (data_of world call) ≡ decision.Pass
+        → (doing : Doing) → asked_of world.calls.calls call ≡ Does doing → (kind : Kind) → asks kind doing ≡ true → lets launch kind ≡ true
+    through_of world call process fit held h passed doing is kind asked =
+        let own : decision_on (launch.stack ++ h.newer) (data_at launch call.nr call.args) ≡ decision.Pass =
+        ap (λ (c : calls.Table). decision_on (launch.stack ++ h.newer) (record { nr = call.nr; arch = c.arch; ip = 0; args = call.args })) (sym held.calls)
+        ∙ ap (λ (s : List (List Insn)). decision_on s (data_of world call)) (sym h.stack) ∙ passed in
+        let same : asked_of launch.calls.calls call ≡ Does doing = ap (λ (c : calls.Table). asked_of c.calls call) (sym held.calls) ∙ is in
+        filters.kinds h.newer call doing fit own same kind asked
 
-  held_answered : (world : World) (call : Call) (process : Process) → IsCall call → All world → Held world.tables process → decision_on process.stack (data_of world call) ≡ decision.Pass
-      → (asked : Asked) → asked_of world.calls.calls call ≡ asked → All (answered world call.pid process asked).1
-  held_answered world call process fit held h passed Lacking is = held
-  held_answered world call process fit held h passed Misformed is = held
-  held_answered world call process fit held h passed (Does doing) is =
-      let through = through_of world call process fit held h passed doing is in
-      let safe = safe_effect launch power top closed world.calls.families (caller_of world process) doing h.creds (own_allowed world process h) through in
-      let P : Site → Type 0 = λ s. IsSafe launch power top (effect_of (record { rows = row_at s.rows; families = world.calls.families }) (caller_of world process) doing) in
-      held_applied world call.pid process (effect_of (host_of world) (caller_of world process) doing) held h (subst P (sym held.site) safe)
+    module _ (uids gids : Bool) (closed : IsClosed launch uids gids power top) where
+      -- what the process asks for, once its stack lets it through, uses only what may be used
+      abbrev UsesIfLet : World → Call → Process → Type 0
+      UsesIfLet world call process = decision_on process.stack (data_of world call) ≡ decision.Pass → (doing : Doing) → asked_of world.calls.calls call ≡ Does doing → Uses uids gids process.creds doing
 
-  held_decided : (world : World) (call : Call) (process : Process) → IsCall call → All world → Held world.tables process
-      → (d : Decision) → decision_on process.stack (data_of world call) ≡ d → All (decided world call process d).1
-  held_decided world call process fit held h decision.Pass e = held_answered world call process fit held h e (asked_of world.calls.calls call) refl
-  held_decided world call process fit held h (decision.Errno errno) e = held
-  held_decided world call process fit held h decision.Kill e = held_ended world call.pid process held h
+      held_answered : (world : World) (call : Call) (process : Process) → IsCall call → All world → Held world.tables process → UsesIfLet world call process → decision_on process.stack (data_of world call) ≡ decision.Pass
+          → (asked : Asked) → asked_of world.calls.calls call ≡ asked → All (answered world call.pid process asked).1
+      held_answered world call process fit held h uses passed Lacking is = held
+      held_answered world call process fit held h uses passed Misformed is = held
+      held_answered world call process fit held h uses passed (Does doing) is =
+          let through = through_of world call process fit held h passed doing is in
+          let safe = safe_effect launch uids gids power top closed world.calls.families (caller_of world process) doing h.creds (own_allowed world process h) through (uses passed doing is) in
+          let P : Site → Type 0 = λ s. IsSafe launch power top (effect_of (record { rows = row_at s.rows; families = world.calls.families }) (caller_of world process) doing) in
+          held_applied world call.pid process (effect_of (host_of world) (caller_of world process) doing) held h (subst P (sym held.site) safe)
 
-  held_by : (world : World) (call : Call) → IsCall call → All world → (o : Option Process) → living_of world call.pid ≡ o → All (step_by world call o).1
-  held_by world call fit held None e = held
-  held_by world call fit held (Some process) e =
-      let l = lives world call.pid process e in
-      held_decided world call process fit held (held.each (call.pid - 1) process l.place) (decision_on process.stack (data_of world call)) refl
+      held_decided : (world : World) (call : Call) (process : Process) → IsCall call → All world → Held world.tables process → UsesIfLet world call process
+          → (d : Decision) → decision_on process.stack (data_of world call) ≡ d → All (decided world call process d).1
+      held_decided world call process fit held h uses decision.Pass e = held_answered world call process fit held h uses e (asked_of world.calls.calls call) refl
+      held_decided world call process fit held h uses (decision.Errno errno) e = held
+      held_decided world call process fit held h uses decision.Kill e = held_ended world call.pid process held h
 
-  pub held_step : (world : World) (call : Call) → IsCall call → All world → All (step world call).1
-  held_step world call fit held = held_by world call fit held (living_of world call.pid) refl
+      held_by : (world : World) (call : Call) → IsCall call → All world → ((process : Process) → living_of world call.pid ≡ Some process → Held world.tables process → UsesIfLet world call process)
+          → (o : Option Process) → living_of world call.pid ≡ o → All (step_by world call o).1
+      held_by world call fit held uses None e = held
+      held_by world call fit held uses (Some process) e =
+          let h = held.each (call.pid - 1) process (lives world call.pid process e).place in
+          held_decided world call process fit held h (uses process e h) (decision_on process.stack (data_of world call)) refl
 
-  pub held_run : (list : List Call) (world : World) → AreCalls list → All world → All (run world list)
-  held_run [] world fit held = held
-  held_run (call ∷ list) world fit held = held_run list (step world call).1 fit.1 (held_step world call fit.0 held)
+      spared_step : (world : World) (call : Call) → IsCall call → Spares uids gids world call → All world → All (step world call).1
+      spared_step world call fit spares held = held_by world call fit held (λ process e h passed doing is. spares process doing e is) (living_of world call.pid) refl
+
+      pub spared_run : (list : List Call) (world : World) → AreCalls list → AllSpare uids gids world list → All world → All (run world list)
+      spared_run [] world fit spares held = held
+      spared_run (call ∷ list) world fit spares held = spared_run list (step world call).1 fit.1 spares.1 (spared_step world call fit.0 spares.0 held)
+
+    -- where each capability may be used by what passes, each call does
+    module _ (closed : IsClosed launch (lets launch TakesUid) (lets launch TakesGid) power top) where
+      pub held_step : (world : World) (call : Call) → IsCall call → All world → All (step world call).1
+      held_step world call fit held =
+          held_by (lets launch TakesUid) (lets launch TakesGid) closed world call fit held
+          (λ process e h passed doing is. let let_through = through_of world call process fit held h passed doing is in ((λ asked has. let_through TakesUid asked), (λ asked has. let_through TakesGid asked))) (living_of world call.pid) refl
+
+      pub held_run : (list : List Call) (world : World) → AreCalls list → All world → All (run world list)
+      held_run [] world fit held = held
+      held_run (call ∷ list) world fit held = held_run list (step world call).1 fit.1 (held_step world call fit.0 held)

@@ -1,4 +1,4 @@
--- No effect of a call leaves closed bounds.
+-- No effect of a call that uses only what may be used leaves closed bounds.
 use Rattle.std.proofs.Common.{◌≡◌, ℕ, Bool, true, false, List, Option, Some, None, Result, Ok, Err, arith, refl, cond, sym, subst, eqb}
 use Rattle.std.specs.Prelude.{not, nat_lt, nat_le, ◌&&◌, ◌||◌, ◌+◌, length}
 use Rattle.abs_path.specs.Paths.{Path}
@@ -34,13 +34,14 @@ use Rattle.kernel_laws.specs.Kinds as k
 use Rattle.kernel_laws.specs.Kinds.{Kind, asks}
 use Rattle.kernel_laws.specs.Launched.{Launch, lets}
 use Rattle.kernel_laws.specs.Ceiling.{CanHave, IsClosed, IsSafe}
+use Rattle.kernel_laws.specs.Spared.{Uses}
 use Rattle.kernel_laws.proofs.Kept.{kept-clear_ambient, kept-no_new_privs, kept-keepcaps, kept-lower, kept-drop_bounding, kept-raise, kept-capset}
 use Rattle.kernel_laws.proofs.KeptIds.{kept-setuid, kept-setresuid, kept-setgid, kept-setresgid, kept-setgroups}
 use Rattle.kernel_laws.proofs.KeptExec.{kept-exec, off}
 use Rattle.kernel_laws.proofs.Ran.{ran_program}
 use Rattle.kern_mounts.proofs.Unmounting.{trims, trimmed_through, trimmed_top}
 
-module _ (launch : Launch) (power : Power) (top : Bounds) (closed : IsClosed launch power top) where
+module _ (launch : Launch) (may_uids may_gids : Bool) (power : Power) (top : Bounds) (closed : IsClosed launch may_uids may_gids power top) where
   abbrev Safe : Effect → Type 0
   Safe = IsSafe launch power top
 
@@ -147,36 +148,36 @@ module _ (launch : Launch) (power : Power) (top : Bounds) (closed : IsClosed lau
   abbrev pub Through : Doing → Type 0
   Through doing = (kind : Kind) → asks kind doing ≡ true → lets launch kind ≡ true
 
-  pub safe_effect : (families : List CallLine) (caller : Caller) (doing : Doing) → Keeps top caller.creds → CanHave power launch.table caller.table → Through doing
+  pub safe_effect : (families : List CallLine) (caller : Caller) (doing : Doing) → Keeps top caller.creds → CanHave power launch.table caller.table → Through doing → Uses may_uids may_gids caller.creds doing
       → Safe (effect_of (record { rows = row_at launch.site.rows; families = families }) caller doing)
-  safe_effect families caller (d.See path) held allowed p = safe_looks _
-  safe_effect families caller (d.Open flags path) held allowed p = safe_looks _
-  safe_effect families caller (d.Create path) held allowed p = safe_looks _
-  safe_effect families caller (d.Truncate path) held allowed p = safe_looks _
-  safe_effect families caller (d.Execve path) held allowed p = safe_exec caller.creds caller.table path held allowed _ refl
-  safe_effect families caller (d.SetMode mode) held allowed p = tt
-  safe_effect families caller (d.Map protection) held allowed p = tt
-  safe_effect families caller (d.Protect protection) held allowed p = tt
-  safe_effect families caller (d.Attach flags) held allowed p = tt
-  safe_effect families caller (d.Schedule policy) held allowed p = safe_looks _
-  safe_effect families caller (d.Personality domain) held allowed p = tt
-  safe_effect families caller (d.Socket family) held allowed p = safe_socket caller.creds _
-  safe_effect families caller d.Enter held allowed p = tt
-  safe_effect families caller d.Fork held allowed p = tt
-  safe_effect families caller (d.Clone flags) held allowed p = safe_clone caller.creds flags held
-  safe_effect families caller (d.Unshare flags) held allowed p = safe_unshare caller.creds flags held
-  safe_effect families caller d.Exit held allowed p = tt
-  safe_effect families caller (d.Mount source target flags) held allowed p =
+  safe_effect families caller (d.See path) held allowed p u = safe_looks _
+  safe_effect families caller (d.Open flags path) held allowed p u = safe_looks _
+  safe_effect families caller (d.Create path) held allowed p u = safe_looks _
+  safe_effect families caller (d.Truncate path) held allowed p u = safe_looks _
+  safe_effect families caller (d.Execve path) held allowed p u = safe_exec caller.creds caller.table path held allowed _ refl
+  safe_effect families caller (d.SetMode mode) held allowed p u = tt
+  safe_effect families caller (d.Map protection) held allowed p u = tt
+  safe_effect families caller (d.Protect protection) held allowed p u = tt
+  safe_effect families caller (d.Attach flags) held allowed p u = tt
+  safe_effect families caller (d.Schedule policy) held allowed p u = safe_looks _
+  safe_effect families caller (d.Personality domain) held allowed p u = tt
+  safe_effect families caller (d.Socket family) held allowed p u = safe_socket caller.creds _
+  safe_effect families caller d.Enter held allowed p u = tt
+  safe_effect families caller d.Fork held allowed p u = tt
+  safe_effect families caller (d.Clone flags) held allowed p u = safe_clone caller.creds flags held
+  safe_effect families caller (d.Unshare flags) held allowed p u = safe_unshare caller.creds flags held
+  safe_effect families caller d.Exit held allowed p u = tt
+  safe_effect families caller (d.Mount source target flags) held allowed p u =
       safe_admin caller.creds (table_effect (after_mount (row_at launch.site.rows) caller.table source target flags)) held (λ h. safe_table _ (λ next e. mounted next (closed.mount (p k.ChangesMounts refl) h)))
-  safe_effect families caller (d.Umount path flags) held allowed p =
+  safe_effect families caller (d.Umount path flags) held allowed p u =
       safe_admin caller.creds (table_effect (umount_answer caller.table path flags)) held (λ h. safe_umount caller.table path flags allowed (closed.umount (p k.RemovesMounts refl) h))
-  safe_effect families caller (d.Setuid id) held allowed p = safe_creds _ (kept-setuid top caller.creds held closed.settled (closed.any_uid (p k.TakesUid refl)) id)
-  safe_effect families caller (d.Setgid id) held allowed p = safe_creds _ (kept-setgid top caller.creds held (closed.any_gid (p k.TakesGid refl)) id)
-  safe_effect families caller (d.Setresuid r e s) held allowed p = safe_creds _ (kept-setresuid top caller.creds held closed.settled (closed.any_uid (p k.TakesUid refl)) r e s)
-  safe_effect families caller (d.Setresgid r e s) held allowed p = safe_creds _ (kept-setresgid top caller.creds held (closed.any_gid (p k.TakesGid refl)) r e s)
-  safe_effect families caller (d.Setgroups ids) held allowed p = safe_creds _ (kept-setgroups top caller.creds held (closed.any_gid (p k.TakesGid refl)) ids)
-  safe_effect families caller (d.Capset permitted effective inheritable) held allowed p =
+  safe_effect families caller (d.Setuid id) held allowed p u = safe_creds _ (kept-setuid top caller.creds held closed.settled (λ h. closed.any_uid (u.0 refl h) (held.effective.each 7 h)) id)
+  safe_effect families caller (d.Setgid id) held allowed p u = safe_creds _ (kept-setgid top caller.creds held (λ h. closed.any_gid (u.1 refl h) (held.effective.each 6 h)) id)
+  safe_effect families caller (d.Setresuid r e s) held allowed p u = safe_creds _ (kept-setresuid top caller.creds held closed.settled (λ h. closed.any_uid (u.0 refl h) (held.effective.each 7 h)) r e s)
+  safe_effect families caller (d.Setresgid r e s) held allowed p u = safe_creds _ (kept-setresgid top caller.creds held (λ h. closed.any_gid (u.1 refl h) (held.effective.each 6 h)) r e s)
+  safe_effect families caller (d.Setgroups ids) held allowed p u = safe_creds _ (kept-setgroups top caller.creds held (λ h. closed.any_gid (u.1 refl h) (held.effective.each 6 h)) ids)
+  safe_effect families caller (d.Capset permitted effective inheritable) held allowed p u =
       safe_creds _ (kept-capset top caller.creds held permitted effective inheritable (closed.capset_effective (p k.SetsCaps refl)) (closed.capset_inheritable (p k.SetsCaps refl)))
-  safe_effect families caller (d.Prctl option value third) held allowed p = safe_prctl caller.creds option value third held
-  safe_effect families caller (d.Seccomp operation flags bytes) held allowed p = safe_seccomp caller.creds caller.stack operation flags bytes
-  safe_effect families caller (d.Plain cap') held allowed p = safe_cap_of cap' caller.creds 0
+  safe_effect families caller (d.Prctl option value third) held allowed p u = safe_prctl caller.creds option value third held
+  safe_effect families caller (d.Seccomp operation flags bytes) held allowed p u = safe_seccomp caller.creds caller.stack operation flags bytes
+  safe_effect families caller (d.Plain cap') held allowed p u = safe_cap_of cap' caller.creds 0

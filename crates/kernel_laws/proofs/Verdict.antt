@@ -1,8 +1,7 @@
 -- What the ceiling closes is denied.
-use Rattle.std.proofs.Common.{◌≡◌, ℕ, Bool, true, false, List, [], ◌∷◌, ◌++◌, Option, Some, None, ◌⊎◌, inl, inr, refl, ap, ◌∙◌, sym, subst, eqb, zero, suc, append-nil}
+use Rattle.std.proofs.Common.{◌≡◌, ℕ, Bool, true, false, List, ◌++◌, Option, Some, None, refl, ap, ◌∙◌, sym, subst}
 use Rattle.std.specs.Prelude.{slice_get, not, ◌&&◌, ◌-◌, is_some}
-use Rattle.std.specs.List.{list_any, AllByRecursion}
-use Rattle.std.proofs.lemmas.Bool.{or_cases, eqb-true, eq-eqb, and_from}
+use Rattle.std.proofs.lemmas.Bool.{eqb-true, eq-eqb, and_from}
 use Rattle.bpf_code.specs.declared.machine.Insn.{Insn}
 use Rattle.bpf_code.specs.declared.decision.Decision.TheVariants as decision
 use Rattle.bpf_code.specs.Stack.{decision_on}
@@ -14,14 +13,11 @@ use Rattle.call_table.specs.Table as calls
 use Rattle.call_table.specs.Lookups.{numbered}
 use Rattle.site_table.specs.declared.row.Row.{Row}
 use Rattle.site_table.specs.Table.{Site, row_at}
-use Rattle.kern_creds.specs.declared.creds.Creds.{Creds}
 use Rattle.kern_creds.specs.Exec.{is_refused}
 use Rattle.kern_mounts.specs.Finds.{row, finds}
-use Rattle.kern_mounts.specs.Table.{StartsAtRoot}
 use Rattle.kernel_laws.specs.Bounds.{Bounds}
 use Rattle.kernel_calls.specs.declared.call.Call.{Call}
 use Rattle.kernel_calls.specs.Calls.{IsCall}
-use Rattle.kern_mounts.specs.Split.{Table}
 use Rattle.kernel_calls.specs.declared.rule.Rule.TheVariants as rule
 use Rattle.kernel_calls.specs.declared.rule.Rule.{Rule}
 use Rattle.kernel_calls.specs.Rules.{rule_of}
@@ -36,22 +32,20 @@ use Rattle.kernel_model.specs.declared.process.Process.{Process}
 use Rattle.kernel_model.specs.Runs.{moment_at, run}
 use Rattle.kernel_laws.specs.Questions as q
 use Rattle.kernel_laws.specs.Questions.{Wish, ToSee, ToRead, ToWrite, ToExec, Space, Question, is_plain, IsAsked}
-use Rattle.kernel_laws.specs.Denied.{path_for, ReachesRow, ReachesCall, Performs, Reaches, Holds, IsDenied, SomeLiving, HasGid, is_family, asks_family, asks_space, asks_map, asks_protect, asks_attach, asks_realtime, asks_personality, asks_mode}
-use Rattle.kernel_laws.specs.Reach.{Power, Nowise, Unmounting, Mounting}
+use Rattle.kernel_laws.specs.Denied.{path_for, ReachesRow, ReachesCall, Performs, Reaches, Holds, IsDenied, is_family, asks_family, asks_space, asks_map, asks_protect, asks_attach, asks_realtime, asks_personality, asks_mode}
+use Rattle.kernel_laws.specs.Reach.{Power}
 use Rattle.kernel_laws.specs.Kinds as k
 use Rattle.kernel_laws.specs.Kinds.{Kind, asks}
-use Rattle.kernel_laws.specs.Launched.{Launch, data_at, lets, lets_line, IsLaunched, IsLaunchedWorld, launch_of, first_of}
-use Rattle.kernel_laws.specs.Ceiling.{CanHave, IsHeld, AreHeld}
+use Rattle.kernel_laws.specs.Launched.{Launch, data_at, lets, lets_line, IsLaunched, launch_of}
+use Rattle.kernel_laws.specs.Ceiling.{IsHeld}
 use Rattle.kernel_laws.specs.Bound.{power_of, ceiling, is_open, can_reach, is_to_exec, is_mounting, is_barred, can_have_cap, can_have_for, if_listed}
 use Rattle.kernel_laws.specs.Laws.{DenialIsSound}
-use Rattle.kernel_laws.proofs.Numbered.{number_get, lives}
-use Rattle.kern_mounts.proofs.Unmounting.{trimmed_self}
-use Rattle.kernel_laws.proofs.Runs.{held_step, held_run, through_of, own_allowed}
+use Rattle.kernel_laws.proofs.Runs.{through_of, own_allowed}
 use Rattle.kernel_laws.proofs.Moments.{no_moment}
 use Rattle.kernel_laws.proofs.Done.{WasDone, was_done}
 use Rattle.kernel_laws.proofs.Filters.{bare_is, lets_through, line_lets, HasRule, has_rule, Asks, asks_for, at_position}
 use Rattle.kernel_laws.proofs.Reach.{leads, reaches_if}
-use Rattle.kernel_laws.proofs.Bound.{is_closed, kept_launch}
+use Rattle.kernel_laws.proofs.Held.{AllHeld, launched_held, ceiling_step, ceiling_run, cap_within, uid_within, gid_within}
 use Rattle.kernel_laws.proofs.Sound.{DoneBy, wish_fits, run_taken, honours_at, honours_below, space_done, cap_done}
 
 module _ (launch : Launch) (l : IsLaunched launch) where
@@ -62,14 +56,14 @@ module _ (launch : Launch) (l : IsLaunched launch) where
   top = ceiling launch
 
   abbrev All : World → Type 0
-  All = AreHeld launch power top
+  All = AllHeld launch
 
   held_of : (now : World) (call : Call) → All now → (w : WasDone now call) → IsHeld launch power top now.tables w.process
   held_of now call held w = held.each (call.pid - 1) w.process w.living.place
 
   kind_lets : (now : World) (call : Call) → IsCall call → All now → (w : WasDone now call) → (kind : Kind) → asks kind w.doing ≡ true → lets launch kind ≡ true
   kind_lets now call fit held w kind asked =
-      through_of launch power top (is_closed launch l) (lets_through launch l) now call w.process fit held (held_of now call held w) w.passed w.doing w.asks kind asked
+      through_of launch power top (lets_through launch l) now call w.process fit held (held_of now call held w) w.passed w.doing w.asks kind asked
 
   -- one call asks for one thing
   same_doing : (now : World) (call : Call) (one other : Doing) → asked_of now.calls.calls call ≡ Does one → asked_of now.calls.calls call ≡ Does other → one ≡ other
@@ -91,7 +85,7 @@ module _ (launch : Launch) (l : IsLaunched launch) where
   not_barred now call held w path target low r =
       let h = held_of now call held w in
       let table = table_of now w.process.namespace in
-      let allowed = own_allowed launch power top (is_closed launch l) (lets_through launch l) now w.process h in
+      let allowed = own_allowed launch power top now w.process h in
       let suid : (flags_at table path).no_suid ≡ false = honours_at table path (honours_below power launch.table table (λ e. let no' : is_mounting power ≡ true = ap is_mounting e in cc) allowed l.honours) in
       let own : (not false && target.effective) && not (within target.caps w.process.creds.bounding) ≡ false = ap (λ b. (not b && target.effective) && not (within target.caps w.process.creds.bounding)) (sym suid) ∙ r in
       by target.effective (within target.caps w.process.creds.bounding) refl own h.creds.bounding
@@ -126,7 +120,7 @@ module _ (launch : Launch) (l : IsLaunched launch) where
       let fit' = wish_fits now call.pid w.process wish w.doing r.path r.target wanted found w.done in
       let lead = leads launch.site.rows table r.path r.target wish seen fit' in
       let h = held_of now call held w in
-      let there = reaches_if power launch.table table r.target.path wish (own_allowed launch power top (is_closed launch l) (lets_through launch l) now w.process h) lead in
+      let there = reaches_if power launch.table table r.target.path wish (own_allowed launch power top now w.process h) lead in
       let open' = free (is_to_exec wish) (is_mounting power) (is_barred launch r.target) (λ exec low.
       let is_exec = only_exec wish exec in
       let wanted' : path_for ToExec w.doing ≡ Some r.path = ap (λ (v : Wish). path_for v w.doing) (sym is_exec) ∙ wanted in
@@ -205,30 +199,6 @@ module _ (launch : Launch) (l : IsLaunched launch) where
       and_from _ _ (ap not made.0) (and_from _ _ (kind_lets now call fit held w (k.ForSpace space) asked) (has_top now call held w 21 made.1))
 
   -- ---- states
-  some_held : (P : Creds → Type 0) (now : World) → All now → (s : SomeLiving P now) → IsHeld launch power top now.tables s.process
-  some_held P now held s = held.each (s.pid - 1) s.process (lives now s.pid s.process s.lives).place
-
-  among : (id : ℕ) (groups : List ℕ) → AllByRecursion (λ id. top.gid id ≡ true) groups → list_any (λ group. eqb group id) groups ≡ true → top.gid id ≡ true
-  among id [] all e = cc
-  among id (group ∷ groups) all e = either (or_cases (eqb group id) (list_any (λ group. eqb group id) groups) e) (among id groups all.1)
-    where
-      either : (eqb group id ≡ true) ⊎ (list_any (λ group. eqb group id) groups ≡ true) → (list_any (λ group. eqb group id) groups ≡ true → top.gid id ≡ true) → top.gid id ≡ true
-      either (inl e) more = ap top.gid (sym (eqb-true group id e)) ∙ all.0
-      either (inr e) more = more e
-
-  gid_open : (id : ℕ) (now : World) → All now → Holds (q.Gid id) now → top.gid id ≡ true
-  gid_open id now held s = let h = some_held (HasGid id) now held s in by h.creds.gids.effective h.creds.groups s.has
-    where
-      by : top.gid s.process.creds.gids.effective ≡ true → AllByRecursion (λ id. top.gid id ≡ true) s.process.creds.groups → HasGid id s.process.creds → top.gid id ≡ true
-      by own all (inl e) = ap top.gid (sym e) ∙ own
-      by own all (inr e) = among id s.process.creds.groups all e
-
-  uid_open : (id : ℕ) (now : World) → All now → Holds (q.Uid id) now → top.uid id ≡ true
-  uid_open id now held s = ap top.uid (sym s.has) ∙ (some_held (λ creds. creds.uids.effective ≡ id) now held s).creds.uids.effective
-
-  cap_open : (number : ℕ) (now : World) → All now → Holds (q.Cap number) now → has top.effective number ≡ true
-  cap_open number now held s = (some_held (λ creds. has creds.effective number ≡ true) now held s).creds.effective.each number s.has
-
   -- what is reached by a call from a world that is held, or holds there, is open
   reached_open : (question : Question) → IsAsked launch.calls question → (now : World) (call : Call) → IsCall call → All now → Reaches question (moment_at now call) → is_open launch question ≡ true
   reached_open (q.ByPath wish place) asked now call fit held r = row_open wish place now call fit held r
@@ -246,9 +216,9 @@ module _ (launch : Launch) (l : IsLaunched launch) where
   reached_open (q.Gid id) asked now call fit held r = absurd r
 
   held_open : (question : Question) (now : World) → All now → Holds question now → is_open launch question ≡ true
-  held_open (q.Cap number) now held s = cap_open number now held s
-  held_open (q.Uid id) now held s = uid_open id now held s
-  held_open (q.Gid id) now held s = gid_open id now held s
+  held_open (q.Cap number) now held s = cap_within launch power top now held number s
+  held_open (q.Uid id) now held s = uid_within launch power top now held id s
+  held_open (q.Gid id) now held s = gid_within launch power top now held id s
   held_open (q.ByPath wish place) now held s = absurd s
   held_open (q.Call place) now held s = absurd s
   held_open (q.Socket place) now held s = absurd s
@@ -262,35 +232,10 @@ module _ (launch : Launch) (l : IsLaunched launch) where
 
   pub closed_denied : (world : World) → All world → (question : Question) → IsAsked launch.calls question → is_open launch question ≡ false → IsDenied world question
   closed_denied world start question asked off = record {
-    no_moment = λ list fit some. no_moment All (Reaches question) (held_step launch power top (is_closed launch l) (lets_through launch l))
+    no_moment = λ list fit some. no_moment All (Reaches question) (ceiling_step launch l)
         (λ now call fit held r. let on = reached_open question asked now call fit held r in cc) world start list fit some;
-    no_world = λ list fit s. let on = held_open question (run world list) (held_run launch power top (is_closed launch l) (lets_through launch l) list world fit start) s in cc;
+    no_world = λ list fit s. let on = held_open question (run world list) (ceiling_run launch l list world fit start) s in cc;
   }
 
--- ---- launched worlds
-have_own : (power : Power) (table : Table) → StartsAtRoot table → CanHave power table table
-have_own Nowise table root = refl
-have_own Unmounting table root = trimmed_self table root
-have_own Mounting table root = tt
-
-pub start_held : (world : World) → IsLaunchedWorld world → AreHeld (launch_of world) (power_of (launch_of world)) (ceiling (launch_of world)) world
-start_held world s = record { calls = refl; site = refl; each = λ at process e. by at process (ap (λ (ps : List Process). slice_get ps at) (sym s.alone) ∙ e) }
-  where
-    by : (at : ℕ) (process : Process) → slice_get (first_of world ∷ []) at ≡ Some process → IsHeld (launch_of world) (power_of (launch_of world)) (ceiling (launch_of world)) world.tables process
-    by zero process e =
-        let same : first_of world ≡ process = cc in
-        let P : Process → Type 0 = λ p. IsHeld (launch_of world) (power_of (launch_of world)) (ceiling (launch_of world)) world.tables p in
-        let place = number_get world.tables (first_of world).namespace (table_of world (first_of world).namespace) s.own in
-        subst P same (record {
-          creds = kept_launch (launch_of world) (power_of (launch_of world)) s.launched;
-          newer = [];
-          stack = sym (append-nil (first_of world).stack);
-          table = table_of world (first_of world).namespace;
-          numbered = place.0;
-          own = place.1;
-          allowed = have_own (power_of (launch_of world)) (launch_of world).table s.launched.rooted;
-        })
-    by (suc at) process e = cc
-
 pub denial_is_sound : DenialIsSound
-denial_is_sound world question s asked off = closed_denied (launch_of world) s.launched world (start_held world s) question asked off
+denial_is_sound world question s asked off = closed_denied (launch_of world) s.launched world (launched_held world s) question asked off

@@ -52,13 +52,17 @@ gain_at launch power row = when (can_run launch power row) (file_gain launch row
 abbrev pub caps_before : Launch → Power → ℕ
 caps_before launch power = union launch.creds.effective (gathered (gain_at launch power) launch.site.rows)
 
--- who has CAP_SETUID and may take a uid becomes root, and has all of the bounding set
-abbrev pub with_root : Launch → ℕ → ℕ
-with_root launch caps = union caps (when (has caps cap_setuid && lets launch TakesUid) launch.creds.bounding)
+-- who has CAP_SETUID, where it may be used, becomes root, and has all of the bounding set
+abbrev pub with_root : Launch → Bool → ℕ → ℕ
+with_root launch uids caps = union caps (when (has caps cap_setuid && uids) launch.creds.bounding)
 
--- the capabilities that can become effective; with no_new_privs none are added, prctl(2)
+-- the capabilities that can become effective, by whether CAP_SETUID may be used; with no_new_privs none are added, prctl(2)
+abbrev pub caps_by : Launch → Bool → Power → ℕ
+caps_by launch uids power = if launch.creds.no_new_privs then launch.creds.effective else with_root launch uids (caps_before launch power)
+
+-- the same, where CAP_SETUID may be used by each call that passes and takes a uid
 abbrev pub caps_at : Launch → Power → ℕ
-caps_at launch power = if launch.creds.no_new_privs then launch.creds.effective else with_root launch (caps_before launch power)
+caps_at launch power = caps_by launch (lets launch TakesUid) power
 
 -- by whether CAP_SYS_ADMIN can be had on the launched table, whether mount passes, whether umount2 does
 abbrev pub power_by : Bool → Bool → Bool → Power
@@ -67,13 +71,21 @@ power_by true true unmounts = Mounting
 power_by true false true = Unmounting
 power_by true false false = Nowise
 
--- how far the service can change its mount tables, mount(2), umount2(2)
+-- how far the service can change its mount tables, mount(2), umount2(2), by whether CAP_SETUID may be used
+abbrev pub power_using : Launch → Bool → Power
+power_using launch uids = power_by (has (caps_by launch uids Nowise) cap_sys_admin) (lets launch ChangesMounts) (lets launch RemovesMounts)
+
+-- the same, where CAP_SETUID may be used by each call that passes and takes a uid
 abbrev pub power_of : Launch → Power
-power_of launch = power_by (has (caps_at launch Nowise) cap_sys_admin) (lets launch ChangesMounts) (lets launch RemovesMounts)
+power_of launch = power_using launch (lets launch TakesUid)
+
+-- every id is had by the capability, where it may be used
+abbrev pub any_by : Bool → ℕ → ℕ → Bool
+any_by may number effective = has effective number && may
 
 -- every uid can be taken, setuid(2)
 abbrev pub any_uid : Launch → ℕ → Bool
-any_uid launch effective = has effective cap_setuid && lets launch TakesUid
+any_uid launch effective = any_by (lets launch TakesUid) cap_setuid effective
 
 -- a program that can be run has a set-user-id bit of this owner
 abbrev pub owned_by : Launch → Power → ℕ → Row → Bool
@@ -81,25 +93,29 @@ owned_by launch power id row = can_run launch power row && is_owner id row.setui
 
 -- every gid can be taken, setgid(2), setgroups(2)
 abbrev pub any_gid : Launch → ℕ → Bool
-any_gid launch effective = has effective cap_setgid && lets launch TakesGid
+any_gid launch effective = any_by (lets launch TakesGid) cap_setgid effective
 
 -- a program that can be run has a set-group-id bit of this group
 abbrev pub grouped_by : Launch → Power → ℕ → Row → Bool
 grouped_by launch power id row = can_run launch power row && is_owner id row.setgid
 
--- the bounds at a power
-abbrev pub bounds_at : Launch → Power → Bounds
-bounds_at launch power = record {
+-- the bounds at a power, by whether CAP_SETUID may be used and whether CAP_SETGID may
+abbrev pub bounds_by : Launch → Bool → Bool → Power → Bounds
+bounds_by launch uids gids power = record {
   no_new_privs = launch.creds.no_new_privs;
   bounding = launch.creds.bounding;
   inheritable = if lets launch SetsCaps then launch.creds.bounding else launch.creds.inheritable;
-  effective = caps_at launch power;
+  effective = caps_by launch uids power;
   permitted =
       if launch.creds.no_new_privs then launch.creds.effective
-      else union (caps_at launch power) (gathered (λ row. when (can_run launch power row) (cut row.caps launch.creds.bounding)) launch.site.rows);
-  uid = λ id. any_uid launch (caps_at launch power) || (id == launch.creds.uids.effective || (not launch.creds.no_new_privs && list_any (owned_by launch power id) launch.site.rows));
-  gid = λ id. any_gid launch (caps_at launch power) || ((id == launch.creds.gids.effective || list_any (λ group. id == group) launch.creds.groups) || (not launch.creds.no_new_privs && list_any (grouped_by launch power id) launch.site.rows));
+      else union (caps_by launch uids power) (gathered (λ row. when (can_run launch power row) (cut row.caps launch.creds.bounding)) launch.site.rows);
+  uid = λ id. any_by uids cap_setuid (caps_by launch uids power) || (id == launch.creds.uids.effective || (not launch.creds.no_new_privs && list_any (owned_by launch power id) launch.site.rows));
+  gid = λ id. any_by gids cap_setgid (caps_by launch uids power) || ((id == launch.creds.gids.effective || list_any (λ group. id == group) launch.creds.groups) || (not launch.creds.no_new_privs && list_any (grouped_by launch power id) launch.site.rows));
 }
+
+-- the same, where each may be used by each call that passes and takes such an id
+abbrev pub bounds_at : Launch → Power → Bounds
+bounds_at launch power = bounds_by launch (lets launch TakesUid) (lets launch TakesGid) power
 
 -- the bounds of the service
 abbrev pub ceiling : Launch → Bounds

@@ -1,5 +1,5 @@
 -- What bounds every process of the service, and when such bounds are left by no call.
-use Rattle.std.specs.Prelude.{◌≡◌, ℕ, ◌-◌, true, false, ◌==◌, List, ◌++◌, Some, slice_get}
+use Rattle.std.specs.Prelude.{◌≡◌, ℕ, ◌-◌, Bool, true, false, ◌==◌, List, ◌++◌, Some, slice_get}
 use Rattle.bpf_code.specs.declared.machine.Insn.{Insn}
 use Rattle.abs_path.specs.Paths.{Path}
 use Rattle.cap_sets.specs.Sets.{has, IsWithin}
@@ -13,7 +13,7 @@ use Rattle.kern_mounts.specs.Split.{Table}
 use Rattle.site_table.specs.Kinds.{is_exe}
 use Rattle.kern_mounts.specs.Unmounts.{IsTrimmed}
 use Rattle.kernel_laws.specs.Reach.{Power, Nowise, Unmounting, Mounting}
-use Rattle.kernel_laws.specs.Kinds.{ChangesMounts, RemovesMounts, SetsCaps, TakesUid, TakesGid}
+use Rattle.kernel_laws.specs.Kinds.{ChangesMounts, RemovesMounts, SetsCaps}
 use Rattle.kernel_model.specs.Effects.{Effect, Refuse, Answer, SetCreds, SetTable, Push, Child, OwnTable, End}
 use Rattle.kern_files.specs.Looking.{flags_at}
 use Rattle.kern_files.specs.Executing.{marks_of}
@@ -37,15 +37,15 @@ pub record CanRun (launch : Launch) (power : Power) (target : Row) : Type 0 wher
   pub runs : (flags_at table path).no_exec ≡ false
   pub suid : (flags_at table path).no_suid ≡ false
 
--- bounds that no call leaves
-pub record IsClosed (launch : Launch) (power : Power) (top : Bounds) : Type 0 where
+-- bounds that no call leaves, unless it uses CAP_SETUID or CAP_SETGID where that may not be used
+pub record IsClosed (launch : Launch) (uids gids : Bool) (power : Power) (top : Bounds) : Type 0 where
   pub settled : IsSettled top
   pub rooted : StartsAtRoot launch.table
   pub files : (target : Row) → top.no_new_privs ≡ false → CanRun launch power target → (target.effective ≡ true → IsWithin target.caps top.bounding) → Admits top (marks_of target)
   pub capset_effective : lets launch SetsCaps ≡ true → IsWithin top.permitted top.effective
   pub capset_inheritable : lets launch SetsCaps ≡ true → IsWithin top.bounding top.inheritable
-  pub any_uid : lets launch TakesUid ≡ true → has top.effective cap_setuid ≡ true → (id : ℕ) → top.uid id ≡ true
-  pub any_gid : lets launch TakesGid ≡ true → has top.effective cap_setgid ≡ true → (id : ℕ) → top.gid id ≡ true
+  pub any_uid : uids ≡ true → has top.effective cap_setuid ≡ true → (id : ℕ) → top.uid id ≡ true
+  pub any_gid : gids ≡ true → has top.effective cap_setgid ≡ true → (id : ℕ) → top.gid id ≡ true
   pub mount : lets launch ChangesMounts ≡ true → has top.effective cap_sys_admin ≡ true → power ≡ Mounting
   pub umount : lets launch RemovesMounts ≡ true → has top.effective cap_sys_admin ≡ true → (power ≡ Nowise) → ⊥
 

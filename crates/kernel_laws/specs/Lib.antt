@@ -9,5 +9,6 @@ pub mod Reach
 pub mod ReachLaws
 pub mod Ceiling
 pub mod Bound
+pub mod Spared
 pub mod Laws
 pub mod Blind

@@ -319,15 +319,15 @@ module _ (launch : Launch) (l : IsLaunched launch) (o : Offers launch) where
         by true e false f h = let off = has_none number in cc
         by false e y f h = let off = has_none number in cc
 
-    nowise : (number : ℕ) → has (with_root launch (caps_before launch Nowise)) number ≡ true → Gained false launch.creds launch.table launch.table number
+    nowise : (number : ℕ) → has (with_root launch (lets launch TakesUid) (caps_before launch Nowise)) number ≡ true → Gained false launch.creds launch.table launch.table number
     nowise number h = by (or_cases _ _ (sym (has_union (caps_before launch Nowise) (when (has (caps_before launch Nowise) 7 && lets launch TakesUid) launch.creds.bounding) number) ∙ h))
       where
         by : (has (caps_before launch Nowise) number ≡ true) ⊎ (has (when (has (caps_before launch Nowise) 7 && lets launch TakesUid) launch.creds.bounding) number ≡ true) → Gained false launch.creds launch.table launch.table number
         by (inl h) = nowise_before false number h
         by (inr h) = root_part launch.table number (caps_before launch Nowise) (nowise_before false 7) h
 
-    caps_free : (power : Power) → caps_at launch power ≡ with_root launch (caps_before launch power)
-    caps_free power = ap (λ n. cond n launch.creds.effective (with_root launch (caps_before launch power))) free
+    caps_free : (power : Power) → caps_at launch power ≡ with_root launch (lets launch TakesUid) (caps_before launch power)
+    caps_free power = ap (λ n. cond n launch.creds.effective (with_root launch (lets launch TakesUid) (caps_before launch power))) free
 
     pub nowise_caps : (number : ℕ) → has (caps_at launch Nowise) number ≡ true → Gained false launch.creds launch.table launch.table number
     nowise_caps number h = nowise number (ap (λ s. has s number) (sym (caps_free Nowise)) ∙ h)
@@ -344,7 +344,7 @@ module _ (launch : Launch) (l : IsLaunched launch) (o : Offers launch) where
               let g = x.gained in
               (x.end, record { calls = admin.calls ++ g.calls; creds = g.creds; way = way_join admin.way g.way; basis = g.basis; holds = g.holds; target = g.target; again = g.again; rootlike = g.rootlike; no_uid = λ e. cc; no_gid = avoid_join launch TakesGid admin.calls g.calls admin.no_gid g.no_gid })
 
-      powered : (number : ℕ) → has (with_root launch (caps_before launch power)) number ≡ true → (end : Table) × Gained false launch.creds launch.table end number
+      powered : (number : ℕ) → has (with_root launch (lets launch TakesUid) (caps_before launch power)) number ≡ true → (end : Table) × Gained false launch.creds launch.table end number
       powered number h = by (or_cases _ _ (sym (has_union (caps_before launch power) (when (has (caps_before launch power) 7 && lets launch TakesUid) launch.creds.bounding) number) ∙ h))
         where
           by_root : (x : Bool) → has (caps_before launch power) 7 ≡ x → has (when (x && lets launch TakesUid) launch.creds.bounding) number ≡ true → (end : Table) × Gained false launch.creds launch.table end number
@@ -359,7 +359,7 @@ module _ (launch : Launch) (l : IsLaunched launch) (o : Offers launch) where
   pub at_nowise : (number : ℕ) → has (caps_at launch Nowise) number ≡ true → Gained false launch.creds launch.table launch.table number
   at_nowise number h = by launch.creds.no_new_privs refl h
     where
-      by : (n : Bool) → launch.creds.no_new_privs ≡ n → has (cond n launch.creds.effective (with_root launch (caps_before launch Nowise))) number ≡ true → Gained false launch.creds launch.table launch.table number
+      by : (n : Bool) → launch.creds.no_new_privs ≡ n → has (cond n launch.creds.effective (with_root launch (lets launch TakesUid) (caps_before launch Nowise))) number ≡ true → Gained false launch.creds launch.table launch.table number
       by true e h = at_launch false number h
       by false e h = nowise e number h
 
@@ -375,11 +375,11 @@ module _ (launch : Launch) (l : IsLaunched launch) (o : Offers launch) where
   pub attained : (number : ℕ) → has (caps_at launch (power_of launch)) number ≡ true → (end : Table) × Gained false launch.creds launch.table end number
   attained number h = by_mark launch.creds.no_new_privs refl h
     where
-      by : launch.creds.no_new_privs ≡ false → (power : Power) → power_of launch ≡ power → has (with_root launch (caps_before launch power)) number ≡ true → (end : Table) × Gained false launch.creds launch.table end number
+      by : launch.creds.no_new_privs ≡ false → (power : Power) → power_of launch ≡ power → has (with_root launch (lets launch TakesUid) (caps_before launch power)) number ≡ true → (end : Table) × Gained false launch.creds launch.table end number
       by free Nowise e h = (launch.table, nowise free number h)
       by free Unmounting e h = powered free (admin_gained Unmounting e (λ x. cc)) Unmounting e number h
       by free Mounting e h = powered free (admin_gained Mounting e (λ x. cc)) Mounting e number h
 
-      by_mark : (n : Bool) → launch.creds.no_new_privs ≡ n → has (cond n launch.creds.effective (with_root launch (caps_before launch (power_of launch)))) number ≡ true → (end : Table) × Gained false launch.creds launch.table end number
+      by_mark : (n : Bool) → launch.creds.no_new_privs ≡ n → has (cond n launch.creds.effective (with_root launch (lets launch TakesUid) (caps_before launch (power_of launch)))) number ≡ true → (end : Table) × Gained false launch.creds launch.table end number
       by_mark true e h = (launch.table, at_launch false number h)
       by_mark false e h = by e (power_of launch) refl h

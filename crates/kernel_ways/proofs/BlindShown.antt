@@ -19,7 +19,7 @@ use Rattle.kern_mounts.specs.Entry.{leads_to, entry_of}
 use Rattle.kern_mounts.specs.Finds.{finds, host_place, host_place_by}
 use Rattle.kern_mounts.specs.Launch.{BeginsAtRoot, HasShortPlace, proc}
 use Rattle.kern_mounts.specs.Split.{Table, Split, split_at}
-use Rattle.kern_mounts.specs.Unmounts.{IsOrdered, IsPart, nothing, keeps, leaves}
+use Rattle.kern_mounts.specs.Unmounts.{IsOrdered, IsPart}
 use Rattle.kern_mounts.specs.declared.step.MountStep.{MountStep}
 use Rattle.kern_mounts.specs.declared.step.What.TheVariants.{Host}
 use Rattle.kern_mounts.proofs.Entries.{entry_push}
@@ -46,11 +46,12 @@ use Rattle.kernel_ways.specs.Laws.{IsServedWorld}
 use Rattle.kernel_ways.specs.Offers.{Offers}
 use Rattle.kernel_ways.specs.Ways.{Way, here, by_table, IsSolo, solo_world, solo_process}
 use Rattle.kernel_ways.proofs.Attained.{admin_gained}
-use Rattle.kernel_ways.proofs.Exposing.{way_unmounts, unmounts_pass, mounts_pass}
+use Rattle.kernel_ways.proofs.Exposing.{root_named, proc_named, way_unmounts, unmounts_pass, mounts_pass}
 use Rattle.kernel_ways.proofs.Lines.{some_line}
 use Rattle.kernel_ways.proofs.Privileged.{mount_call}
 use Rattle.kernel_ways.proofs.Solo.{way_join, way_runs}
 use Rattle.kernel_ways.proofs.Starts.{starts_solo}
+use Rattle.kernel_ways.proofs.Uncovering.{part_length}
 
 -- ---- a bind of the root at the folder of the processes
 -- it adds the object of the entry that the root belongs to
@@ -121,12 +122,6 @@ shown_below_proc table now begins ordered adds path =
     ∙ ap (λ w. host_place_by w proc (proc ++ path)) what
 
 -- ---- paths that a call can name
-root_named : IsPath []
-root_named = record { normal = refl; short = omega arith }
-
-proc_named : IsPath proc
-proc_named = record { normal = refl; short = omega arith }
-
 tail_short : (path : Path) → length (text_of path) ≤ 250 → length (tail_of path) ≤ 250
 tail_short [] h = omega arith
 tail_short (part ∷ path) h = h
@@ -153,11 +148,6 @@ record Sees (folder : Path) (table : Table) : Type 0 where
   place : Path
   shown : host_place table path ≡ Some place
   below : is_below place folder ≡ true
-
-part_length : {part table : Table} → IsPart part table → length part ≤ length table
-part_length nothing = omega arith
-part_length (keeps entry p) = omega (arith, part_length p)
-part_length (leaves entry p) = omega (arith, part_length p)
 
 sees_exposes : (launch : Launch) (creds : Creds) (table : Table) (world : World) → IsSolo launch creds table world → (folder : Path) → Sees folder table → Exposes folder world
 sees_exposes launch creds table world s folder sees =

@@ -50,10 +50,10 @@ mounts_pass true false true e = cc
 mounts_pass true false false e = cc
 mounts_pass false m u e = cc
 
-root_named : IsPath []
+pub root_named : IsPath []
 root_named = record { normal = refl; short = omega arith }
 
-proc_named : IsPath proc
+pub proc_named : IsPath proc
 proc_named = record { normal = refl; short = omega arith }
 
 module _ (launch : Launch) (o : Offers launch) (creds : Creds) (admin : has creds.effective 21 ≡ true) where
@@ -131,7 +131,7 @@ marks_count table each path = by (entry_of table path) refl
         let all : AllByRecursion IsNotNoSuid (split.0.earlier ++ split.0.entry ∷ split.0.later) = subst (AllByRecursion IsNotNoSuid) is.whole each in
         ap (λ (step : MountStep). step.flags.no_suid) (sym split.2) ∙ append_all IsNotNoSuid split.0.earlier split.0.entry split.0.later all
 
-remounted_fits : (wish : Wish) → fits wish (flags_of ms_remount_bind) ≡ true
+pub remounted_fits : (wish : Wish) → fits wish (flags_of ms_remount_bind) ≡ true
 remounted_fits ToSee = refl
 remounted_fits ToRead = refl
 remounted_fits ToWrite = refl

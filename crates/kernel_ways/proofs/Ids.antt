@@ -1,5 +1,5 @@
--- Each id of the ceiling is taken by some calls.
-use Rattle.std.proofs.Common.{◌≡◌, ℕ, Bool, true, false, List, [], ◌∷◌, ◌++◌, Option, Some, None, refl, ap, ◌∙◌, sym, eqb, inl, inr, suc, ◌≤◌}
+-- Each id of the ceiling is taken by some calls, and those of the launch and of rows that are run without the capability that takes any.
+use Rattle.std.proofs.Common.{◌≡◌, ℕ, Bool, true, false, List, [], ◌∷◌, ◌++◌, Option, Some, None, refl, ap, ◌∙◌, sym, eqb, inl, inr, ◌≤◌}
 use Rattle.std.specs.Prelude.{slice_get, not, ◌&&◌, ◌||◌}
 use Rattle.std.specs.List.{list_any}
 use Rattle.std.proofs.lemmas.Bool.{and_parts, or_cases, or_left, or_right, not-true, eqb-true, eq-eqb}
@@ -18,6 +18,7 @@ use Rattle.kernel_laws.specs.Kinds.{TakesUid, TakesGid}
 use Rattle.kernel_laws.specs.Launched.{Launch, IsLaunched, lets}
 use Rattle.kern_mounts.specs.Split.{Table}
 use Rattle.kernel_laws.specs.Reach.{Power, Nowise, Unmounting, Mounting}
+use Rattle.kernel_laws.proofs.Bound.{any_listed}
 use Rattle.kernel_ways.specs.Offers.{Offers}
 use Rattle.kernel_ways.specs.Taking.{id_call}
 use Rattle.kernel_ways.specs.Ways.{Way, here, by_creds}
@@ -27,16 +28,9 @@ use Rattle.kernel_ways.proofs.Privileged.{uid_call, gid_call}
 use Rattle.kernel_ways.proofs.Exposing.{HasPower}
 use Rattle.kernel_ways.proofs.Rows.{known_at}
 use Rattle.kernel_ways.proofs.Gains as gains
-use Rattle.kernel_ways.proofs.Gains.{Basis, Runnable, runs}
-use Rattle.kernel_ways.proofs.Attained.{attained, admin_gained, exposed_runs, uids_after}
-
--- a member of a list that has the property
-pub any_row : (p : Row → Bool) (rows : List Row) → list_any p rows ≡ true → (at : ℕ) × (target : Row) × (slice_get rows at ≡ Some target) × (p target ≡ true)
-any_row p [] e = cc
-any_row p (first ∷ rows) e = elim (or_cases (p first) (list_any p rows) e) [
-  | inl here' ↦ (0, first, refl, here')
-  | inr there ↦ (let m = any_row p rows there in (suc m.0, m.1, m.2, m.3))
-]
+use Rattle.kernel_ways.proofs.Gains.{Basis, runs}
+use Rattle.kernel_ways.proofs.Attained.{Gained, attained, admin_gained, exposed_runs, uids_after}
+use Rattle.kernel_ways.proofs.Avoiding.{Avoids, avoid_one, avoid_join}
 
 pub owner_is : (id : ℕ) (owner : Option ℕ) (old : ℕ) → is_owner id owner ≡ true → owner_or owner old ≡ id
 owner_is id None old e = cc
@@ -50,125 +44,159 @@ other_way id (group ∷ groups) h = elim (or_cases (eqb id group) (list_any (λ 
 ]
 
 module _ (launch : Launch) (l : IsLaunched launch) (o : Offers launch) where
-  -- a way of the launched process to credentials with a property
-  pub record Taken (P : Creds → Type 0) : Type 0 where
-    pub calls : List Call
-    pub creds : Creds
-    pub now : Table
-    pub way : Way launch launch.creds launch.table calls creds now
-    pub has : P creds
-
-  -- credentials that have the launch's power, on the launched table
-  pub record Powered (power : Power) : Type 0 where
+  -- credentials that have the launch's power, on the launched table; and whether they were come by without a call that takes a uid
+  pub record Powered (spares : Bool) (power : Power) : Type 0 where
     pub calls : List Call
     pub creds : Creds
     pub way : Way launch launch.creds launch.table calls creds launch.table
     pub basis : Basis launch creds
     pub at_hand : HasPower launch creds power
+    pub no_uid : spares ≡ true → Avoids launch TakesUid calls
+    pub no_gid : Avoids launch TakesGid calls
 
-  by_admin : (power : Power) → power_of launch ≡ power → (power ≡ Nowise → ⊥) → Powered power
-  by_admin power e n = let g = admin_gained launch l o power e n in record { calls = g.calls; creds = g.creds; way = g.way; basis = g.basis; at_hand = inr (g.holds, e) }
+  pub without_calls : (spares : Bool) → Powered spares Nowise
+  without_calls spares = record { calls = []; creds = launch.creds; way = here; basis = record { bounding = refl; inheritable = refl; mark = refl }; at_hand = inl refl; no_uid = λ e. tt; no_gid = tt }
 
-  pub powered : (power : Power) → power_of launch ≡ power → Powered power
-  powered Nowise e = record { calls = []; creds = launch.creds; way = here; basis = record { bounding = refl; inheritable = refl; mark = refl }; at_hand = inl refl }
-  powered Unmounting e = by_admin Unmounting e (λ x. cc)
-  powered Mounting e = by_admin Mounting e (λ x. cc)
+  pub from_gained : (spares : Bool) (power : Power) → power_of launch ≡ power → Gained launch l o spares launch.creds launch.table launch.table 21 → Powered spares power
+  from_gained spares power e g = record { calls = g.calls; creds = g.creds; way = g.way; basis = g.basis; at_hand = inr (g.holds, e); no_uid = g.no_uid; no_gid = g.no_gid }
+
+  pub powered : (power : Power) → power_of launch ≡ power → Powered false power
+  powered Nowise e = without_calls false
+  powered Unmounting e = from_gained false Unmounting e (admin_gained launch l o Unmounting e (λ x. cc))
+  powered Mounting e = from_gained false Mounting e (admin_gained launch l o Mounting e (λ x. cc))
 
   -- a row that can be run is run, with its marks
-  pub record RunsRow (target : Row) : Type 0 where
+  record RanRow (spares : Bool) (target : Row) : Type 0 where
+    calls : List Call
+    creds : Creds
+    now : Table
+    way : Way launch launch.creds launch.table calls (exec_done creds (marks_of target) false) now
+    basis : Basis launch creds
+    no_uid : spares ≡ true → Avoids launch TakesUid calls
+    no_gid : Avoids launch TakesGid calls
+
+  ran_row : (spares : Bool) (power : Power) → Powered spares power → (at : ℕ) (target : Row) → slice_get launch.site.rows at ≡ Some target → can_run launch power target ≡ true → RanRow spares target
+  ran_row spares power p at target listed c =
+      let x = exposed_runs launch l o power p.creds target (known_at launch.site o.site at target listed) p.at_hand c in
+      let ran = runs launch l o p.creds x.now target p.basis.bounding x.runnable in
+      let run = ran.call ∷ [] in
+      record {
+        calls = p.calls ++ (x.calls ++ run);
+        creds = p.creds;
+        now = x.now;
+        way = way_join p.way (way_join x.way (by_creds ran.call ran.makes here));
+        basis = p.basis;
+        no_uid = λ e. avoid_join launch TakesUid p.calls (x.calls ++ run) (p.no_uid e) (avoid_join launch TakesUid x.calls run x.no_uid (avoid_one launch p.creds x.now _ ran.call _ ran.makes TakesUid refl, tt));
+        no_gid = avoid_join launch TakesGid p.calls (x.calls ++ run) p.no_gid (avoid_join launch TakesGid x.calls run x.no_gid (avoid_one launch p.creds x.now _ ran.call _ ran.makes TakesGid refl, tt));
+      }
+
+  -- a way of the launched process to credentials with a property, without a call that takes a uid, or a gid
+  pub record Taken (uids gids : Bool) (P : Creds → Type 0) : Type 0 where
     pub calls : List Call
     pub creds : Creds
     pub now : Table
-    pub way : Way launch launch.creds launch.table calls (exec_done creds (marks_of target) false) now
-    pub basis : Basis launch creds
+    pub way : Way launch launch.creds launch.table calls creds now
+    pub has : P creds
+    pub no_uid : uids ≡ true → Avoids launch TakesUid calls
+    pub no_gid : gids ≡ true → Avoids launch TakesGid calls
 
-  pub runs_row : (at : ℕ) (target : Row) → slice_get launch.site.rows at ≡ Some target → can_run launch (power_of launch) target ≡ true → RunsRow target
-  runs_row at target listed c =
-      let p = powered (power_of launch) refl in
-      let x = exposed_runs launch l o (power_of launch) p.creds target (known_at launch.site o.site at target listed) p.at_hand c in
-      let ran = runs launch l o p.creds x.now target p.basis.bounding x.runnable in
-      record { calls = p.calls ++ (x.calls ++ (ran.call ∷ [])); creds = p.creds; now = x.now; way = way_join p.way (way_join x.way (by_creds ran.call ran.makes here)); basis = p.basis }
+  at_start : (uids gids : Bool) (P : Creds → Type 0) → P launch.creds → Taken uids gids P
+  at_start uids gids P h = record { calls = []; creds = launch.creds; now = launch.table; way = here; has = h; no_uid = λ e. tt; no_gid = λ e. tt }
 
+  -- the ids of the launch, and those of the rows that are run
+  module _ (uids gids : Bool) (power : Power) (p : Powered uids power) (id : ℕ) where
+    owned : launch.creds.no_new_privs ≡ false → list_any (owned_by launch power id) launch.site.rows ≡ true → Taken uids gids (λ creds. creds.uids.effective ≡ id)
+    owned free h =
+        let x = any_listed (owned_by launch power id) launch.site.rows h in
+        let both = and_parts (can_run launch power x.1) (is_owner id x.1.setuid) x.3 in
+        let r = ran_row uids power p x.0 x.1 x.2 both.0 in
+        record {
+          calls = r.calls;
+          creds = exec_done r.creds (marks_of x.1) false;
+          now = r.now;
+          way = r.way;
+          has = gains.uid_after r.creds (marks_of x.1) (r.basis.mark ∙ free) ∙ owner_is id x.1.setuid r.creds.uids.effective both.1;
+          no_uid = r.no_uid;
+          no_gid = λ e. r.no_gid;
+        }
+
+    pub uid_without : (eqb id launch.creds.uids.effective || (not launch.creds.no_new_privs && list_any (owned_by launch power id) launch.site.rows)) ≡ true → Taken uids gids (λ creds. creds.uids.effective ≡ id)
+    uid_without h = elim (or_cases (eqb id launch.creds.uids.effective) (not launch.creds.no_new_privs && list_any (owned_by launch power id) launch.site.rows) h) [
+      | inl same ↦ at_start uids gids (λ creds. creds.uids.effective ≡ id) (sym (eqb-true id launch.creds.uids.effective same))
+      | inr rows ↦ (let both = and_parts (not launch.creds.no_new_privs) (list_any (owned_by launch power id) launch.site.rows) rows in owned (not-true launch.creds.no_new_privs both.0) both.1)
+    ]
+
+    grouped : launch.creds.no_new_privs ≡ false → list_any (grouped_by launch power id) launch.site.rows ≡ true → Taken uids gids (HasGid id)
+    grouped free h =
+        let x = any_listed (grouped_by launch power id) launch.site.rows h in
+        let both = and_parts (can_run launch power x.1) (is_owner id x.1.setgid) x.3 in
+        let r = ran_row uids power p x.0 x.1 x.2 both.0 in
+        record {
+          calls = r.calls;
+          creds = exec_done r.creds (marks_of x.1) false;
+          now = r.now;
+          way = r.way;
+          has = inl (gains.gid_after r.creds (marks_of x.1) (r.basis.mark ∙ free) ∙ owner_is id x.1.setgid r.creds.gids.effective both.1);
+          no_uid = r.no_uid;
+          no_gid = λ e. r.no_gid;
+        }
+
+    own_gid : (eqb id launch.creds.gids.effective || list_any (λ group. eqb id group) launch.creds.groups) ≡ true → Taken uids gids (HasGid id)
+    own_gid h = elim (or_cases (eqb id launch.creds.gids.effective) (list_any (λ group. eqb id group) launch.creds.groups) h) [
+      | inl same ↦ at_start uids gids (HasGid id) (inl (sym (eqb-true id launch.creds.gids.effective same)))
+      | inr among ↦ at_start uids gids (HasGid id) (inr (other_way id launch.creds.groups among))
+    ]
+
+    pub gid_without : ((eqb id launch.creds.gids.effective || list_any (λ group. eqb id group) launch.creds.groups) || (not launch.creds.no_new_privs && list_any (grouped_by launch power id) launch.site.rows)) ≡ true → Taken uids gids (HasGid id)
+    gid_without h = elim (or_cases (eqb id launch.creds.gids.effective || list_any (λ group. eqb id group) launch.creds.groups) (not launch.creds.no_new_privs && list_any (grouped_by launch power id) launch.site.rows) h) [
+      | inl own ↦ own_gid own
+      | inr rows ↦ (let both = and_parts (not launch.creds.no_new_privs) (list_any (grouped_by launch power id) launch.site.rows) rows in grouped (not-true launch.creds.no_new_privs both.0) both.1)
+    ]
+
+  -- and by the capability that takes any
   module _ (id : ℕ) (small : id ≤ 4294967294) where
-    by_uid : has (caps_at launch (power_of launch)) 7 ≡ true → lets launch TakesUid ≡ true → Taken (λ creds. creds.uids.effective ≡ id)
+    by_uid : has (caps_at launch (power_of launch)) 7 ≡ true → lets launch TakesUid ≡ true → Taken false false (λ creds. creds.uids.effective ≡ id)
     by_uid h s =
         let x = attained launch l o 7 h in
         let g = x.1 in
         let line = some_line launch l TakesUid s in
         let own_call = id_call line.line.number line.own id in
         let change = uid_call launch o g.creds x.0 id small line g.holds in
-        record { calls = g.calls ++ (own_call ∷ []); creds = with_uids g.creds (all_of id); now = x.0; way = way_join g.way (by_creds own_call change.makes here); has = ap (λ (ids : Ids). ids.effective) (uids_after g.creds (all_of id)) }
-
-    by_owner : launch.creds.no_new_privs ≡ false → (at : ℕ) (target : Row) → slice_get launch.site.rows at ≡ Some target → can_run launch (power_of launch) target ≡ true → is_owner id target.setuid ≡ true → Taken (λ creds. creds.uids.effective ≡ id)
-    by_owner free at target listed c own =
-        let r = runs_row at target listed c in
         record {
-          calls = r.calls;
-          creds = exec_done r.creds (marks_of target) false;
-          now = r.now;
-          way = r.way;
-          has = gains.uid_after r.creds (marks_of target) (r.basis.mark ∙ free) ∙ owner_is id target.setuid r.creds.uids.effective own;
+          calls = g.calls ++ (own_call ∷ []);
+          creds = with_uids g.creds (all_of id);
+          now = x.0;
+          way = way_join g.way (by_creds own_call change.makes here);
+          has = ap (λ (ids : Ids). ids.effective) (uids_after g.creds (all_of id));
+          no_uid = λ e. cc;
+          no_gid = λ e. cc;
         }
 
-    pub uid_taken : (ceiling launch).uid id ≡ true → Taken (λ creds. creds.uids.effective ≡ id)
+    pub uid_taken : (ceiling launch).uid id ≡ true → Taken false false (λ creds. creds.uids.effective ≡ id)
     uid_taken h = elim (or_cases (any_uid launch (caps_at launch (power_of launch))) (eqb id launch.creds.uids.effective || (not launch.creds.no_new_privs && list_any (owned_by launch (power_of launch) id) launch.site.rows)) h) [
       | inl any ↦ (let both = and_parts (has (caps_at launch (power_of launch)) 7) (lets launch TakesUid) any in by_uid both.0 both.1)
-      | inr more ↦ by more
+      | inr more ↦ uid_without false false (power_of launch) (powered (power_of launch) refl) id more
     ]
-      where
-        by_row : launch.creds.no_new_privs ≡ false → list_any (owned_by launch (power_of launch) id) launch.site.rows ≡ true → Taken (λ creds. creds.uids.effective ≡ id)
-        by_row free h =
-            let x = any_row (owned_by launch (power_of launch) id) launch.site.rows h in
-            let both = and_parts (can_run launch (power_of launch) x.1) (is_owner id x.1.setuid) x.3 in
-            by_owner free x.0 x.1 x.2 both.0 both.1
 
-        by : (eqb id launch.creds.uids.effective || (not launch.creds.no_new_privs && list_any (owned_by launch (power_of launch) id) launch.site.rows)) ≡ true → Taken (λ creds. creds.uids.effective ≡ id)
-        by h = elim (or_cases (eqb id launch.creds.uids.effective) (not launch.creds.no_new_privs && list_any (owned_by launch (power_of launch) id) launch.site.rows) h) [
-          | inl same ↦ record { calls = []; creds = launch.creds; now = launch.table; way = here; has = sym (eqb-true id launch.creds.uids.effective same) }
-          | inr rows ↦ (let both = and_parts (not launch.creds.no_new_privs) (list_any (owned_by launch (power_of launch) id) launch.site.rows) rows in by_row (not-true launch.creds.no_new_privs both.0) both.1)
-        ]
-
-    -- gids
-    by_gid : has (caps_at launch (power_of launch)) 6 ≡ true → lets launch TakesGid ≡ true → Taken (HasGid id)
+    by_gid : has (caps_at launch (power_of launch)) 6 ≡ true → lets launch TakesGid ≡ true → Taken false false (HasGid id)
     by_gid h s =
         let x = attained launch l o 6 h in
         let g = x.1 in
         let line = some_line launch l TakesGid s in
         let own_call = id_call line.line.number line.own id in
         let change = gid_call launch o g.creds x.0 id small line g.holds in
-        record { calls = g.calls ++ (own_call ∷ []); creds = change.now; now = x.0; way = way_join g.way (by_creds own_call change.change.makes here); has = change.has_gid }
-
-    by_group : launch.creds.no_new_privs ≡ false → (at : ℕ) (target : Row) → slice_get launch.site.rows at ≡ Some target → can_run launch (power_of launch) target ≡ true → is_owner id target.setgid ≡ true → Taken (HasGid id)
-    by_group free at target listed c own =
-        let r = runs_row at target listed c in
         record {
-          calls = r.calls;
-          creds = exec_done r.creds (marks_of target) false;
-          now = r.now;
-          way = r.way;
-          has = inl (gains.gid_after r.creds (marks_of target) (r.basis.mark ∙ free) ∙ owner_is id target.setgid r.creds.gids.effective own);
+          calls = g.calls ++ (own_call ∷ []);
+          creds = change.now;
+          now = x.0;
+          way = way_join g.way (by_creds own_call change.change.makes here);
+          has = change.has_gid;
+          no_uid = λ e. cc;
+          no_gid = λ e. cc;
         }
 
-    pub gid_taken : (ceiling launch).gid id ≡ true → Taken (HasGid id)
+    pub gid_taken : (ceiling launch).gid id ≡ true → Taken false false (HasGid id)
     gid_taken h = elim (or_cases (any_gid launch (caps_at launch (power_of launch))) ((eqb id launch.creds.gids.effective || list_any (λ group. eqb id group) launch.creds.groups) || (not launch.creds.no_new_privs && list_any (grouped_by launch (power_of launch) id) launch.site.rows)) h) [
       | inl any ↦ (let both = and_parts (has (caps_at launch (power_of launch)) 6) (lets launch TakesGid) any in by_gid both.0 both.1)
-      | inr more ↦ by more
+      | inr more ↦ gid_without false false (power_of launch) (powered (power_of launch) refl) id more
     ]
-      where
-        by_row : launch.creds.no_new_privs ≡ false → list_any (grouped_by launch (power_of launch) id) launch.site.rows ≡ true → Taken (HasGid id)
-        by_row free h =
-            let x = any_row (grouped_by launch (power_of launch) id) launch.site.rows h in
-            let both = and_parts (can_run launch (power_of launch) x.1) (is_owner id x.1.setgid) x.3 in
-            by_group free x.0 x.1 x.2 both.0 both.1
-
-        by_own : (eqb id launch.creds.gids.effective || list_any (λ group. eqb id group) launch.creds.groups) ≡ true → Taken (HasGid id)
-        by_own h = elim (or_cases (eqb id launch.creds.gids.effective) (list_any (λ group. eqb id group) launch.creds.groups) h) [
-          | inl same ↦ record { calls = []; creds = launch.creds; now = launch.table; way = here; has = inl (sym (eqb-true id launch.creds.gids.effective same)) }
-          | inr among ↦ record { calls = []; creds = launch.creds; now = launch.table; way = here; has = inr (other_way id launch.creds.groups among) }
-        ]
-
-        by : ((eqb id launch.creds.gids.effective || list_any (λ group. eqb id group) launch.creds.groups) || (not launch.creds.no_new_privs && list_any (grouped_by launch (power_of launch) id) launch.site.rows)) ≡ true → Taken (HasGid id)
-        by h = elim (or_cases (eqb id launch.creds.gids.effective || list_any (λ group. eqb id group) launch.creds.groups) (not launch.creds.no_new_privs && list_any (grouped_by launch (power_of launch) id) launch.site.rows) h) [
-          | inl own ↦ by_own own
-          | inr rows ↦ (let both = and_parts (not launch.creds.no_new_privs) (list_any (grouped_by launch (power_of launch) id) launch.site.rows) rows in by_row (not-true launch.creds.no_new_privs both.0) both.1)
-        ]

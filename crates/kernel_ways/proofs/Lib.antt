@@ -20,10 +20,6 @@ pub mod ByName
 pub mod Unlooked
 pub mod Counting
 pub mod Serving
-pub mod SparedIds
-pub mod SparedSteps
-pub mod SparedRuns
-pub mod SparedBound
 pub mod SparedLaws
 pub mod SparedWays
 pub mod BlindShown

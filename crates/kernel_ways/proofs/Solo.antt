@@ -16,6 +16,7 @@ use Rattle.kernel_model.specs.World.{World, of_number, if_alive, table_or, table
 use Rattle.kernel_model.specs.declared.process.Process.{Process}
 use Rattle.kernel_model.specs.declared.reply.Reply.{Reply}
 use Rattle.kernel_model.specs.Step.{most_namespaces, step, step_by, decided, answered, applied}
+use Rattle.reach_paths.proofs.Processes.{put_own}
 use Rattle.kernel_ways.specs.Showing.{IsDoable}
 use Rattle.kernel_ways.specs.Ways.{IsSolo, Way, here, by_creds, by_table, Makes, solo_world, solo_process, host_at, caller_at}
 
@@ -23,11 +24,6 @@ pub way_join : {launch : Launch} {a b c : Creds} {s t u : Table} {xs ys : List C
 way_join here q = q
 way_join (by_creds call m more) q = by_creds call m (way_join more q)
 way_join (by_table call m more) q = by_table call m (way_join more q)
-
-put_own : {X : Type 0} (xs : List X) (i : ℕ) (x y : X) → slice_get xs i ≡ Some x → slice_get (slice_set xs i y) i ≡ Some y
-put_own [] i x y e = cc
-put_own (z ∷ xs) zero x y e = refl
-put_own (z ∷ xs) (suc i) x y e = put_own xs i x y e
 
 put_length : {X : Type 0} (xs : List X) (i : ℕ) (y : X) → length (slice_set xs i y) ≡ length xs
 put_length [] i y = refl

@@ -9,9 +9,10 @@ use Rattle.kern_mounts.specs.Split.{Table, Split, split_last, split_at, is_at, i
 use Rattle.kern_mounts.specs.Umount.{after_umount}
 use Rattle.kern_mounts.specs.Unmounts.{IsPart, nothing, keeps, leaves}
 use Rattle.kern_mounts.specs.declared.step.MountStep.{MountStep}
-use Rattle.kern_mounts.proofs.Paths.{leads_not, behind}
+use Rattle.kern_mounts.proofs.Paths.{behind}
 use Rattle.kern_mounts.proofs.Splits.{None_have, IsSplit, split_some, split_none, split_is}
 use Rattle.kern_mounts.proofs.Unmounting.{Apart, append_all, part_append, part_filter}
+use Rattle.kernel_laws.proofs.Blind.{none_not}
 use Rattle.kernel_laws.specs.Questions.{if_so}
 use Rattle.reach_paths.proofs.Parts.{part_all}
 use Rattle.kernel_ways.specs.Uncovering.{covering, Detaches, still, then_one}
@@ -46,10 +47,6 @@ covering_left : (path : Path) (earlier later : Table) → None_have (leads_to pa
 covering_left path earlier later none = covering_append path earlier later ∙ ap (λ (places : List Path). places ++ covering path earlier) (covering_none path later none)
 
 -- ---- umount2 of the last
-none_more : (place rest : Path) (table : Table) → None_have (leads_to (place ++ rest)) table → None_have (leads_to place) table
-none_more place rest [] h = tt
-none_more place rest (entry ∷ table) h = (leads_not entry.place place rest h.0, none_more place rest table h.1)
-
 not_root : (a b : Path) → is_prefix a b ≡ false → is_root a ≡ false
 not_root [] b e = cc
 not_root (part ∷ a) b e = refl
@@ -62,7 +59,7 @@ umounts_own earlier later entry r n =
     let split = split_is (leads_to entry.place) earlier entry later own n in
     rw (r, split, at) refl
 
-part_length : {part table : Table} → IsPart part table → length part ≤ length table
+pub part_length : {part table : Table} → IsPart part table → length part ≤ length table
 part_length nothing = omega arith
 part_length (keeps entry p) = omega (arith, part_length p)
 part_length (leaves entry p) = omega (arith, part_length p)
@@ -91,7 +88,7 @@ module _ (earlier : Table) (entry : MountStep) (rest : Path) where
       let kept : Table = filter (λ other. not (is_below c.place other)) split.later in
       let off : is_prefix c.place entry.place ≡ false = append_all (λ other. is_prefix other.place entry.place ≡ false) split.earlier c split.later (subst (Apart entry.place) is.whole apart) in
       let tail : path ≡ c.place ++ rest_of c.place path = behind c.place path is.has in
-      let last : None_have (leads_to c.place) split.later = none_more c.place (rest_of c.place path) split.later (subst (λ (p : Path). None_have (leads_to p) split.later) tail is.last) in
+      let last : None_have (leads_to c.place) split.later = none_not c.place (rest_of c.place path) split.later (subst (λ (p : Path). None_have (leads_to p) split.later) tail is.last) in
       let part : IsPart (split.earlier ++ kept) later = (let P : Table → Type 0 = λ t. IsPart (split.earlier ++ kept) t in subst P (sym is.whole) (part_append split.earlier kept (c ∷ split.later) (leaves c (part_filter (λ other. not (is_below c.place other)) split.later)))) in
       let shorter : length (split.earlier ++ kept) < length later =
       (let w : length later ≡ length (split.earlier ++ c ∷ split.later) = ap length is.whole in omega (arith, w, length-append split.earlier kept, length-append split.earlier (c ∷ split.later), part_length (part_filter (λ other. not (is_below c.place other)) split.later))) in

@@ -1,10 +1,9 @@
 -- Filters of settings look at no words of execve(2), of the calls that mount, and of those that set ids or capabilities.
-use Rattle.std.proofs.Common.{◌≡◌, ℕ, Bool, true, false, cond, codes, List, [], ◌∷◌, Option, Some, refl, ap, ◌∙◌, sym, subst, arith}
+use Rattle.std.proofs.Common.{◌≡◌, ℕ, Bool, true, false, cond, codes, List, [], ◌∷◌, Option, Some, refl, ap, ◌∙◌, sym, arith}
 use Rattle.std.specs.List.{AllByRecursion}
 use Rattle.std.specs.Option.{option_map_or}
 use Rattle.std.specs.Str.{bytes_eq}
 use Rattle.std.proofs.lemmas.Bool.{eq-eqb}
-use Rattle.std.proofs.lemmas.Slice.Eq.{bytes_eq-Decides}
 use Rattle.bpf_code.specs.declared.machine.Insn.{Insn}
 use Rattle.bpf_code.specs.declared.machine.CallData.{CallData}
 use Rattle.bpf_code.specs.declared.decision.Decision.TheVariants as decision
@@ -36,129 +35,67 @@ use Rattle.kernel_calls.specs.declared.rule.Rule.{Rule}
 use Rattle.kernel_calls.specs.declared.rule.Rule.TheVariants.{Known}
 use Rattle.kernel_laws.specs.FirstChoice.{Means}
 use Rattle.kernel_laws.specs.Launched.{Launch, data_at}
+use Rattle.kernel_laws.proofs.FilterChoices.{with_name, rule_named}
 use Rattle.kernel_laws.proofs.Filters.{HasRule, has_rule}
 use Rattle.kernel_laws.proofs.Programs.{stack_passes}
 use Rattle.kernel_ways.specs.Launching.{SettingsPassAlike}
 use Rattle.kernel_ways.specs.Offers.{is_unlooked}
 
-abbrev with_name : CallLine → List ℕ → CallLine
-with_name line name = record { name = name; number = line.number; cap = line.cap }
-
-some_same : (own rule : Rule) → Some own ≡ Some rule → own ≡ rule
-some_same own rule e = cc
-
--- a line of such a rule has no name of another rule
-other_name : (line : CallLine) (rule : Rule) → rule_of line ≡ Some rule → is_unlooked rule ≡ true → (name : List ℕ) (own : Rule) → rule_of (with_name line name) ≡ Some own → is_unlooked own ≡ false → bytes_eq line.name name ≡ false
-other_name line rule is unlooked name own named off = by (bytes_eq line.name name) refl
-  where
-    by : (b : Bool) → bytes_eq line.name name ≡ b → b ≡ false
-    by false e = refl
-    by true e =
-        let same : line.name ≡ name = (bytes_eq-Decides line.name name).0 e in
-        let P : List ℕ → Type 0 = λ n. rule_of (with_name line n) ≡ Some rule in
-        let there : rule_of (with_name line name) ≡ Some rule = subst P same is in
-        let own_is : own ≡ rule = some_same own rule (sym named ∙ there) in
-        let clash : false ≡ true = sym off ∙ ap is_unlooked own_is ∙ unlooked in
-        cc
-
 module _ (line : CallLine) (rule : Rule) (is : rule_of line ≡ Some rule) (unlooked : is_unlooked rule ≡ true) where
-  no-socket : bytes_eq line.name (codes "socket") ≡ false
-  unfolding rule_of known_call
-  no-socket = other_name line rule is unlooked (codes "socket") (Known known.Socket) refl refl
-
-  no-mmap : bytes_eq line.name (codes "mmap") ≡ false
-  unfolding rule_of known_call
-  no-mmap = other_name line rule is unlooked (codes "mmap") (Known known.Map) refl refl
-
-  no-mprotect : bytes_eq line.name (codes "mprotect") ≡ false
-  unfolding rule_of known_call
-  no-mprotect = other_name line rule is unlooked (codes "mprotect") (Known known.Protect) refl refl
-
-  no-pkey_mprotect : bytes_eq line.name (codes "pkey_mprotect") ≡ false
-  unfolding rule_of known_call
-  no-pkey_mprotect = other_name line rule is unlooked (codes "pkey_mprotect") (Known known.Protect) refl refl
-
-  no-shmat : bytes_eq line.name (codes "shmat") ≡ false
-  unfolding rule_of known_call
-  no-shmat = other_name line rule is unlooked (codes "shmat") (Known known.Attach) refl refl
-
-  no-sched_setscheduler : bytes_eq line.name (codes "sched_setscheduler") ≡ false
-  unfolding rule_of known_call
-  no-sched_setscheduler = other_name line rule is unlooked (codes "sched_setscheduler") (Known known.Schedule) refl refl
-
-  no-chmod : bytes_eq line.name (codes "chmod") ≡ false
-  unfolding rule_of known_call
-  no-chmod = other_name line rule is unlooked (codes "chmod") (Known (known.SetMode Second)) refl refl
-
-  no-fchmod : bytes_eq line.name (codes "fchmod") ≡ false
-  unfolding rule_of known_call
-  no-fchmod = other_name line rule is unlooked (codes "fchmod") (Known (known.SetMode Second)) refl refl
-
-  no-mkdir : bytes_eq line.name (codes "mkdir") ≡ false
-  unfolding rule_of known_call
-  no-mkdir = other_name line rule is unlooked (codes "mkdir") (Known (known.SetMode Second)) refl refl
-
-  no-mknod : bytes_eq line.name (codes "mknod") ≡ false
-  unfolding rule_of known_call
-  no-mknod = other_name line rule is unlooked (codes "mknod") (Known (known.SetMode Second)) refl refl
-
-  no-creat : bytes_eq line.name (codes "creat") ≡ false
-  unfolding rule_of known_call
-  no-creat = other_name line rule is unlooked (codes "creat") (Known known.Create) refl refl
-
-  no-fchmodat : bytes_eq line.name (codes "fchmodat") ≡ false
-  unfolding rule_of known_call
-  no-fchmodat = other_name line rule is unlooked (codes "fchmodat") (Known (known.SetMode Third)) refl refl
-
-  no-mkdirat : bytes_eq line.name (codes "mkdirat") ≡ false
-  unfolding rule_of known_call
-  no-mkdirat = other_name line rule is unlooked (codes "mkdirat") (Known (known.SetMode Third)) refl refl
-
-  no-mknodat : bytes_eq line.name (codes "mknodat") ≡ false
-  unfolding rule_of known_call
-  no-mknodat = other_name line rule is unlooked (codes "mknodat") (Known (known.SetMode Third)) refl refl
-
-  no-open : bytes_eq line.name (codes "open") ≡ false
-  unfolding rule_of known_call
-  no-open = other_name line rule is unlooked (codes "open") (Known (known.Open Second)) refl refl
-
-  no-openat : bytes_eq line.name (codes "openat") ≡ false
-  unfolding rule_of known_call
-  no-openat = other_name line rule is unlooked (codes "openat") (Known (known.Open Third)) refl refl
-
-  no-unshare : bytes_eq line.name (codes "unshare") ≡ false
-  unfolding rule_of known_call
-  no-unshare = other_name line rule is unlooked (codes "unshare") (Known known.Unshare) refl refl
-
-  no-clone : bytes_eq line.name (codes "clone") ≡ false
-  unfolding rule_of known_call
-  no-clone = other_name line rule is unlooked (codes "clone") (Known known.Clone) refl refl
-
-  no-setns : bytes_eq line.name (codes "setns") ≡ false
-  unfolding rule_of known_call
-  no-setns = other_name line rule is unlooked (codes "setns") (Known known.Enter) refl refl
-
-  no-personality : bytes_eq line.name (codes "personality") ≡ false
-  unfolding rule_of known_call
-  no-personality = other_name line rule is unlooked (codes "personality") (Known known.Personality) refl refl
+  -- such a line has no name of another rule
+  no_name : (name : List ℕ) (own : Rule) → rule_of (with_name line name) ≡ Some own → is_unlooked own ≡ false → bytes_eq line.name name ≡ false
+  no_name name own named off = by (bytes_eq line.name name) refl
+    where
+      by : (b : Bool) → bytes_eq line.name name ≡ b → b ≡ false
+      by false e = refl
+      by true e = let clash : false ≡ true = sym off ∙ ap is_unlooked (rule_named line rule is name own named e) ∙ unlooked in cc
 
   family_free : (families : Option FamilyList) (input : CallData) → refuses_family families line.name input ≡ false
-  family_free families input = rw no-socket refl
+  unfolding rule_of known_call
+  family_free families input = rw (no_name (codes "socket") (Known known.Socket) refl refl) refl
 
   mapping_free : (input : CallData) → refuses_mapping line.name input ≡ false
-  mapping_free input = rw (no-mmap, no-mprotect, no-pkey_mprotect, no-shmat) refl
+  unfolding rule_of known_call
+  mapping_free input =
+      rw (
+        no_name (codes "mmap") (Known known.Map) refl refl,
+        no_name (codes "mprotect") (Known known.Protect) refl refl,
+        no_name (codes "pkey_mprotect") (Known known.Protect) refl refl,
+        no_name (codes "shmat") (Known known.Attach) refl refl,
+      ) refl
 
   policy_free : (input : CallData) → refuses_policy line.name input ≡ false
-  policy_free input = rw no-sched_setscheduler refl
+  unfolding rule_of known_call
+  policy_free input = rw (no_name (codes "sched_setscheduler") (Known known.Schedule) refl refl) refl
 
   mode_free : (input : CallData) → refuses_mode line.name input ≡ false
-  mode_free input = rw (no-chmod, no-fchmod, no-mkdir, no-mknod, no-creat, no-fchmodat, no-mkdirat, no-mknodat, no-open, no-openat) refl
+  unfolding rule_of known_call
+  mode_free input =
+      rw (
+        no_name (codes "chmod") (Known (known.SetMode Second)) refl refl,
+        no_name (codes "fchmod") (Known (known.SetMode Second)) refl refl,
+        no_name (codes "mkdir") (Known (known.SetMode Second)) refl refl,
+        no_name (codes "mknod") (Known (known.SetMode Second)) refl refl,
+        no_name (codes "creat") (Known known.Create) refl refl,
+        no_name (codes "fchmodat") (Known (known.SetMode Third)) refl refl,
+        no_name (codes "mkdirat") (Known (known.SetMode Third)) refl refl,
+        no_name (codes "mknodat") (Known (known.SetMode Third)) refl refl,
+        no_name (codes "open") (Known (known.Open Second)) refl refl,
+        no_name (codes "openat") (Known (known.Open Third)) refl refl,
+      ) refl
 
   namespace_free : (types : NamespaceTypes) (input : CallData) → refuses_namespace types line.name input ≡ false
-  namespace_free types input = rw (no-unshare, no-clone, no-setns) refl
+  unfolding rule_of known_call
+  namespace_free types input =
+      rw (
+        no_name (codes "unshare") (Known known.Unshare) refl refl,
+        no_name (codes "clone") (Known known.Clone) refl refl,
+        no_name (codes "setns") (Known known.Enter) refl refl,
+      ) refl
 
   personality_free : (input : CallData) → refuses_personality line.name input ≡ false
-  personality_free input = rw no-personality refl
+  unfolding rule_of known_call
+  personality_free input = rw (no_name (codes "personality") (Known known.Personality) refl refl) refl
 
   -- what a filter does goes by the name
   named_alike : (own : FilterName) (settings : FilterSettings) (table : calls.Table) (one other : CallData) → named_action own settings table line.name one ≡ named_action own settings table line.name other

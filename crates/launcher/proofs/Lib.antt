@@ -1,4 +1,3 @@
-pub mod Numbered
 pub mod Leading
 pub mod HostRoot
 pub mod Solo

@@ -32,7 +32,7 @@ use Rattle.kernel_model.specs.World.{World, of_number, table_of, table_or, host_
 use Rattle.kernel_model.specs.declared.process.Process.{Process}
 use Rattle.kernel_model.specs.declared.reply.Reply.{Reply}
 use Rattle.kernel_model.specs.Step.{step, applied, answered, decided, data_of}
-use Rattle.launcher.proofs.Numbered.{number_get, push_last, not_first}
+use Rattle.kernel_laws.proofs.Numbered.{number_get, push_last, not_first}
 use Rattle.linux_numbers.specs.Errnos.{eacces, enomem, enospc, eperm}
 use Rattle.linux_numbers.specs.Limits.{max_insns_per_path}
 use Rattle.linux_numbers.specs.Capabilities.{cap_sys_admin}

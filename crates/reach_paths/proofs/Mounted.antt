@@ -23,10 +23,11 @@ use Rattle.kern_mounts.specs.Split.{Table, split_at}
 use Rattle.kern_mounts.specs.Bind.{bound, bound_entry, after_bind}
 use Rattle.kern_mounts.specs.Remount.{remounted, after_remount}
 use Rattle.kern_mounts.proofs.Entries.{entry_push}
-use Rattle.kern_mounts.proofs.Splits.{None_have, split_is, of_split}
+use Rattle.kern_mounts.proofs.Splits.{split_is, of_split}
 use Rattle.kern_files.specs.Bits.{has_all}
 use Rattle.kern_files.specs.Looking.{flags_by}
 use Rattle.kern_files.specs.MountCall.{ms_bind, ms_remount_bind, has_other_kind, flags_of, kind_found, hidden_kind, hidden_at, or_found, target_kind, bind_found, mount_onto, after_mount}
+use Rattle.kernel_laws.proofs.ExposedByMount.{none_leads}
 use Rattle.reach_paths.specs.Finding.{dirs_of}
 use Rattle.reach_paths.specs.Mounting.{IsBelowProc, MountedTwice, MountedTwiceShowsAll}
 use Rattle.reach_paths.proofs.Naming.{named_both, rest_short}
@@ -63,15 +64,6 @@ begins (first ∷ rest) root ascend = record {
   host = root.1;
   below = below_root rest (subst (λ (path : Path). AllByRecursion (λ other. is_before path other ≡ true) (map (λ step. step.place) rest)) root.0 ascend.0);
 }
-
--- no other entry leads to the root
-none_leads : (rest : Table) → AreBelowRoot rest → None_have (leads_to []) rest
-none_leads [] h = tt
-none_leads (entry ∷ rest) h = (by entry.place h.0, none_leads rest h.1)
-  where
-    by : (place : Path) → is_root place ≡ false → is_prefix place [] ≡ false
-    by [] e = cc
-    by (part ∷ place) e = refl
 
 module _ (site : Site) (table : Table) where
   abbrev rows : Path → Option Row

@@ -1,30 +1,8 @@
 -- Paths that a call can name: a short place and a short rest behind it.
-use Rattle.std.proofs.Common.{◌≡◌, ◌≤◌, ◌+◌, true, [], ◌∷◌, ◌++◌, ap, length, length-append, arith}
-use Rattle.std.proofs.lemmas.Bool.{and_parts, and_from}
-use Rattle.abs_path.specs.Paths.{Path, tail_of, text_of, is_part, is_normal}
+use Rattle.std.proofs.Common.{◌≡◌, ◌≤◌, true, ◌++◌, ap, length, arith}
+use Rattle.abs_path.specs.Paths.{Path, tail_of, text_of, is_normal}
 use Rattle.kernel_calls.specs.Calls.{IsPath}
-
-normal_append : (one other : Path) → is_normal one ≡ true → is_normal other ≡ true → is_normal (one ++ other) ≡ true
-normal_append [] other h g = g
-normal_append (part ∷ one) other h g = let both = and_parts (is_part part) (is_normal one) h in and_from _ _ both.0 (normal_append one other both.1 g)
-
-normal_rest : (one other : Path) → is_normal (one ++ other) ≡ true → is_normal other ≡ true
-normal_rest [] other h = h
-normal_rest (part ∷ one) other h = normal_rest one other (and_parts (is_part part) (is_normal (one ++ other)) h).1
-
-tail_append : (one other : Path) → length (tail_of (one ++ other)) ≡ length (tail_of one) + length (tail_of other)
-tail_append [] other = omega arith
-tail_append (part ∷ one) other =
-    let more = tail_append one other in
-    omega (arith, more, length-append part (tail_of (one ++ other)), length-append part (tail_of one))
-
-text_length : (path : Path) → length (text_of path) ≤ length (tail_of path) + 1
-text_length [] = omega arith
-text_length (part ∷ parts) = omega arith
-
-tail_length : (path : Path) → length (tail_of path) ≤ length (text_of path)
-tail_length [] = omega arith
-tail_length (part ∷ parts) = omega arith
+use Rattle.kernel_laws.proofs.Exposed.{normal_append, normal_rest, tail_append, text_length, tail_length}
 
 -- of two paths of at most 250 bytes, the one behind the other
 pub named_both : (place rest : Path) → is_normal place ≡ true → length (text_of place) ≤ 250 → is_normal rest ≡ true → length (tail_of rest) ≤ 250 → IsPath (place ++ rest)

@@ -27,7 +27,7 @@ use Rattle.reach_paths.specs.Processes.{CanMount, AsksFor, LeadsTo, MountingShow
 use Rattle.reach_paths.proofs.Mounted.{mounted_twice}
 use Rattle.reach_paths.proofs.Parts.{part_all, starts}
 
-put_own : {X : Type 0} (xs : List X) (i : ℕ) (x y : X) → slice_get xs i ≡ Some x → slice_get (slice_set xs i y) i ≡ Some y
+pub put_own : {X : Type 0} (xs : List X) (i : ℕ) (x y : X) → slice_get xs i ≡ Some x → slice_get (slice_set xs i y) i ≡ Some y
 put_own [] i x y e = cc
 put_own (z ∷ xs) zero x y e = refl
 put_own (z ∷ xs) (suc i) x y e = put_own xs i x y e

@@ -2,21 +2,19 @@
 use Rattle.std.proofs.Common.{◌≡◌, ◌<◌, ℕ, suc, Bool, true, false, [], ◌∷◌, ◌++◌, Option, Some, None, refl, cond, ap, ◌∙◌, sym, subst, ◌+◌, length, arith}
 use Rattle.std.specs.Prelude.{not, ◌||◌}
 use Rattle.std.specs.List.{list_any}
-use Rattle.std.proofs.lemmas.Bool.{and_parts, and_from, not-true}
+use Rattle.std.proofs.lemmas.Bool.{and_from}
 use Rattle.abs_path.specs.Paths.{Path}
 use Rattle.abs_path.specs.Prefix.{is_prefix, rest_of}
 use Rattle.abs_path.proofs.Prefixes.{prefix-append}
 use Rattle.kern_mounts.specs.Entry.{leads_to}
-use Rattle.kern_mounts.specs.declared.step.What.{What}
-use Rattle.kern_mounts.specs.declared.step.What.TheVariants.{Host, Empty, Hidden}
 use Rattle.kern_mounts.specs.declared.step.MountStep.{MountStep}
-use Rattle.kern_mounts.specs.Split.{Table, split_at}
-use Rattle.kern_mounts.proofs.Paths.{behind, rest-append}
-use Rattle.kern_mounts.proofs.Splits.{split_some, split_is}
+use Rattle.kern_mounts.specs.Split.{Table}
+use Rattle.kern_mounts.proofs.Paths.{rest-append}
+use Rattle.kern_mounts.proofs.Splits.{split_some}
 use Rattle.kernel_laws.specs.Questions.{Wish}
-use Rattle.kernel_laws.specs.Reach.{fits, shows_row, serves, reach_from, reach, Power, Nowise, Unmounting, Mounting}
+use Rattle.kernel_laws.specs.Reach.{shows_row, serves, reach_from, reach, Power, Nowise, Unmounting, Mounting}
 use Rattle.kernel_laws.proofs.Reach.{none_any}
-use Rattle.kernel_laws.proofs.ReachLaws.{any_none}
+use Rattle.kernel_laws.proofs.ReachLaws.{Served, served_of, served_leads}
 use Rattle.reach_paths.specs.First.{LeadsBy, Shows, IsFirst, IsFirstByPower}
 
 -- ---- the entries that serve, by what stands before and behind
@@ -85,25 +83,6 @@ same_first P Q there back None h = λ at q. h at (back at q)
 same_first P Q there back (Some at) h = (there at h.0, λ other below q. h.1 other below (back other q))
 
 -- ---- what it means that an entry serves
-record Served (uncover : Bool) (row : Path) (wish : Wish) (entry : MountStep) (later : Table) : Type 0 where
-  source : Path
-  host : entry.what ≡ Host source
-  rest : Path
-  row_is : row ≡ source ++ rest
-  flags : fits wish entry.flags ≡ true
-  clear : (uncover || not (list_any (leads_to (entry.place ++ rest)) later)) ≡ true
-
-served_of : (uncover : Bool) (row : Path) (wish : Wish) (entry : MountStep) (later : Table) → serves uncover row wish entry later ≡ true → Served uncover row wish entry later
-served_of uncover row wish entry later s =
-    let parts = and_parts (fits wish entry.flags) (shows_row uncover entry later row entry.what) s in by parts.0 entry.what refl parts.1
-  where
-    by : fits wish entry.flags ≡ true → (what : What) → entry.what ≡ what → shows_row uncover entry later row what ≡ true → Served uncover row wish entry later
-    by f (Host source) e s =
-        let parts = and_parts (is_prefix source row) (uncover || not (list_any (leads_to (entry.place ++ rest_of source row)) later)) s in
-        record { source = source; host = e; rest = rest_of source row; row_is = behind source row parts.0; flags = f; clear = parts.1 }
-    by f Empty e s = cc
-    by f (Hidden directory) e s = cc
-
 serves_if : (uncover : Bool) (row : Path) (wish : Wish) (entry : MountStep) (later : Table) → Served uncover row wish entry later → serves uncover row wish entry later ≡ true
 serves_if uncover row wish entry later s =
     let prefix : is_prefix s.source row ≡ true = ap (is_prefix s.source) s.row_is ∙ prefix-append s.source s.rest in
@@ -114,23 +93,7 @@ serves_if uncover row wish entry later s =
 module _ (table : Table) (row : Path) (wish : Wish) (at : ℕ) where
   -- with no power: a path of this very table
   pub leads_by : Serving false row wish table at → LeadsBy table row wish at
-  leads_by s =
-      let v = served_of false row wish s.entry s.later s.served in
-      let clear = any_none (leads_to (s.entry.place ++ v.rest)) s.later (not-true (list_any (leads_to (s.entry.place ++ v.rest)) s.later) v.clear) in
-      record {
-        lead = record {
-          path = s.entry.place ++ v.rest;
-          split = record { earlier = s.earlier; entry = s.entry; later = s.later };
-          belongs = ap (split_at (s.entry.place ++ v.rest)) s.whole ∙ split_is (leads_to (s.entry.place ++ v.rest)) s.earlier s.entry s.later (prefix-append s.entry.place v.rest) clear;
-          source = v.source;
-          host = v.host;
-          rest = v.rest;
-          path_is = refl;
-          row_is = v.row_is;
-          flags = v.flags;
-        };
-        number = s.number;
-      }
+  leads_by s = record { lead = served_leads table row wish s.earlier s.entry s.later s.whole (served_of false row wish s.entry s.later s.served); number = s.number }
 
   pub by_leads : LeadsBy table row wish at → Serving false row wish table at
   by_leads h =

@@ -1,0 +1,102 @@
+-- The launched world is held, and what a world has that is held is within the bounds.
+use Rattle.std.proofs.Common.{◌≡◌, ℕ, Bool, true, List, [], ◌∷◌, Some, ◌⊎◌, inl, inr, refl, ap, ◌∙◌, sym, subst, zero, suc, append-nil, eqb}
+use Rattle.std.specs.Prelude.{slice_get, ◌-◌}
+use Rattle.std.specs.List.{list_any, AllByRecursion}
+use Rattle.std.proofs.lemmas.Bool.{or_cases, eqb-true}
+use Rattle.cap_sets.specs.Sets.{has}
+use Rattle.kern_creds.specs.declared.creds.Creds.{Creds}
+use Rattle.kern_mounts.specs.Split.{Table}
+use Rattle.kern_mounts.specs.Table.{StartsAtRoot}
+use Rattle.kern_mounts.proofs.Unmounting.{trimmed_self}
+use Rattle.kernel_calls.specs.declared.call.Call.{Call}
+use Rattle.kernel_calls.specs.Calls.{IsCall, AreCalls}
+use Rattle.kernel_laws.specs.Bound.{bounds_by, power_of, ceiling}
+use Rattle.kernel_laws.specs.Bounds.{Bounds}
+use Rattle.kernel_laws.specs.Ceiling.{CanHave, IsClosed, IsHeld, AreHeld}
+use Rattle.kernel_laws.specs.Denied.{Holds, SomeLiving, HasGid}
+use Rattle.kernel_laws.specs.Kinds.{TakesUid, TakesGid}
+use Rattle.kernel_laws.specs.Launched.{Launch, lets, launch_of, first_of, IsLaunched, IsLaunchedWorld}
+use Rattle.kernel_laws.specs.Questions as q
+use Rattle.kernel_laws.specs.Reach.{Power, Nowise, Unmounting, Mounting}
+use Rattle.kernel_model.specs.Runs.{run}
+use Rattle.kernel_model.specs.Step.{step}
+use Rattle.kernel_model.specs.World.{World, table_of}
+use Rattle.kernel_model.specs.declared.process.Process.{Process}
+use Rattle.kernel_laws.proofs.Bound.{is_closed, kept_launch}
+use Rattle.kernel_laws.proofs.Filters.{lets_through}
+use Rattle.kernel_laws.proofs.Numbered.{number_get, lives}
+use Rattle.kernel_laws.proofs.Runs.{held_step, held_run}
+
+have_own : (power : Power) (table : Table) → StartsAtRoot table → CanHave power table table
+have_own Nowise table root = refl
+have_own Unmounting table root = trimmed_self table root
+have_own Mounting table root = tt
+
+module _ (world : World) (s : IsLaunchedWorld world) (uids gids : Bool) (power : Power) where
+  abbrev first : Process
+  first = first_of world
+
+  abbrev Held : Process → Type 0
+  Held = IsHeld (launch_of world) power (bounds_by (launch_of world) uids gids power) world.tables
+
+  first_held : Held first
+  first_held =
+      let place = number_get world.tables first.namespace (table_of world first.namespace) s.own in
+      record {
+        creds = kept_launch (launch_of world) uids gids power s.launched;
+        newer = [];
+        stack = sym (append-nil first.stack);
+        table = table_of world first.namespace;
+        numbered = place.0;
+        own = place.1;
+        allowed = have_own power (launch_of world).table s.launched.rooted;
+      }
+
+  pub start_held : AreHeld (launch_of world) power (bounds_by (launch_of world) uids gids power) world
+  start_held = record { calls = refl; site = refl; each = λ at process e. by at process (ap (λ (ps : List Process). slice_get ps at) (sym s.alone) ∙ e) }
+    where
+      by : (at : ℕ) (process : Process) → slice_get (first ∷ []) at ≡ Some process → Held process
+      by zero process e = let same : first ≡ process = cc in subst Held same first_held
+      by (suc at) process e = cc
+
+module _ (launch : Launch) (power : Power) (top : Bounds) (now : World) (held : AreHeld launch power top now) where
+  some_held : (P : Creds → Type 0) → (s : SomeLiving P now) → IsHeld launch power top now.tables s.process
+  some_held P s = held.each (s.pid - 1) s.process (lives now s.pid s.process s.lives).place
+
+  among : (id : ℕ) (groups : List ℕ) → AllByRecursion (λ id. top.gid id ≡ true) groups → list_any (λ group. eqb group id) groups ≡ true → top.gid id ≡ true
+  among id [] all e = cc
+  among id (group ∷ groups) all e = either (or_cases (eqb group id) (list_any (λ group. eqb group id) groups) e) (among id groups all.1)
+    where
+      either : (eqb group id ≡ true) ⊎ (list_any (λ group. eqb group id) groups ≡ true) → (list_any (λ group. eqb group id) groups ≡ true → top.gid id ≡ true) → top.gid id ≡ true
+      either (inl e) more = ap top.gid (sym (eqb-true group id e)) ∙ all.0
+      either (inr e) more = more e
+
+  pub gid_within : (id : ℕ) → Holds (q.Gid id) now → top.gid id ≡ true
+  gid_within id s = let h = some_held (HasGid id) s in by h.creds.gids.effective h.creds.groups s.has
+    where
+      by : top.gid s.process.creds.gids.effective ≡ true → AllByRecursion (λ id. top.gid id ≡ true) s.process.creds.groups → HasGid id s.process.creds → top.gid id ≡ true
+      by own all (inl e) = ap top.gid (sym e) ∙ own
+      by own all (inr e) = among id s.process.creds.groups all e
+
+  pub uid_within : (id : ℕ) → Holds (q.Uid id) now → top.uid id ≡ true
+  uid_within id s = ap top.uid (sym s.has) ∙ (some_held (λ creds. creds.uids.effective ≡ id) s).creds.uids.effective
+
+  pub cap_within : (number : ℕ) → Holds (q.Cap number) now → has top.effective number ≡ true
+  cap_within number s = (some_held (λ creds. has creds.effective number ≡ true) s).creds.effective.each number s.has
+
+-- ---- by the ceiling, over all runs
+abbrev pub AllHeld : Launch → World → Type 0
+AllHeld launch world = AreHeld launch (power_of launch) (ceiling launch) world
+
+pub launched_held : (world : World) → IsLaunchedWorld world → AllHeld (launch_of world) world
+launched_held world s = start_held world s (lets (launch_of world) TakesUid) (lets (launch_of world) TakesGid) (power_of (launch_of world))
+
+module _ (launch : Launch) (l : IsLaunched launch) where
+  closed : IsClosed launch (lets launch TakesUid) (lets launch TakesGid) (power_of launch) (ceiling launch)
+  closed = is_closed launch (lets launch TakesUid) (lets launch TakesGid) l
+
+  pub ceiling_step : (world : World) (call : Call) → IsCall call → AllHeld launch world → AllHeld launch (step world call).1
+  ceiling_step = held_step launch (power_of launch) (ceiling launch) (lets_through launch l) closed
+
+  pub ceiling_run : (list : List Call) (world : World) → AreCalls list → AllHeld launch world → AllHeld launch (run world list)
+  ceiling_run = held_run launch (power_of launch) (ceiling launch) (lets_through launch l) closed

@@ -1,0 +1,28 @@
+-- Runs that use CAP_SETUID, and CAP_SETGID, only where they may: of the two words the first says whether CAP_SETUID may be used, and
+-- the second whether CAP_SETGID may.
+use Rattle.std.specs.Prelude.{◌≡◌, Bool, true, List, Some}
+use Rattle.std.specs.List.{AllByRecursion}
+use Rattle.cap_sets.specs.Sets.{has}
+use Rattle.linux_numbers.specs.Capabilities.{cap_setuid, cap_setgid}
+use Rattle.kern_creds.specs.declared.creds.Creds.{Creds}
+use Rattle.kernel_calls.specs.declared.call.Call.{Call}
+use Rattle.kernel_calls.specs.Doing.{Doing, Does, asked_of}
+use Rattle.kernel_model.specs.Runs.{moments}
+use Rattle.kernel_model.specs.World.{World, living_of}
+use Rattle.kernel_model.specs.declared.process.Process.{Process}
+use Rattle.kernel_laws.specs.Kinds.{asks, TakesUid, TakesGid}
+
+-- a call that takes a uid is made with CAP_SETUID only where this may be used, and one that takes a gid with CAP_SETGID only where
+-- that may
+abbrev pub Uses : Bool → Bool → Creds → Doing → Type 0
+Uses uids gids creds doing =
+    (asks TakesUid doing ≡ true → has creds.effective cap_setuid ≡ true → uids ≡ true)
+    × (asks TakesGid doing ≡ true → has creds.effective cap_setgid ≡ true → gids ≡ true)
+
+-- whichever living process makes the call
+abbrev pub Spares : Bool → Bool → World → Call → Type 0
+Spares uids gids world call = (process : Process) (doing : Doing) → living_of world call.pid ≡ Some process → asked_of world.calls.calls call ≡ Does doing → Uses uids gids process.creds doing
+
+-- each call of the run is such
+abbrev pub AllSpare : Bool → Bool → World → List Call → Type 0
+AllSpare uids gids world calls = AllByRecursion (λ moment. Spares uids gids moment.before moment.call) (moments world calls)
