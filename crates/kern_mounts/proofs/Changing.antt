@@ -11,7 +11,7 @@ use Rattle.kern_mounts.specs.Split.{Table, is_at, is_below}
 use Rattle.kern_mounts.specs.Umount.{unmounted, after_umount}
 use Rattle.kern_mounts.specs.Remount.{remounted, after_remount}
 use Rattle.kern_mounts.proofs.Splits.{about, split_by_number}
-use Rattle.kern_mounts.proofs.Taking.{written}
+use Rattle.kern_mounts.proofs.Writing.{written}
 
 -- the entry of this number, in the list that stands for the table
 pub record Stands (table items : Table) (path : Path) (at : ℕ) (entry : MountStep) : Type 0 where

@@ -4,10 +4,11 @@ mod Mounting
 pub mod Paths
 pub mod Splits
 pub mod Unmounting
-pub mod Taking
+pub mod Writing
 pub mod Changing
 pub mod Binding
 pub mod Showing
 pub mod Alike
 pub mod Leaving
 pub mod Bindable
+pub mod Places

@@ -1,5 +1,6 @@
 -- What every mount table has, the table that a namespace starts with, and when there is no room for another entry.
-use Rattle.std.specs.Prelude.{◌≡◌, ◌≤◌, false, List, [], ◌∷◌, length, Result, Ok, Err, ⊤}
+use Rattle.std.specs.Prelude.{◌≡◌, ◌≤◌, false, List, [], ◌∷◌, ◌++◌, length, map, Result, Ok, Err, ⊤}
+use Rattle.abs_path.specs.Paths.{Path}
 use Rattle.linux_numbers.specs.Errnos.{enospc}
 use Rattle.linux_numbers.specs.Limits.{mount_max}
 use Rattle.kern_mounts.specs.declared.step.Flags.{Flags}
@@ -31,3 +32,15 @@ abbrev pub IsFullOrMemory : Result (Unit {0}) MountError → Type 0
 IsFullOrMemory (Ok done) = ⊤
 IsFullOrMemory (Err (Errno errno)) = errno ≡ enospc
 IsFullOrMemory (Err Memory) = ⊤
+
+-- the places of entries
+abbrev pub places_of : List MountStep → List Path
+places_of steps = map (λ step. step.place) steps
+
+-- the places are those of the entries
+abbrev pub HasPlaces : List MountStep → List Path → Type 0
+HasPlaces table places = places ≡ places_of table
+
+-- there may be more behind the front
+abbrev pub StartsWith : List Path → List Path → Type 0
+StartsWith places front = (more : List Path) × (places ≡ front ++ more)

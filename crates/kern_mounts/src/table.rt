@@ -1,15 +1,15 @@
 //! The type of a mount table: its start, its entries, the entry of a path, and tables that are copied or grow.
 //!
-//! A contract sees a table as the list of its entries.
+//! A contract sees a table as the list of its entries. A tree over the parts of their places finds the entry of a path.
 
 mod bind;
 mod remount;
 mod umount;
 
-ghost use Rattle.std.specs.Prelude.{◌≡◌, ◌+◌, drop, ◌++◌, ◌∷◌, [], ◌<◌, ◌↔◌, length, slice_get, Some, IfOk, OnOk, OnErr, IsErrOf};
+ghost use Rattle.std.specs.Prelude.{◌≡◌, ◌+◌, drop, ◌++◌, ◌∷◌, [], ◌<◌, ◌≤◌, ◌↔◌, length, slice_get, Some, IfOk, OnOk, OnErr, IsErrOf};
 ghost use Rattle.linux_numbers.specs.Errnos.{enospc};
 ghost use Rattle.linux_numbers.specs.Limits.{mount_max};
-ghost use Rattle.kern_mounts.specs.Table.{start, StartsAtRoot, IsTable, IsFullOrMemory};
+ghost use Rattle.kern_mounts.specs.Table.{start, IsTable, IsFullOrMemory, places_of, StartsWith};
 ghost use Rattle.kern_mounts.specs.Entry.{Belongs, entry_of};
 ghost use Rattle.kern_mounts.specs.Push.{after_push};
 ghost use Rattle.kern_mounts.specs.Answer.{BecomesOrMemory};
@@ -19,6 +19,7 @@ use crate::step::{Flags, MountStep, What};
 use abs_path::AbsPath;
 use linux_numbers::errnos::ENOSPC;
 use linux_numbers::limits::MOUNT_MAX;
+use place_tree::PlaceTree;
 use std::alloc::{AllocError, Global};
 use std::marker::Model;
 
@@ -27,18 +28,20 @@ use std::marker::Model;
 #[derive(Drop)]
 pub struct MountTable {
     entries: Vec<MountStep>,
+    // the places of the entries
+    places: PlaceTree,
 }
 
 impl Model for MountTable {
     ghost use Rattle.std.specs.Prelude.{List};
     ghost use Rattle.kern_mounts.specs.declared.step.MountStep.{MountStep};
-    ghost use Rattle.kern_mounts.specs.Table.{IsTable};
+    ghost use Rattle.kern_mounts.specs.Table.{IsTable, HasPlaces};
 
     ghost Value = { List MountStep };
 
     ghost view = { λ table. table.entries.items };
 
-    ghost invariant = { λ table. IsTable table.entries.items };
+    ghost invariant = { λ table. IsTable table.entries.items × HasPlaces table.entries.items table.places };
 }
 
 impl MountTable {
@@ -47,12 +50,14 @@ impl MountTable {
         ensures shows_the_host { IfOk result (λ table. table ≡ start) }
     {
         let mut entries = Vec::new(alloc);
+        let mut places = PlaceTree::new(alloc)?;
+        places.push(&AbsPath::root(alloc))?;
         entries.push(MountStep {
             place: AbsPath::root(alloc),
             what: What::Host(AbsPath::root(alloc)),
             flags: Flags::default(),
         })?;
-        Ok(MountTable { entries })
+        Ok(MountTable { entries, places })
     }
 
     /// How many entries there are.
@@ -76,7 +81,10 @@ impl MountTable {
         ensures last_that_leads { Belongs self.now path.now result }
         ensures entry_of_the_path { slice_get self.now result ≡ entry_of self.now path.now }
     {
-        last_that_leads(&self.entries, path)
+        match self.places.last_leading(path) {
+            Some(at) => at,
+            None => unreachable!(),
+        }
     }
 
     /// Adds an entry behind the others. A full table answers ENOSPC; on any error the table stays as it was.
@@ -90,8 +98,24 @@ impl MountTable {
         if self.entries.len() >= MOUNT_MAX {
             return Err(MountError::Errno(ENOSPC));
         }
-        self.entries.push(step)?;
+        let mut more = Vec::new(*self.entries.allocator());
+        more.push(step)?;
+        self.grow(more)?;
         Ok(())
+    }
+
+    // Adds entries behind the others, or where there is no memory none.
+    fn grow(&mut self, more: Vec<MountStep>) -> Result<(), AllocError>
+        requires few { length (self.old ++ more.items) ≤ mount_max }
+        ensures appended { OnOk result (self.new ≡ self.old ++ more.items) }
+        ensures unchanged_on_error { OnErr result (self.new ≡ self.old) }
+    {
+        let len = self.entries.len();
+        let grown = add_all(&mut self.entries, &mut self.places, more);
+        if grown.is_err() {
+            self.places.truncate(len);
+        }
+        grown
     }
 
     /// An equal table, as for a mount namespace that starts with the mounts of another, mount_namespaces(7).
@@ -100,6 +124,7 @@ impl MountTable {
     {
         Ok(MountTable {
             entries: copied(*self.entries.allocator(), &self.entries)?,
+            places: self.places.copy()?,
         })
     }
 }
@@ -123,16 +148,29 @@ fn copied(alloc: Global, entries: &[MountStep]) -> Result<Vec<MountStep>, AllocE
     Ok(copies)
 }
 
-// The number of the last entry whose place leads to the path.
-fn last_that_leads(entries: &[MountStep], path: &AbsPath) -> usize
-    requires { StartsAtRoot entries.now }
-    ensures { Belongs entries.now path.now result }
+// Adds the places of these entries behind the others; where there is no memory, maybe some of them.
+fn add_places(places: &mut PlaceTree, more: &[MountStep]) -> Result<(), AllocError>
+    ensures added { OnOk result (places.new ≡ places.old ++ places_of more.now) }
+    ensures only_behind { OnErr result (StartsWith places.new places.old) }
 {
-    let mut found = 0;
-    for (index, entry) in entries.iter().enumerate() {
-        if entry.place.is_prefix(path) {
-            found = index;
-        }
+    for entry in more {
+        places.push(&entry.place)?;
     }
-    found
+    Ok(())
+}
+
+// Adds entries and their places behind the others; where there is no memory no entry, and maybe some places.
+fn add_all(
+    entries: &mut Vec<MountStep>,
+    places: &mut PlaceTree,
+    mut more: Vec<MountStep>,
+) -> Result<(), AllocError>
+    ensures entries { OnOk result (entries.new.items ≡ entries.old.items ++ more.items) }
+    ensures places { OnOk result (places.new ≡ places.old ++ places_of more.items) }
+    ensures entries_stay { OnErr result (entries.new.items ≡ entries.old.items) }
+    ensures places_behind { OnErr result (StartsWith places.new places.old) }
+{
+    add_places(places, &more)?;
+    entries.append(&mut more)?;
+    Ok(())
 }

@@ -4,8 +4,11 @@
 //! out. A line that begins with `#` says what the next rows show.
 #![tactic(auto)]
 
+mod beside;
 mod creds;
+mod many;
 mod mounts;
+mod plain;
 mod rows;
 mod views;
 

@@ -1,4 +1,5 @@
 //! Tables of mounts.
+use crate::{beside, many};
 use abs_path::{AbsPath, PathError};
 use kern_mounts::{Flags, MountStep, MountTable, What};
 use row_text::{number, said};
@@ -13,6 +14,24 @@ pub fn answer(alloc: Global, table: &mut MountTable, row: &[&str]) -> Result<Str
         }
         ["push", place, what, flags] => push(alloc, table, step(alloc, place, what, flags)),
         ["push many", count] => push_many(alloc, table, number(count)),
+        ["push by turns", count, one, other] => {
+            many::push_by_turns(alloc, table, number(count), one, other)
+        }
+        ["push numbered", front, first, last] => {
+            many::push_numbered(alloc, table, front, number(first), number(last))
+        }
+        ["resolve numbered", front, first, last, back] => {
+            many::resolve_numbered(alloc, table, front, number(first), number(last), back)
+        }
+        ["resolve rounds", front, first, last, rounds] => many::resolve_rounds(
+            alloc,
+            table,
+            front,
+            number(first),
+            number(last),
+            number(rounds),
+        ),
+        ["side by side", count] => beside::side_by_side(alloc, number(count)),
         ["length"] => length(alloc, table),
         ["entry", at] => entry(alloc, table, number(at) as usize),
         ["resolve", path] => resolve(alloc, table, path),
@@ -53,8 +72,8 @@ fn step(alloc: Global, place: &str, what: &str, flags: &str) -> Result<MountStep
     })
 }
 
-// `empty`, `a hidden folder`, `a hidden file`, or a path of the host.
-fn what_of(alloc: Global, text: &str) -> Result<What, PathError> {
+/// `empty`, `a hidden folder`, `a hidden file`, or a path of the host.
+pub fn what_of(alloc: Global, text: &str) -> Result<What, PathError> {
     match text {
         "empty" => Ok(What::Empty),
         "a hidden folder" => Ok(What::Hidden(true)),
@@ -111,13 +130,18 @@ fn entry(alloc: Global, table: &MountTable, at: usize) -> Result<String, AllocEr
     }
 }
 
-fn shown(alloc: Global, step: &MountStep) -> Result<String, AllocError> {
-    let what = match &step.what {
+/// The words for what an entry shows, which `what_of` reads.
+pub fn what_shown(what: &What) -> &str {
+    match what {
         What::Host(path) => path.text(),
         What::Empty => "empty",
         What::Hidden(true) => "a hidden folder",
         What::Hidden(false) => "a hidden file",
-    };
+    }
+}
+
+fn shown(alloc: Global, step: &MountStep) -> Result<String, AllocError> {
+    let what = what_shown(&step.what);
     let read_only = if step.flags.read_only { " ro" } else { "" };
     let no_exec = if step.flags.no_exec { " noexec" } else { "" };
     let no_suid = if step.flags.no_suid { " nosuid" } else { "" };

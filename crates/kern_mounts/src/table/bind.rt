@@ -48,8 +48,8 @@ impl MountTable {
     {
         let at = self.resolve(source);
         let alloc = *self.entries.allocator();
-        let mut more = added(alloc, &self.entries, at, source, target, recursive)?;
-        self.entries.append(&mut more)?;
+        let more = added(alloc, &self.entries, at, source, target, recursive)?;
+        self.grow(more)?;
         Ok(())
     }
 }

@@ -31,6 +31,7 @@ impl MountTable {
             return Err(EBUSY);
         }
         take_away(&mut self.entries, at, path);
+        self.places.take_away(at, path);
         Ok(())
     }
 }

@@ -4,6 +4,7 @@ use Rattle.std.proofs.lemmas.List.{get_or_default}
 use Rattle.kern_mounts.specs.declared.step.MountStep.{MountStep}
 use Rattle.kern_mounts.specs.Split.{Table, is_at}
 use Rattle.kern_mounts.proofs.Changing.{Stands, remount_refused, remount_done}
+use Rattle.kern_mounts.proofs.Places.{table_stays, places_stay}
 use Rattle.kern_mounts.proofs.table.MountTable.remount.Goals as goal
 
 was_false : (b : Bool) → true ≡ not b → b ≡ false
@@ -31,3 +32,9 @@ returns c =
     let own = was_true _ c.if-ne.ensures in
     let same : c.index.result.now ≡ c.index_mut.result.now = element c.self.inside.entries.items c.resolve-at.result _ _ c.resolve-at.ensures.last_that_leads.in_range c.self.view_is c.index.ensures c.index_mut.ensures.value in
     record { remounts = remount_done _ _ c.args.place.now c.args.flags c.resolve-at.result c.index_mut.result.now stands (ap (is_at c.args.place.now) (sym same) ∙ own) }
+
+pub invariant_of-self : goal.invariant_of-self
+invariant_of-self c = (
+  table_stays c.self.inside.entries.items c.resolve-at.result c.index_mut.result.now _ c.self.invariant.0 c.index_mut.ensures.value refl,
+  c.self.invariant.1 ∙ sym (places_stay c.self.inside.entries.items c.resolve-at.result c.index_mut.result.now _ c.index_mut.ensures.value refl),
+)

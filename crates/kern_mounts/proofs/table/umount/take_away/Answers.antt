@@ -3,7 +3,7 @@ use Rattle.std.specs.Prelude.{not}
 use Rattle.kern_mounts.specs.declared.step.MountStep.{MountStep}
 use Rattle.abs_path.specs.Paths.{Path}
 use Rattle.kern_mounts.specs.Split.{is_below}
-use Rattle.kern_mounts.proofs.Taking.{stays, goes_itself, has_one}
+use Rattle.place_tree.proofs.Taking.{stays, goes_itself, has_one}
 use Rattle.kern_mounts.proofs.table.umount.take_away.Goals as goal
 
 abbrev stays_at : Path → MountStep → Bool

@@ -1,5 +1,5 @@
 -- Going over a list from its end, and taking away what does not pass a test.
-use Rattle.std.proofs.Common.{◌≡◌, ◌<◌, ◌+◌, add-one, ℕ, zero, suc, Bool, true, false, List, [], ◌∷◌, ◌++◌, filter, length, take, drop, get_or, set, refl, ap, ◌∙◌, sym, subst, arith}
+use Rattle.std.proofs.Common.{◌≡◌, ◌<◌, ◌+◌, add-one, ℕ, zero, suc, Bool, true, false, List, [], ◌∷◌, ◌++◌, filter, length, take, drop, get_or, refl, ap, ◌∙◌, sym, subst, arith}
 use Rattle.std.specs.List.{remove}
 
 -- before an element that passes
@@ -57,9 +57,3 @@ has_one p old items number i at lt so =
     let now : So_far p old items (suc i) = subst (λ (n : ℕ). So_far p old items n) at so in
     let below : i < length (take (suc i) old ++ filter p (drop (suc i) old)) = longer old (filter p (drop (suc i) old)) i lt in
     rw now below
-
--- one element written
-pub written : {X : Type 0} (xs : List X) (i : ℕ) (x : X) → i < length xs → set xs i x ≡ take i xs ++ x ∷ drop (i + 1) xs
-written [] i x lt = absurd (omega arith)
-written (y ∷ xs) zero x lt = refl
-written (y ∷ xs) (suc i) x lt = ap (λ t. y ∷ t) (written xs i x (omega arith)) ∙ ap (λ n. y ∷ (take i xs ++ x ∷ drop n xs)) (add-one i) ∙ ap (λ n. y ∷ (take i xs ++ x ∷ drop n (y ∷ xs))) (sym (add-one (suc i)))

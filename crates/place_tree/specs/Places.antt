@@ -1,0 +1,40 @@
+-- A list of places, and the last of them that leads to a path, by whole parts.
+use Rattle.std.specs.Prelude.{◌≡◌, ◌<◌, ◌+◌, ◌++◌, ℕ, suc, max, Bool, true, false, cond, not, filter, take, drop, List, [], ◌∷◌, length, Option, Some, None}
+use Rattle.std.specs.List.{AllWithin, HoldsAt}
+use Rattle.abs_path.specs.Paths.{Path}
+use Rattle.abs_path.specs.Prefix.{is_prefix, is_same, is_below}
+
+-- the place of this number is of the kind, and no later one is
+pub record IsLastAt (kind : Path → Bool) (places : List Path) (at : ℕ) : Type 0 where
+  pub in_range : at < length places
+  pub is_of : HoldsAt (λ place. kind place ≡ true) places at
+  pub none_later : AllWithin (λ place. kind place ≡ false) places (at + 1) (length places)
+
+-- the number of the last place of a kind, or none where no place is of it
+abbrev pub IsLastOf : (Path → Bool) → List Path → Option ℕ → Type 0
+IsLastOf kind places None = AllWithin (λ place. kind place ≡ false) places 0 (length places)
+IsLastOf kind places (Some at) = IsLastAt kind places at
+
+-- the number of the last place that leads to the path, or none where no place does
+abbrev pub IsLastLeading : List Path → Path → Option ℕ → Type 0
+IsLastLeading places path number = IsLastOf (λ place. is_prefix place path) places number
+
+-- the greater of two numbers, or the one that there is
+abbrev pub later : Option ℕ → Option ℕ → Option ℕ
+later None other = other
+later (Some one) None = Some one
+later (Some one) (Some other) = Some (max one other)
+
+-- behind a number, or else 0 where the path is that place
+abbrev pub behind_or : Option ℕ → Path → Path → Option ℕ
+behind_or (Some at) place path = Some (suc at)
+behind_or None place path = cond (is_same place path) (Some 0) None
+
+-- the number of the last place that is the path
+abbrev pub last_at : Path → List Path → Option ℕ
+last_at path [] = None
+last_at path (place ∷ places) = behind_or (last_at path places) place path
+
+-- the places without the one of this number, and without the later ones that stand strictly below the path
+abbrev pub without : ℕ → Path → List Path → List Path
+without at path places = take at places ++ filter (λ place. not (is_below place path)) (drop (at + 1) places)
