@@ -9,7 +9,6 @@
 //! A row `pairs|COUNT|seeing` does so with a unit that sees the folder. A line that begins with `#` says what the next rows show.
 #![tactic(auto)]
 
-mod inputs;
 mod numbers;
 mod pairs;
 mod rows;

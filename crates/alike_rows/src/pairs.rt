@@ -1,9 +1,9 @@
 //! Pairs of sites, and whether a service can tell them apart.
-use crate::inputs::inputs_of;
 use crate::numbers::Numbers;
 use crate::scripts::script_text;
 use crate::sites::with_rows;
 use crate::traces::{Asked, Trace, trace_of};
+use row_inputs::{inputs_of, site_of};
 use row_text::said;
 use script_text::read_script;
 use std::alloc::{AllocError, Global};
@@ -28,7 +28,10 @@ pub struct Texts<'a> {
 
 /// The pair of these texts, where none is refused.
 pub fn pair_of(alloc: Global, texts: &Texts<'_>) -> Result<Option<Pair>, AllocError> {
-    let Some(inputs) = inputs_of(alloc, texts.calls, texts.site, texts.other, texts.lines) else {
+    let Some(inputs) = inputs_of(alloc, texts.calls, texts.site, &[texts.lines]) else {
+        return Ok(None);
+    };
+    let Some(other_site) = site_of(alloc, texts.other) else {
         return Ok(None);
     };
     let Ok(script) = read_script(alloc, &inputs.calls, texts.script.as_bytes()) else {
@@ -45,7 +48,7 @@ pub fn pair_of(alloc: Global, texts: &Texts<'_>) -> Result<Option<Pair>, AllocEr
     let other = trace_of(
         alloc,
         &Asked {
-            site: &inputs.other,
+            site: &other_site,
             ..asked
         },
     )?;

@@ -8,12 +8,12 @@ ghost use Rattle.site_table.specs.declared.kinds.RowKind.TheVariants.{Dir};
 ghost use Rattle.ceilings.specs.Own.{IsCeilingOf};
 
 use crate::asking::{Judged, Report, answer_asks};
-use crate::shown::shown;
 use abs_path::AbsPath;
 use ceilings::{Ceiling, ceiling};
 use judge::{Verdict, blind, verdict};
 use launcher::Launched;
 use questions::{Question, questions};
+use row_questions::shown;
 use site_table::RowKind;
 use std::alloc::{AllocError, Global};
 

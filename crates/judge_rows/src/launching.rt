@@ -3,11 +3,11 @@ ghost use Rattle.exec_settings.specs.AreSettings.{AreSettings};
 ghost use Rattle.kern_mounts.specs.Launch.{CanBeMounted};
 ghost use Rattle.mount_plan.specs.Host.{host_of};
 
-use crate::inputs::Inputs;
 use crate::judging::judged;
 use exec_settings::{Settings, settings};
 use kern_mounts::MountStep;
 use mount_plan::plan;
+use row_inputs::Inputs;
 use row_text::said;
 use std::alloc::{AllocError, Global};
 use unit_launch::{UnitLaunch, launch_unit};

@@ -8,11 +8,9 @@
 #![tactic(auto)]
 
 mod asking;
-mod inputs;
 mod judging;
 mod launching;
 mod rows;
-mod shown;
 
 use rows::Rows;
 use std::io;

@@ -1,6 +1,6 @@
 //! What the next row is over.
-use crate::inputs::inputs_of;
 use crate::launching::answer;
+use row_inputs::inputs_of;
 use row_text::{said, words};
 use std::alloc::{AllocError, Global};
 
@@ -40,7 +40,7 @@ impl Rows {
     }
 
     fn judge(&self, alloc: Global, lines: &str, asks: &[&str]) -> Result<String, AllocError> {
-        match &inputs_of(alloc, self.calls.as_str(), self.site.as_str(), lines) {
+        match &inputs_of(alloc, self.calls.as_str(), self.site.as_str(), &[lines]) {
             Some(inputs) => answer(alloc, inputs, asks),
             None => said(alloc, "no unit"),
         }

@@ -9,7 +9,6 @@
 
 mod reaching;
 mod rows;
-mod shown;
 
 use rows::Rows;
 use std::io;

@@ -1,9 +1,9 @@
 //! What the next row is over.
 use crate::reaching;
-use crate::shown::shown;
 use call_table::{CallTable, read_calls};
 use kern_mounts::MountTable;
 use questions::questions;
+use row_questions::shown;
 use row_text::{said, words};
 use site_table::{SiteTable, read_site};
 use std::alloc::{AllocError, Global};

@@ -1,8 +1,8 @@
 //! Capabilities, and whether new privileges can be had.
-use crate::inputs::Inputs;
 use crate::notes::with_notes;
 use cap_sets::CapSet;
 use cred_settings::{ambient_set, bounding_set, is_no_new_privileges_set, no_new_privs};
+use row_inputs::Inputs;
 use row_text::yes_or_no;
 use std::alloc::{AllocError, Global};
 use unit_values::Said;

@@ -1,9 +1,9 @@
 //! What the keys of the filters come to, where it is not as it is without any key.
-use crate::inputs::Inputs;
 use crate::notes::{push_notes, push_part};
 use call_rules::Action;
 use filter_rules::{CallList, FamilyList, FilterSettings, Mode, NamespaceTypes, all_types};
 use filter_settings::filter_settings;
+use row_inputs::Inputs;
 use row_text::said;
 use std::alloc::{AllocError, Global};
 

@@ -2,7 +2,6 @@
 ghost use Rattle.filter_rules.specs.Known.{HasKnownFamilies};
 
 use crate::described;
-use crate::inputs::Inputs;
 use bpf_code::{CallData, run};
 use call_rules::{RuleSet, action};
 use call_table::CallTable;
@@ -10,6 +9,7 @@ use filter_rules::{
     CallList, Filter, FilterSettings, Mention, allows_call, filters, permits_family,
 };
 use filter_settings::filter_settings;
+use row_inputs::Inputs;
 use row_text::{said, yes_or_no};
 use seccomp_compile::{can_compile, compile};
 use std::alloc::{AllocError, Global};

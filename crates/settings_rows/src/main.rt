@@ -11,7 +11,6 @@ mod described;
 mod facts;
 mod filters;
 mod ids;
-mod inputs;
 mod mentions;
 mod notes;
 mod plans;

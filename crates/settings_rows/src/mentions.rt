@@ -1,10 +1,10 @@
 //! What is said of paths.
-use crate::inputs::Inputs;
 use crate::notes::{push_notes, push_part, with_notes};
 use mount_settings::{
     MountSettings, Switches, WrittenPaths, mentions_root, mount_settings, written_paths,
 };
 use path_settings::{Kind, Mention, PathKey};
+use row_inputs::Inputs;
 use std::alloc::{AllocError, Global};
 use unit_values::{FileNote, Said};
 

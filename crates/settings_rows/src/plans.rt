@@ -1,11 +1,11 @@
 //! Plans of mounts.
-use crate::inputs::Inputs;
 use crate::mentions::switches;
 use crate::notes::push_part;
 use kern_mounts::{MountStep, What};
 use mount_plan::plan;
 use mount_settings::{mount_settings, written_paths};
 use path_settings::Mentions;
+use row_inputs::Inputs;
 use row_text::said;
 use site_table::SiteTable;
 use std::alloc::{AllocError, Global};

@@ -1,6 +1,6 @@
 //! The calls that rows name.
-use crate::inputs::{Inputs, inputs_of};
 use crate::{caps, described, facts, filters, ids, mentions, plans, units};
+use row_inputs::{Inputs, inputs_of};
 use row_text::said;
 use std::alloc::{AllocError, Global};
 

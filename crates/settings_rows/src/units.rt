@@ -1,9 +1,9 @@
 //! All settings of a unit.
 use crate::ids::push_ids;
-use crate::inputs::Inputs;
 use crate::notes::push_notes;
 use exec_settings::{Settings, settings};
 use filter_rules::Filter;
+use row_inputs::Inputs;
 use std::alloc::{AllocError, Global};
 
 /// The program, the user and group, `nnp` where no new privileges can be had, the names of the filters, how many

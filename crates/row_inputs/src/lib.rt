@@ -1,4 +1,9 @@
-//! What settings are read from.
+//! Inputs of rows: a unit, a table of calls and a site, read from the texts of a table of rows.
+//!
+//! A unit is web.service with files of which the rows give the lines of the section of the service. It stands on the readers,
+//! `call_table`, `site_table` and `unit_grammar`: `inputs_of(alloc, calls, site, &["User=web"])` reads all three.
+#![tactic(auto)]
+
 use call_table::{CallTable, read_calls};
 use dropin_merge::{Resolved, UnitFile, UnitFiles};
 use row_text::text_of;
@@ -15,12 +20,14 @@ pub struct Inputs {
     pub site: Box<SiteTable>,
 }
 
-fn calls_of(alloc: Global, text: &str) -> Option<Box<CallTable>> {
+/// The table of calls of a text, where it is none that is refused.
+pub fn calls_of(alloc: Global, text: &str) -> Option<Box<CallTable>> {
     let calls = read_calls(alloc, text.as_bytes()).ok()?;
     Box::new(alloc, calls).ok()
 }
 
-fn site_of(alloc: Global, text: &str) -> Option<Box<SiteTable>> {
+/// The site of a text, where it is none that is refused.
+pub fn site_of(alloc: Global, text: &str) -> Option<Box<SiteTable>> {
     let site = read_site(alloc, text.as_bytes()).ok()?;
     Box::new(alloc, site).ok()
 }
@@ -48,8 +55,8 @@ fn files_of(alloc: Global, files: &[&str]) -> Option<Vec<UnitFile>> {
     Some(read)
 }
 
-// The unit web.service with these files; of each the lines of its section of the service.
-fn unit_of(alloc: Global, files: &[&str]) -> Option<Box<Resolved>> {
+/// The unit web.service with these files; of each the lines of its section of the service.
+pub fn unit_of(alloc: Global, files: &[&str]) -> Option<Box<Resolved>> {
     let name = UnitName::read(alloc, "web.service").ok()?;
     let files = UnitFiles::new(files_of(alloc, files)?);
     Box::new(alloc, Resolved { name, files }).ok()

@@ -1,4 +1,9 @@
-//! Questions in words.
+//! Questions in the words of rows.
+//!
+//! They are written here once more, beside the words that a report prints. It stands on `questions` and on the tables that
+//! questions speak of: `shown(alloc, &calls, &site, &question)?` is as `read /etc/passwd`.
+#![tactic(auto)]
+
 use call_table::{CallLine, CallTable};
 use cap_sets::CapSet;
 use questions::{NamespaceType, Question, Wish};
