@@ -1,0 +1,2 @@
+pub mod EndsWell
+pub mod Shown
