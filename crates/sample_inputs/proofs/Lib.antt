@@ -1,0 +1,17 @@
+pub mod Numbers
+pub mod Turns
+pub mod UnitRead
+pub mod UnitLines
+pub mod CallsRead
+pub mod Names
+pub mod PathTexts
+pub mod GoodRows
+pub mod RowCauses
+pub mod EachRow
+pub mod SiteRows
+pub mod SiteRead
+pub mod Refusals
+pub mod Entries
+pub mod RowsSoFar
+pub mod Printing
+pub mod SampleRows

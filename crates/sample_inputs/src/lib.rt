@@ -1,0 +1,16 @@
+//! The made input of a sample: a table of system calls, a site and a unit, as texts that the readers of all inputs read.
+//!
+//! The number of the sample says which objects of the site are executables and what the unit says of its folders. It stands on the
+//! readers (`call_table`, `site_table`, `unit_grammar`) and on `toml`, which prints the site.
+//!
+//! `made(alloc, 7)?` has the unit `sample.service`, and a site of 1,045 rows.
+#![tactic(auto)]
+
+mod calls;
+mod inputs;
+pub mod laws;
+mod rows;
+mod site;
+mod unit;
+
+pub use inputs::{SampleInputs, made};
