@@ -1,0 +1,4 @@
+pub mod Turns
+pub mod Alike
+pub mod Settling
+pub mod Plans

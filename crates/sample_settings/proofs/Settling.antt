@@ -1,0 +1,191 @@
+-- The settings of a sample, which compute.
+use Rattle.std.proofs.Common.{◌≡◌, ◌∙◌, ℕ, ◌<◌, ◌%◌, Bool, true, false, Option, Some, None, List, [], ◌∷◌, map, refl, sym, ap, subst}
+use Rattle.std.specs.Prelude.{Ok, ◌==◌, ◌||◌, filter}
+use Rattle.std.specs.Option.{option_map}
+use Rattle.std.specs.Fmt.{digits}
+use Rattle.std.specs.Str.{is_utf8, chars}
+use lib.Utf8.{encode}
+use Rattle.call_rules.specs.declared.actions.Action.TheVariants.{KillProcess}
+use Rattle.call_table.specs.Table.{Table}
+use Rattle.cap_sets.specs.Sets.{all, minus, none, union}
+use Rattle.cred_settings.specs.Ambient.{ambient_of}
+use Rattle.cred_settings.specs.Bounding.{bounding_of}
+use Rattle.cred_settings.specs.CapLists.{unit_caps}
+use Rattle.cred_settings.specs.Identities.{identity_of}
+use Rattle.cred_settings.specs.NewPrivileges.{is_in_effect}
+use Rattle.cred_settings.specs.declared.accounts.Identity.{Identity}
+use Rattle.dropin_merge.specs.declared.resolved.Resolved.{Resolved}
+use Rattle.exec_settings.specs.AreSettings.{AreSettings}
+use Rattle.exec_settings.specs.Bounding.{left_of, taken_caps}
+use Rattle.exec_settings.specs.Commands.{command_of, program_of, unit_command}
+use Rattle.exec_settings.specs.Dynamic.{is_dynamic, sets_new_privileges, unit_filters}
+use Rattle.exec_settings.specs.Groups.{missing_group}
+use Rattle.exec_settings.specs.Keys.{keys}
+use Rattle.exec_settings.specs.Mounts.{paths_refusal, unit_mentions, unit_switches}
+use Rattle.exec_settings.specs.Profile.{outside_key}
+use Rattle.exec_settings.specs.Refusals.{command_refusal, first_reason, group_refusal, identity_reason, identity_refusal, refusal_of}
+use Rattle.exec_settings.specs.Settings.{has_filter, unit_program}
+use Rattle.exec_settings.specs.declared.errors.SettingsError.{SettingsError}
+use Rattle.exec_settings.specs.declared.errors.SettingsError.TheVariants.{MissingGroup}
+use Rattle.exec_settings.specs.declared.service.Settings.{Settings}
+use Rattle.filter_rules.specs.Names.{all_filters}
+use Rattle.filter_rules.specs.Wanted.{is_on}
+use Rattle.filter_rules.specs.declared.namespace_types.NamespaceTypes.{NamespaceTypes}
+use Rattle.filter_rules.specs.declared.settings.FilterSettings.{FilterSettings}
+use Rattle.filter_rules.specs.declared.installed.Filter.{Filter}
+use Rattle.filter_settings.specs.CallLists.{unit_call_list}
+use Rattle.filter_settings.specs.FamilyLists.{unit_family_list}
+use Rattle.filter_settings.specs.Namespaces.{unit_namespaces}
+use Rattle.mount_settings.specs.Implied.{implied}
+use Rattle.mount_settings.specs.Protections.{unit_protections}
+use Rattle.mount_settings.specs.Settings.{mentions_of}
+use Rattle.mount_settings.specs.Written.{unit_written}
+use Rattle.site_table.specs.Table.{Site}
+use Rattle.text_forms.specs.Booleans.{bool_value, is_one_of}
+use Rattle.text_forms.specs.Words.{words_of, words_in, text_only, closed_only, mark_of, open_after, escape_of, symbols_of}
+use Rattle.unit_values.specs.Assignments.{service_assignments}
+use Rattle.unit_values.specs.Lasting.{unit_last, unit_last_text}
+use Rattle.unit_values.specs.Listed.{unit_listed}
+use Rattle.unit_values.specs.Words.{unit_words}
+use Rattle.exec_settings.proofs.FilterSame.{made_of}
+use Rattle.sample_inputs.specs.Facts.{program}
+use Rattle.sample_settings.specs.Mentions.{sample_mentions}
+use Rattle.sample_settings.specs.Settled.{AreSampleSettings, SettingsAreNotRefused, SettingsAreTheSamples}
+use Rattle.sample_settings.proofs.Turns.{same_half}
+use Rattle.sample_settings.proofs.Alike.{below_four, site_by, same_mentions, same_twice, site_is, turn_below, unit_by, unit_is}
+
+-- the user of a sample, with no further groups
+abbrev app : Identity
+app = record { uid = 100; gid = 100; groups = [] }
+
+abbrev any_namespace : NamespaceTypes
+any_namespace = record { cgroup = true; ipc = true; net = true; mnt = true; pid = true; user = true; uts = true }
+
+-- no filter is asked for
+abbrev bare : FilterSettings
+bare = made_of None KillProcess None any_namespace false false false false false false false false false
+
+or_false : (b : Bool) → (b || false) ≡ b
+or_false true = refl
+or_false false = refl
+
+-- ---- the four units, part by part
+
+launches : (unit : Resolved) (m : ℕ) → m < 4 → unit_program (unit_by unit m) ≡ Some program
+unfolding unit_program unit_command command_of program_of service_assignments words_of words_in text_only closed_only mark_of open_after escape_of symbols_of is_utf8 chars encode
+launches unit m h = below_four (λ m. unit_program (unit_by unit m) ≡ Some program) refl refl refl refl m h
+
+command_passes : (unit : Resolved) (m : ℕ) → m < 4 → command_refusal (unit_by unit m) ≡ None
+unfolding command_refusal outside_key keys unit_command command_of program_of unit_written service_assignments digits words_of words_in text_only closed_only mark_of open_after escape_of symbols_of is_utf8 chars encode
+command_passes unit m h = below_four (λ m. command_refusal (unit_by unit m) ≡ None) refl refl refl refl m h
+
+user_passes : (unit : Resolved) (site : Site) (m : ℕ) → m < 4 → identity_of (unit_by unit m) (site_by site) (is_dynamic (unit_by unit m)) ≡ Ok app
+unfolding is_dynamic identity_of unit_last unit_last_text unit_words service_assignments is_utf8 chars encode
+user_passes unit site m h = below_four (λ m. identity_of (unit_by unit m) (site_by site) (is_dynamic (unit_by unit m)) ≡ Ok app) refl refl refl refl m h
+
+unfiltered : (unit : Resolved) (table : Table) (m : ℕ) → m < 4 → unit_filters (unit_by unit m) table ≡ bare
+unfolding unit_filters is_dynamic unit_call_list unit_family_list unit_namespaces unit_last unit_listed service_assignments
+unfiltered unit table m h = below_four (λ m. unit_filters (unit_by unit m) table ≡ bare) refl refl refl refl m h
+
+paths_pass : (unit : Resolved) (m : ℕ) → m < 4 → paths_refusal (unit_by unit m) ≡ None
+unfolding paths_refusal unit_written service_assignments digits words_of words_in text_only closed_only mark_of open_after escape_of symbols_of is_utf8 chars encode
+paths_pass unit m h = below_four (λ m. paths_refusal (unit_by unit m) ≡ None) refl refl refl refl m h
+
+pub mentioned : (unit : Resolved) (site : Site) (m : ℕ) → m < 4 → unit_mentions (unit_by unit m) site ≡ sample_mentions m
+unfolding unit_mentions mentions_of implied unit_switches is_dynamic unit_protections unit_written unit_last service_assignments digits words_of words_in text_only closed_only mark_of open_after escape_of symbols_of is_utf8 chars encode
+mentioned unit site m h = below_four (λ m. unit_mentions (unit_by unit m) site ≡ sample_mentions m) refl refl refl refl m h
+
+bounded : (unit : Resolved) (m : ℕ) → m < 4 → bounding_of (unit_by unit m) ≡ all
+unfolding unit_caps unit_listed service_assignments
+bounded unit m h = below_four (λ m. bounding_of (unit_by unit m) ≡ all) refl refl refl refl m h
+
+no_ambient : (unit : Resolved) (m : ℕ) → m < 4 → ambient_of (unit_by unit m) ≡ none
+unfolding unit_caps unit_listed service_assignments
+no_ambient unit m h = below_four (λ m. ambient_of (unit_by unit m) ≡ none) refl refl refl refl m h
+
+set_by_halves : (unit : Resolved) (m : ℕ) → m < 4 → sets_new_privileges (unit_by unit m) ≡ (m % 2 == 0)
+unfolding is_dynamic unit_last service_assignments bool_value is_one_of is_utf8 chars encode
+set_by_halves unit m h = below_four (λ m. sets_new_privileges (unit_by unit m) ≡ (m % 2 == 0)) refl refl refl refl m h
+
+-- ---- no reason to refuse them
+
+group_passes : (unit : Resolved) (table : Table) (m : ℕ) → m < 4 → group_refusal (unit_by unit m) table ≡ None
+unfolding group_refusal missing_group
+group_passes unit table m h = ap (λ settings. option_map MissingGroup (missing_group table settings)) (unfiltered unit table m h)
+
+none_of_four : (a b c d : Option SettingsError) → a ≡ None → b ≡ None → c ≡ None → d ≡ None → first_reason (a ∷ b ∷ c ∷ d ∷ []) ≡ None
+none_of_four a b c d not_a not_b not_c not_d =
+    ap (λ reason. first_reason (reason ∷ b ∷ c ∷ d ∷ [])) not_a
+    ∙ ap (λ reason. first_reason (reason ∷ c ∷ d ∷ [])) not_b
+    ∙ ap (λ reason. first_reason (reason ∷ d ∷ [])) not_c
+    ∙ ap (λ reason. first_reason (reason ∷ [])) not_d
+
+no_refusal : (unit : Resolved) (table : Table) (site : Site) (m : ℕ) → m < 4 → refusal_of (unit_by unit m) table (site_by site) ≡ None
+unfolding refusal_of identity_refusal
+no_refusal unit table site m h = none_of_four _ _ _ _ (command_passes unit m h) (ap identity_reason (user_passes unit site m h)) (group_passes unit table m h) (paths_pass unit m h)
+
+pub are_not_refused : SettingsAreNotRefused
+are_not_refused n unit table site says has =
+    ap (λ one. refusal_of one table site) (unit_is n unit says)
+    ∙ ap (refusal_of (unit_by unit (n % 4)) table) (site_is site has)
+    ∙ no_refusal unit table site (n % 4) (turn_below n)
+
+-- ---- what their settings are
+
+no_names : (filters : List Filter) → map (λ one. one.name) filters ≡ [] → filters ≡ []
+no_names [] e = refl
+no_names (one ∷ filters) e = cc
+
+module _ (unit : Resolved) (table : Table) (site : Site) (made : Settings) (m : ℕ) (h : m < 4) (are : AreSettings (unit_by unit m) table (site_by site) made) where
+  its_program : made.program ≡ program
+  its_program = let e = are.launches_the_first_command in let f = launches unit m h in cc
+
+  its_identity : record { uid = made.uid; gid = made.gid; groups = made.groups } ≡ app
+  its_identity = let e = are.runs_as in let f = user_passes unit site m h in cc
+
+  its_bounding : made.bounding ≡ all
+  unfolding taken_caps all minus union none
+  its_bounding = are.bounding_without_what_is_taken ∙ ap (λ set. left_of set (unit_filters (unit_by unit m) table)) (bounded unit m h) ∙ ap (left_of all) (unfiltered unit table m h)
+
+  its_filters : made.filters.items ≡ []
+  its_filters = no_names made.filters.items (are.filters_as_wanted.exactly_those_on ∙ ap (λ settings. filter (is_on settings) all_filters) (unfiltered unit table m h))
+
+  its_privileges : made.no_new_privs ≡ (m % 2 == 0)
+  its_privileges =
+      are.new_privileges
+      ∙ ap (λ settings. is_in_effect (sets_new_privileges (unit_by unit m)) (has_filter settings) made.uid (ambient_of (unit_by unit m))) (unfiltered unit table m h)
+      ∙ ap (λ on. on || false) (set_by_halves unit m h)
+      ∙ or_false (m % 2 == 0)
+
+  are_of_four : AreSampleSettings m made
+  are_of_four = record {
+    launches = its_program;
+    uid = ap (λ one. one.uid) its_identity;
+    gid = ap (λ one. one.gid) its_identity;
+    groups = ap (λ one. one.groups) its_identity;
+    bounding = its_bounding;
+    ambient = are.ambient ∙ no_ambient unit m h;
+    filters = its_filters;
+    new_privileges = its_privileges;
+    mentions = are.mentions_written_and_implied ∙ mentioned unit (site_by site) m h;
+  }
+
+-- the settings of two samples with the same turn are the same
+of_its_turn : (n m : ℕ) (made : Settings) → n % 4 ≡ m % 4 → AreSampleSettings m made → AreSampleSettings n made
+of_its_turn n m made same are = record {
+  launches = are.launches;
+  uid = are.uid;
+  gid = are.gid;
+  groups = are.groups;
+  bounding = are.bounding;
+  ambient = are.ambient;
+  filters = are.filters;
+  new_privileges = are.new_privileges ∙ ap (λ half. half == 0) (sym (same_half n m same));
+  mentions = are.mentions ∙ sym (same_mentions n m same);
+}
+
+pub are_the_samples : SettingsAreTheSamples
+are_the_samples n unit table site made says has are =
+    of_its_turn n (n % 4) made (same_twice n)
+    (are_of_four unit table site made (n % 4) (turn_below n)
+    (subst (λ one. AreSettings (unit_by unit (n % 4)) table one made) (site_is site has) (subst (λ one. AreSettings one table site made) (unit_is n unit says) are)))

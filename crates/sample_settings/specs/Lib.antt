@@ -1,0 +1,3 @@
+pub mod Mentions
+pub mod Settled
+pub mod Planned
