@@ -70,13 +70,13 @@ one_more asked list i d question found lt is verdict' =
 
 -- of all that is asked
 module _ (asked : Asked) (is : IsAsked asked) where
-  all_are : length (answers_of (world_in asked) asked.service.program) ≡ length asked.questions.items
+  pub all_are : length (answers_of (world_in asked) asked.service.program) ≡ length asked.questions.items
   all_are =
       length-map (questions (world_in asked).calls (world_in asked).site) (answer_of (launch_in asked) asked.service.program)
       ∙ ap length (sym is.questions)
       ∙ length-map asked.questions.items meant
 
-  those_denied : denied_among asked asked.questions.items ≡ length (filter is_denied (answers_of (world_in asked) asked.service.program))
+  pub those_denied : denied_among asked asked.questions.items ≡ length (filter is_denied (answers_of (world_in asked) asked.service.program))
   those_denied =
       denied_are (launch_in asked) asked.service.program asked.questions.items
       ∙ ap (λ list. length (filter is_denied (map (answer_of (launch_in asked) asked.service.program) list))) is.questions

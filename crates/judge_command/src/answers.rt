@@ -7,9 +7,10 @@ ghost use Rattle.kernel_laws.specs.Launched.{launch_of};
 ghost use Rattle.kernel_laws.specs.Questions.{questions};
 ghost use Rattle.questions.specs.Meanings.{meant};
 ghost use Rattle.report_text.specs.Answers.{call_line};
-ghost use Rattle.judge_command.specs.Asked.{IsAsked, IsVerdict, answer_text, denied_among, denied_once};
+ghost use Rattle.judge_command.specs.Asked.{IsAsked, IsVerdict, answer_text, denied_among};
 
 use crate::asking::Asked;
+use crate::counting::denied_once;
 use call_table::CallTable;
 use command_answers::put_line;
 use host_io::{Sink, SinkError};
@@ -60,16 +61,6 @@ fn print_answer<K: Sink>(
             put_line(out, line)?;
             print_calls(alloc, list.as_slice(), table, out)
         }
-    }
-}
-
-// How many of one answer are denied.
-fn denied_once(found: Verdict) -> usize
-    ensures { result ≡ denied_once found }
-{
-    match found {
-        Verdict::Denied => 1,
-        Verdict::Open => 0,
     }
 }
 

@@ -10,7 +10,7 @@ ghost use Rattle.judge_command.specs.Started.{FinishesStarted};
 use crate::launching::{ending_behind, start};
 use crate::preparing::{Prepared, prepare};
 use crate::printing::print_report;
-use crate::truths::truths;
+use crate::reasons::truths;
 use command_answers::{Ending, ending_after, finish_stop};
 use host_io::{Shelf, Sink};
 use std::alloc::Global;

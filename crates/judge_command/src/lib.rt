@@ -11,10 +11,14 @@
 mod answers;
 mod asking;
 mod command;
+mod counting;
 mod folders;
 mod launching;
 mod preparing;
 mod printing;
-mod truths;
+mod reasons;
 
+pub use asking::{Asked, ask};
 pub use command::answer;
+pub use counting::count_denied;
+pub use reasons::truths;

@@ -10,7 +10,8 @@ use Rattle.plan_command.specs.Prints.{plan_laws}
 use Rattle.judge_command.specs.Prints.{judge_laws}
 use Rattle.replay_command.specs.Prints.{replay_laws}
 use Rattle.score_command.specs.Prints.{score_laws}
-use Rattle.top_call.specs.Requests.{Request, HelpAlone, VersionAlone, FilterOf, PlanOf, JudgeOf, ReplayOf, ScoreOf, request_in}
+use Rattle.sample_command.specs.Prints.{sample_laws}
+use Rattle.top_call.specs.Requests.{Request, HelpAlone, VersionAlone, FilterOf, PlanOf, JudgeOf, ReplayOf, ScoreOf, SampleOf, request_in}
 use Rattle.top_call.specs.Texts.{help_text, version_text, words_line}
 use denote.Ref.{Bor}
 
@@ -32,6 +33,7 @@ laws_for (PlanOf unit) told stored = laws_over told (plan_laws unit)
 laws_for (JudgeOf unit) told stored = laws_over told (judge_laws unit)
 laws_for (ReplayOf unit script) told stored = laws_over told (replay_laws unit script)
 laws_for (ScoreOf unit policy threshold) told stored = laws_over told (score_laws unit policy threshold stored)
+laws_for (SampleOf number) told stored = sample_laws number
 
 -- words that are no command are refused whatever the files
 abbrev pub laws_by : Option Request → Option Files → StoredTests → Laws

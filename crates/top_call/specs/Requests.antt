@@ -1,9 +1,9 @@
 -- What a list of words asks for.
-use Rattle.std.specs.Prelude.{List, [], ◌∷◌, ℕ, nat_le, codes, cond, Option, Some, None, option_map, option_and_then}
+use Rattle.std.specs.Prelude.{List, [], ◌∷◌, ℕ, ◌≤◌, nat_le, codes, cond, Option, Some, None, option_map, option_and_then}
 use Rattle.std.specs.Str.{bytes_eq}
 use Rattle.text_forms.specs.Numbers.{decimal_value}
 use Rattle.top_call.specs.declared.request.Request.{Request as Code}
-use Rattle.top_call.specs.declared.request.Request.TheVariants.{Help, Version, Filter, Plan, Judge, Replay, Score}
+use Rattle.top_call.specs.declared.request.Request.TheVariants.{Help, Version, Filter, Plan, Judge, Replay, Score, Sample}
 
 -- what is asked for
 pub data Request : Type 0 where
@@ -14,6 +14,7 @@ pub data Request : Type 0 where
   JudgeOf : (unit : List ℕ) → Request
   ReplayOf : (unit script : List ℕ) → Request
   ScoreOf : (unit policy : List ℕ) (threshold : ℕ) → Request
+  SampleOf : (number : ℕ) → Request
 
 -- a word by itself
 abbrev pub request_alone : List ℕ → Option Request
@@ -21,12 +22,17 @@ request_alone word =
     cond (bytes_eq word (codes "--help")) (Some HelpAlone)
     (cond (bytes_eq word (codes "--version")) (Some VersionAlone) None)
 
--- a word and a unit
+-- a decimal number up to a limit
+abbrev pub number_to : List ℕ → ℕ → Option ℕ
+number_to text most = option_and_then (λ number. cond (nat_le number most) (Some number) None) (decimal_value text)
+
+-- a word and a unit, or the number of a made input, 0 to 999
 abbrev pub request_on : List ℕ → List ℕ → Option Request
 request_on word unit =
     cond (bytes_eq word (codes "filter")) (Some (FilterOf unit))
     (cond (bytes_eq word (codes "plan")) (Some (PlanOf unit))
-    (cond (bytes_eq word (codes "judge")) (Some (JudgeOf unit)) None))
+    (cond (bytes_eq word (codes "judge")) (Some (JudgeOf unit))
+    (cond (bytes_eq word (codes "sample")) (option_map SampleOf (number_to unit 999)) None)))
 
 -- a word, a unit, and the path of a script or of a policy; without a threshold no exposure is above it
 abbrev pub request_with : List ℕ → List ℕ → List ℕ → Option Request
@@ -34,14 +40,10 @@ request_with word unit path =
     cond (bytes_eq word (codes "replay")) (Some (ReplayOf unit path))
     (cond (bytes_eq word (codes "score")) (Some (ScoreOf unit path 100)) None)
 
--- a threshold is decimal, 0 to 100
-abbrev pub threshold_of : List ℕ → Option ℕ
-threshold_of text = option_and_then (λ number. cond (nat_le number 100) (Some number) None) (decimal_value text)
-
--- a word, a unit, the path of a policy and a threshold
+-- a word, a unit, the path of a policy and a threshold, 0 to 100
 abbrev pub request_above : List ℕ → List ℕ → List ℕ → List ℕ → Option Request
 request_above word unit policy text =
-    cond (bytes_eq word (codes "score")) (option_map (λ threshold. ScoreOf unit policy threshold) (threshold_of text)) None
+    cond (bytes_eq word (codes "score")) (option_map (λ threshold. ScoreOf unit policy threshold) (number_to text 100)) None
 
 -- all other words are no command
 abbrev pub request_in : List (List ℕ) → Option Request
@@ -61,3 +63,15 @@ request_of (Plan unit) = PlanOf unit.now
 request_of (Judge unit) = JudgeOf unit.now
 request_of (Replay unit script) = ReplayOf unit.now script.now
 request_of (Score unit policy threshold) = ScoreOf unit.now policy.now threshold
+request_of (Sample number) = SampleOf number
+
+-- the number of a made input is at most 999
+abbrev pub IsNumbered : Code → Type 0
+IsNumbered Help = Unit {0}
+IsNumbered Version = Unit {0}
+IsNumbered (Filter unit) = Unit {0}
+IsNumbered (Plan unit) = Unit {0}
+IsNumbered (Judge unit) = Unit {0}
+IsNumbered (Replay unit script) = Unit {0}
+IsNumbered (Score unit policy threshold) = Unit {0}
+IsNumbered (Sample number) = number ≤ 999

@@ -30,6 +30,7 @@ help_lines =
     codes "                 launch it, make the calls of SCRIPT, print what each comes to" ∷
     codes "  score UNIT POLICY [THRESHOLD]" ∷
     codes "                 weigh what its sandbox leaves open, 0 to 100 in all" ∷
+    codes "  sample N       judge a made input of the number N, 0 to 999, and print counts" ∷
     codes "  --help         print this text" ∷
     codes "  --version      print the name and the version" ∷
     [] ∷

@@ -1,7 +1,7 @@
 //! What the words of the command line ask for.
-ghost use Rattle.std.specs.Prelude.{◌≡◌, map};
+ghost use Rattle.std.specs.Prelude.{◌≡◌, ◌≤◌, map, IfSome};
 ghost use Rattle.std.specs.Option.{option_map};
-ghost use Rattle.top_call.specs.Requests.{request_above, request_alone, request_in, request_of, request_on, request_with, threshold_of};
+ghost use Rattle.top_call.specs.Requests.{IsNumbered, number_to, request_above, request_alone, request_in, request_of, request_on, request_with};
 
 use text_forms::read_decimal;
 
@@ -22,14 +22,20 @@ pub enum Request<'a> {
     Replay(&'a str, &'a str),
     /// The exposure of a unit, the first, by a policy, the second, and the threshold that it is held against.
     Score(&'a str, &'a str, u32),
+    /// How much of the made input of a number, 0 to 999, is denied.
+    Sample(u32),
 }
+
+/// The greatest number of a made input.
+const LAST_SAMPLE: u32 = 999;
 
 /// The threshold of a score where none is given: no exposure is above it.
 const MOST_EXPOSURE: u32 = 100;
 
 // The request of a word by itself.
 fn request_alone<'a>(word: &str) -> Option<Request<'a>>
-    ensures { option_map request_of result ≡ request_alone word.now }
+    ensures request { option_map request_of result ≡ request_alone word.now }
+    ensures numbered { IfSome result IsNumbered }
 {
     match word {
         "--help" => Some(Request::Help),
@@ -38,38 +44,54 @@ fn request_alone<'a>(word: &str) -> Option<Request<'a>>
     }
 }
 
-// The request of a word about a unit.
-fn request_on<'a>(word: &str, unit: &'a str) -> Option<Request<'a>>
-    ensures { option_map request_of result ≡ request_on word.now unit.now }
-{
-    match word {
-        "filter" => Some(Request::Filter(unit)),
-        "plan" => Some(Request::Plan(unit)),
-        "judge" => Some(Request::Judge(unit)),
-        _ => None,
-    }
-}
-
-// The request of a word about a unit and a file.
-fn request_with<'a>(word: &str, unit: &'a str, path: &'a str) -> Option<Request<'a>>
-    ensures { option_map request_of result ≡ request_with word.now unit.now path.now }
-{
-    match word {
-        "replay" => Some(Request::Replay(unit, path)),
-        "score" => Some(Request::Score(unit, path, MOST_EXPOSURE)),
-        _ => None,
-    }
-}
-
 // A threshold: decimal, 0 to 100.
 fn threshold_of(text: &str) -> Option<u32>
-    ensures { result ≡ threshold_of text.now }
+    ensures { result ≡ number_to text.now 100 }
 {
     let number = read_decimal(text)?;
     if number <= u64::from(MOST_EXPOSURE) {
         Some(number as u32)
     } else {
         None
+    }
+}
+
+// The number of a made input: decimal, 0 to 999.
+fn sample_of(text: &str) -> Option<u32>
+    ensures number { result ≡ number_to text.now 999 }
+    ensures in_range { IfSome result (λ number. number ≤ 999) }
+{
+    let number = read_decimal(text)?;
+    if number <= u64::from(LAST_SAMPLE) {
+        Some(number as u32)
+    } else {
+        None
+    }
+}
+
+// The request of a word about a unit, or about the number of a made input.
+fn request_on<'a>(word: &str, unit: &'a str) -> Option<Request<'a>>
+    ensures request { option_map request_of result ≡ request_on word.now unit.now }
+    ensures numbered { IfSome result IsNumbered }
+{
+    match word {
+        "filter" => Some(Request::Filter(unit)),
+        "plan" => Some(Request::Plan(unit)),
+        "judge" => Some(Request::Judge(unit)),
+        "sample" => Some(Request::Sample(sample_of(unit)?)),
+        _ => None,
+    }
+}
+
+// The request of a word about a unit and a file.
+fn request_with<'a>(word: &str, unit: &'a str, path: &'a str) -> Option<Request<'a>>
+    ensures request { option_map request_of result ≡ request_with word.now unit.now path.now }
+    ensures numbered { IfSome result IsNumbered }
+{
+    match word {
+        "replay" => Some(Request::Replay(unit, path)),
+        "score" => Some(Request::Score(unit, path, MOST_EXPOSURE)),
+        _ => None,
     }
 }
 
@@ -80,7 +102,8 @@ fn request_above<'a>(
     path: &'a str,
     threshold: &str,
 ) -> Option<Request<'a>>
-    ensures { option_map request_of result ≡ request_above word.now unit.now path.now threshold.now }
+    ensures request { option_map request_of result ≡ request_above word.now unit.now path.now threshold.now }
+    ensures numbered { IfSome result IsNumbered }
 {
     match word {
         "score" => Some(Request::Score(unit, path, threshold_of(threshold)?)),
@@ -90,7 +113,8 @@ fn request_above<'a>(
 
 /// The request of the words, or none where they are no command.
 pub fn parse<'a>(words: &[&'a str]) -> Option<Request<'a>>
-    ensures { option_map request_of result ≡ request_in (map (λ word. word.now) words.now) }
+    ensures request { option_map request_of result ≡ request_in (map (λ word. word.now) words.now) }
+    ensures numbered { IfSome result IsNumbered }
 {
     match words {
         [word] => request_alone(word),

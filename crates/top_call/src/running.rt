@@ -1,11 +1,11 @@
 //! The top call.
-ghost use Rattle.std.specs.Prelude.{◌≡◌, IsTrue};
+ghost use Rattle.std.specs.Prelude.{◌≡◌, IfSome, IsTrue};
 ghost use Rattle.std.specs.Option.{option_map};
 ghost use Rattle.exposure_score.specs.StoredTests.{stored_by};
 ghost use Rattle.command_answers.specs.Endings.{is_whole};
 ghost use Rattle.command_answers.specs.Runs.{Completes, EndsBy, HasFaultCause, IsRun, WroteWhole, WrotePrefix};
 ghost use Rattle.top_call.specs.Asked.{Accepts, Prints, ReadsFiles, asked, laws_by, laws_for, laws_of};
-ghost use Rattle.top_call.specs.Requests.{request_of};
+ghost use Rattle.top_call.specs.Requests.{IsNumbered, request_of};
 
 use crate::request::{Request, parse};
 use crate::status::Status;
@@ -23,6 +23,7 @@ fn answer_request<S: Shelf, K: Sink>(
     out: &mut K,
     tests: &[CustomTest],
 ) -> Ending
+    requires numbered { IsNumbered request }
     ensures runs { IsRun (laws_for (request_of request.entry) (S.told shelf.old) (stored_by (λ test. test.id) (λ test. test.range) (λ test. ⟦<Box<dyn Fn(&Facts) -> u32> as Fn(&Facts) -> u32>⟧.post test.check) tests.now)) result
         (record { shelf_before = S.faults shelf.old; shelf_after = S.faults shelf.new; sink = record { faults_before = K.faults out.old; faults_after = K.faults out.new; taken_before = K.taken out.old; taken_after = K.taken out.new } }) }
     ensures reads_only_for_it { ((laws_for (request_of request.entry) (S.told shelf.old) (stored_by (λ test. test.id) (λ test. test.range) (λ test. ⟦<Box<dyn Fn(&Facts) -> u32> as Fn(&Facts) -> u32>⟧.post test.check) tests.now)).reads → ⊥) → shelf.new ≡ shelf.old }
@@ -40,6 +41,7 @@ fn answer_request<S: Shelf, K: Sink>(
             score_command::prepare(alloc, shelf, unit, policy, threshold, tests),
             out,
         ),
+        Request::Sample(number) => finish(alloc, sample_command::prepare(alloc, number), out),
     }
 }
 
@@ -51,6 +53,7 @@ fn answer<S: Shelf, K: Sink>(
     out: &mut K,
     tests: &[CustomTest],
 ) -> Ending
+    requires numbered { IfSome request IsNumbered }
     ensures runs { IsRun (laws_by (option_map request_of request.entry) (S.told shelf.old) (stored_by (λ test. test.id) (λ test. test.range) (λ test. ⟦<Box<dyn Fn(&Facts) -> u32> as Fn(&Facts) -> u32>⟧.post test.check) tests.now)) result
         (record { shelf_before = S.faults shelf.old; shelf_after = S.faults shelf.new; sink = record { faults_before = K.faults out.old; faults_after = K.faults out.new; taken_before = K.taken out.old; taken_after = K.taken out.new } }) }
     ensures reads_only_for_it { ((laws_by (option_map request_of request.entry) (S.told shelf.old) (stored_by (λ test. test.id) (λ test. test.range) (λ test. ⟦<Box<dyn Fn(&Facts) -> u32> as Fn(&Facts) -> u32>⟧.post test.check) tests.now)).reads → ⊥) → shelf.new ≡ shelf.old }

@@ -21,6 +21,7 @@ const HELP: &[&str] = &[
     "                 launch it, make the calls of SCRIPT, print what each comes to\n",
     "  score UNIT POLICY [THRESHOLD]\n",
     "                 weigh what its sandbox leaves open, 0 to 100 in all\n",
+    "  sample N       judge a made input of the number N, 0 to 999, and print counts\n",
     "  --help         print this text\n",
     "  --version      print the name and the version\n",
     "\n",

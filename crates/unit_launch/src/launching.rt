@@ -24,8 +24,8 @@ pub enum UnitLaunch<'a> {
     Refused(LaunchRefusal),
 }
 
-// The facts of every table, which its lists are lent with.
-fn look_at(table: &CallTable)
+/// The facts of every table of calls, which its lists are lent with. It does nothing.
+pub fn look_at(table: &CallTable)
     ensures whole { IsWhole table.now }
     ensures arch { table.now.arch < 2 ^ 32 }
 {

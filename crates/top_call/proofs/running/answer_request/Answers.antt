@@ -9,6 +9,9 @@ use Rattle.plan_command.proofs.Prepared.{together as plan_together}
 use Rattle.exposure_score.specs.StoredTests.{stored_by}
 use Rattle.score_command.specs.Prints.{score_laws, scored_text, ending_of as score_ending}
 use Rattle.score_command.proofs.Prepared.{together as score_together}
+use Rattle.command_answers.proofs.Refusing.{quiet}
+use Rattle.sample_command.specs.Prints.{sample_laws, sampled_text, ending_of as sample_ending}
+use Rattle.sample_command.proofs.Prepared.{together as sample_together}
 use Rattle.top_call.specs.Texts.{help_text, version_text}
 use Rattle.top_call.proofs.Runs.{ran_fixed}
 use Rattle.top_call.proofs.running.answer_request.Goals as goal
@@ -47,3 +50,9 @@ returns-in-Score-clause-runs g c =
     (let stored = stored_by (λ test. test.id) (λ test. test.range) (λ test shown answer. (goal.Fn-dyn g).post (test.check.vtable, test.check.value) (shown, tt) answer) c.args.tests.now in
     ran (laws_over (g.S.Shelf.told c.args.shelf.now) (score_laws c.in-Score.unit.now c.in-Score.policy.now c.in-Score.threshold stored)) (score_together (g.S.Shelf.told c.args.shelf.now) c.in-Score.unit.now c.in-Score.policy.now c.in-Score.threshold stored) _ score_ending scored_text c.prepare-in-Score.result c.finish-in-Score.result
     c.prepare-in-Score.ensures.prepares c.prepare-in-Score.ensures.reads_for_a_name c.prepare-in-Score.ensures.fault_rose c.finish-in-Score.ensures.finishes)
+
+pub returns-in-Sample-clause-runs : goal.returns-in-Sample-clause-runs
+returns-in-Sample-clause-runs g c =
+    rw c.in-Sample.is
+    (ran (sample_laws c.in-Sample.number) (sample_together c.in-Sample.number) _ sample_ending sampled_text c.prepare-in-Sample.result c.finish-in-Sample.result
+    c.prepare-in-Sample.ensures.prepares c.prepare-in-Sample.ensures.reads_nothing (quiet _ _ c.prepare-in-Sample.result refl c.prepare-in-Sample.ensures.reads_nothing) c.finish-in-Sample.ensures.finishes)

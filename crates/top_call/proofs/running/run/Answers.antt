@@ -8,19 +8,19 @@ use Rattle.top_call.proofs.running.run.Goals as goal
 pub returns-clause-prints_the_whole_text : goal.returns-clause-prints_the_whole_text
 returns-clause-prints_the_whole_text g c =
     (of_words (option_map request_of c.parse.result) (map (λ word. word.now) c.args.words.now) (g.S.Shelf.told c.args.shelf.now) (λ tests. stored_by (λ test. test.id) (λ test. test.range) (λ test shown answer. (goal.Fn-dyn g).post (test.check.vtable, test.check.value) (shown, tt) answer) tests)
-    c.deref.result.now c.args.tests.items c.answer.result c.of.result _ c.parse.ensures c.deref.ensures.value c.of.ensures.is_the_ending c.answer.ensures.runs).prints_the_whole_text
+    c.deref.result.now c.args.tests.items c.answer.result c.of.result _ c.parse.ensures.request c.deref.ensures.value c.of.ensures.is_the_ending c.answer.ensures.runs).prints_the_whole_text
 
 pub returns-clause-prints_a_prefix : goal.returns-clause-prints_a_prefix
 returns-clause-prints_a_prefix g c =
     (of_words (option_map request_of c.parse.result) (map (λ word. word.now) c.args.words.now) (g.S.Shelf.told c.args.shelf.now) (λ tests. stored_by (λ test. test.id) (λ test. test.range) (λ test shown answer. (goal.Fn-dyn g).post (test.check.vtable, test.check.value) (shown, tt) answer) tests)
-    c.deref.result.now c.args.tests.items c.answer.result c.of.result _ c.parse.ensures c.deref.ensures.value c.of.ensures.is_the_ending c.answer.ensures.runs).prints_a_prefix
+    c.deref.result.now c.args.tests.items c.answer.result c.of.result _ c.parse.ensures.request c.deref.ensures.value c.of.ensures.is_the_ending c.answer.ensures.runs).prints_a_prefix
 
 pub returns-clause-ends_by_the_inputs : goal.returns-clause-ends_by_the_inputs
 returns-clause-ends_by_the_inputs g c =
     (of_words (option_map request_of c.parse.result) (map (λ word. word.now) c.args.words.now) (g.S.Shelf.told c.args.shelf.now) (λ tests. stored_by (λ test. test.id) (λ test. test.range) (λ test shown answer. (goal.Fn-dyn g).post (test.check.vtable, test.check.value) (shown, tt) answer) tests)
-    c.deref.result.now c.args.tests.items c.answer.result c.of.result _ c.parse.ensures c.deref.ensures.value c.of.ensures.is_the_ending c.answer.ensures.runs).ends_by_the_inputs
+    c.deref.result.now c.args.tests.items c.answer.result c.of.result _ c.parse.ensures.request c.deref.ensures.value c.of.ensures.is_the_ending c.answer.ensures.runs).ends_by_the_inputs
 
 pub returns-clause-completes : goal.returns-clause-completes
 returns-clause-completes g c =
     (of_words (option_map request_of c.parse.result) (map (λ word. word.now) c.args.words.now) (g.S.Shelf.told c.args.shelf.now) (λ tests. stored_by (λ test. test.id) (λ test. test.range) (λ test shown answer. (goal.Fn-dyn g).post (test.check.vtable, test.check.value) (shown, tt) answer) tests)
-    c.deref.result.now c.args.tests.items c.answer.result c.of.result _ c.parse.ensures c.deref.ensures.value c.of.ensures.is_the_ending c.answer.ensures.runs).completes
+    c.deref.result.now c.args.tests.items c.answer.result c.of.result _ c.parse.ensures.request c.deref.ensures.value c.of.ensures.is_the_ending c.answer.ensures.runs).completes

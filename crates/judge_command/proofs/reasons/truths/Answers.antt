@@ -1,6 +1,6 @@
 use Rattle.judge_command.proofs.Answered.{answers_are_true}
 use Rattle.judge_command.proofs.Named.{blind_folders_are_named}
-use Rattle.judge_command.proofs.truths.truths.Goals as goal
+use Rattle.judge_command.proofs.reasons.truths.Goals as goal
 
 pub returns-clause-answers : goal.returns-clause-answers
 returns-clause-answers c = answers_are_true c.openness.ensures.each_listed c.openness.ensures.listed c.choices.ensures.shown

@@ -1,0 +1,62 @@
+-- What `sample` prints.
+use Rattle.std.specs.Prelude.{◌≡◌, ℕ, List, [], ◌∷◌, ◌++◌, codes}
+use Rattle.std.specs.Fmt.{decimal}
+use Rattle.call_table.specs.Table as calls
+use Rattle.command_answers.specs.Laws.{Laws}
+use Rattle.command_answers.specs.declared.ending.Ending.{Ending}
+use Rattle.command_answers.specs.declared.ending.Ending.TheVariants.{Done}
+use Rattle.dropin_merge.specs.declared.resolved.Resolved.{Resolved}
+use Rattle.exec_settings.specs.AreSettings.{AreSettings}
+use Rattle.exec_settings.specs.Mounts.{unit_mentions}
+use Rattle.exec_settings.specs.declared.service.Settings.{Settings}
+use Rattle.judge_command.specs.Answers.{Answer, AreAnswers}
+use Rattle.kern_mounts.specs.declared.step.MountStep.{MountStep}
+use Rattle.launcher.specs.declared.launched.Launched.{Launched as Service}
+use Rattle.mount_plan.specs.Host.{host_of}
+use Rattle.plan_command.specs.Planned.{IsPlan}
+use Rattle.site_table.specs.Table.{Site}
+use Rattle.unit_launch.specs.Launching.{IsLaunched}
+use Rattle.sample_inputs.specs.Made.{IsSample}
+use Rattle.sample_command.specs.Counts.{Counts}
+use Rattle.sample_command.specs.declared.sampled.Sampled.{Sampled}
+
+-- a word and a number
+abbrev pub count_line : List ℕ → ℕ → List ℕ
+count_line word number = word ++ (codes " " ++ (decimal number ++ 10 ∷ []))
+
+-- the number of the sample, and its counts
+abbrev pub sampled_text : Sampled → List ℕ
+sampled_text counts =
+    count_line (codes "sample") counts.number ++ (count_line (codes "rows") counts.rows ++ (count_line (codes "questions") counts.questions
+    ++ (count_line (codes "denied") counts.denied ++ count_line (codes "open") counts.open)))
+
+-- the made unit, table and site are settled, planned and launched as any others; each question of the tables has one answer that
+-- is true of the launched service, and these are counted
+pub record PrintsSample (n : ℕ) (text : List ℕ) : Type 0 where
+  pub unit : Resolved
+  pub table : calls.Table
+  pub site : Site
+  pub is_sample : IsSample n unit table site
+  pub settings : Settings
+  pub are_settings : AreSettings unit table site settings
+  pub plan : List MountStep
+  pub is_plan : IsPlan (host_of site) (unit_mentions unit site) plan
+  pub service : Service
+  pub is_launched : IsLaunched table site settings plan service
+  pub answers : List Answer
+  pub are_answers : AreAnswers table site service.world answers
+  pub counts : Sampled
+  pub are_counts : Counts n site answers counts
+  pub is_its_text : text ≡ sampled_text counts
+
+-- nothing is refused, and no file is read
+abbrev pub sample_laws : ℕ → Laws
+sample_laws n = record {
+  admits = λ ending text. (ending ≡ Done) × PrintsSample n text;
+  may_end = λ ending. ending ≡ Done;
+  accepts = Unit {0};
+  reads = ⊥;
+}
+
+abbrev pub ending_of : Sampled → Ending
+ending_of counts = Done

@@ -1,0 +1,35 @@
+//! The command `sample` and a number.
+ghost use Rattle.std.specs.Prelude.{◌≤◌, IsErrOf};
+ghost use Rattle.command_answers.specs.Laws.{IsAdmitted};
+ghost use Rattle.sample_command.specs.Prints.{ending_of, sample_laws, sampled_text};
+
+use crate::judging::judge_sample;
+use crate::planning::plan_sample;
+use crate::sampled::Sampled;
+use crate::settling::settle;
+use command_answers::Stop;
+use judge_command::truths;
+use plain_launch::launches_end_well;
+use sample_inputs::made;
+use std::alloc::Global;
+use unit_launch::look_at;
+
+/// Prepares `sample` and a number from 0 to 999: makes the inputs, settles, plans and launches the unit, asks every question of the
+/// service, and counts the answers. It reads nothing, and refuses nothing.
+pub fn prepare(alloc: Global, number: u32) -> Result<Sampled, Stop>
+    requires in_range { number ≤ 999 }
+    ensures prepares { IsAdmitted (sample_laws number) ending_of sampled_text result }
+    ensures reads_nothing { IsErrOf result Stop.ReadFault → ⊥ }
+{
+    // Why the answers are true, and why nothing is refused.
+    truths();
+    sample_settings::settings();
+    sample_settings::plan();
+    launches_end_well();
+    let inputs = made(alloc, number)?;
+    let settings = settle(alloc, &inputs)?;
+    look_at(&inputs.calls);
+    let plan = plan_sample(alloc, &settings.mentions, &inputs.site)?;
+    let counts = judge_sample(alloc, number, &settings, plan.list(), &inputs)?;
+    Ok(counts)
+}
