@@ -1,0 +1,150 @@
+//! What rows ask of the files.
+use crate::files::Files;
+use crate::runs::{Faults, NO_FAULTS, Printed, run_over};
+use crate::spans::Spans;
+use row_text::{number, said};
+use std::alloc::{AllocError, Global};
+
+/// Whether a line is a row.
+pub fn is_row(line: &str) -> bool {
+    let step = line.split(' ').next().unwrap_or("");
+    matches!(step, "run" | "last" | "reads" | "puts" | "prefixes")
+}
+
+/// What comes of a row.
+pub fn answer(alloc: Global, files: &Files, row: &str) -> Result<String, AllocError> {
+    let words: Vec<&str> = row.split(' ').collect(alloc)?;
+    match words.as_slice() {
+        ["run", words @ ..] => whole(alloc, files, words),
+        ["last", count, words @ ..] => last(alloc, files, number(count), words),
+        ["reads", count, words @ ..] => reads(alloc, files, number(count), words),
+        ["puts", take, count, words @ ..] => {
+            puts(alloc, files, number(take), number(count), words)
+        }
+        ["prefixes", path, words @ ..] => prefixes(alloc, files, path, words),
+        _ => said(alloc, "no row"),
+    }
+}
+
+// A run without faults.
+fn faultless(alloc: Global, files: &Files, words: &[&str]) -> Result<Printed, AllocError> {
+    run_over(alloc, files.copied(alloc)?, words, &NO_FAULTS)
+}
+
+// The status, and the text with a sign where it does not end with a line feed.
+fn whole(alloc: Global, files: &Files, words: &[&str]) -> Result<String, AllocError> {
+    let printed = faultless(alloc, files, words)?;
+    shown(alloc, printed.code, printed.text.as_str())
+}
+
+fn shown(alloc: Global, code: u8, text: &str) -> Result<String, AllocError> {
+    match text.strip_suffix('\n') {
+        Some(line) => format!(in alloc; "-> {code}\n{line}"),
+        None => format!(in alloc; "-> {code} (cut)\n{text}"),
+    }
+}
+
+// The status, how many lines there are, and the last of them.
+fn last(alloc: Global, files: &Files, count: u64, words: &[&str]) -> Result<String, AllocError> {
+    let printed = faultless(alloc, files, words)?;
+    let lines: Vec<&str> = printed.text.as_str().lines().collect(alloc)?;
+    let code = printed.code;
+    let mut text = format!(in alloc; "-> {code}, {} lines", lines.len())?;
+    let passed = (lines.len() as u64).saturating_sub(count);
+    for (at, line) in lines.iter().enumerate() {
+        if at as u64 >= passed {
+            text.push('\n')?;
+            text.push_str(line)?;
+        }
+    }
+    Ok(text)
+}
+
+// Each call of the shelf fails in turn.
+fn reads(alloc: Global, files: &Files, count: u64, words: &[&str]) -> Result<String, AllocError> {
+    let whole = faultless(alloc, files, words)?;
+    let mut spans = Spans::new(alloc);
+    for before in 0..count {
+        let mut faults = NO_FAULTS;
+        faults.read = before + 1;
+        let printed = run_over(alloc, files.copied(alloc)?, words, &faults)?;
+        let told = taken(alloc, &printed, whole.text.as_str(), before)?;
+        spans.add(alloc, before + 1, told.as_str())?;
+    }
+    spans.text(alloc)
+}
+
+// Each put to a sink that takes so many bytes fails in turn.
+fn puts(
+    alloc: Global,
+    files: &Files,
+    take: u64,
+    count: u64,
+    words: &[&str],
+) -> Result<String, AllocError> {
+    let whole = faultless(alloc, files, words)?;
+    let mut spans = Spans::new(alloc);
+    for before in 0..count {
+        let faults = Faults {
+            read: 0,
+            put: before + 1,
+            take,
+        };
+        let printed = run_over(alloc, files.copied(alloc)?, words, &faults)?;
+        let told = taken(alloc, &printed, whole.text.as_str(), before)?;
+        spans.add(alloc, before + 1, told.as_str())?;
+    }
+    spans.text(alloc)
+}
+
+// The status, and how much of the whole text was taken where K - 1 calls were made before the one that fails.
+fn taken(alloc: Global, printed: &Printed, whole: &str, before: u64) -> Result<String, AllocError> {
+    let code = printed.code;
+    let text = printed.text.as_str();
+    let count = text.len();
+    if text == whole {
+        return format!(in alloc; "{code}, all {count} bytes");
+    }
+    if text.is_empty() {
+        return format!(in alloc; "{code}, nothing");
+    }
+    if !whole.starts_with(text) {
+        return format!(in alloc; "{code}, another text");
+    }
+    if count as u64 == before {
+        return format!(in alloc; "{code}, the first K - 1 bytes");
+    }
+    if text.ends_with('\n') && text.lines().count() as u64 == before {
+        return format!(in alloc; "{code}, the first K - 1 lines");
+    }
+    format!(in alloc; "{code}, the first {count} bytes")
+}
+
+// The words over each prefix of a file, and over the file.
+fn prefixes(
+    alloc: Global,
+    files: &Files,
+    path: &str,
+    words: &[&str],
+) -> Result<String, AllocError> {
+    let mut spans = Spans::new(alloc);
+    let length = files.length(path);
+    for count in 0..length {
+        let cut = files.cut(alloc, path, count)?;
+        let told = ended(alloc, &run_over(alloc, cut, words, &NO_FAULTS)?)?;
+        spans.add(alloc, count as u64, told.as_str())?;
+    }
+    let told = ended(alloc, &faultless(alloc, files, words)?)?;
+    spans.add(alloc, length as u64, told.as_str())?;
+    spans.text(alloc)
+}
+
+// The status and the line, or how many lines and the last.
+fn ended(alloc: Global, printed: &Printed) -> Result<String, AllocError> {
+    let code = printed.code;
+    let last = printed.text.as_str().lines().last().unwrap_or("");
+    match printed.text.as_str().lines().count() {
+        1 => format!(in alloc; "{code}, {last}"),
+        count => format!(in alloc; "{code}, {count} lines, {last}"),
+    }
+}
