@@ -42,7 +42,7 @@ pub fn pair_of(alloc: Global, texts: &Texts<'_>) -> Result<Option<Pair>, AllocEr
         calls: &inputs.calls,
         site: &inputs.site,
         folder: texts.folder,
-        script: script.calls(),
+        script: script.list(),
     };
     let one = trace_of(alloc, &asked)?;
     let other = trace_of(

@@ -4,6 +4,7 @@ ghost use Rattle.std.specs.Prelude.{◌≡◌, ◌≤◌, ◌↔◌, map, IsTrue
 ghost use Rattle.std.specs.List.Sorted.{IsStrictlyIncreasing};
 
 use crate::actions::Action;
+use item_list::ItemList;
 use std::marker::Model;
 
 /// A test of an argument: the low 32 bits of argument `arg`, from 0 to 5, and `mask` are `value`.
@@ -38,35 +39,7 @@ impl Test {
 }
 
 /// The tests of a case, all of which are to hold.
-#[derive(Drop)]
-pub struct Tests {
-    items: Vec<Test>,
-}
-
-impl Model for Tests {
-    ghost use Rattle.std.specs.Prelude.{List};
-    ghost use Rattle.call_rules.specs.Tested.{Tested};
-
-    ghost Value = { List Tested };
-
-    ghost view = { λ t. t.items.items };
-}
-
-impl Tests {
-    /// These tests.
-    pub fn new(items: Vec<Test>) -> Self
-        ensures { result ≡ items.items }
-    {
-        Tests { items }
-    }
-
-    /// The tests in order.
-    pub fn list(&self) -> &[Test]
-        ensures { result.now ≡ self.now }
-    {
-        &self.items
-    }
-}
+pub type Tests = ItemList<Test>;
 
 /// An action for the calls that pass all tests.
 #[derive(Drop)]
@@ -76,35 +49,7 @@ pub struct Case {
 }
 
 /// The cases of a call, of which the first that passes decides.
-#[derive(Drop)]
-pub struct Cases {
-    items: Vec<Case>,
-}
-
-impl Model for Cases {
-    ghost use Rattle.std.specs.Prelude.{List};
-    ghost use Rattle.call_rules.specs.declared.rules.Case.{Case};
-
-    ghost Value = { List Case };
-
-    ghost view = { λ c. c.items.items };
-}
-
-impl Cases {
-    /// These cases.
-    pub fn new(items: Vec<Case>) -> Self
-        ensures { result ≡ items.items }
-    {
-        Cases { items }
-    }
-
-    /// The cases in order.
-    pub fn list(&self) -> &[Case]
-        ensures { result.now ≡ self.now }
-    {
-        &self.items
-    }
-}
+pub type Cases = ItemList<Case>;
 
 /// The rule of one call number: its cases, and the action where none passes.
 #[derive(Drop)]

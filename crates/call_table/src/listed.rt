@@ -2,7 +2,7 @@
 ghost use Rattle.std.specs.Prelude.{◌≡◌};
 
 use crate::names::Name;
-use std::marker::Model;
+use item_list::ItemList;
 
 /// A call or a family of sockets.
 #[derive(Drop)]
@@ -15,34 +15,7 @@ pub struct CallLine {
 }
 
 /// Members of a group, which contracts see as a list of positions in the table's calls, from 0.
-#[derive(Drop)]
-pub struct Members {
-    positions: Vec<usize>,
-}
-
-impl Model for Members {
-    ghost use Rattle.std.specs.Prelude.{List, ℕ};
-
-    ghost Value = { List ℕ };
-
-    ghost view = { λ members. members.positions.items };
-}
-
-impl Members {
-    /// The members at these positions.
-    pub fn new(positions: Vec<usize>) -> Self
-        ensures { result ≡ positions.items }
-    {
-        Members { positions }
-    }
-
-    /// The positions of the members.
-    pub fn list(&self) -> &[usize]
-        ensures { result.now ≡ self.now }
-    {
-        &self.positions
-    }
-}
+pub type Members = ItemList<usize>;
 
 /// A group of calls.
 #[derive(Drop)]

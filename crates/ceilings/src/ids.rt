@@ -8,48 +8,14 @@ ghost use Rattle.ceilings.specs.Owners.{owner_at, group_at, owners_at, groups_at
 
 use crate::first::launched_process;
 use crate::programs::can_run;
+use item_list::ItemList;
 use kernel_model::World;
 use reach_paths::Power;
 use site_table::Row;
 use std::alloc::{AllocError, Global};
-use std::marker::Model;
 
 /// Ids of users or of groups, which contracts see as a list.
-#[derive(Drop)]
-pub struct IdList {
-    ids: Vec<u32>,
-}
-
-impl Model for IdList {
-    ghost use Rattle.std.specs.Prelude.{List, ℕ};
-
-    ghost Value = { List ℕ };
-
-    ghost view = { λ list. list.ids.items };
-}
-
-impl IdList {
-    /// The list of these ids.
-    pub fn new(ids: Vec<u32>) -> IdList
-        ensures same { result ≡ ids.items }
-    {
-        IdList { ids }
-    }
-
-    /// The ids.
-    pub fn ids(&self) -> &[u32]
-        ensures same { result.now ≡ self.now }
-    {
-        &self.ids
-    }
-
-    /// Whether the id is among them.
-    pub fn contains(&self, id: u32) -> bool
-        ensures among { result ≡ list_any (λ own. id == own) self.now }
-    {
-        self.ids.iter().any(|own| id == *own)
-    }
-}
+pub type IdList = ItemList<u32>;
 
 // The owner that a set-user-id program gives, if it can be run.
 fn owner_at(world: &World<'_>, power: Power, row: &Row) -> Option<u32>

@@ -1,47 +1,11 @@
 //! Whom a service runs as.
 ghost use Rattle.std.specs.Prelude.{◌≡◌, ◌++◌, ◌∷◌, [], OnOk, OnErr};
 
+use item_list::ItemList;
 use std::alloc::AllocError;
-use std::marker::Model;
 
 /// Ids of groups in order, which contracts see as a list of numbers.
-#[derive(Drop)]
-pub struct Gids {
-    items: Vec<u32>,
-}
-
-impl Model for Gids {
-    ghost use Rattle.std.specs.Prelude.{List, ℕ};
-
-    ghost Value = { List ℕ };
-
-    ghost view = { λ gids. gids.items.items };
-}
-
-impl Gids {
-    /// The ids of a list.
-    pub fn new(items: Vec<u32>) -> Gids
-        ensures { result ≡ items.items }
-    {
-        Gids { items }
-    }
-
-    /// The ids in their order.
-    pub fn list(&self) -> &[u32]
-        ensures { result.now ≡ self.now }
-    {
-        &self.items
-    }
-
-    /// Puts an id behind the others.
-    pub fn push(&mut self, gid: u32) -> Result<(), AllocError>
-        ensures longer { OnOk result (self.new ≡ self.old ++ gid ∷ []) }
-        ensures unchanged { OnErr result (self.new ≡ self.old) }
-    {
-        self.items.push(gid)?;
-        Ok(())
-    }
-}
+pub type Gids = ItemList<u32>;
 
 /// The ids that a service runs with (credentials(7)).
 #[derive(Drop)]

@@ -3,8 +3,8 @@
 // Contracts see the files as a list.
 ghost use Rattle.std.specs.Prelude.{◌≡◌, ◌++◌, ◌∷◌, [], IfOk};
 
+use item_list::ItemList;
 use std::alloc::{AllocError, Global};
-use std::marker::Model;
 use unit_grammar::{Text, UnitText};
 use unit_names::UnitName;
 
@@ -30,45 +30,17 @@ impl UnitFile {
 }
 
 /// Files in force, which contracts see as a list.
-#[derive(Drop)]
-pub struct UnitFiles {
-    items: Vec<UnitFile>,
-}
+pub type UnitFiles = ItemList<UnitFile>;
 
-impl Model for UnitFiles {
-    ghost use Rattle.std.specs.Prelude.{List};
-    ghost use Rattle.dropin_merge.specs.declared.resolved.UnitFile.{UnitFile};
-
-    ghost Value = { List UnitFile };
-
-    ghost view = { λ f. f.items.items };
-}
-
-impl UnitFiles {
-    /// The files of a list.
-    pub fn new(items: Vec<UnitFile>) -> Self
-        ensures { result ≡ items.items }
-    {
-        UnitFiles { items }
+// The same files once more.
+fn copied(alloc: Global, files: &[UnitFile]) -> Result<Vec<UnitFile>, AllocError>
+    ensures { IfOk result (λ copies. copies.items ≡ files.now) }
+{
+    let mut copies = Vec::new(alloc);
+    for file in files {
+        copies.push(file.copy(alloc)?)?;
     }
-
-    /// The files in their order.
-    pub fn list(&self) -> &[UnitFile]
-        ensures { result.now ≡ self.now }
-    {
-        &self.items
-    }
-
-    // The same files once more.
-    fn copies(&self, alloc: Global) -> Result<Vec<UnitFile>, AllocError>
-        ensures { IfOk result (λ copies. copies.items ≡ self.now) }
-    {
-        let mut copies = Vec::new(alloc);
-        for file in &self.items {
-            copies.push(file.copy(alloc)?)?;
-        }
-        Ok(copies)
-    }
+    Ok(copies)
 }
 
 /// A unit with its files in force, in the order of use: the fragment, and then the drop-ins.
@@ -84,7 +56,7 @@ impl Resolved {
         ensures same_unit { IfOk result (λ longer. longer.name ≡ self.now.name) }
         ensures one_more_file { IfOk result (λ longer. longer.files ≡ self.now.files ++ record { path = []; text = more } ∷ []) }
     {
-        let mut files = self.files.copies(alloc)?;
+        let mut files = copied(alloc, self.files.list())?;
         files.push(UnitFile {
             path: Text::new(alloc, "")?,
             text: more,

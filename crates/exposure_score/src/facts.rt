@@ -3,8 +3,8 @@
 ghost use Rattle.std.specs.Prelude.{◌≡◌, ◌<◌, ◌^◌};
 
 use cap_sets::CapSet;
+use item_list::ItemList;
 use policy_file::TestId;
-use std::marker::Model;
 
 /// How bad a service is by one test that its settings decide.
 #[derive(Drop)]
@@ -16,35 +16,7 @@ pub struct Fact {
 }
 
 /// Facts in their order.
-#[derive(Drop)]
-pub struct FactList {
-    items: Vec<Fact>,
-}
-
-impl Model for FactList {
-    ghost use Rattle.std.specs.Prelude.{List};
-    ghost use Rattle.exposure_score.specs.declared.facts.Fact.{Fact};
-
-    ghost Value = { List Fact };
-
-    ghost view = { λ facts. facts.items.items };
-}
-
-impl FactList {
-    /// The facts of a list.
-    pub fn new(items: Vec<Fact>) -> FactList
-        ensures same_facts { result ≡ items.items }
-    {
-        FactList { items }
-    }
-
-    /// The facts in their order.
-    pub fn list(&self) -> &[Fact]
-        ensures same_facts { result.now ≡ self.now }
-    {
-        &self.items
-    }
-}
+pub type FactList = ItemList<Fact>;
 
 /// What a test may look at: the settings of a service, and how bad they are by the tests that they decide
 /// (systemd.exec(5), systemd-analyze(1), security). What is said of all facts is said of those whose numbers and sets

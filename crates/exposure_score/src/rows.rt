@@ -2,8 +2,8 @@
 
 ghost use Rattle.std.specs.Prelude.{◌≡◌};
 
+use item_list::ItemList;
 use policy_file::TestId;
-use std::marker::Model;
 
 /// What one test of a policy came to. Where it is skipped, its numbers are 0.
 #[derive(Drop)]
@@ -21,35 +21,7 @@ pub struct ScoreRow {
 }
 
 /// Rows in byte order of identifiers.
-#[derive(Drop)]
-pub struct ScoreRows {
-    items: Vec<ScoreRow>,
-}
-
-impl Model for ScoreRows {
-    ghost use Rattle.std.specs.Prelude.{List};
-    ghost use Rattle.exposure_score.specs.declared.rows.ScoreRow.{ScoreRow};
-
-    ghost Value = { List ScoreRow };
-
-    ghost view = { λ rows. rows.items.items };
-}
-
-impl ScoreRows {
-    /// The rows of a list.
-    pub fn new(items: Vec<ScoreRow>) -> ScoreRows
-        ensures same_rows { result ≡ items.items }
-    {
-        ScoreRows { items }
-    }
-
-    /// The rows in their order.
-    pub fn list(&self) -> &[ScoreRow]
-        ensures same_rows { result.now ≡ self.now }
-    {
-        &self.items
-    }
-}
+pub type ScoreRows = ItemList<ScoreRow>;
 
 /// The exposure of a service by a policy.
 #[derive(Drop)]

@@ -4,8 +4,8 @@
 ghost use Rattle.std.specs.Prelude.{◌≡◌, ◌++◌, ◌∷◌, [], OnOk, OnErr};
 
 use call_rules::Action;
+use item_list::ItemList;
 use std::alloc::AllocError;
-use std::marker::Model;
 use unit_grammar::Text;
 
 /// What a list is for (systemd.exec(5), SystemCallFilter= and RestrictAddressFamilies=).
@@ -29,44 +29,7 @@ pub struct Mention {
 }
 
 /// Words of SystemCallFilter= lines in their order, which contracts see as a list.
-#[derive(Drop)]
-pub struct Mentions {
-    items: Vec<Mention>,
-}
-
-impl Model for Mentions {
-    ghost use Rattle.std.specs.Prelude.{List};
-    ghost use Rattle.filter_rules.specs.declared.mentions.Mention.{Mention};
-
-    ghost Value = { List Mention };
-
-    ghost view = { λ mentions. mentions.items.items };
-}
-
-impl Mentions {
-    /// These words.
-    pub fn new(items: Vec<Mention>) -> Self
-        ensures { result ≡ items.items }
-    {
-        Mentions { items }
-    }
-
-    /// The words in their order.
-    pub fn list(&self) -> &[Mention]
-        ensures { result.now ≡ self.now }
-    {
-        &self.items
-    }
-
-    /// Adds a word behind the others; on Memory they stay as they were.
-    pub fn push(&mut self, mention: Mention) -> Result<(), AllocError>
-        ensures adds_a_word { OnOk result (self.new ≡ self.old ++ mention ∷ []) }
-        ensures stays { OnErr result (self.new ≡ self.old) }
-    {
-        self.items.push(mention)?;
-        Ok(())
-    }
-}
+pub type Mentions = ItemList<Mention>;
 
 /// A list of system calls. In allow mode the reader of the setting puts `@default` first.
 #[derive(Drop)]
@@ -85,44 +48,7 @@ pub struct FamilyMention {
 }
 
 /// Words of RestrictAddressFamilies= lines in their order, which contracts see as a list.
-#[derive(Drop)]
-pub struct FamilyMentions {
-    items: Vec<FamilyMention>,
-}
-
-impl Model for FamilyMentions {
-    ghost use Rattle.std.specs.Prelude.{List};
-    ghost use Rattle.filter_rules.specs.declared.mentions.FamilyMention.{FamilyMention};
-
-    ghost Value = { List FamilyMention };
-
-    ghost view = { λ mentions. mentions.items.items };
-}
-
-impl FamilyMentions {
-    /// These words.
-    pub fn new(items: Vec<FamilyMention>) -> Self
-        ensures { result ≡ items.items }
-    {
-        FamilyMentions { items }
-    }
-
-    /// The words in their order.
-    pub fn list(&self) -> &[FamilyMention]
-        ensures { result.now ≡ self.now }
-    {
-        &self.items
-    }
-
-    /// Adds a word behind the others; on Memory they stay as they were.
-    pub fn push(&mut self, mention: FamilyMention) -> Result<(), AllocError>
-        ensures adds_a_word { OnOk result (self.new ≡ self.old ++ mention ∷ []) }
-        ensures stays { OnErr result (self.new ≡ self.old) }
-    {
-        self.items.push(mention)?;
-        Ok(())
-    }
-}
+pub type FamilyMentions = ItemList<FamilyMention>;
 
 /// A list of address families.
 #[derive(Drop)]

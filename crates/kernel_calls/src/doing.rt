@@ -137,12 +137,12 @@ fn known_doing<'a>(rule: CallRule, args: &[u64; 6], payload: &'a Payload) -> Opt
             _ => None,
         },
         Payload::Ids(list) => match rule {
-            CallRule::Setgroups => Some(Doing::Setgroups(list.ids())),
+            CallRule::Setgroups => Some(Doing::Setgroups(list.list())),
             _ => None,
         },
         Payload::Code(code) => match rule {
             CallRule::Seccomp => {
-                Some(Doing::Seccomp(low_word(args, 0), low_word(args, 1), code.bytes()))
+                Some(Doing::Seccomp(low_word(args, 0), low_word(args, 1), code.list()))
             }
             _ => None,
         },

@@ -59,8 +59,8 @@ fn payload_fits(payload: &Payload)
             set_fits(*effective);
             set_fits(*inheritable);
         }
-        Payload::Ids(list) => ids_fit(list.ids()),
-        Payload::Code(code) => bytes_fit(code.bytes()),
+        Payload::Ids(list) => ids_fit(list.list()),
+        Payload::Code(code) => bytes_fit(code.list()),
     }
 }
 

@@ -6,67 +6,13 @@ ghost use Rattle.kernel_calls.specs.Calls.{form_of_payload};
 use abs_path::AbsPath;
 use call_names::PayloadForm;
 use cap_sets::CapSet;
-use std::marker::Model;
+use item_list::ItemList;
 
 /// Ids of groups, credentials(7), which contracts see as a list.
-#[derive(Drop)]
-pub struct IdList {
-    ids: Vec<u32>,
-}
-
-impl Model for IdList {
-    ghost use Rattle.std.specs.Prelude.{List, ℕ};
-
-    ghost Value = { List ℕ };
-
-    ghost view = { λ list. list.ids.items };
-}
-
-impl IdList {
-    /// The list of these ids.
-    pub fn new(ids: Vec<u32>) -> IdList
-        ensures same { result ≡ ids.items }
-    {
-        IdList { ids }
-    }
-
-    /// The ids.
-    pub fn ids(&self) -> &[u32]
-        ensures same { result.now ≡ self.now }
-    {
-        &self.ids
-    }
-}
+pub type IdList = ItemList<u32>;
 
 /// The bytes of a program, seccomp(2), which contracts see as a list.
-#[derive(Drop)]
-pub struct Bytes {
-    bytes: Vec<u8>,
-}
-
-impl Model for Bytes {
-    ghost use Rattle.std.specs.Prelude.{List, ℕ};
-
-    ghost Value = { List ℕ };
-
-    ghost view = { λ code. code.bytes.items };
-}
-
-impl Bytes {
-    /// These bytes.
-    pub fn new(bytes: Vec<u8>) -> Bytes
-        ensures same { result ≡ bytes.items }
-    {
-        Bytes { bytes }
-    }
-
-    /// The bytes in their order.
-    pub fn bytes(&self) -> &[u8]
-        ensures same { result.now ≡ self.now }
-    {
-        &self.bytes
-    }
-}
+pub type Bytes = ItemList<u8>;
 
 /// What a call carries beside its six words.
 #[derive(Drop)]

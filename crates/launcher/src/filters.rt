@@ -7,9 +7,9 @@ ghost use Rattle.launcher.specs.Answers.{AreProgramsOf, IsProgramOf};
 
 use bpf_code::Program;
 use filter_rules::{Filter, FilterName};
+use item_list::ItemList;
 use seccomp_compile::compile;
 use std::alloc::{AllocError, Global};
-use std::marker::Model;
 
 /// A filter and its program.
 #[derive(Drop)]
@@ -19,35 +19,7 @@ pub struct FilterProgram {
 }
 
 /// The programs of a service, in the order in which they are installed.
-#[derive(Drop)]
-pub struct FilterPrograms {
-    items: Vec<FilterProgram>,
-}
-
-impl Model for FilterPrograms {
-    ghost use Rattle.std.specs.Prelude.{List};
-    ghost use Rattle.launcher.specs.declared.filters.FilterProgram.{FilterProgram};
-
-    ghost Value = { List FilterProgram };
-
-    ghost view = { λ programs. programs.items.items };
-}
-
-impl FilterPrograms {
-    // These programs.
-    fn new(items: Vec<FilterProgram>) -> FilterPrograms
-        ensures { result ≡ items.items }
-    {
-        FilterPrograms { items }
-    }
-
-    /// The programs in their order.
-    pub fn list(&self) -> &[FilterProgram]
-        ensures lends_the_programs { result.now ≡ self.now }
-    {
-        &self.items
-    }
-}
+pub type FilterPrograms = ItemList<FilterProgram>;
 
 // The program of a filter.
 fn compile_one(alloc: Global, filter: &Filter) -> Result<FilterProgram, AllocError>

@@ -13,8 +13,11 @@ mod kept;
 pub mod laws;
 mod places;
 mod planning;
-mod steps;
 
 pub use error::PlanError;
+use item_list::ItemList;
+use kern_mounts::MountStep;
 pub use planning::plan;
-pub use steps::MountSteps;
+
+/// The mounts of a plan in their order, the first at `/`, which contracts see as a list.
+pub type MountSteps = ItemList<MountStep>;

@@ -14,11 +14,11 @@ ghost use Rattle.mount_plan.specs.Form.{HasPlacesOf};
 ghost use Rattle.mount_plan.specs.Short.{HaveShortHosts};
 ghost use Rattle.mount_plan.specs.Answers.{Keeps, Plans};
 
+use crate::MountSteps;
 use crate::entry::steps_at;
 use crate::error::PlanError;
 use crate::kept::kept_at_all;
 use crate::places::put_paths;
-use crate::steps::MountSteps;
 use abs_path::AbsPath;
 use kern_mounts::MountStep;
 use path_settings::{Mention, Mentions};

@@ -68,5 +68,5 @@ pub fn replay<K: Sink>(
     ensures performs { Performs calls.now.calls launched.old.world script.now (K.taken out.old) (K.taken out.new) result launched.new.world }
     ensures rest_stays { launched.new ≡ record launched.old { world = launched.new.world } }
 {
-    make_calls(alloc, &mut launched.world, script.calls(), calls, out)
+    make_calls(alloc, &mut launched.world, script.list(), calls, out)
 }

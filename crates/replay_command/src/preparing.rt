@@ -53,7 +53,7 @@ pub fn prepare<S: Shelf>(
 {
     let inputs = read_inputs(alloc, shelf, unit)?;
     let made = read_script(alloc, shelf, script, &inputs.calls)?;
-    calls_fit(made.calls());
+    calls_fit(made.list());
     let one = settle(alloc, unit, inputs)?;
     let plan = plan_mounts(alloc, unit, &one.settings.mentions, &one.inputs.site)?;
     Ok(Prepared {

@@ -26,7 +26,7 @@ fn print_service<K: Sink>(
 {
     put_line(out, launched_line(alloc, told(service)))?;
     replay(alloc, service, script, calls, out)?;
-    put_line(out, count_line(alloc, script.calls().len()))
+    put_line(out, count_line(alloc, script.list().len()))
 }
 
 /// Prints a replay of the script after this launch, or why there is none.

@@ -16,9 +16,12 @@ mod names;
 mod payloads;
 mod printing;
 mod reader;
-mod script;
 
 pub use error::{ScriptCause, ScriptError};
+use item_list::ItemList;
+use kernel_calls::Call;
 pub use printing::print_call;
 pub use reader::read_script;
-pub use script::Script;
+
+/// The calls of a script in their order, which contracts see as a list.
+pub type Script = ItemList<Call>;

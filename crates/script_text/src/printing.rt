@@ -28,7 +28,7 @@ fn has_form(form: PayloadForm, payload: &Payload) -> bool
         | (PayloadForm::TwoPaths, Payload::TwoPaths(_, _))
         | (PayloadForm::Sets, Payload::Sets(_, _, _))
         | (PayloadForm::Ids, Payload::Ids(_)) => true,
-        (PayloadForm::Program, Payload::Code(code)) => code.bytes().len() % 8 == 0,
+        (PayloadForm::Program, Payload::Code(code)) => code.list().len() % 8 == 0,
         _ => false,
     }
 }
@@ -113,8 +113,8 @@ fn push_payload(alloc: Global, out: &mut Vec<u8>, payload: &Payload) -> Result<(
             push_number(out, effective.bits())?;
             push_number(out, inheritable.bits())
         }
-        Payload::Ids(ids) => push_list(out, ids.ids()),
-        Payload::Code(code) => push_code(alloc, out, code.bytes()),
+        Payload::Ids(ids) => push_list(out, ids.list()),
+        Payload::Code(code) => push_code(alloc, out, code.list()),
     }
 }
 

@@ -8,9 +8,9 @@ ghost use Rattle.script_text.specs.PrintedAgain.{IsWritten};
 ghost use Rattle.script_text.specs.Scripts.{line_call, script_of, script_of_lines};
 ghost use Rattle.script_text.specs.declared.error.ScriptError.TheVariants.{Memory};
 
+use crate::Script;
 use crate::error::{LineFault, ScriptError};
 use crate::line::read_line;
-use crate::script::Script;
 use call_table::CallTable;
 use kernel_calls::Call;
 use line_text::{Line, read_lines, read_text};

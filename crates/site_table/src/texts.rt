@@ -2,6 +2,7 @@
 
 ghost use Rattle.std.specs.Prelude.{◌≡◌, IfOk};
 
+use item_list::ItemList;
 use std::alloc::{AllocError, Global};
 use std::marker::Model;
 
@@ -38,31 +39,4 @@ impl Name {
 }
 
 /// Ids of users or groups, in order.
-#[derive(Drop)]
-pub struct Ids {
-    items: Vec<u32>,
-}
-
-impl Model for Ids {
-    ghost use Rattle.std.specs.Prelude.{List, ℕ};
-
-    ghost Value = { List ℕ };
-
-    ghost view = { λ ids. ids.items.items };
-}
-
-impl Ids {
-    /// The ids of a list.
-    pub fn new(items: Vec<u32>) -> Ids
-        ensures same_ids { result ≡ items.items }
-    {
-        Ids { items }
-    }
-
-    /// The ids in their order.
-    pub fn list(&self) -> &[u32]
-        ensures same_ids { result.now ≡ self.now }
-    {
-        &self.items
-    }
-}
+pub type Ids = ItemList<u32>;

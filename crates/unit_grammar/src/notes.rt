@@ -4,8 +4,8 @@
 ghost use Rattle.std.specs.Prelude.{◌≡◌, IfOk};
 ghost use Rattle.unit_grammar.specs.Causes.{cause_text};
 
+use item_list::ItemList;
 use std::alloc::{AllocError, Global};
-use std::marker::Model;
 
 /// Why a line, or a part of it, has no effect.
 #[derive(Clone, Copy, Debug, PartialEq, Eq)]
@@ -49,41 +49,4 @@ pub struct Note {
 }
 
 /// Notes, which contracts see as a list.
-#[derive(Drop)]
-pub struct Notes {
-    items: Vec<Note>,
-}
-
-impl Model for Notes {
-    ghost use Rattle.std.specs.Prelude.{List};
-    ghost use Rattle.unit_grammar.specs.declared.notes.Note.{Note};
-
-    ghost Value = { List Note };
-
-    ghost view = { λ n. n.items.items };
-}
-
-impl Notes {
-    /// The notes of a list.
-    pub fn new(items: Vec<Note>) -> Self
-        ensures { result ≡ items.items }
-    {
-        Notes { items }
-    }
-
-    /// The notes in their order.
-    pub fn list(&self) -> &[Note]
-        ensures { result.now ≡ self.now }
-    {
-        &self.items
-    }
-
-    // The same notes once more.
-    pub(crate) fn copy(&self, alloc: Global) -> Result<Notes, AllocError>
-        ensures { IfOk result (λ copy. copy ≡ self.now) }
-    {
-        Ok(Notes {
-            items: self.items.to_vec(alloc)?,
-        })
-    }
-}
+pub type Notes = ItemList<Note>;

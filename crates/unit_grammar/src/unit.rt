@@ -6,8 +6,8 @@ ghost use Rattle.unit_grammar.specs.declared.unit.UnitError.TheVariants.{Memory}
 
 use crate::notes::Notes;
 use crate::texts::Text;
+use item_list::ItemList;
 use std::alloc::{AllocError, AllocFailed, Global};
-use std::marker::Model;
 use thiserror::Error;
 
 /// A key of a section, and the value that it is given.
@@ -36,45 +36,17 @@ impl Assignment {
 }
 
 /// Assignments, which contracts see as a list.
-#[derive(Drop)]
-pub struct Assignments {
-    items: Vec<Assignment>,
-}
+pub type Assignments = ItemList<Assignment>;
 
-impl Model for Assignments {
-    ghost use Rattle.std.specs.Prelude.{List};
-    ghost use Rattle.unit_grammar.specs.declared.unit.Assignment.{Assignment};
-
-    ghost Value = { List Assignment };
-
-    ghost view = { λ a. a.items.items };
-}
-
-impl Assignments {
-    /// The assignments of a list.
-    pub fn new(items: Vec<Assignment>) -> Self
-        ensures { result ≡ items.items }
-    {
-        Assignments { items }
+// The same assignments once more.
+fn copied(alloc: Global, assignments: &[Assignment]) -> Result<Assignments, AllocError>
+    ensures { IfOk result (λ copies. copies ≡ assignments.now) }
+{
+    let mut copies = Vec::new(alloc);
+    for assignment in assignments {
+        copies.push(assignment.copy(alloc)?)?;
     }
-
-    /// The assignments in their order.
-    pub fn list(&self) -> &[Assignment]
-        ensures { result.now ≡ self.now }
-    {
-        &self.items
-    }
-
-    // The same assignments once more.
-    fn copy(&self, alloc: Global) -> Result<Assignments, AllocError>
-        ensures { IfOk result (λ copy. copy ≡ self.now) }
-    {
-        let mut copies = Vec::new(alloc);
-        for assignment in &self.items {
-            copies.push(assignment.copy(alloc)?)?;
-        }
-        Ok(Assignments { items: copies })
-    }
+    Ok(Assignments::new(copies))
 }
 
 /// What a unit file says: its assignments, of all sections, and its notes, in the order of lines.
@@ -90,7 +62,7 @@ impl UnitText {
         ensures same_text { IfOk result (λ copy. copy ≡ self.now) }
     {
         Ok(UnitText {
-            assignments: self.assignments.copy(alloc)?,
+            assignments: copied(alloc, self.assignments.list())?,
             notes: self.notes.copy(alloc)?,
         })
     }

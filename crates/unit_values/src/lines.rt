@@ -6,54 +6,13 @@ ghost use Rattle.text_forms.specs.Words.{words_of};
 ghost use Rattle.unit_grammar.specs.Kinds.{behind};
 ghost use Rattle.unit_values.specs.Lines.{tilde, words_if, line_of};
 
+use item_list::ItemList;
 use std::alloc::{AllocError, Global};
-use std::marker::Model;
 use text_forms::{WordsError, words};
 use unit_grammar::Text;
 
 /// Words, which contracts see as a list of texts.
-#[derive(Drop)]
-pub struct Words {
-    items: Vec<Text>,
-}
-
-impl Model for Words {
-    ghost use Rattle.std.specs.Prelude.{List, ℕ};
-
-    ghost Value = { List (List ℕ) };
-
-    ghost view = { λ words. words.items.items };
-}
-
-impl Words {
-    /// The words in their order.
-    pub fn list(&self) -> &[Text]
-        ensures { result.now ≡ self.now }
-    {
-        &self.items
-    }
-
-    // No words.
-    pub(crate) fn none(alloc: Global) -> Words
-        ensures { result ≡ [] }
-    {
-        Words {
-            items: Vec::new(alloc),
-        }
-    }
-
-    // These words, and behind them these.
-    pub(crate) fn and(self, more: Words) -> Result<Words, AllocError>
-        ensures { IfOk result (λ all. all ≡ self ++ more) }
-    {
-        let Words { mut items } = self;
-        let Words { items: others } = more;
-        'others: for word in others {
-            items.push(word)?;
-        }
-        Ok(Words { items })
-    }
-}
+pub type Words = ItemList<Text>;
 
 /// A line of a list.
 #[derive(Drop)]
@@ -71,7 +30,7 @@ impl Line {
     {
         Line {
             is_inverted: false,
-            words: Words::none(alloc),
+            words: Words::empty(alloc),
         }
     }
 }
@@ -97,9 +56,7 @@ pub fn read_words(alloc: Global, text: &str) -> Result<Option<Words>, AllocError
     ensures splits_where_it_can { IfOk result (λ words. words ≡ words_if (words_of text.now)) }
 {
     match words(alloc, text) {
-        Ok(found) => Ok(Some(Words {
-            items: texts(alloc, found)?,
-        })),
+        Ok(found) => Ok(Some(Words::new(texts(alloc, found)?))),
         Err(WordsError::Memory) => Err(AllocError),
         Err(_) => Ok(None),
     }

@@ -23,7 +23,7 @@ fn next_words(
     ensures noted { OnOk result (notes.new.items ≡ notes.old.items ++ notes_at value.now (unless_read (split value.now.text))) }
 {
     if value.text.as_str().is_empty() {
-        return Ok(Words::none(alloc));
+        return Ok(Words::empty(alloc));
     }
     match read_words(alloc, value.text.as_str())? {
         Some(more) => words.and(more),
@@ -39,7 +39,7 @@ fn words_in(alloc: Global, values: &[Value]) -> Result<Said<Words>, AllocError>
     ensures means { IfOk result (λ said. said.what ≡ words_in values.now) }
     ensures noted { IfOk result (λ said. said.notes.items ≡ unread_notes split values.now) }
 {
-    let mut words = Words::none(alloc);
+    let mut words = Words::empty(alloc);
     let mut notes = Vec::new(alloc);
     'values: for value in values {
         words = next_words(alloc, words, value, &mut notes)?;
