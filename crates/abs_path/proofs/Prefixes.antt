@@ -94,7 +94,7 @@ prefix_antisymm (x ∷ one) (y ∷ other) h g =
     let more = prefix_antisymm one other both.1 (and_parts (bytes_eq y x) (is_prefix other one) g).1 in
     cc
 
-rest-append : (front more : Path) → rest_of front (front ++ more) ≡ more
+pub rest-append : (front more : Path) → rest_of front (front ++ more) ≡ more
 rest-append [] more = refl
 rest-append (part ∷ front) more = rest-append front more
 

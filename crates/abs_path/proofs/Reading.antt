@@ -14,7 +14,7 @@ use Rattle.abs_path.specs.declared.error.PathError.TheVariants.{DotDot}
 use Rattle.abs_path.specs.Prefix.{IsRest}
 use Rattle.abs_path.specs.Read.{fault_of}
 use Rattle.abs_path.proofs.Texts.{parts-tail, tail_pieces}
-use Rattle.abs_path.proofs.Prefixes.{rest_text-append, same_part, same_path, same_itself, part_itself, prefix_and_rest}
+use Rattle.abs_path.proofs.Prefixes.{rest-append, rest_text-append, same_part, same_path, same_itself, part_itself, prefix_and_rest}
 use Rattle.abs_path.proofs.ByteOrder.{tail-append}
 use Rattle.std.proofs.lemmas.List.Splits.{length-slice_split}
 
@@ -263,6 +263,15 @@ rest_form front path (Some rest) h e = by (is_prefix front path) e
     by true e = let same : tail_of (rest_of front path) ≡ rest.now = cc in subst IsRest same (is_rest (rest_of front path) (normal-drop (length front) path h))
     by false e = absurd (cc)
 
+-- the parts of what a path has behind a front
+pub rest_parts : (front path : Path) (r : Option (Bor (List ℕ))) → is_normal path ≡ true → option_map (λ rest. rest.now) r ≡ rest_text front path → IfSome r (λ rest. parts_of rest.now ≡ rest_of front path)
+rest_parts front path None h e = tt
+rest_parts front path (Some rest) h e = by (is_prefix front path) e
+  where
+    by : (b : Bool) → Some rest.now ≡ cond b (Some (tail_of (rest_of front path))) None → parts_of rest.now ≡ rest_of front path
+    by true e = let same : tail_of (rest_of front path) ≡ rest.now = cc in ap parts_of (sym same) ∙ parts-tail (rest_of front path) (normal-drop (length front) path h)
+    by false e = absurd (cc)
+
 -- a path's text is read again
 pub text_parts : (path : Path) → is_normal path ≡ true → parts_of (text_of path) ≡ path
 text_parts [] h = refl
@@ -301,3 +310,7 @@ rest_then_join front path rest h e = by (is_prefix front path) refl e
 
 pub join_then_rest : (front : Path) (rest : List ℕ) → IsRest rest → rest_text front (front ++ parts_of rest) ≡ Some rest
 join_then_rest front rest h = rest_text-append front (parts_of rest) ∙ ap Some h.whole
+
+-- the same of a text
+pub parts_behind : (front path : Path) (rest : List ℕ) → is_normal path ≡ true → rest_text front path ≡ Some rest → parts_of rest ≡ rest_of front path
+parts_behind front path rest normal e = sym (rest-append front (parts_of rest)) ∙ ap (rest_of front) (rest_then_join front path rest normal e)

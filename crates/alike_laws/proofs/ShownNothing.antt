@@ -4,12 +4,11 @@ use Rattle.std.specs.Prelude.{◌&&◌, not}
 use Rattle.std.proofs.lemmas.Bool.{or_right, and_from}
 use Rattle.abs_path.specs.Paths.{Path}
 use Rattle.abs_path.specs.Prefix.{is_prefix, is_same, is_below, rest_of}
-use Rattle.abs_path.proofs.Prefixes.{prefix-append, same_path}
+use Rattle.abs_path.proofs.Prefixes.{prefix-append, same_path, rest-append}
 use Rattle.kern_mounts.specs.Entry.{leads_to}
 use Rattle.kern_mounts.specs.Finds.{host_place}
 use Rattle.kern_mounts.specs.Split.{Table}
 use Rattle.kern_mounts.specs.declared.step.What.TheVariants.{Host}
-use Rattle.kern_mounts.proofs.Paths.{rest-append}
 use Rattle.kern_mounts.proofs.Splits.{split_some}
 use Rattle.kernel_laws.specs.Blind.{is_clear, shows_below, exposes}
 use Rattle.kernel_laws.specs.Launched.{launch_of}

@@ -17,7 +17,7 @@ use Rattle.kern_mounts.specs.Unmounts as u
 use Rattle.kern_mounts.specs.Unmounts.{Unmounts}
 use Rattle.kern_mounts.specs.declared.step.MountStep.{MountStep}
 use Rattle.kern_mounts.specs.declared.step.What.TheVariants.{Host}
-use Rattle.kern_mounts.proofs.Paths.{rest-append}
+use Rattle.abs_path.proofs.Prefixes.{rest-append}
 use Rattle.kern_mounts.proofs.Splits.{split_some, of_split}
 use Rattle.kern_mounts.proofs.Unmounting.{append_all, trimmed_part, unmounts_trim}
 use Rattle.kern_files.specs.Bits.{has_all}

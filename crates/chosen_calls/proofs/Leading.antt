@@ -4,14 +4,13 @@ use Rattle.std.specs.Prelude.{slice_get}
 use Rattle.std.specs.List.{AllByRecursion}
 use Rattle.abs_path.specs.Paths.{Path, tail_of, text_of}
 use Rattle.abs_path.specs.Prefix.{is_prefix, rest_of}
-use Rattle.abs_path.proofs.Prefixes.{prefix-append}
+use Rattle.abs_path.proofs.Prefixes.{prefix-append, rest-append}
 use Rattle.site_table.specs.declared.row.Row.{Row}
 use Rattle.kern_mounts.specs.Entry.{leads_to}
 use Rattle.kern_mounts.specs.Launch.{HasShortPlace}
 use Rattle.kern_mounts.specs.Split.{Table}
 use Rattle.kern_mounts.specs.declared.step.MountStep.{MountStep}
 use Rattle.kern_mounts.specs.declared.step.What.TheVariants.{Host}
-use Rattle.kern_mounts.proofs.Paths.{rest-append}
 use Rattle.kern_mounts.proofs.Splits.{split_some}
 use Rattle.kern_mounts.proofs.Unmounting.{append_all}
 use Rattle.kernel_calls.specs.Calls.{IsPath}

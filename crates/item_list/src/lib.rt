@@ -27,14 +27,14 @@ impl<T> Model for ItemList<T> {
 impl<T> ItemList<T> {
     /// These items.
     pub fn new(items: Vec<T>) -> Self
-        ensures holds_the_items { result ≡ items.items }
+        ensures { result ≡ items.items }
     {
         ItemList { items }
     }
 
     /// No items, for which memory comes from here.
     pub fn empty(alloc: Global) -> Self
-        ensures none { result ≡ [] }
+        ensures { result ≡ [] }
     {
         ItemList {
             items: Vec::new(alloc),
@@ -43,7 +43,7 @@ impl<T> ItemList<T> {
 
     /// The items in their order.
     pub fn list(&self) -> &[T]
-        ensures lends_the_items { result.now ≡ self.now }
+        ensures { result.now ≡ self.now }
     {
         &self.items
     }
@@ -61,7 +61,7 @@ impl<T: Drop> ItemList<T> {
 
     /// These items, and behind them those.
     pub fn and(self, more: ItemList<T>) -> Result<ItemList<T>, AllocError>
-        ensures in_turn { IfOk result (λ all. all ≡ self ++ more) }
+        ensures { IfOk result (λ all. all ≡ self ++ more) }
     {
         let ItemList { mut items } = self;
         let ItemList { items: others } = more;
@@ -75,7 +75,7 @@ impl<T: Drop> ItemList<T> {
 impl<T: Copy> ItemList<T> {
     /// The same items once more.
     pub fn copy(&self, alloc: Global) -> Result<ItemList<T>, AllocError>
-        ensures same_items { IfOk result (λ copy. copy ≡ self.now) }
+        ensures { IfOk result (λ copy. copy ≡ self.now) }
     {
         let mut items = Vec::new(alloc);
         'items: for item in &self.items {
@@ -88,7 +88,7 @@ impl<T: Copy> ItemList<T> {
 impl ItemList<u32> {
     /// Whether the number is among them.
     pub fn contains(&self, number: u32) -> bool
-        ensures among { result ≡ list_any (λ own. number == own) self.now }
+        ensures { result ≡ list_any (λ own. number == own) self.now }
     {
         self.items.iter().any(|own| number == *own)
     }

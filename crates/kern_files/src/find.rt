@@ -24,34 +24,6 @@ pub enum Found<'a> {
     Nothing(u32),
 }
 
-// the row at the front with the rest behind it
-fn row_behind<'a>(site: &'a SiteTable, front: &AbsPath, rest: &str) -> Option<&'a Row>
-    requires { IsRest rest.now }
-    ensures { option_map (λ row. row.now) result ≡ row_at site.now.rows (front.now ++ parts_of rest.now) }
-{
-    match site.find(front, rest) {
-        None => None,
-        Some(at) => Some(site.row(at)),
-    }
-}
-
-// the row at the source with what the path has behind the place
-fn row_through<'a>(
-    site: &'a SiteTable,
-    source: &AbsPath,
-    place: &AbsPath,
-    path: &AbsPath,
-) -> Option<&'a Row>
-    requires { is_prefix place.now path.now ≡ true }
-    ensures { option_map (λ row. row.now) result
-        ≡ row_at site.now.rows (source.now ++ rest_of place.now path.now) }
-{
-    match place.rest(path) {
-        None => None,
-        Some(rest) => row_behind(site, source, rest),
-    }
-}
-
 fn row_or_nothing<'a>(row: Option<&'a Row>) -> Found<'a>
     ensures { shown result ≡ row_or_nothing (option_map (λ row. row.now) row.entry) }
 {
@@ -67,7 +39,7 @@ fn found_by<'a>(site: &'a SiteTable, entry: &MountStep, path: &AbsPath) -> Found
     ensures { shown result ≡ found_by (row_at site.now.rows) entry.now.what entry.now.place path.now }
 {
     match &entry.what {
-        What::Host(source) => row_or_nothing(row_through(site, source, &entry.place, path)),
+        What::Host(source) => row_or_nothing(site.row_through(source, &entry.place, path)),
         What::Empty => {
             if entry.place == *path {
                 Found::EmptyDirectory

@@ -3,7 +3,7 @@ use Rattle.std.proofs.Common.{◌≡◌, ℕ, Bool, true, false, cond, [], ◌�
 use Rattle.std.specs.Option.{option_and_then}
 use Rattle.abs_path.specs.Paths.{Path}
 use Rattle.abs_path.specs.Prefix.{is_prefix, is_same, rest_of}
-use Rattle.abs_path.proofs.Prefixes.{prefix-append, rest_through, same_path}
+use Rattle.abs_path.proofs.Prefixes.{prefix-append, rest_through, same_path, rest-append}
 use Rattle.linux_numbers.specs.Errnos.{enoent}
 use Rattle.kern_mounts.specs.declared.step.What.{What}
 use Rattle.kern_mounts.specs.declared.step.What.TheVariants.{Host, Empty, Hidden}
@@ -13,7 +13,7 @@ use Rattle.kern_mounts.specs.Finds.{empty_directory, nothing, row_or_nothing, ho
 use Rattle.kern_mounts.specs.Split.{Table, is_below}
 use Rattle.kern_mounts.specs.Bind.{moved, copies, object_at, bound_entry, after_bind}
 use Rattle.kern_mounts.proofs.Entries.{entry_is, entry_leads}
-use Rattle.kern_mounts.proofs.Paths.{rest-append, behind, front_same, stands_below, below_leads, leads_on}
+use Rattle.kern_mounts.proofs.Paths.{behind, front_same, stands_below, below_leads, leads_on}
 use Rattle.kern_mounts.proofs.Splits.{None_have, of_split}
 use Rattle.kern_mounts.proofs.Showing.{or_else, entry_behind, IsBound, bind_made, copied_entry}
 

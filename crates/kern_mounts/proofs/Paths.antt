@@ -11,10 +11,6 @@ use Rattle.kern_mounts.specs.declared.step.MountStep.{MountStep}
 use Rattle.kern_mounts.specs.Split.{is_below}
 use Rattle.kern_mounts.specs.Bind.{is_long}
 
-pub rest-append : (front more : Path) → rest_of front (front ++ more) ≡ more
-rest-append [] more = refl
-rest-append (part ∷ front) more = rest-append front more
-
 pub behind : (front path : Path) → is_prefix front path ≡ true → path ≡ front ++ rest_of front path
 behind front path h = sym (prefix_and_rest front path h)
 
@@ -58,10 +54,6 @@ stands_below front rest place leads not_there = elim (prefix_chain place front (
     apart true same =
         let there : is_prefix place front ≡ true = ap (is_prefix place) (same refl) ∙ prefix_itself place in
         absurd (false≢true (sym not_there ∙ there))
-
--- the parts of the rest that a path has behind a front
-pub parts_behind : (front path : Path) (rest : List ℕ) → is_normal path ≡ true → rest_text front path ≡ Some rest → parts_of rest ≡ rest_of front path
-parts_behind front path rest normal e = sym (rest-append front (parts_of rest)) ∙ ap (rest_of front) (rest_then_join front path rest normal e)
 
 -- a path is too long by its parts with the slashes before them
 pub long_tail : (path : Path) → is_long path ≡ nat_lt 512 (length (tail_of path))

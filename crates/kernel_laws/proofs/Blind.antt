@@ -4,7 +4,7 @@ use Rattle.std.specs.Prelude.{not, option_and_then, ◌-◌}
 use Rattle.std.proofs.lemmas.Bool.{and_parts, and_from, or_left, or_right, not-true}
 use Rattle.abs_path.specs.Paths.{Path}
 use Rattle.abs_path.specs.Prefix.{is_prefix, is_same, rest_of, is_below}
-use Rattle.abs_path.proofs.Prefixes.{prefix-append, prefix_itself, prefix_chain, same_path}
+use Rattle.abs_path.proofs.Prefixes.{prefix-append, prefix_itself, prefix_chain, same_path, rest-append}
 use Rattle.kern_mounts.specs.Entry.{leads_to, entry_of}
 use Rattle.kern_mounts.specs.Finds.{host_place, host_place_by}
 use Rattle.kern_mounts.specs.declared.step.What.{What}
@@ -20,7 +20,7 @@ use Rattle.kernel_laws.specs.Reach.{Power, Nowise, Unmounting, Mounting}
 use Rattle.kernel_model.specs.Runs.{run}
 use Rattle.kern_mounts.specs.Unmounts.{IsTrimmed}
 use Rattle.kernel_model.specs.World.{table_of}
-use Rattle.kern_mounts.proofs.Paths.{rest-append, behind, leads_not, either}
+use Rattle.kern_mounts.proofs.Paths.{behind, leads_not, either}
 use Rattle.kern_mounts.proofs.Splits.{None_have, split_some, split_of}
 use Rattle.kern_mounts.proofs.Unmounting.{part_has, trimmed_part}
 use Rattle.kernel_laws.proofs.Reach.{none_any}

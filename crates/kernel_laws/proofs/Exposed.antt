@@ -7,7 +7,7 @@ use Rattle.std.proofs.lemmas.Bool.{and_parts, and_from, or_left, or_right, or_ca
 use Rattle.std.proofs.lemmas.Slice.Eq.{bytes_eq-Decides}
 use Rattle.abs_path.specs.Paths.{Path, tail_of, text_of, is_part, is_normal}
 use Rattle.abs_path.specs.Prefix.{is_prefix, is_same, rest_of, is_below}
-use Rattle.abs_path.proofs.Prefixes.{prefix-append, same_path}
+use Rattle.abs_path.proofs.Prefixes.{prefix-append, same_path, rest-append}
 use Rattle.kern_mounts.specs.Entry.{leads_to, entry_of}
 use Rattle.kern_mounts.specs.Launch.{HasShortPlace}
 use Rattle.kern_mounts.specs.Finds.{host_place, host_place_by}
@@ -19,7 +19,7 @@ use Rattle.kernel_calls.specs.Calls.{IsPath}
 use Rattle.kernel_laws.specs.Launched.{launch_of, first_of}
 use Rattle.kern_mounts.specs.Split.{Table, split_at}
 use Rattle.kern_mounts.specs.Unmounts.{Unmounts}
-use Rattle.kern_mounts.proofs.Paths.{rest-append, behind}
+use Rattle.kern_mounts.proofs.Paths.{behind}
 use Rattle.kern_mounts.proofs.Splits.{None_have, split_is, of_split}
 use Rattle.kern_mounts.proofs.Unmounting.{stands_uncovered}
 use Rattle.kernel_laws.proofs.Living.{first_lives}

@@ -5,7 +5,7 @@ use Rattle.std.specs.List.{list_any}
 use Rattle.std.proofs.lemmas.Bool.{and_from, or_from}
 use Rattle.abs_path.specs.Paths.{Path}
 use Rattle.abs_path.specs.Prefix.{is_prefix, is_same, rest_of}
-use Rattle.abs_path.proofs.Prefixes.{prefix-append, same_path}
+use Rattle.abs_path.proofs.Prefixes.{prefix-append, same_path, rest-append}
 use Rattle.site_table.specs.declared.row.Row.{Row}
 use Rattle.site_table.specs.Table.{row_at}
 use Rattle.kern_mounts.specs.Entry.{leads_to, entry_of}
@@ -20,7 +20,7 @@ use Rattle.kern_files.specs.Looking.{flags_at, flags_by}
 use Rattle.kernel_laws.specs.Questions.{Wish}
 use Rattle.kernel_laws.specs.Reach.{fits, Leads, shows_row, serves, reach_from, Power, Nowise, Unmounting, Mounting, reaches}
 use Rattle.kernel_laws.specs.Ceiling.{CanHave}
-use Rattle.kern_mounts.proofs.Paths.{rest-append, behind}
+use Rattle.kern_mounts.proofs.Paths.{behind}
 use Rattle.kern_mounts.proofs.Splits.{None_have, split_some, split_of}
 use Rattle.kern_mounts.proofs.Unmounting.{part_has, trimmed_part}
 

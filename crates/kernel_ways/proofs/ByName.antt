@@ -4,7 +4,7 @@ use Rattle.std.specs.Prelude.{◌^◌, ◌%◌, ◌-◌, slice_get}
 use Rattle.std.specs.List.{AllByRecursion}
 use Rattle.abs_path.specs.Paths.{Path}
 use Rattle.abs_path.specs.Prefix.{rest_of}
-use Rattle.abs_path.proofs.Prefixes.{prefix-append}
+use Rattle.abs_path.proofs.Prefixes.{prefix-append, rest-append}
 use Rattle.linux_numbers.specs.Errnos.{eperm}
 use Rattle.call_names.specs.declared.rule.CallRule.TheVariants as known
 use Rattle.site_table.specs.declared.row.Row.{Row}
@@ -19,7 +19,6 @@ use Rattle.kern_mounts.specs.Umount.{after_umount}
 use Rattle.kern_mounts.specs.Unmounts.{IsOrdered}
 use Rattle.kern_mounts.specs.declared.step.MountStep.{MountStep}
 use Rattle.kern_mounts.proofs.Leaving.{ascending_is_ordered}
-use Rattle.kern_mounts.proofs.Paths.{rest-append}
 use Rattle.kern_mounts.proofs.Splits.{split_some, split_is, of_split}
 use Rattle.kern_mounts.proofs.Unmounting.{Apart, trims, trimmed_part, trimmed_top, append_all}
 use Rattle.kern_files.specs.Looking.{flags_by}

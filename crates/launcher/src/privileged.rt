@@ -33,33 +33,6 @@ fn is_some_marked(file: Option<&Row>) -> bool
     }
 }
 
-// The row at the front with the rest behind it.
-fn row_behind<'a>(site: &'a SiteTable, front: &AbsPath, rest: &str) -> Option<&'a Row>
-    requires { IsRest rest.now }
-    ensures { option_map (λ row. row.now) result ≡ row_at site.now.rows (front.now ++ parts_of rest.now) }
-{
-    match site.find(front, rest) {
-        None => None,
-        Some(at) => Some(site.row(at)),
-    }
-}
-
-// The row at the source with what the path has behind the place.
-fn row_through<'a>(
-    site: &'a SiteTable,
-    source: &AbsPath,
-    place: &AbsPath,
-    path: &AbsPath,
-) -> Option<&'a Row>
-    requires { is_prefix place.now path.now ≡ true }
-    ensures { option_map (λ row. row.now) result ≡ row_at site.now.rows (source.now ++ rest_of place.now path.now) }
-{
-    match place.rest(path) {
-        None => None,
-        Some(rest) => row_behind(site, source, rest),
-    }
-}
-
 // The entry, where its place leads to the path, or else the one that was found before.
 fn nearer<'p>(
     found: Option<&'p MountStep>,
@@ -92,7 +65,7 @@ fn shows_marked(site: &SiteTable, entry: &MountStep, path: &AbsPath) -> bool
     ensures { result ≡ is_privileged_row (found_by (row_at site.now.rows) entry.now.what entry.now.place path.now) }
 {
     match &entry.what {
-        What::Host(source) => is_some_marked(row_through(site, source, &entry.place, path)),
+        What::Host(source) => is_some_marked(site.row_through(source, &entry.place, path)),
         What::Empty => false,
         What::Hidden(_) => false,
     }

@@ -14,22 +14,6 @@ use Rattle.view_map.specs.Kept.{Host}
 use Rattle.view_map.proofs.Lists.{find_is, find_passes}
 use Rattle.mount_plan.specs.Host.{host_of}
 
--- the place of a row is in range
-pub place_within : (rows : List Row) (path : Path) (at : ℕ) → place_of rows path ≡ Some at → at < length rows
-place_within rows path at h = by (ltb (position_or_len (λ row. is_same row.path path) rows) (length rows)) refl h
-  where
-    by : (b : Bool) → ltb (position_or_len (λ row. is_same row.path path) rows) (length rows) ≡ b → cond b (Some (position_or_len (λ row. is_same row.path path) rows)) None ≡ Some at → at < length rows
-    by true e h = let same : position_or_len (λ row. is_same row.path path) rows ≡ at = cc in subst (λ (n : ℕ). n < length rows) same (ltb-true _ _ e)
-    by false e h = absurd (cc)
-
--- no row, no place; and the row of the place
-pub no_row : (site : Site) (path : Path) → place_of site.rows path ≡ None → host_of site path ≡ None
-no_row site path e = ap (λ row. option_map is_dir (option_map (λ row. row.kind) row)) (no_place_no_row site.rows path e)
-
-pub row_there : (site : Site) (path : Path) (at : ℕ) (row : Row) (dir : Bool) → place_of site.rows path ≡ Some at → slice_get site.rows at ≡ Some row → dir ≡ is_dir row.kind → host_of site path ≡ Some dir
-row_there site path at row dir e stands kind =
-    ap (λ row. option_map is_dir (option_map (λ row. row.kind) row)) (sym (row_of_the_place site.rows path at e) ∙ stands) ∙ ap Some (sym kind)
-
 -- the empty text is a rest
 pub none_behind : IsRest []
 none_behind = record { parts = refl; whole = refl }

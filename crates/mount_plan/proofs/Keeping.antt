@@ -26,14 +26,6 @@ pub any_lent : {X : Type 0} (test : X → Bool) (xs : List (Bor X)) → list_any
 any_lent test [] = refl
 any_lent test (x ∷ xs) = ap (λ b. test x.now || b) (any_lent test xs)
 
-rest_behind : (front rest : Path) → rest_of front (front ++ rest) ≡ rest
-rest_behind [] rest = refl
-rest_behind (part ∷ front) rest = rest_behind front rest
-
--- the parts of the rest that a path has behind a front
-pub parts_behind : (front path : Path) (rest : List ℕ) → is_normal path ≡ true → rest_text front path ≡ Some rest → parts_of rest ≡ rest_of front path
-parts_behind front path rest normal e = sym (rest_behind front (parts_of rest)) ∙ ap (rest_of front) (rest_then_join front path rest normal e)
-
 -- the longest mention above a path leads to it
 pub above_leads : (kept : List Mention) (path : Path) (one : ℕ × Mention) → longest is_origin (above path kept) ≡ Some one → is_prefix one.1.path path ≡ true
 above_leads kept path one e = longest_is (λ found. is_prefix found.1.path path ≡ true) is_origin (above path kept) one

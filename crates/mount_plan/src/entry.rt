@@ -9,33 +9,12 @@ ghost use Rattle.mount_plan.specs.Plan.{what_of, flags_by, hides_dir, hides_dir_
 ghost use Rattle.mount_plan.specs.Short.{HasShortHost, HaveShortHosts};
 
 use crate::kept::beneath_at;
-use abs_path::{AbsPath, JoinError};
+use abs_path::AbsPath;
 use kern_mounts::{Flags, MountStep, What};
 use path_settings::{Kind, Mention};
 use site_table::SiteTable;
 use std::alloc::{AllocError, Global};
 use view_map::{Beneath, Seen, origin_at, view_of};
-
-// the source with what the path has behind the front
-fn source_through(
-    alloc: Global,
-    source: &AbsPath,
-    front: &AbsPath,
-    path: &AbsPath,
-) -> Result<AbsPath, AllocError>
-    requires leads { is_prefix front.now path.now ≡ true }
-    requires short { length (tail_of (source.now ++ rest_of front.now path.now)) ≤ 512 }
-    ensures { IfOk result (λ host. host ≡ source.now ++ rest_of front.now path.now) }
-{
-    match front.rest(path) {
-        None => unreachable!(),
-        Some(rest) => match source.join(alloc, rest) {
-            Ok(host) => Ok(host),
-            Err(JoinError::Memory) => Err(AllocError),
-            Err(JoinError::TooLong) => unreachable!(),
-        },
-    }
-}
 
 fn hides_dir(beneath: Beneath) -> bool
     ensures { result ≡ hides_dir beneath }
@@ -62,7 +41,7 @@ fn what_by(
         Kind::Hide => Ok(What::Hidden(is_dir)),
         Kind::Tmp { .. } => Ok(What::Empty),
         Kind::Bind { source, .. } => {
-            let host = source_through(alloc, source, &mention.path, path)?;
+            let host = path.moved(alloc, &mention.path, source)?;
             Ok(What::Host(host))
         }
         _ => {

@@ -1,34 +1,39 @@
 //! What the site has at a path.
 
-ghost use Rattle.std.specs.Prelude.{◌≡◌, ◌++◌};
-ghost use Rattle.abs_path.specs.Paths.{parts_of};
-ghost use Rattle.abs_path.specs.Prefix.{IsRest};
+ghost use Rattle.std.specs.Prelude.{◌≡◌, ◌++◌, option_map, true};
+ghost use Rattle.abs_path.specs.Prefix.{is_prefix, rest_of};
 ghost use Rattle.site_table.specs.Kinds.{is_dir};
 ghost use Rattle.mount_plan.specs.Host.{host_of};
 
 use abs_path::AbsPath;
-use site_table::{RowKind, SiteTable};
+use site_table::{Row, RowKind, SiteTable};
 
-fn is_dir(kind: RowKind) -> bool
-    ensures { result ≡ is_dir kind }
+// whether a row, if there is one, is a directory
+fn is_dir(row: Option<&Row>) -> Option<bool>
+    ensures { result ≡ option_map is_dir (option_map (λ row. row.kind) (option_map (λ row. row.now) row.entry)) }
 {
-    matches!(kind, RowKind::Dir)
+    match row {
+        None => None,
+        Some(row) => Some(matches!(row.kind, RowKind::Dir)),
+    }
 }
 
-/// Whether the site has a row at the front with the rest behind it, and then whether it is a directory.
-pub fn row_behind(site: &SiteTable, front: &AbsPath, rest: &str) -> Option<bool>
-    requires { IsRest rest.now }
-    ensures { result ≡ host_of site.now (front.now ++ parts_of rest.now) }
+/// Whether the site has a row at the source with what the path has behind the front, and then whether it is a directory.
+pub fn row_through(
+    site: &SiteTable,
+    source: &AbsPath,
+    front: &AbsPath,
+    path: &AbsPath,
+) -> Option<bool>
+    requires { is_prefix front.now path.now ≡ true }
+    ensures { result ≡ host_of site.now (source.now ++ rest_of front.now path.now) }
 {
-    match site.find(front, rest) {
-        None => None,
-        Some(at) => Some(is_dir(site.row(at).kind)),
-    }
+    is_dir(site.row_through(source, front, path))
 }
 
 /// Whether the site has a row at the path, and then whether it is a directory.
 pub fn row_at(site: &SiteTable, path: &AbsPath) -> Option<bool>
     ensures { result ≡ host_of site.now path.now }
 {
-    row_behind(site, path, "")
+    is_dir(site.row_behind(path, ""))
 }

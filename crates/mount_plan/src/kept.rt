@@ -11,7 +11,7 @@ ghost use Rattle.mount_plan.specs.Answers.{first_of, Refuses, AddsKept, Keeps};
 
 use crate::error::PlanError;
 use crate::here::{Part, at_path, fate_beside, is_asked, is_kept, is_put, unbeaten};
-use crate::host::{row_at, row_behind};
+use crate::host::{row_at, row_through};
 use abs_path::AbsPath;
 use path_settings::{Kind, Mention};
 use site_table::SiteTable;
@@ -24,17 +24,6 @@ fn beneath_row(row: Option<bool>) -> Beneath
     match row {
         None => Beneath::NoRow,
         Some(is_dir) => Beneath::Row { is_dir },
-    }
-}
-
-// what a bind's source has at a path that the bind's own path leads to
-fn row_through(site: &SiteTable, source: &AbsPath, front: &AbsPath, path: &AbsPath) -> Option<bool>
-    requires { is_prefix front.now path.now ≡ true }
-    ensures { result ≡ host_of site.now (source.now ++ rest_of front.now path.now) }
-{
-    match front.rest(path) {
-        None => None,
-        Some(rest) => row_behind(site, source, rest),
     }
 }
 

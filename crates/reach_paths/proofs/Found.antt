@@ -14,7 +14,7 @@ use Rattle.kern_mounts.specs.Split.{Table}
 use Rattle.kern_mounts.specs.Table.{StartsAtRoot}
 use Rattle.kern_mounts.specs.Unmounts.{IsOrdered}
 use Rattle.kern_mounts.proofs.Leaving.{ascending_is_ordered}
-use Rattle.kern_mounts.proofs.Paths.{rest-append}
+use Rattle.abs_path.proofs.Prefixes.{rest-append}
 use Rattle.kern_mounts.proofs.Splits.{split_some, of_split}
 use Rattle.kern_mounts.proofs.Unmounting.{append_all, trimmed_part, unmounts_trim}
 use Rattle.kern_files.specs.Looking.{flags_by}

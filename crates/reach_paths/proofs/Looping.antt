@@ -7,7 +7,7 @@ use Rattle.abs_path.specs.Paths.{Path, tail_of, parts_of, is_normal}
 use Rattle.abs_path.specs.Prefix.{is_prefix, rest_of, rest_text}
 use Rattle.kern_mounts.specs.Entry.{leads_to}
 use Rattle.kern_mounts.specs.declared.step.What.TheVariants.{Host}
-use Rattle.kern_mounts.proofs.Paths.{parts_behind}
+use Rattle.abs_path.proofs.Reading.{parts_behind}
 use Rattle.kern_mounts.specs.declared.step.MountStep.{MountStep}
 use Rattle.kern_mounts.specs.Split.{Table}
 use Rattle.kernel_laws.specs.Questions.{Wish}

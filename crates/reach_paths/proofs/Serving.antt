@@ -5,11 +5,10 @@ use Rattle.std.specs.List.{list_any}
 use Rattle.std.proofs.lemmas.Bool.{and_from}
 use Rattle.abs_path.specs.Paths.{Path}
 use Rattle.abs_path.specs.Prefix.{is_prefix, rest_of}
-use Rattle.abs_path.proofs.Prefixes.{prefix-append}
+use Rattle.abs_path.proofs.Prefixes.{prefix-append, rest-append}
 use Rattle.kern_mounts.specs.Entry.{leads_to}
 use Rattle.kern_mounts.specs.declared.step.MountStep.{MountStep}
 use Rattle.kern_mounts.specs.Split.{Table}
-use Rattle.kern_mounts.proofs.Paths.{rest-append}
 use Rattle.kern_mounts.proofs.Splits.{split_some}
 use Rattle.kernel_laws.specs.Questions.{Wish}
 use Rattle.kernel_laws.specs.Reach.{shows_row, serves, reach_from, reach, Power, Nowise, Unmounting, Mounting}

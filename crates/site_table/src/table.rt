@@ -2,10 +2,10 @@
 //!
 //! A contract sees a site as its dynamic uid and the lists of its rows, users and groups.
 
-ghost use Rattle.std.specs.Prelude.{◌≡◌, ◌++◌, ◌<◌, ◌≤◌, length, slice_get, Some, option_copied};
+ghost use Rattle.std.specs.Prelude.{◌≡◌, ◌++◌, ◌<◌, ◌≤◌, length, slice_get, Some, option_copied, option_map, true};
 ghost use Rattle.abs_path.specs.Paths.{tail_of, parts_of};
-ghost use Rattle.abs_path.specs.Prefix.{IsRest};
-ghost use Rattle.site_table.specs.Table.{IsSite, site_with, place_of, place_of_text, user_named, user_with, group_named};
+ghost use Rattle.abs_path.specs.Prefix.{IsRest, is_prefix, rest_of};
+ghost use Rattle.site_table.specs.Table.{IsSite, site_with, place_of, place_of_text, row_at, user_named, user_with, group_named};
 
 use crate::accounts::{Group, User};
 use crate::find::search;
@@ -96,6 +96,28 @@ impl SiteTable {
         ensures place_of_the_path { IsRest rest.now → result ≡ place_of self.now.rows (front.now ++ parts_of rest.now) }
     {
         search(&self.rows, front, rest).ok()
+    }
+
+    /// The row at the front with the rest behind it, as `AbsPath::rest` answers it.
+    pub fn row_behind(&self, front: &AbsPath, rest: &str) -> Option<&Row>
+        requires { IsRest rest.now }
+        ensures { option_map (λ row. row.now) result ≡ row_at self.now.rows (front.now ++ parts_of rest.now) }
+    {
+        match self.find(front, rest) {
+            None => None,
+            Some(at) => Some(self.row(at)),
+        }
+    }
+
+    /// The row at the source with what the path has behind the place, as a bind shows it (mount(2)). No path is built.
+    pub fn row_through(&self, source: &AbsPath, place: &AbsPath, path: &AbsPath) -> Option<&Row>
+        requires { is_prefix place.now path.now ≡ true }
+        ensures { option_map (λ row. row.now) result ≡ row_at self.now.rows (source.now ++ rest_of place.now path.now) }
+    {
+        match place.rest(path) {
+            None => None,
+            Some(rest) => self.row_behind(source, rest),
+        }
     }
 
     /// The user of this name.

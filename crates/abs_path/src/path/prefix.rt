@@ -1,8 +1,8 @@
 //! Prefixes by whole parts, what a path has behind one, and joining the two again.
 
-ghost use Rattle.std.specs.Prelude.{◌≡◌, ◌++◌, IfOk, IfSome, IsTrue, string_bytes, option_map};
-ghost use Rattle.abs_path.specs.Paths.{is_normal};
-ghost use Rattle.abs_path.specs.Prefix.{is_prefix, is_below, rest_text, IsRest, Joins, is_behind, after, behind_text};
+ghost use Rattle.std.specs.Prelude.{◌≡◌, ◌≤◌, ◌++◌, IfOk, IfSome, IsTrue, length, string_bytes, option_map, true};
+ghost use Rattle.abs_path.specs.Paths.{is_normal, parts_of, tail_of};
+ghost use Rattle.abs_path.specs.Prefix.{is_prefix, is_below, rest_of, rest_text, IsRest, Joins, is_behind, after, behind_text};
 
 use super::{AbsPath, LONGEST};
 use crate::error::JoinError;
@@ -59,6 +59,7 @@ impl AbsPath {
     /// None where this one does not lead there.
     pub fn rest<'a>(&self, of: &'a AbsPath) -> Option<&'a str>
         ensures behind { option_map (λ rest. rest.now) result ≡ rest_text self.now of.now }
+        ensures further_parts { IfSome result (λ rest. parts_of rest.now ≡ rest_of self.now of.now) }
         ensures may_be_joined { IfSome result (λ rest. IsRest rest.now) }
         ensures normal { IsTrue (is_normal of.now) }
     {
@@ -77,5 +78,26 @@ impl AbsPath {
         }
         let tail = joined(alloc, self.tail.as_str(), rest)?;
         Ok(AbsPath { tail })
+    }
+
+    /// The path moved from a front that leads to it onto another path: that path with what this one has behind the front.
+    pub fn moved(
+        &self,
+        alloc: Global,
+        front: &AbsPath,
+        onto: &AbsPath,
+    ) -> Result<AbsPath, AllocError>
+        requires leads { is_prefix front.now self.now ≡ true }
+        requires short { length (tail_of (onto.now ++ rest_of front.now self.now)) ≤ 512 }
+        ensures moved { IfOk result (λ path. path ≡ onto.now ++ rest_of front.now self.now) }
+    {
+        match front.rest(self) {
+            None => unreachable!(),
+            Some(rest) => match onto.join(alloc, rest) {
+                Ok(path) => Ok(path),
+                Err(JoinError::Memory) => Err(AllocError),
+                Err(JoinError::TooLong) => unreachable!(),
+            },
+        }
     }
 }

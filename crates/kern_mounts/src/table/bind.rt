@@ -12,7 +12,7 @@ ghost use Rattle.kern_mounts.specs.Bind.{goes_too_far, moved, copies, is_long, i
 use super::{MountTable, later_than};
 use crate::error::MountError;
 use crate::step::{MountStep, What};
-use abs_path::{AbsPath, JoinError};
+use abs_path::AbsPath;
 use linux_numbers::errnos::{ENAMETOOLONG, ENOSPC};
 use linux_numbers::limits::MOUNT_MAX;
 use std::alloc::{AllocError, Global};
@@ -105,27 +105,6 @@ fn is_long(onto: &AbsPath, front: &AbsPath, path: &AbsPath) -> bool
     }
 }
 
-// What the path has behind the front, behind another path.
-fn moved_path(
-    alloc: Global,
-    onto: &AbsPath,
-    front: &AbsPath,
-    path: &AbsPath,
-) -> Result<AbsPath, AllocError>
-    requires leads { is_prefix front.now path.now ≡ true }
-    requires short { is_long (onto.now ++ rest_of front.now path.now) ≡ false }
-    ensures { IfOk result (λ made. made ≡ onto.now ++ rest_of front.now path.now) }
-{
-    match front.rest(path) {
-        None => unreachable!(),
-        Some(rest) => match onto.join(alloc, rest) {
-            Ok(made) => Ok(made),
-            Err(JoinError::Memory) => Err(AllocError),
-            Err(JoinError::TooLong) => unreachable!(),
-        },
-    }
-}
-
 // Whether what the entry shows at the source can be bound.
 fn can_show(entry: &MountStep, source: &AbsPath) -> bool
     requires leads { is_prefix entry.now.place source.now ≡ true }
@@ -146,7 +125,7 @@ fn object_at(alloc: Global, entry: &MountStep, source: &AbsPath) -> Result<What,
 {
     match &entry.what {
         What::Host(host) => {
-            let shown = moved_path(alloc, host, &entry.place, source)?;
+            let shown = source.moved(alloc, &entry.place, host)?;
             Ok(What::Host(shown))
         }
         What::Empty => Ok(What::Empty),
@@ -192,7 +171,7 @@ fn moved(
     ensures { IfOk result (λ step. step ≡ moved source.now target.now entry.now) }
 {
     Ok(MountStep {
-        place: moved_path(alloc, target, source, &entry.place)?,
+        place: entry.place.moved(alloc, source, target)?,
         what: entry.what.copy(alloc)?,
         flags: entry.flags,
     })

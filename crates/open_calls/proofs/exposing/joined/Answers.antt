@@ -1,6 +1,6 @@
 use Rattle.std.proofs.Common.{◌<◌, ◌++◌, ◌∙◌, length, sym, ap, arith}
 use Rattle.abs_path.specs.Paths.{tail_of, parts_of}
-use Rattle.kern_mounts.proofs.Paths.{parts_behind}
+use Rattle.abs_path.proofs.Reading.{parts_behind}
 use Rattle.open_calls.proofs.exposing.joined.Goals as goal
 
 pub unreachable-requires-in-Err-TooLong : goal.unreachable-requires-in-Err-TooLong
