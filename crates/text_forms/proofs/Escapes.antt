@@ -1,8 +1,10 @@
 -- An escaped word read back, and its bytes.
-use Rattle.std.proofs.Common.{◌≡◌, ℕ, ◌+◌, ◌*◌, ◌/◌, ◌%◌, ◌<◌, Bool, true, false, cond, List, [], ◌∷◌, ◌++◌, Some, None, refl, ap, ◌∙◌, arith}
-use Rattle.std.specs.Prelude.{◌||◌, ◌==◌, nat_le}
+use Rattle.std.proofs.Common.{◌≡◌, ℕ, suc, ◌+◌, ◌-◌, ◌*◌, ◌/◌, ◌%◌, ◌<◌, ◌≤◌, Bool, true, false, cond, List, [], ◌∷◌, ◌++◌, Some, None, length, take, take_all, drop, get_or, refl, sym, ap, ◌∙◌, append-nil, length-drop, arith}
+use Rattle.std.specs.Prelude.{◌||◌, ◌==◌, not, nat_le, nat_lt, position}
 use Rattle.std.specs.Char.{digit_value, is_digit}
-use Rattle.std.specs.List.{All, AllByRecursion}
+use Rattle.std.specs.List.{All, AllByRecursion, position_or_len}
+use Rattle.std.proofs.lemmas.List.{drop_all, drop_more}
+use Rattle.std.proofs.lemmas.List.Quantifiers.{position-Some}
 use Rattle.std.proofs.lemmas.List.Elements.{All-from_recursion, recursion_from_All}
 use Rattle.std.proofs.lemmas.Bool.{and_from, or_parts}
 use Rattle.std.proofs.lemmas.Bool.Decides.{nat_tests}
@@ -60,3 +62,52 @@ all_show (byte ∷ text) = all_append (λ b. 32 < b) (escaped_byte byte) (escape
 
 pub no_white : (text : List ℕ) → All (λ byte. 32 < byte) (escaped_word text)
 no_white text = All-from_recursion (λ byte. 32 < byte) (escaped_word text) (all_show text)
+
+-- ---- a run of bytes that stand as they are
+
+plain : (byte : ℕ) → is_coded byte ≡ false → escaped_byte byte ≡ byte ∷ []
+unfolding escaped_byte
+plain byte h = ap (λ b. cond b (37 ∷ upper_digit (byte / 16) ∷ upper_digit (byte % 16) ∷ []) (byte ∷ [])) h
+
+run : (bytes : List ℕ) → escaped_word bytes ≡ take (position_or_len is_coded bytes) bytes ++ escaped_word (drop (position_or_len is_coded bytes) bytes)
+run [] = refl
+run (byte ∷ bytes) = by (is_coded byte) refl (run bytes)
+  where
+    by : (b : Bool) → is_coded byte ≡ b → escaped_word bytes ≡ take (position_or_len is_coded bytes) bytes ++ escaped_word (drop (position_or_len is_coded bytes) bytes) →
+        escaped_word (byte ∷ bytes) ≡ take (cond (not b) (1 + position_or_len is_coded bytes) 0) (byte ∷ bytes) ++ escaped_word (drop (cond (not b) (1 + position_or_len is_coded bytes) 0) (byte ∷ bytes))
+    by true e rest = refl
+    by false e rest =
+        let next : suc (position_or_len is_coded bytes) ≡ 1 + position_or_len is_coded bytes = omega arith in
+        ap (λ front. front ++ escaped_word bytes) (plain byte e) ∙ ap (λ left. byte ∷ left) rest ∙ ap (λ k. take k (byte ∷ bytes) ++ escaped_word (drop k (byte ∷ bytes))) next
+
+found_at : (b : Bool) (p i : ℕ) → Some i ≡ cond b (Some p) None → p ≡ i
+found_at true p i e = cc
+found_at false p i e = cc
+
+not_found : (b : Bool) (p : ℕ) → None ≡ cond b (Some p) None → b ≡ false
+not_found true p e = cc
+not_found false p e = refl
+
+-- where no byte is coded
+pub none_coded : (bytes : List ℕ) → None ≡ position is_coded bytes → escaped_word bytes ≡ bytes
+none_coded bytes e =
+    let none = not_found (nat_lt (position_or_len is_coded bytes) (length bytes)) (position_or_len is_coded bytes) e in
+    let past : length bytes ≤ position_or_len is_coded bytes = grind (arith, nat_tests) in
+    run bytes
+    ∙ ap (λ rest. take (position_or_len is_coded bytes) bytes ++ escaped_word rest) (drop_all (position_or_len is_coded bytes) bytes past)
+    ∙ append-nil (take (position_or_len is_coded bytes) bytes)
+    ∙ take_all (position_or_len is_coded bytes) bytes past
+
+-- where the first that is coded stands here
+pub first_coded : (bytes : List ℕ) (i : ℕ) → Some i ≡ position is_coded bytes → is_coded (get_or bytes i 0) ≡ true
+first_coded bytes i e = (position-Some is_coded bytes i 0 (sym e)).1
+
+pub coded_parts : (bytes : List ℕ) (i : ℕ) → Some i ≡ position is_coded bytes →
+    escaped_word bytes ≡ take i bytes ++ (escaped_byte (get_or bytes i 0) ++ escaped_word (take (length bytes - (i + 1)) (drop (i + 1) bytes)))
+coded_parts bytes i e =
+    let within = (position-Some is_coded bytes i 0 (sym e)).0 in
+    let whole : take (length bytes - (i + 1)) (drop (i + 1) bytes) ≡ drop (i + 1) bytes = take_all _ _ (omega (arith, length-drop (i + 1) bytes)) in
+    run bytes
+    ∙ ap (λ n. take n bytes ++ escaped_word (drop n bytes)) (found_at (nat_lt (position_or_len is_coded bytes) (length bytes)) (position_or_len is_coded bytes) i e)
+    ∙ ap (λ rest. take i bytes ++ escaped_word rest) (drop_more bytes i 0 within)
+    ∙ ap (λ rest. take i bytes ++ (escaped_byte (get_or bytes i 0) ++ escaped_word rest)) (sym whole)

@@ -1,4 +1,4 @@
-pub mod Symbols
+pub mod SoFar
 pub mod Bounded
 pub mod Numerals
 pub mod Pieces

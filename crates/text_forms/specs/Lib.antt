@@ -5,3 +5,4 @@ pub mod Words
 pub mod Grammar
 pub mod Escaped
 pub mod Answers
+pub mod SoFar

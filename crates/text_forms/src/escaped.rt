@@ -1,6 +1,6 @@
 //! Escaped words: a text printed as one word without white space.
 
-ghost use Rattle.std.specs.Prelude.{◌≡◌, ◌<◌, ◌++◌, OnOk, OnErr, take, length};
+ghost use Rattle.std.specs.Prelude.{◌≡◌, ◌<◌, ◌++◌, IsTrue, IfSome, MatchOption, OnOk, OnErr, position, take, length};
 ghost use Rattle.text_forms.specs.Escaped.{is_coded, upper_digit, escaped_byte, escaped_word};
 
 use std::alloc::AllocError;
@@ -22,17 +22,31 @@ fn upper_digit(digit: u8) -> u8
     }
 }
 
-// appends a byte as it is escaped, or a part of that
+// appends the code of a byte
 #[tactic(auto, unfolding(crate::specs::Escaped::escaped_byte))]
-fn push_byte(out: &mut Vec<u8>, byte: u8) -> Result<(), AllocError>
+fn push_coded(out: &mut Vec<u8>, byte: u8) -> Result<(), AllocError>
+    requires { IsTrue (is_coded byte) }
     ensures appends { OnOk result (out.new.items ≡ out.old.items ++ escaped_byte byte) }
     ensures unchanged_on_error { OnErr result (out.new.items ≡ out.old.items) }
 {
-    if is_coded(byte) {
-        out.extend_from_slice(&[b'%', upper_digit(byte / 16), upper_digit(byte % 16)])
-    } else {
-        out.extend_from_slice(&[byte])
-    }
+    out.extend_from_slice(&[b'%', upper_digit(byte / 16), upper_digit(byte % 16)])
+}
+
+fn coded_at(bytes: &[u8]) -> Option<usize>
+    ensures { result ≡ position is_coded bytes.now }
+{
+    bytes.iter().position(|byte| is_coded(*byte))
+}
+
+// the bytes before the first that is coded, that byte, and those behind it
+fn split_at_coded(bytes: &[u8]) -> Option<(&[u8], u8, &[u8])>
+    ensures coded { IfSome result (λ parts. IsTrue (is_coded parts.1)) }
+    ensures escaped { MatchOption result (escaped_word bytes.now ≡ bytes.now)
+        (λ parts. escaped_word bytes.now ≡ parts.0.now ++ (escaped_byte parts.1 ++ escaped_word parts.2.now)) }
+    ensures shorter { IfSome result (λ parts. length parts.2.now < length bytes.now) }
+{
+    let at = coded_at(bytes)?;
+    Some((&bytes[..at], bytes[at], &bytes[at + 1..]))
 }
 
 // appends the bytes as they are escaped, or a front of that
@@ -40,10 +54,13 @@ fn push_bytes(out: &mut Vec<u8>, bytes: &[u8]) -> Result<(), AllocError>
     ensures appends { OnOk result (out.new.items ≡ out.old.items ++ escaped_word bytes.now) }
     ensures keeps_the_front { take (length out.old.items) out.new.items ≡ out.old.items }
 {
-    'bytes: for byte in bytes {
-        push_byte(out, *byte)?;
+    let mut left = bytes;
+    'runs: while let Some((plain, coded, rest)) = split_at_coded(left) {
+        out.extend_from_slice(plain)?;
+        push_coded(out, coded)?;
+        left = rest;
     }
-    Ok(())
+    out.extend_from_slice(left)
 }
 
 /// Appends the text as an escaped word: each byte up to the space, DEL and `%` becomes `%` and two

@@ -1,63 +1,106 @@
 //! Splitting a text into words, with quotes and escapes (systemd.syntax(7), Quoting).
 //!
-//! The escapes are read into symbols, quotes and gaps are marked among them, and what stands
-//! between gaps is a word.
+//! A text is gone through symbol by symbol: its escapes are read, its quotes are seen, and what
+//! stands between gaps is a word.
 
 mod marks;
 mod symbols;
 
-ghost use Rattle.std.specs.Prelude.{◌≡◌, map, IfOk};
-ghost use Rattle.std.specs.List.{slice_split};
-ghost use Rattle.text_forms.specs.Words.{is_gap, words_between, text_only};
-ghost use Rattle.text_forms.specs.Answers.{MakesWord, MakesWords, Splits};
+ghost use Rattle.std.specs.Prelude.{◌≡◌, ◌∷◌, ◌++◌, [], ℕ, List, Some, None, IfOk, OnOk, unwrap_or};
+ghost use Rattle.std.specs.List.{cons_option};
+ghost use Rattle.text_forms.specs.declared.splitting.symbols.Symbol.{Symbol};
+ghost use Rattle.text_forms.specs.Words.{closed_only};
+ghost use Rattle.text_forms.specs.Answers.{MakesWords, Splits};
+ghost use Rattle.text_forms.specs.SoFar.{begun_bytes, found, comes_to};
 
 use crate::error::WordsError;
-use marks::{Mark, marks};
+use marks::{Mark, mark_of};
 use std::alloc::{AllocError, Global};
-use symbols::symbols;
+use symbols::{Symbol, first_symbol};
 
-fn is_gap(mark: &Mark) -> bool
-    ensures { result ≡ is_gap mark.now }
-{
-    match mark {
-        Mark::Part(_) | Mark::Edge => false,
-        Mark::Gap => true,
-    }
+// A text that is split as far as it is read.
+#[derive(Drop)]
+struct SoFar {
+    // the quote that is open
+    opened: Option<u8>,
+    // the bytes of the word that is begun
+    begun: Option<Vec<u8>>,
+    // the words that are whole, unless one is not UTF-8
+    whole: Option<Vec<String>>,
 }
 
-fn pieces<'a>(alloc: Global, marks: &'a [Mark]) -> Result<Vec<&'a [Mark]>, AllocError>
-    ensures { IfOk result (λ pieces. map (λ piece. piece.now) pieces.items ≡ slice_split is_gap marks.now) }
+// puts a byte behind the word that is begun, which it may begin
+fn push_part(alloc: Global, begun: &mut Option<Vec<u8>>, byte: u8) -> Result<(), AllocError>
+    ensures { OnOk result (begun_bytes begun.new ≡ Some (unwrap_or (begun_bytes begun.old) [] ++ byte ∷ [])) }
 {
-    marks.split(|mark| is_gap(mark)).collect(alloc)
+    begun.get_or_insert(Vec::new(alloc)).push(byte)?;
+    Ok(())
 }
 
-// the bytes of a word, as text
-fn word(alloc: Global, piece: &[Mark]) -> Result<String, WordsError>
-    ensures { MakesWord piece.now result }
+// the words with one more, whose bytes may be no text
+fn with_word(whole: Option<Vec<String>>, bytes: Vec<u8>) -> Result<Option<Vec<String>>, AllocError>
+    ensures { IfOk result (λ next. (more : List (List ℕ)) → found next more ≡ found whole (bytes.items ∷ more)) }
 {
-    let mut bytes = Vec::new(alloc);
-    'marks: for mark in piece {
-        if let Mark::Part(byte) = mark {
-            bytes.push(*byte)?;
-        }
-    }
+    let Some(mut words) = whole else {
+        return Ok(None);
+    };
     match String::from_utf8(bytes) {
-        Ok(word) => Ok(word),
-        Err(_) => Err(WordsError::NotText),
+        Ok(word) => {
+            words.push(word)?;
+            Ok(Some(words))
+        }
+        Err(_) => Ok(None),
     }
 }
 
-// the words that stand in the pieces, first to last
-fn words_between(alloc: Global, pieces: &[&[Mark]]) -> Result<Vec<String>, WordsError>
-    ensures { MakesWords (text_only (words_between (map (λ piece. piece.now) pieces.now))) result }
-{
-    let mut words = Vec::new(alloc);
-    'pieces: for piece in pieces {
-        if !piece.is_empty() {
-            words.push(word(alloc, piece)?)?;
+impl SoFar {
+    fn nothing(alloc: Global) -> SoFar
+        ensures { (symbols : List Symbol) → comes_to result symbols ≡ closed_only symbols }
+    {
+        SoFar {
+            opened: None,
+            begun: None,
+            whole: Some(Vec::new(alloc)),
         }
     }
-    Ok(words)
+
+    fn end_word(&mut self) -> Result<(), AllocError>
+        ensures opened { self.new.opened ≡ self.old.opened }
+        ensures ended { OnOk result (self.new.begun ≡ None) }
+        ensures whole { OnOk result ((more : List (List ℕ)) → found self.new.whole more ≡ found self.old.whole (cons_option (begun_bytes self.old.begun) more)) }
+    {
+        if let Some(bytes) = self.begun.take() {
+            self.whole = with_word(self.whole.take(), bytes)?;
+        }
+        Ok(())
+    }
+
+    // goes past a symbol
+    fn pass(&mut self, alloc: Global, symbol: Symbol) -> Result<(), AllocError>
+        ensures { OnOk result ((symbols : List Symbol) → comes_to self.new symbols ≡ comes_to self.old (symbol ∷ symbols)) }
+    {
+        let (mark, opened) = mark_of(self.opened, symbol);
+        self.opened = opened;
+        match mark {
+            Mark::Part(byte) => push_part(alloc, &mut self.begun, byte),
+            Mark::Edge => {
+                self.begun.get_or_insert(Vec::new(alloc));
+                Ok(())
+            }
+            Mark::Gap => self.end_word(),
+        }
+    }
+
+    // the words, where nothing is left
+    fn words(mut self) -> Result<Vec<String>, WordsError>
+        ensures { MakesWords (comes_to self []) result }
+    {
+        if self.opened.is_some() {
+            return Err(WordsError::Quote);
+        }
+        self.end_word()?;
+        self.whole.ok_or(WordsError::NotText)
+    }
 }
 
 /// The words of a text, split at spaces, tabs and carriage returns.
@@ -69,8 +112,12 @@ fn words_between(alloc: Global, pieces: &[&[Mark]]) -> Result<Vec<String>, Words
 pub fn words(alloc: Global, text: &str) -> Result<Vec<String>, WordsError>
     ensures splits_or_first_fault { Splits text.now result }
 {
-    let symbols = symbols(alloc, text.as_bytes())?;
-    let marks = marks(alloc, &symbols)?;
-    let pieces = pieces(alloc, &marks)?;
-    words_between(alloc, &pieces)
+    let mut so_far = SoFar::nothing(alloc);
+    let mut left = text.as_bytes();
+    while !left.is_empty() {
+        let (symbol, rest) = first_symbol(left).ok_or(WordsError::Escape)?;
+        so_far.pass(alloc, symbol)?;
+        left = rest;
+    }
+    so_far.words()
 }

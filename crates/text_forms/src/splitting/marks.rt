@@ -2,12 +2,8 @@
 
 ghost use Rattle.std.specs.Prelude.{◌≡◌};
 ghost use Rattle.text_forms.specs.Words.{is_white, is_quote, mark_of, open_after};
-ghost use Rattle.text_forms.specs.declared.splitting.symbols.Symbol.TheVariants.{Plain};
-ghost use Rattle.text_forms.specs.Answers.{SeesQuotes};
 
 use super::symbols::Symbol;
-use crate::error::WordsError;
-use std::alloc::Global;
 
 /// What a symbol is in the list of words.
 #[derive(Clone, Copy)]
@@ -32,74 +28,16 @@ fn is_quote(byte: u8) -> bool
     byte == b'"' || byte == b'\''
 }
 
-// what a byte is that stands as it is
-#[tactic(auto, unfolding(crate::specs::Words::mark_of))]
-fn plain_mark(opened: Option<u8>, byte: u8) -> Mark
-    ensures { result ≡ mark_of opened (Plain byte) }
+/// What a symbol is where this quote is open, or none, and which quote is open behind it.
+#[tactic(auto, unfolding(crate::specs::Words::mark_of, crate::specs::Words::open_after))]
+pub(crate) fn mark_of(opened: Option<u8>, symbol: Symbol) -> (Mark, Option<u8>)
+    ensures mark { result.0 ≡ mark_of opened symbol }
+    ensures open_behind { result.1 ≡ open_after opened symbol }
 {
-    match opened {
-        None => {
-            if is_white(byte) {
-                Mark::Gap
-            } else if is_quote(byte) {
-                Mark::Edge
-            } else {
-                Mark::Part(byte)
-            }
-        }
-        Some(quote) => {
-            if byte == quote {
-                Mark::Edge
-            } else {
-                Mark::Part(byte)
-            }
-        }
-    }
-}
-
-#[tactic(auto, unfolding(crate::specs::Words::mark_of))]
-fn mark_of(opened: Option<u8>, symbol: Symbol) -> Mark
-    ensures { result ≡ mark_of opened symbol }
-{
-    match symbol {
-        Symbol::Escaped(byte) => Mark::Part(byte),
-        Symbol::Plain(byte) => plain_mark(opened, byte),
-    }
-}
-
-// which quote is open behind a byte that stands as it is
-#[tactic(auto, unfolding(crate::specs::Words::open_after))]
-fn open_after_byte(opened: Option<u8>, byte: u8) -> Option<u8>
-    ensures { result ≡ open_after opened (Plain byte) }
-{
-    match opened {
-        None => is_quote(byte).then_some(byte),
-        Some(quote) => (byte != quote).then_some(quote),
-    }
-}
-
-#[tactic(auto, unfolding(crate::specs::Words::open_after))]
-fn open_after(opened: Option<u8>, symbol: Symbol) -> Option<u8>
-    ensures { result ≡ open_after opened symbol }
-{
-    match symbol {
-        Symbol::Escaped(_) => opened,
-        Symbol::Plain(byte) => open_after_byte(opened, byte),
-    }
-}
-
-/// The marks of the symbols; Quote where a quote is open at the end.
-pub(crate) fn marks(alloc: Global, symbols: &[Symbol]) -> Result<Vec<Mark>, WordsError>
-    ensures { SeesQuotes symbols.now result }
-{
-    let mut marks = Vec::new(alloc);
-    let mut opened = None;
-    'symbols: for symbol in symbols {
-        marks.push(mark_of(opened, *symbol))?;
-        opened = open_after(opened, *symbol);
-    }
-    match opened {
-        Some(_) => Err(WordsError::Quote),
-        None => Ok(marks),
+    match (symbol, opened) {
+        (Symbol::Plain(byte), None) if is_white(byte) => (Mark::Gap, None),
+        (Symbol::Plain(byte), None) if is_quote(byte) => (Mark::Edge, Some(byte)),
+        (Symbol::Plain(byte), Some(quote)) if byte == quote => (Mark::Edge, None),
+        (Symbol::Plain(byte) | Symbol::Escaped(byte), _) => (Mark::Part(byte), opened),
     }
 }

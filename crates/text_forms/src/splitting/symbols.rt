@@ -3,10 +3,6 @@
 ghost use Rattle.std.specs.Prelude.{◌≡◌, ◌<◌, length, MatchOption, IfSome, SomeIff, IsTrue};
 ghost use Rattle.std.specs.Char.{digit_value};
 ghost use Rattle.text_forms.specs.Words.{escape_of, is_hex_digit, symbols_of, with_symbol};
-ghost use Rattle.text_forms.specs.Answers.{ReadsSymbols};
-
-use crate::error::WordsError;
-use std::alloc::Global;
 
 /// A byte of a text.
 #[derive(Clone, Copy)]
@@ -43,9 +39,9 @@ fn hex_value(digit: u8) -> Option<u8>
     }
 }
 
-// the first symbol, and what stands behind it
+/// The first symbol, and what stands behind it; none where a backslash stands before another byte, or is cut.
 #[tactic(auto, unfolding(crate::specs::Words::symbols_of))]
-fn first_symbol(text: &[u8]) -> Option<(Symbol, &[u8])>
+pub(crate) fn first_symbol(text: &[u8]) -> Option<(Symbol, &[u8])>
     requires { 0 < length text.now }
     ensures first { MatchOption result (symbols_of text.now ≡ None)
         (λ taken. symbols_of text.now ≡ with_symbol taken.0 (symbols_of taken.1.now)) }
@@ -65,18 +61,4 @@ fn first_symbol(text: &[u8]) -> Option<(Symbol, &[u8])>
         Symbol::Escaped(hex_value(*high)? * 16 + hex_value(*low)?),
         rest,
     ))
-}
-
-/// The symbols of a text; Escape where a backslash stands before another byte, or is cut.
-pub(crate) fn symbols(alloc: Global, text: &[u8]) -> Result<Vec<Symbol>, WordsError>
-    ensures { ReadsSymbols text.now result }
-{
-    let mut symbols = Vec::new(alloc);
-    let mut left = text;
-    while !left.is_empty() {
-        let (symbol, rest) = first_symbol(left).ok_or(WordsError::Escape)?;
-        symbols.push(symbol)?;
-        left = rest;
-    }
-    Ok(symbols)
 }
