@@ -4,6 +4,7 @@ pub mod AtSigns
 pub mod Dashes
 pub mod Endings
 pub mod Escapes
+pub mod Limit
 pub mod Pieces
 pub mod Spelling
 pub mod Taken

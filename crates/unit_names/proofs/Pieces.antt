@@ -1,16 +1,16 @@
 -- A value is expanded just where it consists of pieces that stand for something.
-use Rattle.std.proofs.Common.{◌≡◌, ℕ, Bool, true, false, cond, eqb, Option, Some, None, List, [], ◌∷◌, ◌++◌, refl, sym, ap, ◌∙◌, subst}
+use Rattle.std.proofs.Common.{◌≡◌, ℕ, Bool, true, false, cond, eqb, leb, length, Option, Some, None, List, [], ◌∷◌, ◌++◌, refl, sym, ap, ◌∙◌, subst}
 use Rattle.std.specs.Prelude.{◌↔◌, not, flat_map, find}
 use Rattle.std.specs.Option.{option_map, option_and_then}
 use Rattle.std.specs.List.{list_all}
 use Rattle.std.specs.Str.{is_utf8}
 use Rattle.std.specs.Fmt.{option_append}
-use Rattle.std.proofs.lemmas.Bool.{and_parts, and_from, not-true, eqb-true}
+use Rattle.std.proofs.lemmas.Bool.{and_parts, and_from, not-true, eqb-true, leb-true, le-leb}
 use Rattle.std.proofs.lemmas.Option.{none-some, same_Some, cond_some, option_and_then_some}
 use Rattle.unit_names.specs.Names.{Name}
 use Rattle.unit_names.specs.Unescaping.{onto}
 use Rattle.unit_names.specs.Specifiers.{spelling, meaning, letter_of, specifiers, specifier_at}
-use Rattle.unit_names.specs.Expansion.{percent, Piece, specified, literal, is_piece, piece_text, pieces_meaning, Expands, onto_pieces, pieces_of, if_text, expanded_bytes, expansion}
+use Rattle.unit_names.specs.Expansion.{percent, Piece, specified, literal, longest_value, is_piece, piece_text, pieces_meaning, Expands, onto_pieces, pieces_of, if_short, if_text, expanded_bytes, short_bytes, expansion}
 use Rattle.unit_names.specs.declared.specifier.Specifier.{Specifier}
 use Rattle.unit_names.specs.declared.specifier.Specifier.TheVariants.{Percent, WholeName, Stem, Prefix, Instance, LastPart, PrefixUnescaped, InstanceUnescaped, LastPartUnescaped, RuntimeFolder, StateFolder, CacheFolder, LogFolder, ConfigFolder, TemporaryFolder, LastingTemporaryFolder, UserName, UserNumber, HomeFolder}
 use Rattle.unit_names.proofs.Appending.{option_append_none}
@@ -120,24 +120,29 @@ pieces_found (byte ∷ next ∷ value) pieces e =
 
 expands_from : (name : Name) (value text : List ℕ) → expansion name value ≡ Some text → Expands name value text
 expands_from name value text e =
-    option_and_then_some if_text (expanded_bytes name value) text e
-    (λ bytes made checked.
-    option_and_then_some (pieces_meaning name) (pieces_of value) bytes made
+    option_and_then_some if_text (short_bytes name value) text e
+    (λ bytes kept checked.
+    option_and_then_some if_short (expanded_bytes name value) bytes kept
+    (λ whole made fits.
+    option_and_then_some (pieces_meaning name) (pieces_of value) whole made
     (λ pieces read stands.
     let both = cond_some (is_utf8 bytes) bytes text checked in
+    let size = cond_some (leb (length whole) longest_value) whole bytes fits in
     let spell = pieces_found value pieces read in
     record {
       pieces = pieces;
       well_formed = spell.well_formed;
       spelled = spell.spelled;
-      meant = stands ∙ ap Some both.1;
+      meant = stands ∙ ap Some (size.1 ∙ both.1);
       is_text = ap is_utf8 (sym both.1) ∙ both.0;
-    }))
+      short = leb-true (length text) longest_value (ap (λ bytes. leb (length bytes) longest_value) (sym (size.1 ∙ both.1)) ∙ size.0);
+    })))
 
 expansion_from : (name : Name) (value text : List ℕ) → Expands name value text → expansion name value ≡ Some text
 expansion_from name value text x =
-    ap (λ pieces. option_and_then if_text (option_and_then (pieces_meaning name) pieces)) (ap pieces_of x.spelled ∙ pieces_read x.pieces x.well_formed)
-    ∙ ap (option_and_then if_text) x.meant
+    ap (λ pieces. option_and_then if_text (option_and_then if_short (option_and_then (pieces_meaning name) pieces))) (ap pieces_of x.spelled ∙ pieces_read x.pieces x.well_formed)
+    ∙ ap (λ made. option_and_then if_text (option_and_then if_short made)) x.meant
+    ∙ ap (λ v. option_and_then if_text (cond v (Some text) None)) (le-leb (length text) longest_value x.short)
     ∙ ap (λ v. cond v (Some text) None) x.is_text
 
 -- what a value is expanded to, and its pieces

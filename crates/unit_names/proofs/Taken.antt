@@ -36,8 +36,8 @@ specifier_taken name old new behind rest letter specifier split found meant =
     ∙ ap (λ o. option_append o (expanded_bytes name rest)) meant
 
 -- a byte that is taken stands for itself
-pub literal_taken : (name : Name) (bytes new rest behind : List ℕ) (byte : ℕ) → rest ≡ byte ∷ behind → byte ≢ percent → new ≡ bytes ++ byte ∷ [] → option_append (Some new) (expanded_bytes name behind) ≡ option_append (Some bytes) (expanded_bytes name rest)
-literal_taken name bytes new rest behind byte split apart pushed =
-    ap (λ n. option_append (Some n) (expanded_bytes name behind)) pushed
-    ∙ sym (option_append-onto bytes byte (expanded_bytes name behind))
-    ∙ sym (ap (option_append (Some bytes)) (ap (expanded_bytes name) split ∙ expanded_literal name byte behind (ne_eqb byte percent apart)))
+pub literal_taken : (name : Name) (old new behind : List ℕ) (byte : ℕ) → byte ≢ percent → new ≡ old ++ byte ∷ [] → option_append (Some old) (expanded_bytes name (byte ∷ behind)) ≡ option_append (Some new) (expanded_bytes name behind)
+literal_taken name old new behind byte apart pushed =
+    ap (option_append (Some old)) (expanded_literal name byte behind (ne_eqb byte percent apart))
+    ∙ option_append-onto old byte (expanded_bytes name behind)
+    ∙ ap (λ n. option_append (Some n) (expanded_bytes name behind)) (sym pushed)

@@ -1,10 +1,10 @@
 -- What the helpers that expand a value answer, piece by piece.
-use Rattle.std.specs.Prelude.{Vec, String, string_bytes, ◌≡◌, ℕ, ◌∷◌, ◌<◌, ◌≤◌, Option, Some, None, Result, Ok, Err, List, [], length}
+use Rattle.std.specs.Prelude.{Vec, String, string_bytes, ◌≡◌, ℕ, ◌<◌, Option, Some, None, Result, Ok, Err, List, [], length}
 use Rattle.std.specs.Fmt.{option_append}
 use Rattle.std.specs.declared.alloc.Global.{Global}
 use Rattle.unit_names.specs.Names.{Name}
 use Rattle.unit_names.specs.Unescaping.{unescaped, onto}
-use Rattle.unit_names.specs.Expansion.{percent, expanded_bytes}
+use Rattle.unit_names.specs.Expansion.{expanded_bytes}
 use Rattle.unit_names.specs.declared.expansion.ExpandError.{ExpandError}
 use Rattle.unit_names.specs.declared.expansion.ExpandError.TheVariants.{Specifier as Refused, Memory}
 use denote.Ref.{Bor}
@@ -22,12 +22,12 @@ AddsMeaning old meant (Ok done) new = option_append (Some old) meant ≡ Some ne
 AddsMeaning old meant (Err Refused) new = meant ≡ None
 AddsMeaning old meant (Err Memory) new = Unit {0}
 
--- what the specifier before a text puts behind some bytes, and the text behind it
-abbrev pub TakesSpecifier : Name → List ℕ → List ℕ → Result (Bor (List ℕ)) ExpandError → List ℕ → Type 0
-TakesSpecifier name behind old (Ok rest) new =
-    (option_append (Some old) (expanded_bytes name (percent ∷ behind)) ≡ option_append (Some new) (expanded_bytes name rest.now)) × (length rest.now ≤ length behind)
-TakesSpecifier name behind old (Err Refused) new = expanded_bytes name (percent ∷ behind) ≡ None
-TakesSpecifier name behind old (Err Memory) new = Unit {0}
+-- what the first piece of a value puts behind some bytes, and the value behind the piece
+abbrev pub TakesPiece : Name → List ℕ → List ℕ → Result (Bor (List ℕ)) ExpandError → List ℕ → Type 0
+TakesPiece name value old (Ok rest) new =
+    (option_append (Some old) (expanded_bytes name value) ≡ option_append (Some new) (expanded_bytes name rest.now)) × (length rest.now < length value)
+TakesPiece name value old (Err Refused) new = expanded_bytes name value ≡ None
+TakesPiece name value old (Err Memory) new = Unit {0}
 
 -- the bytes that are given
 abbrev pub GivesBytes : Option (List ℕ) → Result (Vec ℕ Global) ExpandError → Type 0

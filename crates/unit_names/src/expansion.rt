@@ -1,12 +1,12 @@
 // A value with its specifiers expanded.
 //
 // The pieces of a value are taken one by one; `specifier` tells what each stands for.
-ghost use Rattle.std.specs.Prelude.{◌≡◌, ◌↔◌, List, ℕ, IfOk, Some, None};
+ghost use Rattle.std.specs.Prelude.{◌≡◌, ◌↔◌, ◌∷◌, List, ℕ, IfOk, Some, None};
 ghost use Rattle.std.specs.String.{string_bytes};
 ghost use Rattle.unit_names.specs.Specifiers.{meaning};
 ghost use Rattle.unit_names.specs.Unescaping.{unescaped, Unescapes};
-ghost use Rattle.unit_names.specs.Taking.{AddsMeaning, TakesSpecifier, GivesBytes, GivesText};
-ghost use Rattle.unit_names.specs.Expansion.{expansion, expanded_bytes, if_text, Expands};
+ghost use Rattle.unit_names.specs.Taking.{AddsMeaning, TakesPiece, GivesBytes, GivesText};
+ghost use Rattle.unit_names.specs.Expansion.{percent, expansion, short_bytes, if_text, Expands};
 ghost use Rattle.unit_names.specs.declared.expansion.ExpandError.TheVariants.{Specifier as NotExpanded, Memory};
 
 use crate::name::UnitName;
@@ -15,10 +15,14 @@ use crate::unescape::push_unescaped;
 use std::alloc::{AllocError, AllocFailed, Global};
 use thiserror::Error;
 
+/// The most bytes of an expanded value: systemd's limit of a line.
+const LONGEST_VALUE: usize = 1_048_576;
+
 /// Why a value is not expanded.
 #[derive(Clone, Copy, Debug, PartialEq, Eq, Error)]
 pub enum ExpandError {
-    /// A `%` makes no specifier, a text cannot be unescaped, or the result is not UTF-8.
+    /// A `%` makes no specifier, a text cannot be unescaped, or the result is not UTF-8 or has more
+    /// than 1,048,576 bytes.
     #[error("a specifier that cannot be expanded")]
     Specifier,
     /// There is no memory left.
@@ -65,7 +69,7 @@ fn push_specifier<'a>(
     name: &UnitName,
     behind: &'a [u8],
 ) -> Result<&'a [u8], ExpandError>
-    ensures { TakesSpecifier name.now behind.now bytes.old.items result bytes.new.items }
+    ensures { TakesPiece name.now (percent ∷ behind.now) bytes.old.items result bytes.new.items }
 {
     let Some((letter, rest)) = behind.split_first() else {
         return Err(ExpandError::Specifier);
@@ -77,19 +81,34 @@ fn push_specifier<'a>(
     Ok(rest)
 }
 
-// The bytes of an expanded value.
+// Puts what a piece stands for behind the bytes, and gives what stands behind the piece.
+fn push_piece<'a>(
+    bytes: &mut Vec<u8>,
+    name: &UnitName,
+    first: u8,
+    behind: &'a [u8],
+) -> Result<&'a [u8], ExpandError>
+    ensures { TakesPiece name.now (first ∷ behind.now) bytes.old.items result bytes.new.items }
+{
+    if first == b'%' {
+        push_specifier(bytes, name, behind)
+    } else {
+        bytes.push(first)?;
+        Ok(behind)
+    }
+}
+
+// The bytes of an expanded value, which is given up as soon as they are too many.
 fn expanded_bytes(alloc: Global, name: &UnitName, value: &[u8]) -> Result<Vec<u8>, ExpandError>
-    ensures { GivesBytes (expanded_bytes name.now value.now) result }
+    ensures { GivesBytes (short_bytes name.now value.now) result }
 {
     let mut bytes = Vec::new(alloc);
     let mut rest = value;
-    while let Some((byte, behind)) = rest.split_first() {
-        rest = if *byte == b'%' {
-            push_specifier(&mut bytes, name, behind)?
-        } else {
-            bytes.push(*byte)?;
-            behind
-        };
+    while let Some((first, behind)) = rest.split_first() {
+        rest = push_piece(&mut bytes, name, *first, behind)?;
+        if bytes.len() > LONGEST_VALUE {
+            return Err(ExpandError::Specifier);
+        }
     }
     Ok(bytes)
 }
@@ -116,7 +135,8 @@ fn expanded(alloc: Global, name: &UnitName, value: &str) -> Result<String, Expan
 ///
 /// systemd.unit(5), Specifiers: `%%`, `%n`, `%N`, `%p`, `%i`, `%j`, `%P`, `%I`, `%J`, `%t`, `%S`,
 /// `%C`, `%L`, `%E`, `%T`, `%V`, `%u`, `%U` and `%h`. A `%` that makes none of them, an unescaped
-/// text whose `\x` lacks its two digits, and a result that is not UTF-8 are refused.
+/// text whose `\x` lacks its two digits, and a result that is not UTF-8 are refused, and so is one of
+/// more than 1,048,576 bytes, the longest line that systemd reads.
 pub fn expand(alloc: Global, name: &UnitName, value: &str) -> Result<String, ExpandError>
     ensures expands_the_value { IfOk result (λ text. expansion name.now value.now ≡ Some (string_bytes text)) }
     ensures refuses_the_value { result ≡ Err NotExpanded → expansion name.now value.now ≡ None }

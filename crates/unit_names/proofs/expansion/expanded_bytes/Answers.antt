@@ -1,8 +1,14 @@
-use Rattle.std.proofs.Common.{◌∙◌}
-use Rattle.unit_names.proofs.Taken.{literal_taken}
+use Rattle.std.proofs.Common.{arith, ap, sym, ◌∙◌, Some}
+use Rattle.std.specs.Option.{option_and_then}
+use Rattle.std.specs.Fmt.{option_append}
+use Rattle.unit_names.specs.Expansion.{expanded_bytes, if_short}
+use Rattle.unit_names.proofs.Limit.{too_many}
 use Rattle.unit_names.proofs.expansion.expanded_bytes.Goals as goal
 
-pub loop-byte-preserved : goal.loop-byte-preserved
-loop-byte-preserved c =
-    literal_taken c.args.name.now c.loop-byte.bytes.items c.push.new.self.items c.loop-byte.rest.now c.in-Some.behind.now c.in-Some.byte.now c.in-Some.ensures.cases.0 c.if-byte-eq37.false c.in_ok-push.ensures.items
-    ∙ c.loop-byte.invariant
+pub returns-then-len-gt-LONGEST_VALUE : goal.returns-then-len-gt-LONGEST_VALUE
+returns-then-len-gt-LONGEST_VALUE c =
+    let bytes = c.push_piece.new.bytes.items in
+    let left = expanded_bytes c.args.name.now c.in_ok-rest.rest.now in
+    let taken = c.in_ok-rest.ensures.0 in
+    let whole = ap (λ rest. option_append (Some c.loop-first.bytes.items) (expanded_bytes c.args.name.now rest)) c.in-Some.ensures.cases.0 in
+    ap (option_and_then if_short) (sym c.loop-first.invariant.0 ∙ whole ∙ taken) ∙ too_many bytes left (omega (arith, c.len.ensures, c.if-len-gt-LONGEST_VALUE.true))
