@@ -12,5 +12,6 @@ pub mod Meant
 pub mod Numbering
 pub mod Onces
 pub mod Places
+mod Placing
 pub mod Standing
 pub mod Steps

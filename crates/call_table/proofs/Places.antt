@@ -31,7 +31,7 @@ place_is p xs i = by (ltb (position_or_len p xs) (length xs)) refl
         (same, omega arith)
     by false h e = cc
 
-no_place : {X : Type 0} (p : X → Bool) (xs : List X) → position p xs ≡ None → length xs ≤ position_or_len p xs
+pub no_place : {X : Type 0} (p : X → Bool) (xs : List X) → position p xs ≡ None → length xs ≤ position_or_len p xs
 no_place p xs = by (ltb (position_or_len p xs) (length xs)) refl
   where
     by : (b : Bool) → ltb (position_or_len p xs) (length xs) ≡ b → cond b (Some (position_or_len p xs)) None ≡ None → length xs ≤ position_or_len p xs

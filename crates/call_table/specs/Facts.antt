@@ -1,11 +1,14 @@
 -- What every table meets.
-use Rattle.std.specs.Prelude.{◌≡◌, ℕ, ◌<◌, ◌≤◌, None, Some, List, length, slice_get}
+use Rattle.std.specs.Prelude.{◌≡◌, ℕ, ◌<◌, ◌≤◌, None, Some, List, length, slice_get, String}
+use Rattle.std.specs.declared.alloc.Global.{Global}
 use Rattle.std.specs.List.{All}
 use Rattle.std.specs.List.Sorted.{IsStrictlyIncreasing}
+use Rattle.std.specs.BTreeMap.{BTreeMap}
 use Rattle.call_table.specs.Lookups.{AreOnce, IsInRange, group_named}
 use Rattle.call_table.specs.Faults.{most_calls, most_families, most_groups}
 use Rattle.call_table.specs.Reading.{missing_call}
 use Rattle.call_table.specs.ByNumber.{AscendsByNumber}
+use Rattle.call_table.specs.Places.{HasPlaces}
 use Rattle.call_table.specs.Table.{Table}
 use Rattle.call_table.specs.declared.listed.CallLine.{CallLine}
 use Rattle.call_table.specs.declared.listed.GroupLine.{GroupLine}
@@ -39,7 +42,10 @@ pub record IsWhole (table : Table) : Type 0 where
   pub sound : IsTable table
   pub launches : missing_call table.calls ≡ None
 
--- such a table, kept with the order of its calls by number
-pub record IsKept (table : Table) (order : List Numbered) : Type 0 where
+-- such a table, kept with the order of its calls by number, and with the places of names
+pub record IsKept (table : Table) (order : List Numbered) (calls families groups : BTreeMap (String Global) ℕ) : Type 0 where
   pub whole : IsWhole table
   pub by_number : AscendsByNumber table.calls order
+  pub call_places : HasPlaces (λ (call : CallLine). call.name) table.calls calls
+  pub family_places : HasPlaces (λ (family : CallLine). family.name) table.families families
+  pub group_places : HasPlaces (λ (group : GroupLine). group.name) table.groups groups

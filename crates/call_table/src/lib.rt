@@ -15,6 +15,7 @@ mod listed;
 mod lists;
 mod lookups;
 mod members;
+mod name_places;
 mod names;
 mod numbers;
 mod reader;

@@ -4,6 +4,17 @@ ghost use Rattle.std.specs.Prelude.{◌≡◌};
 use crate::names::Name;
 use item_list::ItemList;
 
+/// A line that has a name.
+pub trait Named {
+    ghost use Rattle.std.specs.Prelude.{ℕ, List};
+
+    ghost name_of: { Self → List ℕ };
+
+    /// The text of the name.
+    fn name(&self) -> &str
+        ensures { result.now ≡ name_of self.now };
+}
+
 /// A call or a family of sockets.
 #[derive(Drop)]
 pub struct CallLine {
@@ -12,6 +23,14 @@ pub struct CallLine {
     pub number: u32,
     /// The capability that every use asks for, by its number (capabilities(7)).
     pub cap: Option<u8>,
+}
+
+impl Named for CallLine {
+    ghost name_of = { λ line. line.name };
+
+    fn name(&self) -> &str {
+        self.name.as_str()
+    }
 }
 
 /// Members of a group, which contracts see as a list of positions in the table's calls, from 0.
@@ -24,4 +43,12 @@ pub struct GroupLine {
     pub name: Name,
     /// Positions in the table's calls, from 0, ascending, each once.
     pub members: Members,
+}
+
+impl Named for GroupLine {
+    ghost name_of = { λ group. group.name };
+
+    fn name(&self) -> &str {
+        self.name.as_str()
+    }
 }

@@ -1,7 +1,7 @@
 // Lines by name and by number: a list has at most 512, and is gone through.
 ghost use Rattle.std.specs.Prelude.{◌≡◌, ℕ, option_copied};
 ghost use Rattle.std.specs.List.{list_any};
-ghost use Rattle.call_table.specs.Lookups.{has_name, has_number, named, numbered, place_named, group_named};
+ghost use Rattle.call_table.specs.Lookups.{has_name, has_number, numbered, place_named, group_named};
 ghost use Rattle.call_table.specs.Members.{has_group};
 
 use crate::listed::{CallLine, GroupLine};
@@ -18,13 +18,6 @@ pub fn has_number(lines: &[CallLine], number: u32) -> bool
     ensures { result ≡ list_any (has_number number) lines.now }
 {
     lines.iter().any(|line| line.number == number)
-}
-
-/// The line of this name.
-pub fn named<'a>(lines: &'a [CallLine], name: &str) -> Option<&'a CallLine>
-    ensures { option_copied result ≡ named name.now lines.now }
-{
-    lines.iter().find(|line| name == line.name.as_str())
 }
 
 /// The line of this number.

@@ -14,7 +14,8 @@ use crate::by_number::{Numbered, by_number};
 use crate::causes::CallsError;
 use crate::listed::{CallLine, GroupLine};
 use crate::lists::Lists;
-use crate::lookups::{group_named, has_name, named, numbered, place_named};
+use crate::lookups::{has_name, numbered};
+use crate::name_places::{Places, line_at, places_of};
 use crate::names::Name;
 use std::alloc::Global;
 use std::marker::Model;
@@ -38,6 +39,9 @@ const LAUNCH_CALLS: &[&str] = &[
 pub struct CallTable {
     lists: Lists,
     by_number: Vec<Numbered>,
+    call_places: Places,
+    family_places: Places,
+    group_places: Places,
 }
 
 impl Model for CallTable {
@@ -49,7 +53,7 @@ impl Model for CallTable {
 
     ghost view = { λ table. made table.lists };
 
-    ghost invariant = { λ table. IsKept (made table.lists) table.by_number.items };
+    ghost invariant = { λ table. IsKept (made table.lists) table.by_number.items table.call_places table.family_places table.group_places };
 }
 
 fn launch_calls() -> &'static [&'static str]
@@ -88,7 +92,16 @@ impl CallTable {
             return Err(CallsError::NoCall(Name::new(alloc, name)?));
         }
         let by_number = by_number(alloc, &lists.calls)?;
-        Ok(CallTable { lists, by_number })
+        let call_places = places_of(alloc, &lists.calls)?;
+        let family_places = places_of(alloc, &lists.families)?;
+        let group_places = places_of(alloc, &lists.groups)?;
+        Ok(CallTable {
+            lists,
+            by_number,
+            call_places,
+            family_places,
+            group_places,
+        })
     }
 
     /// The architecture, as AUDIT_ARCH of linux/audit.h: `0xc000003e` for x86-64.
@@ -102,14 +115,14 @@ impl CallTable {
     pub fn number(&self, name: &str) -> Option<u32>
         ensures by_name { result ≡ option_map (λ call. call.number) (named name.now self.now.calls) }
     {
-        Some(named(&self.lists.calls, name)?.number)
+        Some(line_at(&self.lists.calls, &self.call_places, name)?.number)
     }
 
     /// The position of the call of this name in `calls`, from 0.
     pub fn position(&self, name: &str) -> Option<usize>
         ensures by_name { result ≡ place_named name.now self.now.calls }
     {
-        place_named(&self.lists.calls, name)
+        self.call_places.get(name).copied()
     }
 
     /// The name of the call of this number.
@@ -131,14 +144,15 @@ impl CallTable {
     pub fn members(&self, group: &str) -> Option<&[usize]>
         ensures by_name { option_copied result ≡ option_map (λ group. group.members) (group_named group.now self.now.groups) }
     {
-        Some(group_named(&self.lists.groups, group)?.members.list())
+        let group = line_at(&self.lists.groups, &self.group_places, group)?;
+        Some(group.members.list())
     }
 
     /// The number of the family of this name (socket(2)).
     pub fn family(&self, name: &str) -> Option<u32>
         ensures by_name { result ≡ option_map (λ family. family.number) (named name.now self.now.families) }
     {
-        Some(named(&self.lists.families, name)?.number)
+        Some(line_at(&self.lists.families, &self.family_places, name)?.number)
     }
 
     /// The calls in the order of the file, at most 512.
