@@ -41,15 +41,11 @@ fn abi_line<'a, 'b>(words: &'b [&'a str]) -> Kind<'a, 'b>
 fn named_entry<'a>(name: &'a str, digits: &'a str, cap_word: Option<&'a str>) -> Option<Entry<'a>>
     ensures { option_map seen_entry result ≡ named_entry name.now digits.now (option_map (λ word. word.now) cap_word.entry) }
 {
-    if is_name(name) {
-        Some(Entry {
-            name,
-            digits,
-            cap_word,
-        })
-    } else {
-        None
-    }
+    is_name(name).then_some(Entry {
+        name,
+        digits,
+        cap_word,
+    })
 }
 
 fn read_entry<'a>(words: &[&'a str]) -> Option<Entry<'a>>

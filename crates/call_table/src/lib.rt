@@ -24,6 +24,6 @@ mod table;
 pub use by_number::Numbered;
 pub use causes::{CallsCause, CallsError};
 pub use listed::{CallLine, GroupLine, Members};
-pub use names::Name;
+pub use names::{Name, behind_at};
 pub use reader::read_calls;
 pub use table::CallTable;

@@ -15,7 +15,7 @@ ghost use Rattle.call_table.specs.Progress.{Steps, ReadsCap, ChecksEntry, with_k
 use crate::causes::{CallsCause, CallsError};
 use crate::kinds::{Entry, Kind, kind_of_words};
 use crate::listed::{CallLine, GroupLine};
-use crate::lookups::{has_group, has_name, has_number};
+use crate::lookups::{has_name, has_number};
 use crate::members::find_members;
 use crate::names::Name;
 use crate::numbers::{read_cap, read_number};
@@ -122,7 +122,7 @@ fn add_group(
     ensures sound { OnOk result (AreGroups (length calls.now) groups.new.items) }
     ensures few { OnOk result (length groups.new.items ≤ most_groups) }
 {
-    if has_group(groups, name) {
+    if has_name(groups, name) {
         return Err(CallsError::Line(at, CallsCause::Duplicate));
     }
     let Some(members) = find_members(alloc, calls, groups, words)? else {

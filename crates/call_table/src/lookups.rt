@@ -1,16 +1,16 @@
 // Lines by name and by number: a list has at most 512, and is gone through.
 ghost use Rattle.std.specs.Prelude.{◌≡◌, ℕ, option_copied};
 ghost use Rattle.std.specs.List.{list_any};
-ghost use Rattle.call_table.specs.Lookups.{has_name, has_number, numbered, place_named, group_named};
-ghost use Rattle.call_table.specs.Members.{has_group};
+ghost use Rattle.std.specs.Str.{bytes_eq};
+ghost use Rattle.call_table.specs.Lookups.{has_number, numbered, place_named, group_named};
 
-use crate::listed::{CallLine, GroupLine};
+use crate::listed::{CallLine, GroupLine, Named};
 
 /// Whether a line has this name.
-pub fn has_name(lines: &[CallLine], name: &str) -> bool
-    ensures { result ≡ list_any (has_name name.now) lines.now }
+pub fn has_name<L: Named>(lines: &[L], name: &str) -> bool
+    ensures { result ≡ list_any (λ line. bytes_eq name.now (L.name_of line)) lines.now }
 {
-    lines.iter().any(|line| name == line.name.as_str())
+    lines.iter().any(|line| name == line.name())
 }
 
 /// Whether a line has this number.
@@ -32,13 +32,6 @@ pub fn place_named(lines: &[CallLine], name: &str) -> Option<usize>
     ensures { result ≡ place_named name.now lines.now }
 {
     lines.iter().position(|line| name == line.name.as_str())
-}
-
-/// Whether a group has this name.
-pub fn has_group(groups: &[GroupLine], name: &str) -> bool
-    ensures { result ≡ list_any (has_group name.now) groups.now }
-{
-    groups.iter().any(|group| name == group.name.as_str())
 }
 
 /// The group of this name.

@@ -20,18 +20,6 @@ use crate::names::Name;
 use std::alloc::Global;
 use std::marker::Model;
 
-/// The calls that every launch makes.
-const LAUNCH_CALLS: &[&str] = &[
-    "capset",
-    "execve",
-    "prctl",
-    "seccomp",
-    "setgroups",
-    "setresgid",
-    "setresuid",
-    "unshare",
-];
-
 /// The system calls of an architecture, groups of them, and families of sockets.
 ///
 /// Contracts see a table as its architecture and the lists of its calls, families and groups.
@@ -56,10 +44,20 @@ impl Model for CallTable {
     ghost invariant = { λ table. IsKept (made table.lists) table.by_number.items table.call_places table.family_places table.group_places };
 }
 
+// The calls that every launch makes.
 fn launch_calls() -> &'static [&'static str]
     ensures { map (λ name. name.now) result.now ≡ launch_calls }
 {
-    LAUNCH_CALLS
+    &[
+        "capset",
+        "execve",
+        "prctl",
+        "seccomp",
+        "setgroups",
+        "setresgid",
+        "setresuid",
+        "unshare",
+    ]
 }
 
 // The first of these names that is not among the calls.

@@ -10,7 +10,7 @@ pub returns-clause-sound : goal.returns-clause-sound
 returns-clause-sound c =
     let names = map (λ (word : Bor (List ℕ)). word.now) c.args.words.now in
     let groups = c.args.groups.now.items in
-    let absent = ap (list_any (has_group c.args.name.now)) (sym c.deref.ensures.value) ∙ (sym c.has_group.ensures ∙ c.if-has_group.false) in
+    let absent = ap (list_any (has_group c.args.name.now)) (sym c.deref.ensures.value) ∙ (sym c.has_name.ensures ∙ c.if-has_name.false) in
     let found = subst (FindsMembers c.args.calls.now groups names) c.in-Some.is
     (subst (λ (shown : List GroupLine). FindsMembers c.args.calls.now shown names c.in_ok-members.field-0) c.deref-2.ensures.value c.in_ok-members.ensures) in
     groups_more c.args.calls.now groups c.args.name.now names c.in-Some.members c.push.new.self.items c.requires.groups absent found.1
