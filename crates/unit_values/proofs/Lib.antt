@@ -1,4 +1,5 @@
 pub mod Found
 pub mod OneMore
 pub mod Looping
+pub mod Folding
 pub mod Sections

@@ -53,15 +53,3 @@ added_by_some f xs i x old now next lt is before step =
 pub unwrap_later : {X : Type 0} (o old : Option X) (default : X) → unwrap_or (later o old) default ≡ unwrap_or o (unwrap_or old default)
 unwrap_later None old default = refl
 unwrap_later (Some x) old default = refl
-
--- one list behind another, step by step
-onto : {X : Type 0} (first next part rest last : List X) → next ≡ first ++ part → last ≡ next ++ rest → last ≡ first ++ (part ++ rest)
-onto first next part rest last step more = more ∙ ap (λ xs. xs ++ rest) step ∙ append_assoc first part rest
-
-pub four_parts : {X : Type 0} (first p q r s a b c d : List X) → a ≡ first ++ p → b ≡ a ++ q → c ≡ b ++ r → d ≡ c ++ s → d ≡ first ++ (p ++ (q ++ (r ++ (s ++ []))))
-four_parts first p q r s a b c d to_a to_b to_c to_d =
-    onto first a p (q ++ (r ++ (s ++ []))) d to_a
-    (onto a b q (r ++ (s ++ [])) d to_b (onto b c r (s ++ []) d to_c (onto c d s [] d to_d (sym (append-nil d)))))
-
-pub five_parts : {X : Type 0} (first p q r s t a b c d e : List X) → a ≡ first ++ p → b ≡ a ++ q → c ≡ b ++ r → d ≡ c ++ s → e ≡ d ++ t → e ≡ first ++ (p ++ (q ++ (r ++ (s ++ (t ++ [])))))
-five_parts first p q r s t a b c d e to_a to_b to_c to_d to_e = onto first a p (q ++ (r ++ (s ++ (t ++ [])))) e to_a (four_parts a q r s t b c d e to_b to_c to_d to_e)

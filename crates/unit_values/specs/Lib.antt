@@ -1,7 +1,6 @@
 pub mod Assignments
 pub mod Walk
 pub mod Values
-pub mod Steps
 pub mod Notes
 pub mod Lasting
 pub mod Flags

@@ -1,11 +1,13 @@
 //! Keys of which the last value that can be read decides (systemd.syntax(7)).
-ghost use Rattle.std.specs.Prelude.{◌≡◌, ◌++◌, ℕ, List, Option, Some, [], IfOk, OnOk, unwrap_or};
-ghost use Rattle.unit_values.specs.Notes.{notes_at};
+ghost use Rattle.std.specs.Prelude.{◌≡◌, ◌++◌, ℕ, List, Option, [], IfOk, OnOk, option_and_then, unwrap_or};
+ghost use Rattle.std.specs.List.{cons_option};
+ghost use Rattle.std.specs.Option.{option_map};
 ghost use Rattle.unit_values.specs.Values.{notes_of};
-ghost use Rattle.unit_values.specs.Lasting.{last_read, unless_read, unread_notes, unit_last, unit_last_notes, last_text, unit_last_text};
+ghost use Rattle.unit_values.specs.Lasting.{unread_notes, unit_last, unit_last_notes, unit_last_text};
 
+use crate::assignments::service_assignments;
 use crate::noting::note_value;
-use crate::reading::values_of_key;
+use crate::reading::given_value;
 use crate::value::{FileNote, Said, Value};
 use dropin_merge::Resolved;
 use std::alloc::{AllocError, Global};
@@ -21,39 +23,25 @@ pub trait KeyValue: Copy {
         ensures { result ≡ reads text.now };
 }
 
-// What is said behind one more value.
+// What is said behind what one more assignment gives.
 fn next_read<T: KeyValue>(
     last: T,
-    value: &Value,
+    value: Option<Value>,
     notes: &mut Vec<FileNote>,
 ) -> Result<T, AllocError>
-    ensures means { IfOk result (λ next. next ≡ unwrap_or (T.reads value.now.text) last) }
-    ensures noted { OnOk result (notes.new.items ≡ notes.old.items ++ notes_at value.now (unless_read (T.reads value.now.text))) }
+    ensures means { IfOk result (λ next. next ≡ unwrap_or (option_and_then (λ value. T.reads value.text) value) last) }
+    ensures noted { OnOk result (notes.new.items ≡ notes.old.items ++ unread_notes T.reads (cons_option value [])) }
 {
+    let Some(value) = value else {
+        return Ok(last);
+    };
     match T::read(value.text.as_str()) {
         Some(next) => Ok(next),
         None => {
-            note_value(notes, value, NoteCause::Value)?;
+            note_value(notes, &value, NoteCause::Value)?;
             Ok(last)
         }
     }
-}
-
-// What the values of such a key come to.
-fn last_read<T: KeyValue>(
-    alloc: Global,
-    values: &[Value],
-    default: T,
-) -> Result<Said<T>, AllocError>
-    ensures means { IfOk result (λ said. said.what ≡ last_read T.reads default values.now) }
-    ensures noted { IfOk result (λ said. said.notes.items ≡ unread_notes T.reads values.now) }
-{
-    let mut last = default;
-    let mut notes = Vec::new(alloc);
-    'values: for value in values {
-        last = next_read(last, value, &mut notes)?;
-    }
-    Ok(Said { what: last, notes })
 }
 
 /// What the files of a unit say of such a key: the last value that can be read, and without one the default. Values
@@ -68,20 +56,27 @@ pub fn last_of_key<T: KeyValue>(
     ensures last_value_decides { IfOk result (λ said. said.what ≡ unit_last T.reads default unit.now key.now) }
     ensures notes_the_unread { IfOk result (λ said. said.notes.items ≡ unit_last_notes T.reads unit.now key.now) }
 {
-    let values = values_of_key(alloc, unit, key)?;
-    last_read(alloc, values.what.as_slice(), default)?.behind(values.notes)
+    let mut last = default;
+    let mut notes = Vec::new(alloc);
+    let mut unread = Vec::new(alloc);
+    'assignments: for (place, assignment) in service_assignments(unit) {
+        let value = given_value(alloc, &unit.name, key, place, assignment, &mut notes)?;
+        last = next_read(last, value, &mut unread)?;
+    }
+    let said = Said {
+        what: last,
+        notes: unread,
+    };
+    said.behind(notes)
 }
 
-// The text of the last value, and an empty one without any.
-fn last_text(alloc: Global, mut values: Vec<Value>) -> Result<Text, AllocError>
-    ensures { IfOk result (λ text. text ≡ last_text values.items) }
+// The text behind what one more assignment gives.
+fn next_text(last: Text, value: Option<Value>) -> Text
+    ensures { result ≡ unwrap_or (option_map (λ value. value.text) value) last }
 {
-    match values.pop() {
-        Some(value) => {
-            let Value { place: _, text } = value;
-            Ok(text)
-        }
-        None => Text::new(alloc, ""),
+    match value {
+        Some(Value { place: _, text }) => text,
+        None => last,
     }
 }
 
@@ -92,12 +87,11 @@ pub fn last_text_of_key(alloc: Global, unit: &Resolved, key: &str) -> Result<Sai
     ensures last_value_decides { IfOk result (λ said. said.what ≡ unit_last_text unit.now key.now) }
     ensures notes_the_others { IfOk result (λ said. said.notes.items ≡ notes_of unit.now key.now) }
 {
-    let Said {
-        what: values,
-        notes,
-    } = values_of_key(alloc, unit, key)?;
-    Ok(Said {
-        what: last_text(alloc, values)?,
-        notes,
-    })
+    let mut last = Text::new(alloc, "")?;
+    let mut notes = Vec::new(alloc);
+    'assignments: for (place, assignment) in service_assignments(unit) {
+        let value = given_value(alloc, &unit.name, key, place, assignment, &mut notes)?;
+        last = next_text(last, value);
+    }
+    Ok(Said { what: last, notes })
 }

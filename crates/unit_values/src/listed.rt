@@ -1,14 +1,14 @@
 //! Lists of lines, of which an empty value resets what was listed before it (systemd.exec(5), SystemCallFilter=).
 ghost use Rattle.std.specs.Prelude.{◌≡◌, ◌++◌, [], IfOk, OnOk};
 ghost use Rattle.std.specs.List.{cons_option, filter_map};
-ghost use Rattle.unit_values.specs.Lasting.{unless_read, unread_notes};
+ghost use Rattle.unit_values.specs.Lasting.{unread_notes};
 ghost use Rattle.unit_values.specs.Lines.{listed_line};
 ghost use Rattle.unit_values.specs.Listed.{listed, is_reset, unit_listed, unit_listed_notes};
-ghost use Rattle.unit_values.specs.Notes.{notes_at};
 
+use crate::assignments::service_assignments;
 use crate::lines::{Line, read_line};
 use crate::noting::note_value;
-use crate::reading::values_of_key;
+use crate::reading::given_value;
 use crate::value::{FileNote, Said, Value};
 use dropin_merge::Resolved;
 use std::alloc::{AllocError, Global};
@@ -42,16 +42,19 @@ fn line_of(alloc: Global, text: &str) -> Result<Option<Line>, AllocError>
     }
 }
 
-// Puts a value behind those that are listed, or notes that it cannot be split.
+// Puts what one more assignment gives behind those that are listed, or notes that it cannot be split.
 fn add_listed(
     alloc: Global,
-    value: Value,
+    value: Option<Value>,
     all: &mut Vec<Listed>,
     notes: &mut Vec<FileNote>,
 ) -> Result<(), AllocError>
-    ensures means { OnOk result (all.new.items ≡ all.old.items ++ cons_option (listed value) []) }
-    ensures noted { OnOk result (notes.new.items ≡ notes.old.items ++ notes_at value (unless_read (listed_line value.text))) }
+    ensures means { OnOk result (all.new.items ≡ all.old.items ++ filter_map listed (cons_option value [])) }
+    ensures noted { OnOk result (notes.new.items ≡ notes.old.items ++ unread_notes listed_line (cons_option value [])) }
 {
+    let Some(value) = value else {
+        return Ok(());
+    };
     match line_of(alloc, value.text.as_str())? {
         Some(line) => {
             all.push(Listed { value, line })?;
@@ -59,19 +62,6 @@ fn add_listed(
         }
         None => note_value(notes, &value, NoteCause::Value),
     }
-}
-
-// The values of such a key that can be split.
-fn all_listed(alloc: Global, values: Vec<Value>) -> Result<Said<Vec<Listed>>, AllocError>
-    ensures means { IfOk result (λ said. said.what.items ≡ filter_map listed values.items) }
-    ensures noted { IfOk result (λ said. said.notes.items ≡ unread_notes listed_line values.items) }
-{
-    let mut all = Vec::new(alloc);
-    let mut notes = Vec::new(alloc);
-    'values: for value in values {
-        add_listed(alloc, value, &mut all, &mut notes)?;
-    }
-    Ok(Said { what: all, notes })
 }
 
 /// The lines that the files of a unit give to such a key, with their values, in their order; those that are reset
@@ -86,9 +76,16 @@ pub fn lines_of_key(
     ensures all_in_order { IfOk result (λ said. said.what.items ≡ unit_listed unit.now key.now) }
     ensures notes_the_unread { IfOk result (λ said. said.notes.items ≡ unit_listed_notes unit.now key.now) }
 {
-    let Said {
-        what: values,
-        notes,
-    } = values_of_key(alloc, unit, key)?;
-    all_listed(alloc, values)?.behind(notes)
+    let mut all = Vec::new(alloc);
+    let mut notes = Vec::new(alloc);
+    let mut unread = Vec::new(alloc);
+    'assignments: for (place, assignment) in service_assignments(unit) {
+        let value = given_value(alloc, &unit.name, key, place, assignment, &mut notes)?;
+        add_listed(alloc, value, &mut all, &mut unread)?;
+    }
+    let said = Said {
+        what: all,
+        notes: unread,
+    };
+    said.behind(notes)
 }

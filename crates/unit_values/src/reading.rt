@@ -1,8 +1,7 @@
 // The values of a key.
-ghost use Rattle.std.specs.Prelude.{◌≡◌, [], IfOk};
+ghost use Rattle.std.specs.Prelude.{◌≡◌, ◌++◌, [], IfOk, OnOk};
 ghost use Rattle.std.specs.List.{cons_option};
 ghost use Rattle.unit_values.specs.Values.{expanded_at, unexpanded_at, given_by, note_of, notes_of, values_of};
-ghost use Rattle.unit_values.specs.Steps.{AddsGiven};
 
 use crate::assignments::service_assignments;
 use crate::value::{FileNote, Place, Said, Value};
@@ -39,23 +38,29 @@ pub fn value_at(
     Ok(Said { what, notes })
 }
 
-// Adds what an assignment gives to the key.
-fn add_if_assigned(
+// What an assignment gives to the key. A value that cannot be expanded is none, and is noted.
+pub(crate) fn given_value(
     alloc: Global,
     name: &UnitName,
     key: &str,
     place: Place,
     assignment: &Assignment,
-    values: &mut Vec<Value>,
     notes: &mut Vec<FileNote>,
-) -> Result<(), AllocError>
-    ensures { AddsGiven (given_by name.now key.now (place, assignment.now)) (note_of name.now key.now (place, assignment.now)) values.old.items values.new.items notes.old.items notes.new.items result }
+) -> Result<Option<Value>, AllocError>
+    ensures given { IfOk result (λ value. value ≡ given_by name.now key.now (place, assignment.now)) }
+    ensures noted { OnOk result (notes.new.items ≡ notes.old.items ++ cons_option (note_of name.now key.now (place, assignment.now)) []) }
 {
     if assignment.key.as_str() != key {
-        return Ok(());
+        return Ok(None);
     }
-    let value = value_at(alloc, name, place, assignment)?;
-    if let Some(value) = value.noted_in(notes)? {
+    value_at(alloc, name, place, assignment)?.noted_in(notes)
+}
+
+// Puts what an assignment gives behind the values that are there.
+fn add_given(values: &mut Vec<Value>, value: Option<Value>) -> Result<(), AllocError>
+    ensures { OnOk result (values.new.items ≡ values.old.items ++ cons_option value []) }
+{
+    if let Some(value) = value {
         values.push(value)?;
     }
     Ok(())
@@ -74,15 +79,8 @@ pub fn values_of_key(
     let mut values = Vec::new(alloc);
     let mut notes = Vec::new(alloc);
     'assignments: for (place, assignment) in service_assignments(unit) {
-        add_if_assigned(
-            alloc,
-            &unit.name,
-            key,
-            place,
-            assignment,
-            &mut values,
-            &mut notes,
-        )?;
+        let value = given_value(alloc, &unit.name, key, place, assignment, &mut notes)?;
+        add_given(&mut values, value)?;
     }
     Ok(Said {
         what: values,
