@@ -4,6 +4,8 @@ pub mod Bytes
 pub mod Cuts
 pub mod Ends
 pub mod Falling
+pub mod FirstLines
 pub mod Groups
 pub mod Meant
+pub mod Passing
 pub mod Steps

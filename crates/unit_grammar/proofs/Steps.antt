@@ -1,7 +1,5 @@
 -- What one more line does to what has been read.
-use Rattle.std.proofs.Common.{◌≡◌, ℕ, cond, Option, Some, None, Result, Ok, Err, List, [], ◌∷◌, ◌++◌, length, refl, sym, ap, ◌∙◌, append-nil, suc, ◌<◌, get_or, take, drop}
-use Rattle.std.proofs.Math.Seq.{drop-cons}
-use Rattle.std.proofs.lemmas.List.{take-append-drop}
+use Rattle.std.proofs.Common.{◌≡◌, ℕ, cond, Option, Some, None, Result, Ok, Err, List, [], ◌∷◌, ◌++◌, length, refl, sym, ap, ◌∙◌, append-nil}
 use Rattle.std.specs.Prelude.{slice_get}
 use Rattle.std.specs.List.{filter_map, cons_option}
 use Rattle.std.proofs.lemmas.List.Elements.{filter_map-append}
@@ -92,8 +90,3 @@ stops lines front line rest section section' assignments assignments' notes note
 stops lines front line rest section section' assignments assignments' notes notes' NotText split h t = absurd t
 stops lines front line rest section section' assignments assignments' notes notes' TooMany split h t = refused lines front line rest TooMany split h.faultless t
 stops lines front line rest section section' assignments assignments' notes notes' (BadHeader number) split h t = refused lines front line rest (BadHeader number) split h.faultless t
-
--- a list at one of its places
-pub split_at : (lines : List Line) (i : ℕ) (line : Line) → i < length lines → line ≡ get_or lines i line → lines ≡ take i lines ++ line ∷ drop (suc i) lines
-split_at lines i line lt is =
-    sym (take-append-drop i lines) ∙ ap (λ ls. take i lines ++ ls) (drop-cons lines i line lt ∙ ap (λ l. l ∷ drop (suc i) lines) (sym is))

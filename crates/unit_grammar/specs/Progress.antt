@@ -1,6 +1,7 @@
 -- What has been read at the end of some lines, and what a further line does to it.
 use Rattle.std.specs.Prelude.{◌≡◌, ℕ, nat_le, true, false, Option, Some, None, Result, Ok, Err, List, [], ◌∷◌, ◌++◌, length}
-use Rattle.unit_grammar.specs.Reading.{section_of, assignments_of, notes_of, fault_at, fault_of}
+use Rattle.unit_grammar.specs.Joining.{joined, with_open}
+use Rattle.unit_grammar.specs.Reading.{section_of, assignments_of, notes_of, fault_at, fault_of, unit_of_lines}
 use Rattle.unit_grammar.specs.declared.joined.Line.{Line}
 use Rattle.unit_grammar.specs.declared.unit.Assignment.{Assignment}
 use Rattle.unit_grammar.specs.declared.notes.Note.{Note}
@@ -30,6 +31,17 @@ Takes lines line (Err Memory) section assignments notes = Unit {0}
 Takes lines line (Err NotText) section assignments notes = ⊥
 Takes lines line (Err TooMany) section assignments notes = fault_at (lines, line) ≡ Some TooMany
 Takes lines line (Err (BadHeader number)) section assignments notes = fault_at (lines, line) ≡ Some (BadHeader number)
+
+-- where a reader stands in a file of some joined lines: behind some of them, with a line that goes on or none, and before these parts
+pub record StandsBefore (lines : List Line) (begun : Option Line) (parts : List Line) (section : Option (List ℕ)) (assignments : List Assignment) (notes : List Note) : Type 0 where
+  pub front : List Line
+  pub read : HasRead front section assignments notes
+  pub whole : lines ≡ front ++ with_open begun (joined parts)
+
+-- what passing over a part does to it
+abbrev pub Passes : List Line → List Line → Result (Unit {0}) UnitError → Option Line → Option (List ℕ) → List Assignment → List Note → Type 0
+Passes lines parts (Ok done) begun section assignments notes = StandsBefore lines begun parts section assignments notes
+Passes lines parts (Err error) begun section assignments notes = IsUnlessMemory (Err error) (unit_of_lines lines)
 
 -- what a helper did to its list
 abbrev pub AddsNote : List Note → Note → Result (Unit {0}) UnitError → List Note → Type 0

@@ -1,20 +1,22 @@
 // A unit, line by line.
 //
-// The joined lines come from `joined`, what each is from `kinds`.
-ghost use Rattle.std.specs.Prelude.{◌≡◌, ◌≢◌, ◌↔◌, ℕ, List, IfOk, IfErr, Ok, Err, option_copied};
+// Each joined line is read as soon as it is whole; what it is comes from `kinds`.
+ghost use Rattle.std.specs.Prelude.{◌≡◌, ◌≢◌, ◌↔◌, ◌+◌, ◌∷◌, [], ℕ, List, IfOk, IfErr, Ok, Err, None};
+ghost use Rattle.std.specs.Option.{option_map};
 ghost use Rattle.unit_grammar.specs.declared.joined.Line.{Line};
 ghost use Rattle.unit_grammar.specs.declared.unit.UnitError.TheVariants.{Memory};
-ghost use Rattle.unit_grammar.specs.Lines.{joined_lines};
+ghost use Rattle.unit_grammar.specs.Lines.{joined_lines, parts_from};
 ghost use Rattle.unit_grammar.specs.Stretches.{Joins};
 ghost use Rattle.unit_grammar.specs.Spaces.{trim};
-ghost use Rattle.unit_grammar.specs.Kinds.{Kind as LineKind, kind_of};
+ghost use Rattle.unit_grammar.specs.Kinds.{Kind as LineKind, kind_of, cut_at};
 ghost use Rattle.unit_grammar.specs.Meaning.{Means};
 ghost use Rattle.unit_grammar.specs.Reading.{unit_of, unit_of_lines};
-ghost use Rattle.unit_grammar.specs.Progress.{IsUnlessMemory, HasRead, Takes, AddsNote, AddsAssignment};
+ghost use Rattle.unit_grammar.specs.Progress.{IsUnlessMemory, HasRead, Takes, AddsNote, AddsAssignment, StandsBefore, Passes};
 
-use crate::joined::{Line, join_lines};
+use crate::joined::{Line, extend_open};
 use crate::kinds::{Kind, kind_of_line};
 use crate::notes::{Note, NoteCause, Notes};
+use crate::spaces::{continues_line, is_comment_line, trimmed_start};
 use crate::texts::Text;
 use crate::unit::{Assignment, Assignments, UnitError, UnitText};
 use std::alloc::Global;
@@ -23,92 +25,162 @@ use std::str;
 /// The most assignments that a file may have under its headers.
 const MOST_ASSIGNMENTS: usize = 4096;
 
-// What has been read: the section of the last header, and what stands in the lines so far.
-#[derive(Drop)]
-struct Reader<'a> {
-    section: Option<&'a str>,
-    assignments: Vec<Assignment>,
-    notes: Vec<Note>,
+// Puts a note on a line behind the others.
+fn add_note(notes: &mut Vec<Note>, line: u64, cause: NoteCause) -> Result<(), UnitError>
+    ensures { AddsNote notes.old.items (record { line = line; cause = cause }) result notes.new.items }
+{
+    notes.push(Note { line, cause })?;
+    Ok(())
 }
 
-impl<'a> Reader<'a> {
-    // A note on a line.
-    fn note(&mut self, line: u64, cause: NoteCause) -> Result<(), UnitError>
-        ensures noted { AddsNote self.old.notes.items (record { line = line; cause = cause }) result self.new.notes.items }
-        ensures section { option_copied self.new.section ≡ option_copied self.old.section }
-        ensures assignments { self.new.assignments.items ≡ self.old.assignments.items }
-    {
-        self.notes.push(Note { line, cause })?;
-        Ok(())
+// Puts an assignment in a section behind the others.
+fn add_assignment(
+    assignments: &mut Vec<Assignment>,
+    alloc: Global,
+    line: u64,
+    section: &str,
+    key: &str,
+    value: &str,
+) -> Result<(), UnitError>
+    ensures { AddsAssignment assignments.old.items (record { section = section.now; key = key.now; value = value.now; line = line }) result assignments.new.items }
+{
+    if assignments.len() >= MOST_ASSIGNMENTS {
+        return Err(UnitError::TooMany);
     }
+    assignments.push(Assignment {
+        section: Text::new(alloc, section)?,
+        key: Text::new(alloc, key)?,
+        value: Text::new(alloc, value)?,
+        line,
+    })?;
+    Ok(())
+}
 
-    // An assignment in a section.
-    fn assign(
-        &mut self,
-        alloc: Global,
-        line: u64,
-        section: &str,
-        key: &str,
-        value: &str,
-    ) -> Result<(), UnitError>
-        ensures assigned { AddsAssignment self.old.assignments.items (record { section = section.now; key = key.now; value = value.now; line = line }) result self.new.assignments.items }
-        ensures section { option_copied self.new.section ≡ option_copied self.old.section }
-        ensures notes { self.new.notes.items ≡ self.old.notes.items }
-    {
-        if self.assignments.len() >= MOST_ASSIGNMENTS {
-            return Err(UnitError::TooMany);
-        }
-        self.assignments.push(Assignment {
-            section: Text::new(alloc, section)?,
-            key: Text::new(alloc, key)?,
-            value: Text::new(alloc, value)?,
-            line,
-        })?;
-        Ok(())
-    }
+// What has been read: the section of the last header, what stands in the joined lines so far, and
+// the line that goes on.
+#[derive(Drop)]
+struct Reader {
+    section: Option<Text>,
+    assignments: Vec<Assignment>,
+    notes: Vec<Note>,
+    begun: Option<Line>,
+}
 
-    // Takes the next line.
-    fn take(&mut self, alloc: Global, line: &'a Line) -> Result<(), UnitError>
-        ensures { (lines : List Line) → HasRead lines (option_copied self.old.section) self.old.assignments.items self.old.notes.items
-            → Takes lines line.now result (option_copied self.new.section) self.new.assignments.items self.new.notes.items }
+impl Reader {
+    // Takes the next joined line.
+    fn take(&mut self, alloc: Global, number: u64, text: &str) -> Result<(), UnitError>
+        ensures taken { (lines : List Line) → HasRead lines self.old.section self.old.assignments.items self.old.notes.items
+            → Takes lines (record { number = number; text = text.now }) result self.new.section self.new.assignments.items self.new.notes.items }
+        ensures begun { self.new.begun ≡ self.old.begun }
     {
-        match kind_of_line(line.text.as_str()) {
+        match kind_of_line(text) {
             Kind::Skipped => Ok(()),
             Kind::Header(section) => {
-                self.section = Some(section);
+                self.section = Some(Text::new(alloc, section)?);
                 Ok(())
             }
-            Kind::BadHeader => Err(UnitError::BadHeader(line.number)),
-            Kind::NoEquals => self.note(line.number, NoteCause::NoEquals),
-            Kind::Assigns(key, value) => match self.section {
-                Some(section) => self.assign(alloc, line.number, section, key, value),
-                None => self.note(line.number, NoteCause::NoSection),
+            Kind::BadHeader => Err(UnitError::BadHeader(number)),
+            Kind::NoEquals => add_note(&mut self.notes, number, NoteCause::NoEquals),
+            Kind::Assigns(key, value) => match &self.section {
+                Some(section) => add_assignment(
+                    &mut self.assignments,
+                    alloc,
+                    number,
+                    section.as_str(),
+                    key,
+                    value,
+                ),
+                None => add_note(&mut self.notes, number, NoteCause::NoSection),
             },
         }
     }
+
+    // Takes the next part, which ends a joined line or goes on.
+    fn take_part(&mut self, alloc: Global, number: u64, part: &str) -> Result<(), UnitError>
+        ensures { (lines parts : List Line) → StandsBefore lines self.old.begun (record { number = number; text = part.now } ∷ parts) self.old.section self.old.assignments.items self.old.notes.items
+            → Passes lines parts result self.new.begun self.new.section self.new.assignments.items self.new.notes.items }
+    {
+        let begun = self.begun.take();
+        if continues_line(part) {
+            self.begun = Some(extend_open(alloc, begun, number, part)?);
+            return Ok(());
+        }
+        match begun {
+            Some(mut line) => {
+                line.text.push(part)?;
+                self.take(alloc, line.number, line.text.as_str())
+            }
+            None => self.take(alloc, number, part),
+        }
+    }
+
+    // Takes the next line of the file.
+    fn take_line(&mut self, alloc: Global, number: u64, line: &str) -> Result<(), UnitError>
+        ensures { (lines : List Line) (more : List (List ℕ)) → StandsBefore lines self.old.begun (parts_from number (line.now ∷ more)) self.old.section self.old.assignments.items self.old.notes.items
+            → Passes lines (parts_from (number + 1) more) result self.new.begun self.new.section self.new.assignments.items self.new.notes.items }
+    {
+        let part = trimmed_start(line);
+        if is_comment_line(part) {
+            return Ok(());
+        }
+        self.take_part(alloc, number, part)
+    }
+
+    // Takes the line that goes on, where the file ends.
+    fn take_begun(&mut self, alloc: Global) -> Result<(), UnitError>
+        ensures passed { (lines : List Line) → StandsBefore lines self.old.begun [] self.old.section self.old.assignments.items self.old.notes.items
+            → Passes lines [] result self.new.begun self.new.section self.new.assignments.items self.new.notes.items }
+        ensures begun { self.new.begun ≡ None }
+    {
+        match self.begun.take() {
+            Some(line) => self.take(alloc, line.number, line.text.as_str()),
+            None => Ok(()),
+        }
+    }
+
+    // What has been read.
+    fn unit(self) -> UnitText
+        ensures { (lines : List Line) → HasRead lines self.section self.assignments.items self.notes.items → unit_of_lines lines ≡ Ok result }
+    {
+        let Reader {
+            assignments,
+            notes,
+            ..
+        } = self;
+        UnitText {
+            assignments: Assignments::new(assignments),
+            notes: Notes::new(notes),
+        }
+    }
 }
 
-// What the joined lines assign.
-fn read_lines(alloc: Global, lines: &[Line]) -> Result<UnitText, UnitError>
-    ensures { IsUnlessMemory result (unit_of_lines lines.now) }
+// The first line and what stands behind its LF, where there is one.
+fn first_line(text: &str) -> Option<(&str, &str)>
+    ensures { option_map (λ sides. (sides.0.now, sides.1.now)) result ≡ cut_at 10 text.now }
+{
+    text.split_once('\n')
+}
+
+// What the lines of a text assign.
+fn read_text(alloc: Global, text: &str) -> Result<UnitText, UnitError>
+    ensures { IsUnlessMemory result (unit_of_lines (joined_lines text.now)) }
 {
     let mut reader = Reader {
         section: None,
         assignments: Vec::new(alloc),
         notes: Vec::new(alloc),
+        begun: None,
     };
-    for line in lines {
-        reader.take(alloc, line)?;
+    let mut rest = text;
+    let mut number = 1;
+    while let Some((line, behind)) = first_line(rest) {
+        reader.take_line(alloc, number, line)?;
+        rest = behind;
+        number += 1;
     }
-    let Reader {
-        assignments,
-        notes,
-        ..
-    } = reader;
-    Ok(UnitText {
-        assignments: Assignments::new(assignments),
-        notes: Notes::new(notes),
-    })
+    reader.take_line(alloc, number, rest)?;
+    reader.take_begun(alloc)?;
+    Ok(reader.unit())
 }
 
 // What the bytes assign.
@@ -121,8 +193,7 @@ fn read_bytes(alloc: Global, bytes: &[u8]) -> Result<UnitText, UnitError>
     if bytes.contains(&0) {
         return Err(UnitError::NotText);
     }
-    let lines = join_lines(alloc, text)?;
-    read_lines(alloc, lines.as_slice())
+    read_text(alloc, text)
 }
 
 /// Reads what a unit file assigns, as systemd.syntax(7) says.
