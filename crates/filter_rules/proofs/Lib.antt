@@ -1,6 +1,5 @@
 pub mod Chosen
 pub mod Counted
-pub mod Fronts
 pub mod LowWords
 pub mod Mapped
 pub mod Ordered

@@ -2,48 +2,13 @@
 ghost use Rattle.std.specs.Prelude.{◌≡◌, map};
 ghost use Rattle.std.specs.List.{list_any};
 ghost use Rattle.filter_rules.specs.Covers.{covers};
-ghost use Rattle.filter_rules.specs.Blocked.{is_blocked, hostname_words, modules_words, logs_words, clock_words, devices_words};
+ghost use Rattle.filter_rules.specs.Blocked.{is_blocked};
 ghost use Rattle.filter_rules.specs.BlockedChoice.{blocked_choice};
 
 use crate::choice::{Choice, NOT_PERMITTED, always};
 use crate::covers::covers;
 use call_table::CallTable;
 use std::alloc::Global;
-
-/// ProtectHostname=
-pub fn hostname_words() -> &'static [&'static str]
-    ensures { map (λ word. word.now) result.now ≡ hostname_words }
-{
-    &["sethostname", "setdomainname"]
-}
-
-/// ProtectKernelModules=
-pub fn modules_words() -> &'static [&'static str]
-    ensures { map (λ word. word.now) result.now ≡ modules_words }
-{
-    &["@module"]
-}
-
-/// ProtectKernelLogs=
-pub fn logs_words() -> &'static [&'static str]
-    ensures { map (λ word. word.now) result.now ≡ logs_words }
-{
-    &["syslog"]
-}
-
-/// ProtectClock=
-pub fn clock_words() -> &'static [&'static str]
-    ensures { map (λ word. word.now) result.now ≡ clock_words }
-{
-    &["@clock"]
-}
-
-/// PrivateDevices=
-pub fn devices_words() -> &'static [&'static str]
-    ensures { map (λ word. word.now) result.now ≡ devices_words }
-{
-    &["@raw-io"]
-}
 
 fn some_covers(table: &CallTable, words: &[&str], name: &str) -> bool
     ensures { result ≡ list_any (λ word. covers table.now word.now name.now) words.now }
@@ -66,9 +31,5 @@ pub fn blocked_choice(
 ) -> Option<Choice>
     ensures { result ≡ blocked_choice table.now (map (λ word. word.now) words.now) name.now }
 {
-    if is_blocked(table, words, name) {
-        Some(always(alloc, NOT_PERMITTED))
-    } else {
-        None
-    }
+    is_blocked(table, words, name).then_some(always(alloc, NOT_PERMITTED))
 }

@@ -25,10 +25,7 @@ fn last_mention<'m>(table: &CallTable, mentions: &'m [Mention], name: &str) -> O
 fn listed_by<'m>(table: &CallTable, mentions: &'m [Mention], name: &str) -> Option<&'m Mention>
     ensures { option_copied result ≡ listed_by table.now mentions.now name.now }
 {
-    match last_mention(table, mentions, name) {
-        Some(mention) if mention.adds => Some(mention),
-        _ => None,
-    }
+    last_mention(table, mentions, name).filter(|mention| mention.adds)
 }
 
 fn listed_action(mode: Mode, default: Action, mention: &Mention) -> Action
@@ -87,10 +84,8 @@ fn list_choice(
 ) -> Option<Choice>
     ensures { result ≡ list_choice table.now default name.now list.now }
 {
-    match listed_by(table, list.mentions.list(), name) {
-        Some(mention) => Some(always(alloc, listed_action(list.mode, default, mention))),
-        None => None,
-    }
+    let mention = listed_by(table, list.mentions.list(), name)?;
+    Some(always(alloc, listed_action(list.mode, default, mention)))
 }
 
 /// What is done to a call of this name, where it is listed.
@@ -103,8 +98,5 @@ pub fn calls_choice(
 ) -> Option<Choice>
     ensures { result ≡ calls_choice table.now calls.now default name.now }
 {
-    match calls {
-        Some(list) => list_choice(alloc, table, default, name, list),
-        None => None,
-    }
+    list_choice(alloc, table, default, name, calls.as_ref()?)
 }

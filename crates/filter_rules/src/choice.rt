@@ -1,5 +1,5 @@
 //! What a filter does to one call: an action where some test holds, and another for the rest.
-ghost use Rattle.std.specs.Prelude.{◌≡◌, ◌≤◌, map, IfOk};
+ghost use Rattle.std.specs.Prelude.{◌≡◌, ◌≤◌, None, map, IfOk};
 ghost use Rattle.filter_rules.specs.Choices.{bits, whole, always, refused_where, allowed_where, case_with, rule_with};
 
 use call_rules::{Action, CallRule, Case, Cases, Test, Tests};
@@ -48,39 +48,37 @@ pub fn always(alloc: Global, action: Action) -> Choice
     }
 }
 
-// A copy of some tests.
-fn tests_of(alloc: Global, tests: &[Test]) -> Result<Tests, AllocError>
-    ensures { IfOk result (λ copy. copy ≡ tests.now) }
+// An action where one of these tests holds, and another for the rest.
+fn choice_where(
+    alloc: Global,
+    tests: &[Test],
+    action: Action,
+    rest: Action,
+) -> Result<Choice, AllocError>
+    ensures { IfOk result (λ choice. choice ≡ record { given = None; any = tests.now; action = action; rest = rest }) }
 {
-    let mut copy = Vec::new(alloc);
-    copy.extend_from_slice(tests)?;
-    Ok(Tests::new(copy))
+    let mut any = Vec::new(alloc);
+    any.extend_from_slice(tests)?;
+    Ok(Choice {
+        given: None,
+        any: Tests::new(any),
+        action,
+        rest,
+    })
 }
 
 /// Not permitted where one of these tests holds.
 pub fn refused_where(alloc: Global, tests: &[Test]) -> Result<Choice, AllocError>
     ensures { IfOk result (λ choice. choice ≡ refused_where tests.now) }
 {
-    let any = tests_of(alloc, tests)?;
-    Ok(Choice {
-        given: None,
-        any,
-        action: NOT_PERMITTED,
-        rest: Action::Allow,
-    })
+    choice_where(alloc, tests, NOT_PERMITTED, Action::Allow)
 }
 
 /// Permitted only where one of these tests holds.
 pub fn allowed_where(alloc: Global, tests: &[Test]) -> Result<Choice, AllocError>
     ensures { IfOk result (λ choice. choice ≡ allowed_where tests.now) }
 {
-    let any = tests_of(alloc, tests)?;
-    Ok(Choice {
-        given: None,
-        any,
-        action: Action::Allow,
-        rest: NOT_PERMITTED,
-    })
+    choice_where(alloc, tests, Action::Allow, NOT_PERMITTED)
 }
 
 fn case_with(
@@ -116,10 +114,9 @@ fn cases_of(alloc: Global, choice: &Choice) -> Result<Cases, AllocError>
 pub fn rule_with(alloc: Global, number: u32, choice: &Choice) -> Result<CallRule, AllocError>
     ensures { IfOk result (λ rule. rule ≡ rule_with number choice.now) }
 {
-    let cases = cases_of(alloc, choice)?;
     Ok(CallRule {
         number,
-        cases,
+        cases: cases_of(alloc, choice)?,
         rest: choice.rest,
     })
 }

@@ -1,18 +1,9 @@
 //! Which calls a word of a filter speaks of: a call by its name, or `@` and a group.
 ghost use Rattle.std.specs.Prelude.{◌≡◌};
-ghost use Rattle.std.specs.Option.{option_map};
 ghost use Rattle.std.specs.List.{list_any};
-ghost use Rattle.call_table.specs.Names.{behind_at};
 ghost use Rattle.filter_rules.specs.Covers.{is_named, covers};
 
-use call_table::{CallLine, CallTable};
-
-// The name of the group that a word `@NAME` stands for.
-fn behind_at(word: &str) -> Option<&str>
-    ensures { option_map (λ name. name.now) result ≡ behind_at word.now }
-{
-    word.strip_prefix('@')
-}
+use call_table::{CallLine, CallTable, behind_at};
 
 fn is_named(calls: &[CallLine], name: &str, position: usize) -> bool
     ensures { result ≡ is_named calls.now name.now position }
@@ -26,9 +17,7 @@ fn is_named(calls: &[CallLine], name: &str, position: usize) -> bool
 fn has_member_named(calls: &[CallLine], name: &str, members: &[usize]) -> bool
     ensures { result ≡ list_any (is_named calls.now name.now) members.now }
 {
-    members
-        .iter()
-        .any(|position| is_named(calls, name, *position))
+    members.iter().any(|at| is_named(calls, name, *at))
 }
 
 /// Whether the word speaks of the calls of this name.

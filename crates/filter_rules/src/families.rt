@@ -27,10 +27,7 @@ fn last_family(mentions: &[FamilyMention], number: u32) -> Option<&FamilyMention
 fn is_listed(mentions: &[FamilyMention], number: u32) -> bool
     ensures { result ≡ is_listed_family mentions.now number }
 {
-    match last_family(mentions, number) {
-        Some(mention) => mention.adds,
-        None => false,
-    }
+    last_family(mentions, number).is_some_and(|mention| mention.adds)
 }
 
 fn is_refused_by(mode: Mode, is_listed: bool) -> bool
@@ -71,19 +68,15 @@ fn family_tests(
 fn choice_by(mode: Mode, any: Tests) -> Choice
     ensures { result ≡ family_choice mode any }
 {
-    match mode {
-        Mode::Allow => Choice {
-            given: None,
-            any,
-            action: Action::Allow,
-            rest: FAMILY_NOT_SUPPORTED,
-        },
-        Mode::Deny => Choice {
-            given: None,
-            any,
-            action: FAMILY_NOT_SUPPORTED,
-            rest: Action::Allow,
-        },
+    let (action, rest) = match mode {
+        Mode::Allow => (Action::Allow, FAMILY_NOT_SUPPORTED),
+        Mode::Deny => (FAMILY_NOT_SUPPORTED, Action::Allow),
+    };
+    Choice {
+        given: None,
+        any,
+        action,
+        rest,
     }
 }
 

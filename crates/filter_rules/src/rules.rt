@@ -6,9 +6,7 @@ ghost use Rattle.filter_rules.specs.Order.{Ascends};
 ghost use Rattle.filter_rules.specs.Wanted.{unnamed_action};
 ghost use Rattle.filter_rules.specs.Rules.{choice_of, rule_for, AreRulesOf};
 
-use crate::blocked::{
-    blocked_choice, clock_words, devices_words, hostname_words, logs_words, modules_words,
-};
+use crate::blocked::blocked_choice;
 use crate::calls::{calls_choice, rest_action};
 use crate::choice::{Choice, rule_with};
 use crate::families::families_choice;
@@ -39,11 +37,16 @@ fn choice_of(
         FilterName::Realtime => realtime_choice(alloc, name),
         FilterName::Suid => suid_choice(alloc, name),
         FilterName::Namespaces => namespaces_choice(alloc, settings.namespaces, name),
-        FilterName::Hostname => Ok(blocked_choice(alloc, table, hostname_words(), name)),
-        FilterName::Modules => Ok(blocked_choice(alloc, table, modules_words(), name)),
-        FilterName::Logs => Ok(blocked_choice(alloc, table, logs_words(), name)),
-        FilterName::Clock => Ok(blocked_choice(alloc, table, clock_words(), name)),
-        FilterName::Devices => Ok(blocked_choice(alloc, table, devices_words(), name)),
+        FilterName::Hostname => Ok(blocked_choice(
+            alloc,
+            table,
+            &["sethostname", "setdomainname"],
+            name,
+        )),
+        FilterName::Modules => Ok(blocked_choice(alloc, table, &["@module"], name)),
+        FilterName::Logs => Ok(blocked_choice(alloc, table, &["syslog"], name)),
+        FilterName::Clock => Ok(blocked_choice(alloc, table, &["@clock"], name)),
+        FilterName::Devices => Ok(blocked_choice(alloc, table, &["@raw-io"], name)),
         FilterName::Personality => personality_choice(alloc, name),
         FilterName::Calls => Ok(calls_choice(
             alloc,
