@@ -16,25 +16,10 @@ mod scripts;
 mod sites;
 mod traces;
 
+use row_text::follow_lines;
 use rows::Rows;
 use std::io;
 
 fn main(rt: HostRuntime) -> io::Result<()> {
-    let mut rows = Rows::new(rt.alloc());
-    for line in rt.lines(rt.alloc()) {
-        follow(&rt, &mut rows, line?.as_str())?;
-    }
-    Ok(())
-}
-
-// Follows a line, and prints what comes out.
-fn follow(rt: &HostRuntime, rows: &mut Rows, line: &str) -> io::Result<()> {
-    if line.starts_with('#') {
-        return rt.println(line);
-    }
-    if let Some(more) = line.strip_prefix("  ") {
-        return Ok(rows.add(more)?);
-    }
-    let answer = rows.answer(rt.alloc(), line)?;
-    println!(rt; "{line} -> {answer}")
+    follow_lines(&rt, &mut Rows::new(rt.alloc()))
 }

@@ -17,7 +17,7 @@ pub struct Pair {
 
 /// The texts of a pair: calls.txt, the two sites, the lines of the unit, the folder and the script.
 #[derive(Drop)]
-pub struct Texts<'a> {
+pub struct PairTexts<'a> {
     pub calls: &'a str,
     pub site: &'a str,
     pub other: &'a str,
@@ -27,7 +27,7 @@ pub struct Texts<'a> {
 }
 
 /// The pair of these texts, where none is refused.
-pub fn pair_of(alloc: Global, texts: &Texts<'_>) -> Result<Option<Pair>, AllocError> {
+pub fn pair_of(alloc: Global, texts: &PairTexts<'_>) -> Result<Option<Pair>, AllocError> {
     let Some(inputs) = inputs_of(alloc, texts.calls, texts.site, &[texts.lines]) else {
         return Ok(None);
     };
@@ -67,7 +67,7 @@ fn push_trace(text: &mut String, name: &str, trace: &Trace) -> Result<(), AllocE
 }
 
 /// Whether the service is told the same on both sites, and what it is told.
-pub fn pair_line(alloc: Global, texts: &Texts<'_>) -> Result<String, AllocError> {
+pub fn pair_line(alloc: Global, texts: &PairTexts<'_>) -> Result<String, AllocError> {
     match &pair_of(alloc, texts)? {
         Some(pair) => {
             let mut text = said(
@@ -152,7 +152,7 @@ fn drawn(
     let one = with_rows(alloc, site, numbers, folder)?;
     let other = with_rows(alloc, site, numbers, folder)?;
     let script = script_text(alloc, numbers, folder, 200)?;
-    let texts = Texts {
+    let texts = PairTexts {
         calls,
         site: one.as_str(),
         other: other.as_str(),

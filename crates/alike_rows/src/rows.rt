@@ -1,14 +1,14 @@
 //! What the next row is over.
-use crate::pairs::{Texts, pair_line, pairs_line};
-use row_text::{said, words};
+use crate::pairs::{PairTexts, pair_line, pairs_line};
+use row_inputs::Texts;
+use row_text::{Follow, Shown, said, words};
 use std::alloc::{AllocError, Global};
+use std::io;
 
-/// A text that is not taken yet, and the texts of the tables.
+/// The texts of the tables, that of the other site among them.
 #[derive(Drop)]
 pub struct Rows {
-    text: String,
-    calls: String,
-    site: String,
+    texts: Texts,
     other: String,
 }
 
@@ -16,31 +16,16 @@ impl Rows {
     /// No texts.
     pub fn new(alloc: Global) -> Self {
         Rows {
-            text: String::new(alloc),
-            calls: String::new(alloc),
-            site: String::new(alloc),
+            texts: Texts::new(alloc),
             other: String::new(alloc),
         }
     }
 
-    /// Adds a line to the text.
-    pub fn add(&mut self, line: &str) -> Result<(), AllocError> {
-        self.text.push_str(line)?;
-        self.text.push('\n')
-    }
-
-    /// What a row answers.
-    pub fn answer(&mut self, alloc: Global, row: &str) -> Result<String, AllocError> {
-        let words = words(alloc, row)?;
-        match words.as_slice() {
-            ["calls"] => taken(alloc, &mut self.text, &mut self.calls, ""),
-            ["site"] => taken(alloc, &mut self.text, &mut self.site, ""),
-            ["other"] => taken(alloc, &mut self.text, &mut self.other, self.site.as_str()),
-            ["pair", folder, lines, calls @ ..] => self.pair(alloc, folder, lines, calls),
-            ["pairs", count, "blind"] => self.pairs(alloc, count, true),
-            ["pairs", count, "seeing"] => self.pairs(alloc, count, false),
-            _ => said(alloc, "no row"),
-        }
+    // Takes the held text as more rows of the site, which make the other site.
+    fn take_other(&mut self, alloc: Global) -> Result<String, AllocError> {
+        self.other = said(alloc, self.texts.site.as_str())?;
+        self.other.push_str(self.texts.held.take(alloc).as_str())?;
+        said(alloc, "held")
     }
 
     fn pair(
@@ -51,9 +36,9 @@ impl Rows {
         calls: &[&str],
     ) -> Result<String, AllocError> {
         let script = script_of(alloc, calls)?;
-        let texts = Texts {
-            calls: self.calls.as_str(),
-            site: self.site.as_str(),
+        let texts = PairTexts {
+            calls: self.texts.calls.as_str(),
+            site: self.texts.site.as_str(),
             other: self.other.as_str(),
             lines,
             folder,
@@ -66,13 +51,32 @@ impl Rows {
         match count.parse::<u32>() {
             Ok(count) => pairs_line(
                 alloc,
-                self.calls.as_str(),
-                self.site.as_str(),
+                self.texts.calls.as_str(),
+                self.texts.site.as_str(),
                 count,
                 is_blind,
             ),
             Err(_) => said(alloc, "no number"),
         }
+    }
+}
+
+impl Follow for Rows {
+    fn follow(&mut self, alloc: Global, row: &str) -> io::Result<Shown> {
+        if self.texts.held.holds(row)? {
+            return Ok(Shown::Nothing);
+        }
+        let words = words(alloc, row)?;
+        let answer = match words.as_slice() {
+            ["calls"] => self.texts.take_calls(alloc),
+            ["site"] => self.texts.take_site(alloc),
+            ["other"] => self.take_other(alloc),
+            ["pair", folder, lines, calls @ ..] => self.pair(alloc, folder, lines, calls),
+            ["pairs", count, "blind"] => self.pairs(alloc, count, true),
+            ["pairs", count, "seeing"] => self.pairs(alloc, count, false),
+            _ => said(alloc, "no row"),
+        }?;
+        Ok(Shown::Answer(answer))
     }
 }
 
@@ -84,18 +88,4 @@ fn script_of(alloc: Global, calls: &[&str]) -> Result<String, AllocError> {
         text.push('\n')?;
     }
     Ok(text)
-}
-
-// Takes the text behind a front; the text is then empty.
-fn taken(
-    alloc: Global,
-    text: &mut String,
-    place: &mut String,
-    front: &str,
-) -> Result<String, AllocError> {
-    place.clear();
-    place.push_str(front)?;
-    place.push_str(text.as_str())?;
-    text.clear();
-    said(alloc, "held")
 }

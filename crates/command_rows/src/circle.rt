@@ -1,7 +1,7 @@
 //! The lists of calls below the open questions of a report, each put through `replay`.
 use crate::rows::Rows;
-use crate::whole::{copied, run_over};
 use host_io::are_files;
+use row_runs::run_over;
 use std::alloc::{AllocError, Global};
 
 /// Where the script of a list lies.
@@ -19,13 +19,13 @@ fn are_done(replay: &str, count: usize) -> bool {
 
 // Replays the calls of a list, whose lines are these.
 fn replayed(alloc: Global, rows: &Rows, unit: &str, script: &str) -> Result<String, AllocError> {
-    let mut files = copied(alloc, rows)?;
+    let mut files = rows.files.copied(alloc)?;
     files.push((
         String::from_str(alloc, SCRIPT)?,
         script.as_bytes().to_vec(alloc)?,
     ))?;
     let words = ["replay", unit, SCRIPT];
-    Ok(run_over(alloc, files, rows, &words)?.text)
+    Ok(run_over(alloc, files, &words, &rows.faults)?.text)
 }
 
 // Replays the list of a question, if it has calls: it is counted where each of them is done, and told where not.
@@ -58,12 +58,12 @@ pub fn circle(alloc: Global, rows: &Rows) -> Result<String, AllocError> {
     };
     let mut said = String::new(alloc);
     let mut done = Vec::new(alloc);
-    let files = copied(alloc, rows)?;
-    if !are_files(files.as_slice()) || rows.take == 0 {
+    let files = rows.files.copied(alloc)?;
+    if !are_files(files.as_slice()) || rows.faults.take == 0 {
         return String::from_str(alloc, "no row");
     }
     let words = ["judge", unit];
-    let report = run_over(alloc, files, rows, &words)?.text;
+    let report = run_over(alloc, files, &words, &rows.faults)?.text;
     let mut question = String::new(alloc);
     let mut script = String::new(alloc);
     for line in report.as_str().lines() {

@@ -17,29 +17,10 @@ mod rows;
 mod sought;
 mod whole;
 
+use row_text::follow_lines;
 use rows::Rows;
 use std::io;
 
 fn main(rt: HostRuntime) -> io::Result<()> {
-    let mut rows = Rows::new(rt.alloc());
-    for line in rt.lines(rt.alloc()) {
-        follow(&rt, &mut rows, line?.as_str())?;
-    }
-    Ok(())
-}
-
-// Follows a line.
-fn follow(rt: &HostRuntime, rows: &mut Rows, line: &str) -> io::Result<()> {
-    if line.starts_with('#') {
-        return rt.println(line);
-    }
-    if line == "run" || line == "circle" {
-        let said = match line {
-            "run" => whole::run_row(rt.alloc(), rows)?,
-            _ => circle::circle(rt.alloc(), rows)?,
-        };
-        rows.begin_row(rt.alloc());
-        return rt.println(said.as_str());
-    }
-    Ok(rows.follow(rt.alloc(), line)?)
+    follow_lines(&rt, &mut Rows::new(rt.alloc()))
 }

@@ -12,26 +12,10 @@ mod plain;
 mod rows;
 mod views;
 
+use row_text::follow_lines;
 use rows::Rows;
 use std::io;
 
 fn main(rt: HostRuntime) -> io::Result<()> {
-    let mut rows = Rows::new(rt.alloc())?;
-    answer_lines(&rt, &mut rows)
-}
-
-fn answer_lines(rt: &HostRuntime, rows: &mut Rows) -> io::Result<()> {
-    for line in rt.lines(rt.alloc()) {
-        answer_line(rt, rows, line?.as_str())?;
-    }
-    Ok(())
-}
-
-// Prints a line, and behind a row what came out.
-fn answer_line(rt: &HostRuntime, rows: &mut Rows, line: &str) -> io::Result<()> {
-    if line.starts_with('#') {
-        return rt.println(line);
-    }
-    let answer = rows.answer(rt.alloc(), line)?;
-    println!(rt; "{line} -> {answer}")
+    follow_lines(&rt, &mut Rows::new(rt.alloc())?)
 }

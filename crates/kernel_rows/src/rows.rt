@@ -3,8 +3,9 @@ use crate::creds::{self, States};
 use crate::{mounts, views};
 use kern_mounts::MountTable;
 use path_settings::Mentions;
-use row_text::said;
+use row_text::{Follow, Shown, said, words};
 use std::alloc::{AllocError, Global};
+use std::io;
 
 /// What rows have put together: named credentials, a table of mounts, and mentions.
 #[derive(Drop)]
@@ -23,19 +24,17 @@ impl Rows {
             mentions: Mentions::new(alloc),
         })
     }
+}
 
-    /// What the call of a row answers.
-    pub fn answer(&mut self, alloc: Global, row: &str) -> Result<String, AllocError> {
-        let words = row_text::words(alloc, row)?;
-        self.answer_words(alloc, words.as_slice())
-    }
-
-    fn answer_words(&mut self, alloc: Global, words: &[&str]) -> Result<String, AllocError> {
-        match words {
+impl Follow for Rows {
+    fn follow(&mut self, alloc: Global, row: &str) -> io::Result<Shown> {
+        let words = words(alloc, row)?;
+        let answer = match words.as_slice() {
             ["creds", rest @ ..] => creds::answer(alloc, &mut self.states, rest),
             ["mounts", rest @ ..] => mounts::answer(alloc, &mut self.table, rest),
             ["view", rest @ ..] => views::answer(alloc, &mut self.mentions, rest),
             _ => said(alloc, "no row"),
-        }
+        }?;
+        Ok(Shown::Answer(answer))
     }
 }

@@ -11,20 +11,10 @@ mod mentions;
 mod paths;
 mod rows;
 
+use row_text::follow_lines;
+use rows::Rows;
 use std::io;
 
 fn main(rt: HostRuntime) -> io::Result<()> {
-    for line in rt.lines(rt.alloc()) {
-        answer_line(&rt, line?.as_str())?;
-    }
-    Ok(())
-}
-
-// Prints a line, and behind a row what came out.
-fn answer_line(rt: &HostRuntime, line: &str) -> io::Result<()> {
-    if line.starts_with('#') {
-        return rt.println(line);
-    }
-    let answer = rows::answer(rt.alloc(), line)?;
-    println!(rt; "{line} -> {answer}")
+    follow_lines(&rt, &mut Rows)
 }

@@ -13,30 +13,13 @@
 //! told together. A line that begins with `#` says what the next rows show.
 #![tactic(auto)]
 
-mod files;
 mod rows;
-mod runs;
 mod spans;
 
-use files::Files;
+use row_text::follow_lines;
+use rows::Rows;
 use std::io;
 
 fn main(rt: HostRuntime) -> io::Result<()> {
-    let mut files = Files::new(rt.alloc());
-    for line in rt.lines(rt.alloc()) {
-        follow(&rt, &mut files, line?.as_str())?;
-    }
-    Ok(())
-}
-
-// Follows a line.
-fn follow(rt: &HostRuntime, files: &mut Files, line: &str) -> io::Result<()> {
-    if line.starts_with('#') {
-        return rt.println(line);
-    }
-    if rows::is_row(line) {
-        rt.println(line)?;
-        return rt.println(rows::answer(rt.alloc(), files, line)?.as_str());
-    }
-    Ok(files.follow(rt.alloc(), line)?)
+    follow_lines(&rt, &mut Rows::new(rt.alloc()))
 }

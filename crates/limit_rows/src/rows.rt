@@ -1,34 +1,58 @@
 //! What rows ask of the files.
-use crate::files::Files;
-use crate::runs::{Faults, NO_FAULTS, Printed, run_over};
 use crate::spans::Spans;
-use row_text::{number, said};
+use row_runs::{Faults, Files, Printed, run_over};
+use row_text::{Follow, Shown, number, said};
 use std::alloc::{AllocError, Global};
+use std::io;
 
-/// Whether a line is a row.
-pub fn is_row(line: &str) -> bool {
-    let step = line.split(' ').next().unwrap_or("");
-    matches!(step, "run" | "last" | "reads" | "puts" | "prefixes")
+/// How much a sink takes at once where no row says so.
+const TAKE: u64 = 1000;
+
+/// The files that rows have made.
+#[derive(Drop)]
+pub struct Rows {
+    files: Files,
 }
 
-/// What comes of a row.
-pub fn answer(alloc: Global, files: &Files, row: &str) -> Result<String, AllocError> {
-    let words: Vec<&str> = row.split(' ').collect(alloc)?;
-    match words.as_slice() {
-        ["run", words @ ..] => whole(alloc, files, words),
-        ["last", count, words @ ..] => last(alloc, files, number(count), words),
-        ["reads", count, words @ ..] => reads(alloc, files, number(count), words),
-        ["puts", take, count, words @ ..] => {
-            puts(alloc, files, number(take), number(count), words)
+impl Rows {
+    /// No files.
+    pub fn new(alloc: Global) -> Self {
+        Rows {
+            files: Files::new(alloc),
         }
-        ["prefixes", path, words @ ..] => prefixes(alloc, files, path, words),
-        _ => said(alloc, "no row"),
+    }
+}
+
+impl Follow for Rows {
+    fn follow(&mut self, alloc: Global, line: &str) -> io::Result<Shown> {
+        let words: Vec<&str> = line.split(' ').collect(alloc)?;
+        let told = match words.as_slice() {
+            ["run", words @ ..] => whole(alloc, &self.files, words),
+            ["last", count, words @ ..] => last(alloc, &self.files, number(count), words),
+            ["reads", count, words @ ..] => {
+                in_turn(alloc, &self.files, None, number(count), words)
+            }
+            ["puts", take, count, words @ ..] => {
+                in_turn(alloc, &self.files, Some(number(take)), number(count), words)
+            }
+            ["prefixes", path, words @ ..] => prefixes(alloc, &self.files, path, words),
+            _ => {
+                self.files.follow(alloc, line)?;
+                return Ok(Shown::Nothing);
+            }
+        }?;
+        Ok(Shown::Text(format!(in alloc; "{line}\n{told}")?))
     }
 }
 
 // A run without faults.
 fn faultless(alloc: Global, files: &Files, words: &[&str]) -> Result<Printed, AllocError> {
-    run_over(alloc, files.copied(alloc)?, words, &NO_FAULTS)
+    run_over(
+        alloc,
+        files.copied(alloc)?,
+        words,
+        &Faults::none(alloc, TAKE),
+    )
 }
 
 // The status, and the text with a sign where it does not end with a line feed.
@@ -60,13 +84,18 @@ fn last(alloc: Global, files: &Files, count: u64, words: &[&str]) -> Result<Stri
     Ok(text)
 }
 
-// Each call of the shelf fails in turn.
-fn reads(alloc: Global, files: &Files, count: u64, words: &[&str]) -> Result<String, AllocError> {
+// Each of the first calls of the shelf fails in turn, or each of the first puts to a sink that takes so many bytes.
+fn in_turn(
+    alloc: Global,
+    files: &Files,
+    take: Option<u64>,
+    count: u64,
+    words: &[&str],
+) -> Result<String, AllocError> {
     let whole = faultless(alloc, files, words)?;
     let mut spans = Spans::new(alloc);
     for before in 0..count {
-        let mut faults = NO_FAULTS;
-        faults.read = before + 1;
+        let faults = one_fault(alloc, take, before + 1)?;
         let printed = run_over(alloc, files.copied(alloc)?, words, &faults)?;
         let told = taken(alloc, &printed, whole.text.as_str(), before)?;
         spans.add(alloc, before + 1, told.as_str())?;
@@ -74,27 +103,14 @@ fn reads(alloc: Global, files: &Files, count: u64, words: &[&str]) -> Result<Str
     spans.text(alloc)
 }
 
-// Each put to a sink that takes so many bytes fails in turn.
-fn puts(
-    alloc: Global,
-    files: &Files,
-    take: u64,
-    count: u64,
-    words: &[&str],
-) -> Result<String, AllocError> {
-    let whole = faultless(alloc, files, words)?;
-    let mut spans = Spans::new(alloc);
-    for before in 0..count {
-        let faults = Faults {
-            read: 0,
-            put: before + 1,
-            take,
-        };
-        let printed = run_over(alloc, files.copied(alloc)?, words, &faults)?;
-        let told = taken(alloc, &printed, whole.text.as_str(), before)?;
-        spans.add(alloc, before + 1, told.as_str())?;
+// The put of this number fails, where it is said how many bytes the sink takes at once, and else the call of the shelf.
+fn one_fault(alloc: Global, take: Option<u64>, number: u64) -> Result<Faults, AllocError> {
+    let mut faults = Faults::none(alloc, take.unwrap_or(TAKE));
+    match take {
+        Some(_) => faults.puts.push(number)?,
+        None => faults.reads.push(number)?,
     }
-    spans.text(alloc)
+    Ok(faults)
 }
 
 // The status, and how much of the whole text was taken where K - 1 calls were made before the one that fails.
@@ -131,7 +147,10 @@ fn prefixes(
     let length = files.length(path);
     for count in 0..length {
         let cut = files.cut(alloc, path, count)?;
-        let told = ended(alloc, &run_over(alloc, cut, words, &NO_FAULTS)?)?;
+        let told = ended(
+            alloc,
+            &run_over(alloc, cut, words, &Faults::none(alloc, TAKE))?,
+        )?;
         spans.add(alloc, count as u64, told.as_str())?;
     }
     let told = ended(alloc, &faultless(alloc, files, words)?)?;

@@ -52,10 +52,11 @@ impl Rules {
             }
             ["word", action] => format!(in alloc; "{:08x}", action_of(action).word()),
             ["can compile"] => yes_or_no(alloc, can_compile(&self.set)),
-            ["compile"] => compiled(alloc, &self.set),
             ["ask", arch, nr, args] => asked(alloc, &self.set, &data_of(arch, nr, args)),
-            ["differ", low, count] => numbers_differ(alloc, &self.set, low, number32(count)),
-            ["differ at", nr, count] => words_differ(alloc, &self.set, nr, number(count)),
+            ["compile" | "differ" | "differ at", ..] => match &program_of(alloc, &self.set)? {
+                Some(program) => of_program(alloc, program, &self.set, row),
+                None => said(alloc, "cannot be compiled"),
+            },
             _ => said(alloc, "no row"),
         }
     }
@@ -138,13 +139,6 @@ fn program_of(alloc: Global, rules: &RuleSet) -> Result<Option<Program>, AllocEr
     }
 }
 
-fn compiled(alloc: Global, rules: &RuleSet) -> Result<String, AllocError> {
-    match &program_of(alloc, rules)? {
-        Some(program) => shown(alloc, program),
-        None => said(alloc, "cannot be compiled"),
-    }
-}
-
 fn action_shown(alloc: Global, action: Action) -> Result<String, AllocError> {
     match action {
         Action::KillProcess => said(alloc, "kill"),
@@ -180,39 +174,27 @@ fn first(alloc: Global, differing: Option<u64>) -> Result<String, AllocError> {
     }
 }
 
-// The first of so many numbers at which the program of the rules differs from them, where each argument has this
-// low word.
-fn numbers_differ(
+// What a row asks of the program of the rules.
+fn of_program(
     alloc: Global,
+    program: &Program,
     rules: &RuleSet,
-    low: &str,
-    count: u32,
+    row: &[&str],
 ) -> Result<String, AllocError> {
-    let low = number(low);
-    match &program_of(alloc, rules)? {
-        Some(program) => first(
-            alloc,
-            (0..count)
-                .find(|nr| differs(program, rules, *nr, low))
-                .map(u64::from),
-        ),
-        None => said(alloc, "cannot be compiled"),
-    }
-}
-
-// The first of so many low words of the arguments at which the program differs from the rules.
-fn words_differ(
-    alloc: Global,
-    rules: &RuleSet,
-    nr: &str,
-    count: u64,
-) -> Result<String, AllocError> {
-    let nr = number32(nr);
-    match &program_of(alloc, rules)? {
-        Some(program) => first(
-            alloc,
-            (0..count).find(|low| differs(program, rules, nr, *low)),
-        ),
-        None => said(alloc, "cannot be compiled"),
+    match row {
+        ["compile"] => shown(alloc, program),
+        // The first of so many numbers at which the program differs, where each argument has this low word.
+        ["differ", low, count] => {
+            let low = number(low);
+            let differing = (0..number32(count)).find(|nr| differs(program, rules, *nr, low));
+            first(alloc, differing.map(u64::from))
+        }
+        // The first of so many low words of the arguments at which it differs.
+        ["differ at", nr, count] => {
+            let nr = number32(nr);
+            let differing = (0..number(count)).find(|low| differs(program, rules, nr, *low));
+            first(alloc, differing)
+        }
+        _ => said(alloc, "no row"),
     }
 }

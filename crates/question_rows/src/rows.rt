@@ -1,17 +1,19 @@
 //! What the next row is over.
 use crate::reaching;
-use call_table::{CallTable, read_calls};
+use call_table::CallTable;
 use kern_mounts::MountTable;
 use questions::questions;
+use row_inputs::{calls_of, site_of};
 use row_questions::shown;
-use row_text::{said, words};
-use site_table::{SiteTable, read_site};
+use row_text::{Follow, HeldText, Shown, said, words};
+use site_table::SiteTable;
 use std::alloc::{AllocError, Global};
+use std::io;
 
 /// A text that is not taken yet, the tables, and a mount table.
 #[derive(Drop)]
 pub struct Rows {
-    text: String,
+    text: HeldText,
     calls: Option<Box<CallTable>>,
     site: Option<Box<SiteTable>>,
     table: MountTable,
@@ -21,66 +23,21 @@ impl Rows {
     /// Neither text nor tables, and a mount table of the root alone.
     pub fn new(alloc: Global) -> Result<Self, AllocError> {
         Ok(Rows {
-            text: String::new(alloc),
+            text: HeldText::new(alloc),
             calls: None,
             site: None,
             table: MountTable::new(alloc)?,
         })
     }
 
-    /// Adds a line to the text.
-    pub fn add(&mut self, line: &str) -> Result<(), AllocError> {
-        self.text.push_str(line)?;
-        self.text.push('\n')
-    }
-
-    /// What a row answers.
-    pub fn answer(&mut self, alloc: Global, row: &str) -> Result<String, AllocError> {
-        match row {
-            "calls" => self.take_calls(alloc),
-            "site" => self.take_site(alloc),
-            "questions" => self.list(alloc),
-            "table" => {
-                self.table = MountTable::new(alloc)?;
-                said(alloc, "1 entry")
-            }
-            row => {
-                let words = words(alloc, row)?;
-                reaching::answer(alloc, &mut self.table, words.as_slice())
-            }
-        }
-    }
-
     fn take_calls(&mut self, alloc: Global) -> Result<String, AllocError> {
-        self.calls = match read_calls(alloc, self.text.as_bytes()) {
-            Ok(calls) => Box::new(alloc, calls).ok(),
-            Err(_) => None,
-        };
-        self.text.clear();
-        said(
-            alloc,
-            if self.calls.is_some() {
-                "taken"
-            } else {
-                "refused"
-            },
-        )
+        self.calls = calls_of(alloc, self.text.take(alloc).as_str());
+        taken(alloc, self.calls.is_some())
     }
 
     fn take_site(&mut self, alloc: Global) -> Result<String, AllocError> {
-        self.site = match read_site(alloc, self.text.as_bytes()) {
-            Ok(site) => Box::new(alloc, site).ok(),
-            Err(_) => None,
-        };
-        self.text.clear();
-        said(
-            alloc,
-            if self.site.is_some() {
-                "taken"
-            } else {
-                "refused"
-            },
-        )
+        self.site = site_of(alloc, self.text.take(alloc).as_str());
+        taken(alloc, self.site.is_some())
     }
 
     // How many questions there are, and each of them on a line of its own.
@@ -96,4 +53,28 @@ impl Rows {
         }
         Ok(text)
     }
+}
+
+impl Follow for Rows {
+    fn follow(&mut self, alloc: Global, row: &str) -> io::Result<Shown> {
+        if self.text.holds(row)? {
+            return Ok(Shown::Nothing);
+        }
+        let words = words(alloc, row)?;
+        let answer = match words.as_slice() {
+            ["calls"] => self.take_calls(alloc),
+            ["site"] => self.take_site(alloc),
+            ["questions"] => self.list(alloc),
+            ["table"] => {
+                self.table = MountTable::new(alloc)?;
+                said(alloc, "1 entry")
+            }
+            words => reaching::answer(alloc, &mut self.table, words),
+        }?;
+        Ok(Shown::Answer(answer))
+    }
+}
+
+fn taken(alloc: Global, is_taken: bool) -> Result<String, AllocError> {
+    said(alloc, if is_taken { "taken" } else { "refused" })
 }

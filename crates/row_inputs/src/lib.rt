@@ -1,12 +1,13 @@
 //! Inputs of rows: a unit, a table of calls and a site, read from the texts of a table of rows.
 //!
 //! A unit is web.service with files of which the rows give the lines of the section of the service. It stands on the readers,
-//! `call_table`, `site_table` and `unit_grammar`: `inputs_of(alloc, calls, site, &["User=web"])` reads all three.
+//! `call_table`, `site_table` and `unit_grammar`: `inputs_of(alloc, calls, site, &["User=web"])` reads all three. `Texts` are
+//! the texts of tables that rows have given so far.
 #![tactic(auto)]
 
 use call_table::{CallTable, read_calls};
 use dropin_merge::{Resolved, UnitFile, UnitFiles};
-use row_text::text_of;
+use row_text::{HeldText, said, text_of};
 use site_table::{SiteTable, read_site};
 use std::alloc::{AllocError, Global};
 use unit_grammar::{Text, read_unit};
@@ -68,4 +69,40 @@ pub fn inputs_of(alloc: Global, calls: &str, site: &str, files: &[&str]) -> Opti
     let site = site_of(alloc, site)?;
     let unit = unit_of(alloc, files)?;
     Some(Inputs { unit, calls, site })
+}
+
+/// The texts of a table of calls and of a site, and a text that no row has taken yet.
+#[derive(Drop)]
+pub struct Texts {
+    pub held: HeldText,
+    pub calls: String,
+    pub site: String,
+}
+
+impl Texts {
+    /// Empty texts.
+    pub fn new(alloc: Global) -> Self {
+        Texts {
+            held: HeldText::new(alloc),
+            calls: String::new(alloc),
+            site: String::new(alloc),
+        }
+    }
+
+    /// Takes the held text as that of a table of calls.
+    pub fn take_calls(&mut self, alloc: Global) -> Result<String, AllocError> {
+        self.calls = self.held.take(alloc);
+        said(alloc, "held")
+    }
+
+    /// Takes the held text as that of a site.
+    pub fn take_site(&mut self, alloc: Global) -> Result<String, AllocError> {
+        self.site = self.held.take(alloc);
+        said(alloc, "held")
+    }
+
+    /// What is read from these texts and from these files of a unit, where none is refused.
+    pub fn inputs(&self, alloc: Global, files: &[&str]) -> Option<Inputs> {
+        inputs_of(alloc, self.calls.as_str(), self.site.as_str(), files)
+    }
 }

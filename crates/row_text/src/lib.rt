@@ -1,10 +1,16 @@
-//! Rows of calls as lines of text: the words of a row, and answers in words.
+//! Rows of calls as lines of text: the lines of a program of rows, the words of a row, and answers in words.
 //!
-//! The words of a row are parted by bars; `text_of` reads the escapes of a word, and `bytes_of` bytes in hex. It rests on
-//! `hex`.
+//! `follow_lines(&rt, &mut rows)` is the `main` of a program of rows, which is a `Follow`; a `HeldText` is a text that its lines
+//! hold. The words of a row are parted by bars; `text_of` reads the escapes of a word, and `bytes_of` bytes in hex. It rests
+//! on `hex`.
 #![tactic(auto)]
 
+mod held;
+mod lines;
+
+pub use held::HeldText;
 use hex::decode;
+pub use lines::{Follow, Shown, follow_line, follow_lines};
 use std::alloc::{AllocError, Global};
 
 /// The words of a row, which bars part.

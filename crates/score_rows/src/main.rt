@@ -10,34 +10,17 @@ mod rows;
 mod scored;
 
 use exposure_score::{CustomTest, Facts, ambient_count, writable_paths};
+use row_text::{follow_lines, said};
 use rows::Rows;
 use std::io;
 
 fn main(rt: HostRuntime) -> io::Result<()> {
     let alloc = rt.alloc();
-    let mut tests = Vec::new(alloc);
-    tests.push(CustomTest::new(
-        String::from_str(alloc, "AmbientCount")?,
-        41,
-        Box::new(alloc, |facts: &Facts| ambient_count(facts))?,
-    ))?;
-    tests.push(CustomTest::new(
-        String::from_str(alloc, "WritablePaths")?,
-        128,
-        Box::new(alloc, |facts: &Facts| writable_paths(facts))?,
-    ))?;
-    let mut rows = Rows::new(alloc);
-    for line in rt.lines(alloc) {
-        follow(&rt, &mut rows, &tests, line?.as_str())?;
-    }
-    Ok(())
-}
-
-// Prints a line, and behind a row what came out.
-fn follow(rt: &HostRuntime, rows: &mut Rows, tests: &[CustomTest], line: &str) -> io::Result<()> {
-    if line.starts_with('#') {
-        return rt.println(line);
-    }
-    let answer = rows.answer(rt.alloc(), tests, line)?;
-    println!(rt; "{line} -> {answer}")
+    let ambient = Box::new(alloc, |facts: &Facts| ambient_count(facts))?;
+    let paths = Box::new(alloc, |facts: &Facts| writable_paths(facts))?;
+    let tests = vec![in alloc;
+        CustomTest::new(said(alloc, "AmbientCount")?, 41, ambient),
+        CustomTest::new(said(alloc, "WritablePaths")?, 128, paths),
+    ]?;
+    follow_lines(&rt, &mut Rows::new(alloc, tests))
 }

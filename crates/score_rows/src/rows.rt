@@ -3,12 +3,14 @@ use crate::scored;
 use cap_sets::CapSet;
 use exposure_score::{CustomTest, Fact, FactId};
 use policy_file::{Policy, PolicyError, read_policy};
-use row_text::{number, number32, said, words};
+use row_text::{Follow, Shown, number, number32, said, words};
 use std::alloc::{AllocError, Global};
+use std::io;
 
-/// A policy, and the facts of a service.
+/// Stored tests, a policy, and the facts of a service.
 #[derive(Drop)]
 pub struct Rows {
+    stored: Vec<CustomTest>,
     policy: Option<Policy>,
     facts: Vec<Fact>,
     ambient: CapSet,
@@ -16,9 +18,10 @@ pub struct Rows {
 }
 
 impl Rows {
-    /// No policy and no facts.
-    pub fn new(alloc: Global) -> Self {
+    /// These stored tests, no policy and no facts.
+    pub fn new(alloc: Global, stored: Vec<CustomTest>) -> Self {
         Rows {
+            stored,
             policy: None,
             facts: Vec::new(alloc),
             ambient: CapSet::empty(),
@@ -26,15 +29,47 @@ impl Rows {
         }
     }
 
-    /// What a row answers.
-    pub fn answer(
-        &mut self,
-        alloc: Global,
-        tests: &[CustomTest],
-        row: &str,
-    ) -> Result<String, AllocError> {
+    fn read(&mut self, alloc: Global, bytes: &[u8]) -> Result<String, AllocError> {
+        match read_policy(alloc, bytes) {
+            Ok(policy) => {
+                let text = shown(alloc, &policy)?;
+                self.policy = Some(policy);
+                Ok(text)
+            }
+            Err(PolicyError::NotJson) => said(alloc, "json"),
+            Err(PolicyError::Field(id)) => format!(in alloc; "test {}", id.as_str()),
+            Err(PolicyError::TooMany) => said(alloc, "too-many"),
+            Err(PolicyError::Memory) => Err(AllocError),
+        }
+    }
+
+    // The score of the facts so far, which are gone then.
+    fn score(&mut self, alloc: Global) -> Result<String, AllocError> {
+        let Some(policy) = &self.policy else {
+            return said(alloc, "no policy");
+        };
+        let mut facts = Vec::new(alloc);
+        for fact in &self.facts {
+            facts.push(Fact {
+                id: FactId::new(alloc, fact.id.as_str())?,
+                badness: fact.badness,
+            })?;
+        }
+        scored::scored(
+            alloc,
+            policy,
+            facts,
+            self.ambient,
+            self.writable_paths,
+            self.stored.as_slice(),
+        )
+    }
+}
+
+impl Follow for Rows {
+    fn follow(&mut self, alloc: Global, row: &str) -> io::Result<Shown> {
         let words = words(alloc, row)?;
-        match words.as_slice() {
+        let answer = match words.as_slice() {
             ["policy", text] => self.read(alloc, text.as_bytes()),
             ["tests", count] => {
                 let text = many_tests(alloc, number(count))?;
@@ -55,45 +90,10 @@ impl Rows {
                 self.writable_paths = number32(count);
                 said(alloc, "known")
             }
-            ["score"] => self.score(alloc, tests),
+            ["score"] => self.score(alloc),
             _ => said(alloc, "no row"),
-        }
-    }
-
-    fn read(&mut self, alloc: Global, bytes: &[u8]) -> Result<String, AllocError> {
-        match read_policy(alloc, bytes) {
-            Ok(policy) => {
-                let text = shown(alloc, &policy)?;
-                self.policy = Some(policy);
-                Ok(text)
-            }
-            Err(PolicyError::NotJson) => said(alloc, "json"),
-            Err(PolicyError::Field(id)) => format!(in alloc; "test {}", id.as_str()),
-            Err(PolicyError::TooMany) => said(alloc, "too-many"),
-            Err(PolicyError::Memory) => Err(AllocError),
-        }
-    }
-
-    // The score of the facts so far, which are gone then.
-    fn score(&mut self, alloc: Global, tests: &[CustomTest]) -> Result<String, AllocError> {
-        let Some(policy) = &self.policy else {
-            return said(alloc, "no policy");
-        };
-        let mut facts = Vec::new(alloc);
-        for fact in &self.facts {
-            facts.push(Fact {
-                id: FactId::new(alloc, fact.id.as_str())?,
-                badness: fact.badness,
-            })?;
-        }
-        scored::scored(
-            alloc,
-            policy,
-            facts,
-            self.ambient,
-            self.writable_paths,
-            tests,
-        )
+        }?;
+        Ok(Shown::Answer(answer))
     }
 }
 

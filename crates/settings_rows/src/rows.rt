@@ -1,15 +1,14 @@
 //! The calls that rows name.
 use crate::{caps, described, facts, filters, ids, mentions, plans, units};
-use row_inputs::{Inputs, inputs_of};
-use row_text::said;
+use row_inputs::{Inputs, Texts};
+use row_text::{Follow, Shown, said, words};
 use std::alloc::{AllocError, Global};
+use std::io;
 
-/// The texts that rows have put together.
+/// The texts that rows have put together, that of the lines of a unit among them.
 #[derive(Drop)]
 pub struct Rows {
-    text: String,
-    calls: String,
-    site: String,
+    texts: Texts,
     unit: String,
 }
 
@@ -17,30 +16,48 @@ impl Rows {
     /// No texts.
     pub fn new(alloc: Global) -> Self {
         Rows {
-            text: String::new(alloc),
-            calls: String::new(alloc),
-            site: String::new(alloc),
+            texts: Texts::new(alloc),
             unit: String::new(alloc),
         }
     }
 
-    /// Puts a line behind the text.
-    pub fn hold(&mut self, line: &str) -> Result<(), AllocError> {
-        self.text.push_str(line)?;
-        self.text.push('\n')
+    fn of_unit(&self, alloc: Global, words: &[&str]) -> Result<String, AllocError> {
+        match &self.texts.inputs(alloc, &[self.unit.as_str()]) {
+            Some(inputs) => filters::answer(alloc, inputs, words),
+            None => said(alloc, "no unit"),
+        }
     }
 
-    /// What the call of a row answers.
-    pub fn answer(&mut self, alloc: Global, row: &str) -> Result<String, AllocError> {
-        let words = row_text::words(alloc, row)?;
-        self.answer_words(alloc, words.as_slice())
+    fn fact_of(&self, alloc: Global, id: &str, files: &[&str]) -> Result<String, AllocError> {
+        match &self.texts.inputs(alloc, files) {
+            Some(inputs) => facts::fact(alloc, inputs, id),
+            None => said(alloc, "no unit"),
+        }
     }
 
-    fn answer_words(&mut self, alloc: Global, words: &[&str]) -> Result<String, AllocError> {
-        match words {
-            ["calls"] => taken(alloc, &mut self.text, &mut self.calls),
-            ["site"] => taken(alloc, &mut self.text, &mut self.site),
-            ["unit"] => taken(alloc, &mut self.text, &mut self.unit),
+    fn of_files(&self, alloc: Global, ask: &str, files: &[&str]) -> Result<String, AllocError> {
+        match &self.texts.inputs(alloc, files) {
+            Some(inputs) => asked(alloc, ask, inputs),
+            None => said(alloc, "no unit"),
+        }
+    }
+
+    fn take_unit(&mut self, alloc: Global) -> Result<String, AllocError> {
+        self.unit = self.texts.held.take(alloc);
+        said(alloc, "held")
+    }
+}
+
+impl Follow for Rows {
+    fn follow(&mut self, alloc: Global, row: &str) -> io::Result<Shown> {
+        if self.texts.held.holds(row)? {
+            return Ok(Shown::Line);
+        }
+        let words = words(alloc, row)?;
+        let answer = match words.as_slice() {
+            ["calls"] => self.texts.take_calls(alloc),
+            ["site"] => self.texts.take_site(alloc),
+            ["unit"] => self.take_unit(alloc),
             ["no_new_privs", is_set, has_filter, uid, caps] => {
                 caps::no_new(alloc, is_set, has_filter, uid, caps)
             }
@@ -48,43 +65,9 @@ impl Rows {
             ["fact", id, files @ ..] => self.fact_of(alloc, id, files),
             [ask, files @ ..] => self.of_files(alloc, ask, files),
             _ => said(alloc, "no row"),
-        }
+        }?;
+        Ok(Shown::Answer(answer))
     }
-
-    fn of_unit(&self, alloc: Global, words: &[&str]) -> Result<String, AllocError> {
-        let inputs = inputs_of(
-            alloc,
-            self.calls.as_str(),
-            self.site.as_str(),
-            &[self.unit.as_str()],
-        );
-        match &inputs {
-            Some(inputs) => filters::answer(alloc, inputs, words),
-            None => said(alloc, "no unit"),
-        }
-    }
-
-    fn fact_of(&self, alloc: Global, id: &str, files: &[&str]) -> Result<String, AllocError> {
-        match &inputs_of(alloc, self.calls.as_str(), self.site.as_str(), files) {
-            Some(inputs) => facts::fact(alloc, inputs, id),
-            None => said(alloc, "no unit"),
-        }
-    }
-
-    fn of_files(&self, alloc: Global, ask: &str, files: &[&str]) -> Result<String, AllocError> {
-        match &inputs_of(alloc, self.calls.as_str(), self.site.as_str(), files) {
-            Some(inputs) => asked(alloc, ask, inputs),
-            None => said(alloc, "no unit"),
-        }
-    }
-}
-
-// Takes the text, which is then empty.
-fn taken(alloc: Global, text: &mut String, place: &mut String) -> Result<String, AllocError> {
-    place.clear();
-    place.push_str(text.as_str())?;
-    text.clear();
-    said(alloc, "held")
 }
 
 fn asked(alloc: Global, ask: &str, inputs: &Inputs) -> Result<String, AllocError> {

@@ -1,6 +1,6 @@
 //! What shelves and sinks answer, in words.
-use crate::rows::number;
 use host_io::{Shelf, Sink, write_whole};
+use row_text::number;
 use std::alloc::Global;
 use std::io;
 

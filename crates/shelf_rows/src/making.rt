@@ -1,5 +1,5 @@
 //! What rows make in the real folder.
-use crate::rows::number;
+use row_text::number;
 use std::os::unix::fs::{PermissionsExt, symlink};
 use std::rt::Files;
 use std::{fs, io};

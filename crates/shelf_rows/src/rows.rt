@@ -1,7 +1,8 @@
 //! The calls that rows name.
 use crate::{answers, making, memory, odd_names};
 use host_io::{DirShelf, MemShelf, MemSink, StdSink};
-use std::alloc::Global;
+use row_text::{Follow, Shown, number, words};
+use std::alloc::{AllocError, Global};
 use std::io;
 use std::io::{PipeReader, PipeWriter};
 use std::os::fd::AsRawFd;
@@ -10,6 +11,7 @@ use std::rt::Files;
 /// What the calls of rows are made to.
 #[derive(Drop)]
 pub struct Rows<R: Files + Print + AllocGlobal + Clone + Drop> {
+    rt: R,
     folder: DirShelf<R>,
     output: StdSink<R>,
     shelf: Option<MemShelf>,
@@ -19,51 +21,32 @@ pub struct Rows<R: Files + Print + AllocGlobal + Clone + Drop> {
 
 impl<R: Files + Print + AllocGlobal + Clone + Drop> Rows<R> {
     /// The current folder and the standard output, and nothing in memory.
-    pub fn new(rt: R, same: R) -> Self {
-        Rows {
-            folder: DirShelf::new(rt),
-            output: StdSink::new(same),
+    pub fn new(rt: &R) -> Result<Self, AllocError> {
+        Ok(Rows {
+            rt: rt.clone()?,
+            folder: DirShelf::new(rt.clone()?),
+            output: StdSink::new(rt.clone()?),
             shelf: None,
             sink: None,
             pipe: None,
-        }
-    }
-
-    /// What the call of a row answers.
-    pub fn answer(&mut self, rt: &R, row: &str) -> io::Result<String> {
-        let words: Vec<&str> = row.split('|').collect(rt.alloc())?;
-        self.answer_words(rt, words.as_slice())
-    }
-
-    fn answer_words(&mut self, rt: &R, words: &[&str]) -> io::Result<String> {
-        let alloc = rt.alloc();
-        match words {
-            ["make", rest @ ..] => self.make(rt, rest),
-            ["folder", rest @ ..] => answers::of_shelf(&mut self.folder, alloc, rest),
-            ["odd names", rest @ ..] => odd_names::of_shelf(rt, rest),
-            ["output", rest @ ..] => answers::of_sink(&mut self.output, alloc, rest),
-            ["hold", rest @ ..] => self.hold(alloc, rest),
-            ["files", rest @ ..] => memory::of_shelf(&mut self.shelf, alloc, rest),
-            ["sink", rest @ ..] => memory::of_sink(&mut self.sink, alloc, rest),
-            _ => answers::not_a_row(alloc),
-        }
+        })
     }
 
     // Makes something in the folder.
-    fn make(&mut self, rt: &R, words: &[&str]) -> io::Result<String> {
+    fn make(&mut self, alloc: Global, words: &[&str]) -> io::Result<String> {
         match words {
-            ["pipe", path] => self.make_pipe(rt, path),
-            _ => making::made(rt, words),
+            ["pipe", path] => self.make_pipe(alloc, path),
+            _ => making::made(&self.rt, words),
         }?;
-        answers::said(rt.alloc(), "made")
+        answers::said(alloc, "made")
     }
 
     // A link to a pipe whose ends are both open.
-    fn make_pipe(&mut self, rt: &R, path: &str) -> io::Result<()> {
-        let ends = io::pipe(rt)?;
-        let target = format!(in rt.alloc(); "/proc/self/fd/{}", ends.0.as_raw_fd())?;
+    fn make_pipe(&mut self, alloc: Global, path: &str) -> io::Result<()> {
+        let ends = io::pipe(&self.rt)?;
+        let target = format!(in alloc; "/proc/self/fd/{}", ends.0.as_raw_fd())?;
         self.pipe = Some(ends);
-        making::link(rt, target.as_str(), path)
+        making::link(&self.rt, target.as_str(), path)
     }
 
     // A new shelf or sink in memory.
@@ -82,7 +65,19 @@ impl<R: Files + Print + AllocGlobal + Clone + Drop> Rows<R> {
     }
 }
 
-/// The number of a word, or 0.
-pub fn number(word: &str) -> u64 {
-    word.parse::<u64>().unwrap_or(0)
+impl<R: Files + Print + AllocGlobal + Clone + Drop> Follow for Rows<R> {
+    fn follow(&mut self, alloc: Global, row: &str) -> io::Result<Shown> {
+        let words = words(alloc, row)?;
+        let answer = match words.as_slice() {
+            ["make", rest @ ..] => self.make(alloc, rest),
+            ["folder", rest @ ..] => answers::of_shelf(&mut self.folder, alloc, rest),
+            ["odd names", rest @ ..] => odd_names::of_shelf(&self.rt, rest),
+            ["output", rest @ ..] => answers::of_sink(&mut self.output, alloc, rest),
+            ["hold", rest @ ..] => self.hold(alloc, rest),
+            ["files", rest @ ..] => memory::of_shelf(&mut self.shelf, alloc, rest),
+            ["sink", rest @ ..] => memory::of_sink(&mut self.sink, alloc, rest),
+            _ => answers::not_a_row(alloc),
+        }?;
+        Ok(Shown::Answer(answer))
+    }
 }

@@ -2,25 +2,34 @@
 ghost use Rattle.std.specs.Prelude.{None};
 
 use crate::escapes::bytes_of;
-use crate::words::{number, said};
 use dropin_merge::{ResolveError, Resolved, resolve};
 use host_io::{MemShelf, Shelf, ShelfError, are_files};
+use row_text::{number, said};
 use std::alloc::{AllocError, Global};
-use std::io;
 use unit_grammar::{UnitError, UnitText, read_unit};
 
 /// Paths with the bytes of their files.
 pub type Files = Vec<(String, Vec<u8>)>;
 
 /// Puts a file behind the others.
-pub fn file(alloc: Global, files: &mut Files, path: &str, text: &str) -> io::Result<String> {
+pub fn file(
+    alloc: Global,
+    files: &mut Files,
+    path: &str,
+    text: &str,
+) -> Result<String, AllocError> {
     let bytes = bytes_of(alloc, text)?;
     files.push((String::from_str(alloc, path)?, bytes))?;
     said(alloc, "held")
 }
 
 /// Puts a file of so many bytes behind the others, a comment.
-pub fn large_file(alloc: Global, files: &mut Files, path: &str, count: u64) -> io::Result<String> {
+pub fn large_file(
+    alloc: Global,
+    files: &mut Files,
+    path: &str,
+    count: u64,
+) -> Result<String, AllocError> {
     let mut bytes = Vec::new(alloc);
     for _ in 0..count {
         bytes.push(b'#')?;
@@ -36,7 +45,7 @@ pub fn numbered(
     folder: &str,
     ending: &str,
     count: u64,
-) -> io::Result<String> {
+) -> Result<String, AllocError> {
     for number in 0..count {
         let path = format!(in alloc; "{folder}/{number}{ending}")?;
         files.push((path, b"[A]".to_vec(alloc)?))?;
@@ -79,10 +88,10 @@ pub fn unit_of(
 }
 
 // Its name and its files in force, each with its number of assignments, or the number of files where it is large.
-fn shown(alloc: Global, unit: &Resolved) -> io::Result<String> {
+fn shown(alloc: Global, unit: &Resolved) -> Result<String, AllocError> {
     let count = unit.files.list().len();
     if count > 10 {
-        return Ok(format!(in alloc; "{} {count} files", unit.name.text())?);
+        return format!(in alloc; "{} {count} files", unit.name.text());
     }
     let mut text = String::from_str(alloc, unit.name.text())?;
     for file in unit.files.list() {
@@ -94,15 +103,15 @@ fn shown(alloc: Global, unit: &Resolved) -> io::Result<String> {
 }
 
 // Why there are none, with the path of the file that is refused.
-fn refused(alloc: Global, error: &ResolveError) -> io::Result<String> {
+fn refused(alloc: Global, error: &ResolveError) -> Result<String, AllocError> {
     match error {
-        ResolveError::TooLarge(path) => Ok(format!(in alloc; "{}: {error}", path.as_str())?),
-        ResolveError::Text(path, _) => Ok(format!(in alloc; "{}: {error}", path.as_str())?),
-        _ => Ok(error.to_string(alloc)?),
+        ResolveError::TooLarge(path) => format!(in alloc; "{}: {error}", path.as_str()),
+        ResolveError::Text(path, _) => format!(in alloc; "{}: {error}", path.as_str()),
+        _ => error.to_string(alloc),
     }
 }
 
-fn resolved_over<S: Shelf>(alloc: Global, shelf: &mut S, name: &str) -> io::Result<String> {
+fn resolved_over<S: Shelf>(alloc: Global, shelf: &mut S, name: &str) -> Result<String, AllocError> {
     match &resolve(alloc, shelf, name) {
         Ok(unit) => shown(alloc, unit),
         Err(error) => refused(alloc, error),
@@ -115,7 +124,7 @@ pub fn resolved(
     files: &[(String, Vec<u8>)],
     name: &str,
     failing: u64,
-) -> io::Result<String> {
+) -> Result<String, AllocError> {
     let mut shelf = shelf_of(alloc, files, failing)?;
     resolved_over(alloc, &mut shelf, name)
 }
@@ -124,10 +133,10 @@ fn text_of(alloc: Global, text: &str) -> Result<UnitText, UnitError> {
     read_unit(alloc, bytes_of(alloc, text)?.as_slice())
 }
 
-fn longer(alloc: Global, unit: &Resolved, text: &str) -> io::Result<String> {
+fn longer(alloc: Global, unit: &Resolved, text: &str) -> Result<String, AllocError> {
     match text_of(alloc, text) {
         Ok(more) => shown(alloc, &unit.extended(alloc, more)?),
-        Err(error) => Ok(error.to_string(alloc)?),
+        Err(error) => error.to_string(alloc),
     }
 }
 
@@ -137,7 +146,7 @@ pub fn extended(
     files: &[(String, Vec<u8>)],
     name: &str,
     text: &str,
-) -> io::Result<String> {
+) -> Result<String, AllocError> {
     match &unit_of(alloc, files, name) {
         Ok(unit) => longer(alloc, unit, text),
         Err(error) => refused(alloc, error),
@@ -173,6 +182,6 @@ impl<'a> Shelf for Fickle<'a> {
 }
 
 /// What a unit resolves to over a shelf that has one file and lists another.
-pub fn resolved_over_fickle(alloc: Global, path: &str, name: &str) -> io::Result<String> {
+pub fn resolved_over_fickle(alloc: Global, path: &str, name: &str) -> Result<String, AllocError> {
     resolved_over(alloc, &mut Fickle { path }, name)
 }

@@ -1,8 +1,8 @@
 //! What a unit file says.
 use crate::escapes::bytes_of;
-use crate::words::{joined, number};
+use crate::words::joined;
+use row_text::number;
 use std::alloc::{AllocError, Global};
-use std::io;
 use unit_grammar::{
     Assignment, Assignments, Note, NoteCause, Notes, Text, UnitError, UnitText, read_unit,
 };
@@ -24,7 +24,7 @@ fn note(alloc: Global, note: Note) -> Result<String, AllocError> {
 }
 
 // Each assignment and each note.
-fn shown(alloc: Global, unit: &UnitText) -> io::Result<String> {
+fn shown(alloc: Global, unit: &UnitText) -> Result<String, AllocError> {
     let mut parts = Vec::new(alloc);
     for each in unit.assignments.list() {
         parts.push(assignment(alloc, each)?)?;
@@ -36,18 +36,18 @@ fn shown(alloc: Global, unit: &UnitText) -> io::Result<String> {
 }
 
 /// What a file says, or why it is refused.
-pub fn unit(alloc: Global, text: &str) -> io::Result<String> {
+pub fn unit(alloc: Global, text: &str) -> Result<String, AllocError> {
     match &read(alloc, text) {
         Ok(unit) => shown(alloc, unit),
-        Err(error) => Ok(error.to_string(alloc)?),
+        Err(error) => error.to_string(alloc),
     }
 }
 
 /// What a copy of it says.
-pub fn copied(alloc: Global, text: &str) -> io::Result<String> {
+pub fn copied(alloc: Global, text: &str) -> Result<String, AllocError> {
     match &read(alloc, text) {
         Ok(unit) => shown(alloc, &unit.copy(alloc)?),
-        Err(error) => Ok(error.to_string(alloc)?),
+        Err(error) => error.to_string(alloc),
     }
 }
 
@@ -62,11 +62,11 @@ fn crowd(alloc: Global, count: u64, rest: &[u8]) -> Result<Vec<u8>, AllocError> 
 }
 
 /// How many assignments a file has with so many in its last section, and then the rest.
-pub fn crowded(alloc: Global, count: &str, rest: &str) -> io::Result<String> {
+pub fn crowded(alloc: Global, count: &str, rest: &str) -> Result<String, AllocError> {
     let text = crowd(alloc, number(count), bytes_of(alloc, rest)?.as_slice())?;
     match &read_unit(alloc, text.as_slice()) {
-        Ok(unit) => Ok(format!(in alloc; "{} assignments", unit.assignments.list().len())?),
-        Err(error) => Ok(error.to_string(alloc)?),
+        Ok(unit) => format!(in alloc; "{} assignments", unit.assignments.list().len()),
+        Err(error) => error.to_string(alloc),
     }
 }
 
@@ -95,7 +95,7 @@ pub fn made(
     value: &str,
     line: &str,
     noted_at: &str,
-) -> io::Result<String> {
+) -> Result<String, AllocError> {
     let unit = UnitText {
         assignments: assigned(alloc, key, value, number(line))?,
         notes: noted(alloc, number(noted_at))?,

@@ -1,14 +1,14 @@
 //! Names of services, the folders of their drop-ins, and specifiers.
-use crate::words::{number, quoted, said};
-use std::alloc::Global;
-use std::io;
+use crate::words::quoted;
+use row_text::{number, said};
+use std::alloc::{AllocError, Global};
 use unit_names::{UnitName, dropin_folders, expand};
 
 // Its parts, by a copy.
-fn parts(alloc: Global, name: &UnitName) -> io::Result<String> {
+fn parts(alloc: Global, name: &UnitName) -> Result<String, AllocError> {
     let name = name.copy(alloc)?;
     let template = name.template(alloc)?;
-    Ok(format!(in alloc;
+    format!(in alloc;
         "{}, stem {}, prefix {}, instance {}, template {}",
         name.text(),
         name.stem(),
@@ -17,18 +17,18 @@ fn parts(alloc: Global, name: &UnitName) -> io::Result<String> {
         template
             .as_ref()
             .map_or("none", |template| template.as_str())
-    )?)
+    )
 }
 
 /// The parts of a name.
-pub fn name(alloc: Global, text: &str) -> io::Result<String> {
+pub fn name(alloc: Global, text: &str) -> Result<String, AllocError> {
     match &UnitName::read(alloc, text) {
         Ok(name) => parts(alloc, name),
-        Err(error) => Ok(error.to_string(alloc)?),
+        Err(error) => error.to_string(alloc),
     }
 }
 
-fn letters(alloc: Global, count: u64) -> io::Result<String> {
+fn letters(alloc: Global, count: u64) -> Result<String, AllocError> {
     let mut text = String::new(alloc);
     for _ in 0..count {
         text.push('a')?;
@@ -38,33 +38,33 @@ fn letters(alloc: Global, count: u64) -> io::Result<String> {
 }
 
 /// Whether so many letters and `.service` are a name.
-pub fn long_name(alloc: Global, count: &str) -> io::Result<String> {
+pub fn long_name(alloc: Global, count: &str) -> Result<String, AllocError> {
     let text = letters(alloc, number(count))?;
     match &UnitName::read(alloc, text.as_str()) {
         Ok(_) => said(alloc, "a name"),
-        Err(error) => Ok(error.to_string(alloc)?),
+        Err(error) => error.to_string(alloc),
     }
 }
 
 /// The folders of its drop-ins.
-pub fn folders(alloc: Global, text: &str) -> io::Result<String> {
+pub fn folders(alloc: Global, text: &str) -> Result<String, AllocError> {
     match &UnitName::read(alloc, text) {
-        Ok(name) => Ok(dropin_folders(alloc, name)?.join(alloc, " ")?),
-        Err(error) => Ok(error.to_string(alloc)?),
+        Ok(name) => dropin_folders(alloc, name)?.join(alloc, " "),
+        Err(error) => error.to_string(alloc),
     }
 }
 
-fn expanded_for(alloc: Global, name: &UnitName, value: &str) -> io::Result<String> {
+fn expanded_for(alloc: Global, name: &UnitName, value: &str) -> Result<String, AllocError> {
     match &expand(alloc, name, value) {
-        Ok(text) => Ok(quoted(alloc, text.as_str())?),
-        Err(error) => Ok(error.to_string(alloc)?),
+        Ok(text) => quoted(alloc, text.as_str()),
+        Err(error) => error.to_string(alloc),
     }
 }
 
 /// A value with its specifiers expanded.
-pub fn expanded(alloc: Global, text: &str, value: &str) -> io::Result<String> {
+pub fn expanded(alloc: Global, text: &str, value: &str) -> Result<String, AllocError> {
     match &UnitName::read(alloc, text) {
         Ok(name) => expanded_for(alloc, name, value),
-        Err(error) => Ok(error.to_string(alloc)?),
+        Err(error) => error.to_string(alloc),
     }
 }

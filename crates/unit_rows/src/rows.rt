@@ -1,9 +1,9 @@
 //! The calls that rows name.
 use crate::files::Files;
-use crate::words::{number, said};
 use crate::{files, grammar, names, values};
 use dropin_merge::Resolved;
-use std::alloc::Global;
+use row_text::{Follow, Shown, number, said, words};
+use std::alloc::{AllocError, Global};
 use std::io;
 
 /// The files that rows have put together.
@@ -20,26 +20,7 @@ impl Rows {
         }
     }
 
-    /// What the call of a row answers.
-    pub fn answer(&mut self, alloc: Global, row: &str) -> io::Result<String> {
-        let words: Vec<&str> = row.split('|').collect(alloc)?;
-        self.answer_words(alloc, words.as_slice())
-    }
-
-    fn answer_words(&mut self, alloc: Global, words: &[&str]) -> io::Result<String> {
-        match words {
-            ["text", rest @ ..] => of_text(alloc, rest),
-            ["name", rest @ ..] => of_name(alloc, rest),
-            ["files", rest @ ..] => self.hold(alloc, rest),
-            ["unit", rest @ ..] => of_files(alloc, self.files.as_slice(), rest),
-            ["key", name, rest @ ..] => of_key(alloc, self.files.as_slice(), name, rest),
-            ["split", text] => values::split(alloc, text),
-            ["split line", text] => values::split_line(alloc, text),
-            _ => no_row(alloc),
-        }
-    }
-
-    fn hold(&mut self, alloc: Global, words: &[&str]) -> io::Result<String> {
+    fn hold(&mut self, alloc: Global, words: &[&str]) -> Result<String, AllocError> {
         let files = &mut self.files;
         match words {
             ["none"] => {
@@ -56,7 +37,24 @@ impl Rows {
     }
 }
 
-fn of_text(alloc: Global, words: &[&str]) -> io::Result<String> {
+impl Follow for Rows {
+    fn follow(&mut self, alloc: Global, row: &str) -> io::Result<Shown> {
+        let words = words(alloc, row)?;
+        let answer = match words.as_slice() {
+            ["text", rest @ ..] => of_text(alloc, rest),
+            ["name", rest @ ..] => of_name(alloc, rest),
+            ["files", rest @ ..] => self.hold(alloc, rest),
+            ["unit", rest @ ..] => of_files(alloc, self.files.as_slice(), rest),
+            ["key", name, rest @ ..] => of_key(alloc, self.files.as_slice(), name, rest),
+            ["split", text] => values::split(alloc, text),
+            ["split line", text] => values::split_line(alloc, text),
+            _ => no_row(alloc),
+        }?;
+        Ok(Shown::Answer(answer))
+    }
+}
+
+fn of_text(alloc: Global, words: &[&str]) -> Result<String, AllocError> {
     match words {
         ["read", text] => grammar::unit(alloc, text),
         ["copy", text] => grammar::copied(alloc, text),
@@ -66,7 +64,7 @@ fn of_text(alloc: Global, words: &[&str]) -> io::Result<String> {
     }
 }
 
-fn of_name(alloc: Global, words: &[&str]) -> io::Result<String> {
+fn of_name(alloc: Global, words: &[&str]) -> Result<String, AllocError> {
     match words {
         ["read", text] => names::name(alloc, text),
         ["letters", count] => names::long_name(alloc, count),
@@ -76,7 +74,11 @@ fn of_name(alloc: Global, words: &[&str]) -> io::Result<String> {
     }
 }
 
-fn of_files(alloc: Global, files: &[(String, Vec<u8>)], words: &[&str]) -> io::Result<String> {
+fn of_files(
+    alloc: Global,
+    files: &[(String, Vec<u8>)],
+    words: &[&str],
+) -> Result<String, AllocError> {
     match words {
         ["resolve", name] => files::resolved(alloc, files, name, 0),
         ["fail", call, name] => files::resolved(alloc, files, name, number(call)),
@@ -91,14 +93,14 @@ fn of_key(
     files: &[(String, Vec<u8>)],
     name: &str,
     words: &[&str],
-) -> io::Result<String> {
+) -> Result<String, AllocError> {
     match &files::unit_of(alloc, files, name) {
         Ok(unit) => of_unit(alloc, unit, words),
-        Err(error) => Ok(error.to_string(alloc)?),
+        Err(error) => error.to_string(alloc),
     }
 }
 
-fn of_unit(alloc: Global, unit: &Resolved, words: &[&str]) -> io::Result<String> {
+fn of_unit(alloc: Global, unit: &Resolved, words: &[&str]) -> Result<String, AllocError> {
     match words {
         ["values", key] => values::values(alloc, unit, key),
         ["values in force", key] => values::values_in_force(alloc, unit, key),
@@ -111,6 +113,6 @@ fn of_unit(alloc: Global, unit: &Resolved, words: &[&str]) -> io::Result<String>
     }
 }
 
-fn no_row(alloc: Global) -> io::Result<String> {
+fn no_row(alloc: Global) -> Result<String, AllocError> {
     said(alloc, "no row")
 }

@@ -1,8 +1,8 @@
 //! What the files of a unit say of a key.
-use crate::words::{joined, quoted, said};
+use crate::words::{joined, quoted};
 use dropin_merge::Resolved;
+use row_text::said;
 use std::alloc::{AllocError, Global};
-use std::io;
 use unit_grammar::Text;
 use unit_values::{
     FileNote, Listed, Place, Value, flag_of_key, in_force, last_text_of_key, lines_of_key,
@@ -26,14 +26,14 @@ fn push_notes(
 }
 
 // What is said, and the notes behind it.
-fn with_notes(alloc: Global, what: String, notes: &[FileNote]) -> io::Result<String> {
+fn with_notes(alloc: Global, what: String, notes: &[FileNote]) -> Result<String, AllocError> {
     let mut parts = Vec::new(alloc);
     parts.push(what)?;
     push_notes(alloc, &mut parts, notes)?;
     joined(alloc, parts.as_slice())
 }
 
-fn shown_values(alloc: Global, values: &[Value]) -> io::Result<String> {
+fn shown_values(alloc: Global, values: &[Value]) -> Result<String, AllocError> {
     let mut parts = Vec::new(alloc);
     for value in values {
         let text = quoted(alloc, value.text.as_str())?;
@@ -51,27 +51,27 @@ fn shown_words(alloc: Global, words: &[Text]) -> Result<String, AllocError> {
 }
 
 /// Its values, and the notes on those that cannot be expanded.
-pub fn values(alloc: Global, unit: &Resolved, key: &str) -> io::Result<String> {
+pub fn values(alloc: Global, unit: &Resolved, key: &str) -> Result<String, AllocError> {
     let said = values_of_key(alloc, unit, key)?;
     let text = shown_values(alloc, said.what.as_slice())?;
     with_notes(alloc, text, said.notes.as_slice())
 }
 
 /// Its values behind the last empty one.
-pub fn values_in_force(alloc: Global, unit: &Resolved, key: &str) -> io::Result<String> {
+pub fn values_in_force(alloc: Global, unit: &Resolved, key: &str) -> Result<String, AllocError> {
     let said = values_of_key(alloc, unit, key)?;
     shown_values(alloc, in_force(said.what.as_slice()))
 }
 
 /// What it says as a boolean.
-pub fn flag(alloc: Global, unit: &Resolved, key: &str) -> io::Result<String> {
+pub fn flag(alloc: Global, unit: &Resolved, key: &str) -> Result<String, AllocError> {
     let said = flag_of_key(alloc, unit, key)?;
     let text = String::from_str(alloc, if said.what { "on" } else { "off" })?;
     with_notes(alloc, text, said.notes.as_slice())
 }
 
 /// Its last text.
-pub fn last_text(alloc: Global, unit: &Resolved, key: &str) -> io::Result<String> {
+pub fn last_text(alloc: Global, unit: &Resolved, key: &str) -> Result<String, AllocError> {
     let said = last_text_of_key(alloc, unit, key)?;
     with_notes(
         alloc,
@@ -81,7 +81,7 @@ pub fn last_text(alloc: Global, unit: &Resolved, key: &str) -> io::Result<String
 }
 
 /// Its words in force.
-pub fn words(alloc: Global, unit: &Resolved, key: &str) -> io::Result<String> {
+pub fn words(alloc: Global, unit: &Resolved, key: &str) -> Result<String, AllocError> {
     let said = words_of_key(alloc, unit, key)?;
     with_notes(
         alloc,
@@ -99,7 +99,7 @@ fn shown_line(alloc: Global, listed: &Listed) -> Result<String, AllocError> {
 }
 
 /// Its lines.
-pub fn lines(alloc: Global, unit: &Resolved, key: &str) -> io::Result<String> {
+pub fn lines(alloc: Global, unit: &Resolved, key: &str) -> Result<String, AllocError> {
     let said = lines_of_key(alloc, unit, key)?;
     let mut parts = Vec::new(alloc);
     for listed in &said.what {
@@ -110,7 +110,7 @@ pub fn lines(alloc: Global, unit: &Resolved, key: &str) -> io::Result<String> {
 }
 
 /// The assignments of its section `[Service]`.
-pub fn assignments(alloc: Global, unit: &Resolved) -> io::Result<String> {
+pub fn assignments(alloc: Global, unit: &Resolved) -> Result<String, AllocError> {
     let mut parts = Vec::new(alloc);
     for (place, assignment) in service_assignments(unit) {
         let text = format!(in alloc; "{}={}", assignment.key.as_str(), assignment.value.as_str())?;
@@ -120,20 +120,20 @@ pub fn assignments(alloc: Global, unit: &Resolved) -> io::Result<String> {
 }
 
 /// A text as words.
-pub fn split(alloc: Global, text: &str) -> io::Result<String> {
+pub fn split(alloc: Global, text: &str) -> Result<String, AllocError> {
     match &read_words(alloc, text)? {
-        Some(words) => Ok(shown_words(alloc, words.list())?),
+        Some(words) => shown_words(alloc, words.list()),
         None => said(alloc, "no words"),
     }
 }
 
 /// A text as a line.
-pub fn split_line(alloc: Global, text: &str) -> io::Result<String> {
+pub fn split_line(alloc: Global, text: &str) -> Result<String, AllocError> {
     match &read_line(alloc, text)? {
         Some(line) if line.is_inverted => {
-            Ok(format!(in alloc; "~ {}", shown_words(alloc, line.words.list())?)?)
+            format!(in alloc; "~ {}", shown_words(alloc, line.words.list())?)
         }
-        Some(line) => Ok(shown_words(alloc, line.words.list())?),
+        Some(line) => shown_words(alloc, line.words.list()),
         None => said(alloc, "no line"),
     }
 }

@@ -11,14 +11,15 @@ mod steps;
 mod tables;
 mod words;
 
+use row_text::follow_line;
 use rows::Rows;
 use std::io;
-use tables::{Tables, tables_of};
+use tables::tables_of;
 
 fn main(rt: HostRuntime) -> io::Result<()> {
     let lines = read_lines(&rt)?;
     match &tables_of(rt.alloc(), &lines) {
-        Some(tables) => answer_lines(&rt, tables, &lines),
+        Some(tables) => follow_all(&rt, &mut Rows::new(rt.alloc(), tables)?, &lines),
         None => rt.println("no tables"),
     }
 }
@@ -31,23 +32,9 @@ fn read_lines(rt: &HostRuntime) -> io::Result<Vec<String>> {
     Ok(lines)
 }
 
-fn answer_lines(rt: &HostRuntime, tables: &Tables, lines: &[String]) -> io::Result<()> {
-    let mut rows = Rows::new(rt.alloc(), tables)?;
+fn follow_all(rt: &HostRuntime, rows: &mut Rows<'_>, lines: &[String]) -> io::Result<()> {
     for line in lines {
-        answer_line(rt, &mut rows, line.as_str())?;
+        follow_line(rt, rows, line.as_str())?;
     }
     Ok(())
-}
-
-// Prints a line, and behind a call what came out.
-fn answer_line(rt: &HostRuntime, rows: &mut Rows<'_>, line: &str) -> io::Result<()> {
-    if line.starts_with('#') || line.starts_with("  ") {
-        return rt.println(line);
-    }
-    if line.starts_with("world ") {
-        rows.start(rt.alloc())?;
-        return rt.println(line);
-    }
-    let answer = rows.answer(rt.alloc(), line)?;
-    println!(rt; "{line} -> {answer}")
 }

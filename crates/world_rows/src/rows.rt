@@ -9,8 +9,9 @@ use kern_mounts::MountStep;
 use kernel_calls::Call;
 use kernel_model::{Reply, World};
 use linux_numbers::limits::MOUNT_MAX;
-use row_text::{number, said};
+use row_text::{Follow, Shown, number, said};
 use std::alloc::{AllocError, Global};
+use std::io;
 
 /// The world of a block, and the tables that it was told.
 #[derive(Drop)]
@@ -26,26 +27,6 @@ impl<'a> Rows<'a> {
             tables,
             world: World::start(alloc, &tables.calls, &tables.site)?,
         })
-    }
-
-    /// A fresh world.
-    pub fn start(&mut self, alloc: Global) -> Result<(), AllocError> {
-        self.world = World::start(alloc, &self.tables.calls, &self.tables.site)?;
-        Ok(())
-    }
-
-    /// What comes of a row.
-    pub fn answer(&mut self, alloc: Global, row: &str) -> Result<String, AllocError> {
-        let words: Vec<&str> = row.split(' ').collect(alloc)?;
-        match words.as_slice() {
-            ["calls"] | ["site"] => said(alloc, "taken"),
-            ["mount_step", step @ ..] => match &step_of(alloc, step) {
-                Some(step) => self.mount(alloc, step),
-                None => said(alloc, "no row"),
-            },
-            ["repeat", count, call @ ..] => self.call(alloc, number(count), call),
-            call => self.call(alloc, 1, call),
-        }
     }
 
     // Makes a call so many times, and says what came of the last.
@@ -70,6 +51,29 @@ impl<'a> Rows<'a> {
         }
         self.world.mount_step(alloc, 1, step)?;
         said(alloc, "mounted")
+    }
+}
+
+impl<'a> Follow for Rows<'a> {
+    fn follow(&mut self, alloc: Global, row: &str) -> io::Result<Shown> {
+        if row.starts_with("  ") {
+            return Ok(Shown::Line);
+        }
+        if row.starts_with("world ") {
+            self.world = World::start(alloc, &self.tables.calls, &self.tables.site)?;
+            return Ok(Shown::Line);
+        }
+        let words: Vec<&str> = row.split(' ').collect(alloc)?;
+        let answer = match words.as_slice() {
+            ["calls"] | ["site"] => said(alloc, "taken"),
+            ["mount_step", step @ ..] => match &step_of(alloc, step) {
+                Some(step) => self.mount(alloc, step),
+                None => said(alloc, "no row"),
+            },
+            ["repeat", count, call @ ..] => self.call(alloc, number(count), call),
+            call => self.call(alloc, 1, call),
+        }?;
+        Ok(Shown::Answer(answer))
     }
 }
 

@@ -1,6 +1,8 @@
 //! The tables that every world is told.
-use call_table::{CallTable, read_calls};
-use site_table::{SiteTable, read_site};
+use call_table::CallTable;
+use row_inputs::{calls_of, site_of};
+use row_text::HeldText;
+use site_table::SiteTable;
 use std::alloc::{AllocError, Global};
 
 /// A table of calls and a site.
@@ -11,43 +13,26 @@ pub struct Tables {
 }
 
 // The lines of text between a line, or the first one, and the line that takes them.
-fn text_before(alloc: Global, lines: &[String], taker: &str) -> Result<String, AllocError> {
-    let mut text = String::new(alloc);
+fn text_before(alloc: Global, lines: &[String], taker: &str) -> Result<HeldText, AllocError> {
+    let mut text = HeldText::new(alloc);
     for line in lines {
         if line.as_str() == taker {
             return Ok(text);
         }
-        push_line(&mut text, line.as_str())?;
+        // Every line that takes a text empties it.
+        if !text.holds(line.as_str())? && !line.as_str().starts_with('#') {
+            text = HeldText::new(alloc);
+        }
     }
     Ok(text)
 }
 
-// A line of text comes behind the others, and every line that takes a text empties it.
-fn push_line(text: &mut String, line: &str) -> Result<(), AllocError> {
-    if let Some(more) = line.strip_prefix("  ") {
-        text.push_str(more)?;
-        text.push('\n')?;
-    } else if !line.starts_with('#') {
-        text.clear();
-    }
-    Ok(())
-}
-
-fn calls_of(alloc: Global, lines: &[String]) -> Option<Box<CallTable>> {
-    let text = text_before(alloc, lines, "calls").ok()?;
-    let calls = read_calls(alloc, text.as_bytes()).ok()?;
-    Box::new(alloc, calls).ok()
-}
-
-fn site_of(alloc: Global, lines: &[String]) -> Option<Box<SiteTable>> {
-    let text = text_before(alloc, lines, "site").ok()?;
-    let site = read_site(alloc, text.as_bytes()).ok()?;
-    Box::new(alloc, site).ok()
-}
-
 /// The tables of the texts among the lines, where neither is refused.
 pub fn tables_of(alloc: Global, lines: &[String]) -> Option<Tables> {
-    let calls = calls_of(alloc, lines)?;
-    let site = site_of(alloc, lines)?;
-    Some(Tables { calls, site })
+    let calls = text_before(alloc, lines, "calls").ok()?;
+    let site = text_before(alloc, lines, "site").ok()?;
+    Some(Tables {
+        calls: calls_of(alloc, calls.as_str())?,
+        site: site_of(alloc, site.as_str())?,
+    })
 }

@@ -51,7 +51,11 @@ impl Files {
         0
     }
 
-    /// Follows a line that is no row.
+    /// Follows a line: `file PATH` begins a file, which is empty; `|TEXT` adds a line to the newest file, `>TEXT` a text, `nul` a
+    /// zero byte, `many N` so many letters, and `times N TEXT` so many lines, each `#` in it the number of the line, from 1.
+    /// `comment N` and `blanks N` fill it with `#` and with spaces until it has N bytes. `more PATH` goes on with a file. `files N
+    /// PATH TEXT` makes so many files of one line, each `#` in their paths the number of the file. `no-file PATH` takes a file
+    /// away, and `no-files FRONT` those whose paths begin so. Any other line changes nothing.
     pub fn follow(&mut self, alloc: Global, line: &str) -> Result<(), AllocError> {
         if let Some(text) = line.strip_prefix('|') {
             self.add(text.as_bytes())?;
@@ -62,6 +66,7 @@ impl Files {
         }
         match line.split_once(' ') {
             Some((step, rest)) => self.follow_step(alloc, step, rest),
+            None if line == "nul" => self.add(b"\0"),
             None => Ok(()),
         }
     }
@@ -69,34 +74,48 @@ impl Files {
     fn follow_step(&mut self, alloc: Global, step: &str, rest: &str) -> Result<(), AllocError> {
         match step {
             "file" => self.begin(alloc, rest),
-            "no-files" => {
-                self.remove(rest);
-                Ok(())
-            }
+            "more" => self.go_on(rest),
+            "many" => self.add_letters(number(rest)),
             "times" => self.add_lines(alloc, rest),
             "comment" => self.fill(number(rest), b'#'),
             "blanks" => self.fill(number(rest), b' '),
             "files" => self.add_files(alloc, rest),
+            "no-file" => {
+                self.remove(rest);
+                Ok(())
+            }
+            "no-files" => {
+                self.list.retain(|file| !file.0.as_str().starts_with(rest));
+                Ok(())
+            }
             _ => Ok(()),
         }
     }
 
     // A new file, which is empty, in the place of the one of this path.
     fn begin(&mut self, alloc: Global, path: &str) -> Result<(), AllocError> {
-        for at in 0..self.list.len() {
-            if self.list[at].0.as_str() == path {
-                self.list.remove(at);
-                break;
-            }
-        }
+        self.remove(path);
         self.list
             .push((String::from_str(alloc, path)?, Vec::new(alloc)))?;
         Ok(())
     }
 
-    // Takes away the files whose paths begin so.
-    fn remove(&mut self, front: &str) {
-        self.list.retain(|file| !file.0.as_str().starts_with(front));
+    // Goes on with a file: it becomes the newest.
+    fn go_on(&mut self, path: &str) -> Result<(), AllocError> {
+        match self.remove(path) {
+            Some(file) => Ok(self.list.push(file)?),
+            None => Ok(()),
+        }
+    }
+
+    // Takes the file of this path away.
+    fn remove(&mut self, path: &str) -> Option<(String, Vec<u8>)> {
+        for at in 0..self.list.len() {
+            if self.list[at].0.as_str() == path {
+                return Some(self.list.remove(at));
+            }
+        }
+        None
     }
 
     // Adds bytes to the newest file.
@@ -105,6 +124,14 @@ impl Files {
             Some(file) => file.1.extend_from_slice(bytes),
             None => Ok(()),
         }
+    }
+
+    // So many letters.
+    fn add_letters(&mut self, count: u64) -> Result<(), AllocError> {
+        for _ in 0..count {
+            self.add(b"a")?;
+        }
+        Ok(())
     }
 
     // Fills the newest file until it has so many bytes.
