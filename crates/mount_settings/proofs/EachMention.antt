@@ -1,5 +1,5 @@
 -- What holds of each mention that a protection brings, of folders and of what is written, holds of all.
-use Rattle.std.proofs.Common.{◌≡◌, Bool, true, false, cond, List, [], ◌∷◌, ◌++◌, map, refl, ap, ◌∙◌}
+use Rattle.std.proofs.Common.{◌≡◌, ℕ, zero, suc, Bool, true, false, cond, List, [], ◌∷◌, ◌++◌, get_or, map, refl, ap, ◌∙◌}
 use Rattle.std.specs.Prelude.{◌&&◌, not, filter}
 use Rattle.std.specs.List.{list_all}
 use Rattle.std.proofs.lemmas.List.Folds.{list_all-append, list_all-map}
@@ -22,41 +22,42 @@ use Rattle.mount_settings.specs.Table.{by_system, by_home, by_tmp, by_devices, b
 use Rattle.mount_settings.specs.Implied.{joined, by_files, by_kernel, by_folders, asked, implied}
 use Rattle.mount_settings.specs.Settings.{as_written, mentions_of}
 
+-- what each protection brings, group by group
+abbrev groups : List (List Mention)
+groups =
+    by_system Yes ∷ by_system Full ∷ by_system Strict ∷ by_home HomeYes ∷ by_home HomeReadOnly ∷ by_home Tmpfs
+    ∷ by_tmp true ∷ by_devices true ∷ by_tunables true ∷ by_modules true ∷ by_logs true ∷ by_control_groups true ∷ []
+
 -- it holds of what each protection brings
-pub record OfTable (q : Mention → Bool) : Type 0 where
-  pub system : list_all q (by_system Yes) ≡ true
-  pub system_full : list_all q (by_system Full) ≡ true
-  pub system_strict : list_all q (by_system Strict) ≡ true
-  pub home : list_all q (by_home HomeYes) ≡ true
-  pub home_read_only : list_all q (by_home HomeReadOnly) ≡ true
-  pub home_tmpfs : list_all q (by_home Tmpfs) ≡ true
-  pub tmp : list_all q (by_tmp true) ≡ true
-  pub devices : list_all q (by_devices true) ≡ true
-  pub tunables : list_all q (by_tunables true) ≡ true
-  pub modules : list_all q (by_modules true) ≡ true
-  pub logs : list_all q (by_logs true) ≡ true
-  pub control_groups : list_all q (by_control_groups true) ≡ true
+abbrev pub OfTable : (Mention → Bool) → Type 0
+OfTable q = list_all (list_all q) groups ≡ true
+
+pub both : (a b : Bool) → (a && b) ≡ true → (a ≡ true) × (b ≡ true)
+both true b e = (refl, e)
+both false b e = let bad : ⊥ = cc in absurd bad
+
+-- so it holds of one group
+of_group : (q : Mention → Bool) (i : ℕ) (xs : List (List Mention)) → list_all (list_all q) xs ≡ true → list_all q (get_or xs i []) ≡ true
+of_group q i [] of = refl
+of_group q zero (x ∷ xs) of = (both (list_all q x) (list_all (list_all q) xs) of).0
+of_group q (suc i) (x ∷ xs) of = of_group q i xs (both (list_all q x) (list_all (list_all q) xs) of).1
 
 of_system : (q : Mention → Bool) → OfTable q → (system : SystemProtection) → list_all q (by_system system) ≡ true
 of_system q of No = refl
-of_system q of Yes = of.system
-of_system q of Full = of.system_full
-of_system q of Strict = of.system_strict
+of_system q of Yes = of_group q 0 groups of
+of_system q of Full = of_group q 1 groups of
+of_system q of Strict = of_group q 2 groups of
 
 of_home : (q : Mention → Bool) → OfTable q → (home : HomeProtection) → list_all q (by_home home) ≡ true
 of_home q of HomeNo = refl
-of_home q of HomeYes = of.home
-of_home q of HomeReadOnly = of.home_read_only
-of_home q of Tmpfs = of.home_tmpfs
+of_home q of HomeYes = of_group q 3 groups of
+of_home q of HomeReadOnly = of_group q 4 groups of
+of_home q of Tmpfs = of_group q 5 groups of
 
 -- a switch brings nothing where it is off
 of_switch : (q : Mention → Bool) (by : Bool → List Mention) → list_all q (by false) ≡ true → list_all q (by true) ≡ true → (on : Bool) → list_all q (by on) ≡ true
 of_switch q by off on true = on
 of_switch q by off on false = off
-
-pub both : (a b : Bool) → (a && b) ≡ true → (a ≡ true) × (b ≡ true)
-both true b e = (refl, e)
-both false b e = let bad : ⊥ = cc in absurd bad
 
 of_picked : {X : Type 0} (p q : X → Bool) (xs : List X) → list_all q xs ≡ true → list_all q (filter p xs) ≡ true
 of_picked p q [] all = refl
@@ -79,9 +80,9 @@ pub of_implied : (q : Mention → Bool) → OfTable q → (site : Site) (switche
 unfolding implied
 of_implied q of site switches protections paths folders =
     let files = of_four q (by_system protections.protect_system) (by_home protections.protect_home) (by_tmp protections.private_tmp) (by_devices switches.private_devices)
-    (of_system q of protections.protect_system) (of_home q of protections.protect_home) (of_switch q by_tmp refl of.tmp protections.private_tmp) (of_switch q by_devices refl of.devices switches.private_devices) in
+    (of_system q of protections.protect_system) (of_home q of protections.protect_home) (of_switch q by_tmp refl (of_group q 6 groups of) protections.private_tmp) (of_switch q by_devices refl (of_group q 7 groups of) switches.private_devices) in
     let kernel = of_four q (by_tunables protections.protect_kernel_tunables) (by_modules switches.protect_kernel_modules) (by_logs switches.protect_kernel_logs) (by_control_groups protections.protect_control_groups)
-    (of_switch q by_tunables refl of.tunables protections.protect_kernel_tunables) (of_switch q by_modules refl of.modules switches.protect_kernel_modules) (of_switch q by_logs refl of.logs switches.protect_kernel_logs) (of_switch q by_control_groups refl of.control_groups protections.protect_control_groups) in
+    (of_switch q by_tunables refl (of_group q 8 groups of) protections.protect_kernel_tunables) (of_switch q by_modules refl (of_group q 9 groups of) switches.protect_kernel_modules) (of_switch q by_logs refl (of_group q 10 groups of) switches.protect_kernel_logs) (of_switch q by_control_groups refl (of_group q 11 groups of) protections.protect_control_groups) in
     let of_folders = of_four q (of_key StateDirectory paths) (of_key RuntimeDirectory paths) (of_key CacheDirectory paths) (of_key LogsDirectory paths)
     (folders StateDirectory refl) (folders RuntimeDirectory refl) (folders CacheDirectory refl) (folders LogsDirectory refl) in
     of_picked (stands site) q (asked switches protections paths)

@@ -13,27 +13,11 @@ use Rattle.mount_settings.specs.declared.protections.Switches.{Switches}
 use Rattle.mount_settings.specs.Written.{of_key, unit_written}
 use Rattle.mount_settings.specs.Effects.{stands}
 use Rattle.mount_settings.specs.Implied.{asked, implied}
-use Rattle.mount_settings.proofs.EachMention.{OfTable, of_implied}
+use Rattle.mount_settings.proofs.EachMention.{of_implied}
 use Rattle.mount_settings.proofs.KeyByKey.{words_in_force}
 
 abbrev are_optional : List Mention → Bool
 are_optional mentions = list_all (λ mention. mention.optional) mentions
-
-optional_table : OfTable (λ mention. mention.optional)
-optional_table = record {
-  system = refl;
-  system_full = refl;
-  system_strict = refl;
-  home = refl;
-  home_read_only = refl;
-  home_tmpfs = refl;
-  tmp = refl;
-  devices = refl;
-  tunables = refl;
-  modules = refl;
-  logs = refl;
-  control_groups = refl;
-}
 
 word_optional : (key : PathKey) (word : List ℕ) (rest : List Mention) → is_implied key ≡ true → are_optional rest ≡ true → are_optional (cons_option (mention_of key word) rest) ≡ true
 word_optional key word rest implies all =
@@ -51,7 +35,7 @@ folders_optional unit key implies = ap are_optional (words_in_force unit key) �
 
 pub implied_are_optional : (site : Site) (switches : Switches) (protections : Protections) (unit : Resolved) → are_optional (implied site switches protections (unit_written unit)) ≡ true
 implied_are_optional site switches protections unit =
-    of_implied (λ mention. mention.optional) optional_table site switches protections (unit_written unit) (folders_optional unit)
+    of_implied (λ mention. mention.optional) refl site switches protections (unit_written unit) (folders_optional unit)
 
 filter_all : (p : Mention → Bool) (xs : List Mention) → list_all p (filter p xs) ≡ true
 filter_all p [] = refl

@@ -14,42 +14,10 @@ use Rattle.mount_settings.specs.declared.protections.Switches.{Switches}
 use Rattle.mount_settings.specs.Assigned.{is_key}
 use Rattle.mount_settings.specs.Roots.{mentions_root, root_key, is_as_its_key, AreRead}
 use Rattle.mount_settings.specs.Settings.{mentions_of}
-use Rattle.mount_settings.proofs.EachMention.{OfTable, both, of_all}
+use Rattle.mount_settings.proofs.EachMention.{both, of_all}
 
 abbrev leaves : Mention → Bool
 leaves mention = not (is_root mention.path && is_origin mention.kind)
-
-leaves_table : OfTable leaves
-leaves_table = record {
-  system = refl;
-  system_full = refl;
-  system_strict = refl;
-  home = refl;
-  home_read_only = refl;
-  home_tmpfs = refl;
-  tmp = refl;
-  devices = refl;
-  tunables = refl;
-  modules = refl;
-  logs = refl;
-  control_groups = refl;
-}
-
-short_table : OfTable is_short
-short_table = record {
-  system = refl;
-  system_full = refl;
-  system_strict = refl;
-  home = refl;
-  home_read_only = refl;
-  home_tmpfs = refl;
-  tmp = refl;
-  devices = refl;
-  tunables = refl;
-  modules = refl;
-  logs = refl;
-  control_groups = refl;
-}
 
 -- a path that is as its key says, and none of the four keys is at the root
 one_leaves : (root origin a b c d : Bool) → (a && root) ≡ false → (b && root) ≡ false → (c && root) ≡ false → (d && root) ≡ false → (not origin || (a || (b || (c || (d || false))))) ≡ true → not (root && origin) ≡ true
@@ -91,8 +59,8 @@ no_root paths none fit =
 
 -- no mention says what stands at the root
 pub mentions_leave : (site : Site) (switches : Switches) (protections : Protections) (paths : List WrittenPath) → AreRead paths → root_key paths ≡ None → leaves_the_root (mentions_of site switches protections paths) ≡ true
-mentions_leave site switches protections paths read none = of_all leaves leaves_table site switches protections paths (no_root paths none read.as_their_keys)
+mentions_leave site switches protections paths read none = of_all leaves refl site switches protections paths (no_root paths none read.as_their_keys)
 
 -- each has at most 250 bytes
 pub mentions_are_short : (site : Site) (switches : Switches) (protections : Protections) (paths : List WrittenPath) → AreRead paths → AreShort (mentions_of site switches protections paths)
-mentions_are_short site switches protections paths read = of_all is_short short_table site switches protections paths read.short
+mentions_are_short site switches protections paths read = of_all is_short refl site switches protections paths read.short

@@ -33,6 +33,7 @@ unfolding bool_value is_one_of
 home_tmpfs = refl
 
 tmp_disconnected : is_tmp_on (codes "disconnected") ≡ Some true
+unfolding bool_value is_one_of
 tmp_disconnected = refl
 
 at : ℕ → PathKey → List ℕ → Assigned

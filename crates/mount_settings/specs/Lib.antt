@@ -3,6 +3,7 @@ pub mod Written
 pub mod Notes
 pub mod Steps
 pub mod Roots
+pub mod Choices
 pub mod System
 pub mod Home
 pub mod Tmp

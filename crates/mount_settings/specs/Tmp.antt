@@ -1,17 +1,15 @@
 -- systemd.exec(5), PrivateTmp=: whether the service has folders for temporary files of its own.
-use Rattle.std.specs.Prelude.{ℕ, Bool, true, false, if◌then◌else◌, codes, List, [], ◌∷◌, Option, Some}
+use Rattle.std.specs.Prelude.{ℕ, Bool, true, false, codes, List, [], ◌∷◌, Option}
 use Rattle.std.specs.Option.{option_map}
-use Rattle.std.specs.Str.{bytes_eq}
-use Rattle.text_forms.specs.Booleans.{bool_value}
 use Rattle.dropin_merge.specs.declared.resolved.Resolved.{Resolved}
 use Rattle.unit_values.specs.declared.value.FileNote.{FileNote}
 use Rattle.unit_values.specs.Lasting.{unit_last, unit_last_notes}
 use Rattle.mount_settings.specs.declared.tmp.PrivateTmp.{PrivateTmp}
+use Rattle.mount_settings.specs.Choices.{choice}
 
 -- a boolean, or `disconnected`, which is true; an empty value is the default, which is no
 abbrev pub is_tmp_on : List ℕ → Option Bool
-is_tmp_on [] = Some false
-is_tmp_on (byte ∷ text) = if bytes_eq (byte ∷ text) (codes "disconnected") then Some true else bool_value (byte ∷ text)
+is_tmp_on text = choice false true ((codes "disconnected", true) ∷ []) text
 
 abbrev pub tmp_value : List ℕ → Option PrivateTmp
 tmp_value text = option_map (λ on. record { on = on }) (is_tmp_on text)

@@ -1,7 +1,7 @@
 //! ProtectHome=: what is seen of the homes of users (systemd.exec(5)).
 ghost use Rattle.mount_settings.specs.Home.{home_value};
 
-use text_forms::read_bool;
+use crate::choices::read_choice;
 use unit_values::KeyValue;
 
 /// What a service sees of the homes of users: of `/home`, `/root` and `/run/user`.
@@ -22,17 +22,10 @@ impl KeyValue for HomeProtection {
     ghost reads = { home_value };
 
     fn read(text: &str) -> Option<HomeProtection> {
-        if text.is_empty() {
-            return Some(HomeProtection::No);
-        }
-        match read_bool(text) {
-            Some(true) => Some(HomeProtection::Yes),
-            Some(false) => Some(HomeProtection::No),
-            None => match text {
-                "read-only" => Some(HomeProtection::ReadOnly),
-                "tmpfs" => Some(HomeProtection::Tmpfs),
-                _ => None,
-            },
-        }
+        let words = [
+            ("read-only", HomeProtection::ReadOnly),
+            ("tmpfs", HomeProtection::Tmpfs),
+        ];
+        read_choice(text, HomeProtection::No, HomeProtection::Yes, &words)
     }
 }

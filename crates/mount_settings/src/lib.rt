@@ -8,6 +8,7 @@
 #![tactic(auto)]
 
 mod assigned;
+mod choices;
 mod effects;
 mod error;
 mod home;

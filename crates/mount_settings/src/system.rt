@@ -1,7 +1,7 @@
 //! ProtectSystem=: how much of the system is read-only (systemd.exec(5)).
 ghost use Rattle.mount_settings.specs.System.{system_value};
 
-use text_forms::read_bool;
+use crate::choices::read_choice;
 use unit_values::KeyValue;
 
 /// How much of the system is read-only for a service.
@@ -22,17 +22,10 @@ impl KeyValue for SystemProtection {
     ghost reads = { system_value };
 
     fn read(text: &str) -> Option<SystemProtection> {
-        if text.is_empty() {
-            return Some(SystemProtection::No);
-        }
-        match read_bool(text) {
-            Some(true) => Some(SystemProtection::Yes),
-            Some(false) => Some(SystemProtection::No),
-            None => match text {
-                "full" => Some(SystemProtection::Full),
-                "strict" => Some(SystemProtection::Strict),
-                _ => None,
-            },
-        }
+        let words = [
+            ("full", SystemProtection::Full),
+            ("strict", SystemProtection::Strict),
+        ];
+        read_choice(text, SystemProtection::No, SystemProtection::Yes, &words)
     }
 }
