@@ -1,6 +1,6 @@
 -- Lists that are made part by part.
 use Rattle.std.proofs.Common.{◌≡◌, ℕ, ◌+◌, ◌<◌, ◌≤◌, Bool, Option, List, [], ◌∷◌, ◌++◌, length, take, get_or, map, Bor, sym, ap, ◌∙◌, arith, append_assoc, append-nil, length-append}
-use Rattle.std.specs.Prelude.{not, filter, Result, Ok, Err, OnOk}
+use Rattle.std.specs.Prelude.{filter, Result, Ok, Err, OnOk}
 use Rattle.std.specs.declared.alloc.AllocError.{AllocError}
 use Rattle.std.specs.List.{filter_map, cons_option}
 use Rattle.std.proofs.lemmas.List.{map-append, get_or_default}
@@ -8,15 +8,12 @@ use Rattle.std.proofs.lemmas.List.Elements.{filter-append, filter_map-append}
 use Rattle.unit_values.proofs.OneMore.{take_item}
 use Rattle.path_settings.specs.declared.keys.PathKey.{PathKey}
 use Rattle.path_settings.specs.declared.mentions.Mention.{Mention}
-use Rattle.path_settings.specs.Keys.{is_implied}
-use Rattle.site_table.specs.Table.{Site}
 use Rattle.mount_settings.specs.declared.written.WrittenPath.{WrittenPath}
 use Rattle.mount_settings.specs.Assigned.{is_key}
 use Rattle.mount_settings.specs.Written.{of_key}
 use Rattle.mount_settings.specs.declared.effects.Effect.{Effect}
-use Rattle.mount_settings.specs.Effects.{mention_at, brings, stands}
+use Rattle.mount_settings.specs.Effects.{mention_at, brings}
 use Rattle.mount_settings.specs.Implied.{joined}
-use Rattle.mount_settings.specs.Settings.{as_written}
 
 -- one more part of what is made
 pub part_more : {X Y : Type 0} (g : List X → List Y) (adds : (xs ys : List X) → g (xs ++ ys) ≡ g xs ++ g ys) (xs : List X) (i : ℕ) (x : X) (old now next : List Y) → i < length xs → x ≡ get_or xs i x → now ≡ old ++ g (take i xs) → next ≡ now ++ g (x ∷ []) → next ≡ old ++ g (take (i + 1) xs)
@@ -34,14 +31,6 @@ of_key_adds key xs ys =
     ap (map (λ path. path.mention)) (filter-append (λ path. is_key path.key key) xs ys)
     ∙ map-append (λ path. path.mention) (filter (λ path. is_key path.key key) xs) (filter (λ path. is_key path.key key) ys)
 
-pub folders_add : (site : Site) (key : PathKey) (xs ys : List WrittenPath) → filter (stands site) (of_key key (xs ++ ys)) ≡ filter (stands site) (of_key key xs) ++ filter (stands site) (of_key key ys)
-folders_add site key xs ys = ap (filter (stands site)) (of_key_adds key xs ys) ∙ filter-append (stands site) (of_key key xs) (of_key key ys)
-
-pub as_written_adds : (xs ys : List WrittenPath) → as_written (xs ++ ys) ≡ as_written xs ++ as_written ys
-as_written_adds xs ys =
-    ap (map (λ path. path.mention)) (filter-append (λ path. not (is_implied path.key)) xs ys)
-    ∙ map-append (λ path. path.mention) (filter (λ path. not (is_implied path.key)) xs) (filter (λ path. not (is_implied path.key)) ys)
-
 -- two parts behind one another
 pub two_brought : (p : Mention → Bool) (xs ys old now next : List Mention) → now ≡ old ++ filter p xs → next ≡ now ++ filter p ys → next ≡ old ++ filter p (xs ++ ys)
 two_brought p xs ys old now next first second =
@@ -55,6 +44,9 @@ pub four_brought : (p : Mention → Bool) (q r s t old a b c d : List Mention) �
 four_brought p q r s t old a b c d to_a to_b to_c to_d =
     two_brought p q (r ++ (s ++ (t ++ []))) old a d to_a
     (two_brought p r (s ++ (t ++ [])) a b d to_b (two_brought p s (t ++ []) b c d to_c (to_d ∙ ap (λ zs. c ++ filter p zs) (sym (append-nil t)))))
+
+pub three_joined : (q r s t : List Mention) → q ++ (r ++ (s ++ t)) ≡ (q ++ (r ++ s)) ++ t
+three_joined q r s t = ap (λ xs. q ++ xs) (sym (append_assoc r s t)) ∙ sym (append_assoc q (r ++ s) t)
 
 -- one mention moved from what is left to what is listed
 pub moved : (list rest left all : List Mention) (mention : Mention) → rest ≡ mention ∷ left → list ++ rest ≡ all → (list ++ mention ∷ []) ++ left ≡ all
@@ -70,10 +62,10 @@ texts_add p effect xs ys =
     ∙ brought_adds p (mention_at effect) (map (λ text. text.now) xs) (map (λ text. text.now) ys)
 
 -- one more text
-pub text_more : (p : Mention → Bool) (effect : Effect) (xs : List (Bor (List ℕ))) (i : ℕ) (d : Bor (List ℕ)) (mention : Option Mention) (old now next : List Mention) → i < length xs → mention ≡ mention_at effect (get_or xs i d).now → now ≡ old ++ filter p (brings effect (map (λ text. text.now) (take i xs))) → next ≡ now ++ filter p (cons_option mention []) → next ≡ old ++ filter p (brings effect (map (λ text. text.now) (take (i + 1) xs)))
-text_more p effect xs i d mention old now next lt is before step =
+pub text_more : (p : Mention → Bool) (effect : Effect) (xs : List (Bor (List ℕ))) (i : ℕ) (d : Bor (List ℕ)) (old now next : List Mention) → i < length xs → now ≡ old ++ filter p (brings effect (map (λ text. text.now) (take i xs))) → next ≡ now ++ filter p (cons_option (mention_at effect (get_or xs i d).now) []) → next ≡ old ++ filter p (brings effect (map (λ text. text.now) (take (i + 1) xs)))
+text_more p effect xs i d old now next lt before step =
     part_more (λ (texts : List (Bor (List ℕ))). filter p (brings effect (map (λ text. text.now) texts))) (texts_add p effect) xs i (get_or xs i d) old now next lt
-    (get_or_default xs i d (get_or xs i d) lt) before (step ∙ ap (λ m. now ++ filter p (cons_option m [])) is)
+    (get_or_default xs i d (get_or xs i d) lt) before step
 
 -- two parts, where the second may fail
 pub then_brought : (p : Mention → Bool) (xs ys old now next : List Mention) (result : Result (Unit {0}) AllocError) → now ≡ old ++ filter p xs → OnOk result (next ≡ now ++ filter p ys) → OnOk result (next ≡ old ++ filter p (xs ++ ys))

@@ -1,10 +1,12 @@
 -- The paths that each protection speaks of (systemd.exec(5), Sandboxing), in the order of the manual's table.
-use Rattle.std.specs.Prelude.{ℕ, Bool, true, false, codes, List, [], ◌∷◌, ◌++◌}
+use Rattle.std.specs.Prelude.{ℕ, Bool, true, false, if◌then◌else◌, codes, List, [], ◌∷◌, ◌++◌, map}
+use denote.Ref.{Bor}
 use Rattle.path_settings.specs.declared.mentions.Mention.{Mention}
 use Rattle.mount_settings.specs.declared.system.SystemProtection.{SystemProtection}
 use Rattle.mount_settings.specs.declared.system.SystemProtection.TheVariants.{No, Yes, Full, Strict}
 use Rattle.mount_settings.specs.declared.home.HomeProtection.{HomeProtection}
 use Rattle.mount_settings.specs.declared.home.HomeProtection.TheVariants.{No as HomeNo, Yes as HomeYes, ReadOnly as HomeReadOnly, Tmpfs}
+use Rattle.mount_settings.specs.declared.effects.Effect.{Effect}
 use Rattle.mount_settings.specs.declared.effects.Effect.TheVariants.{ReadOnly, Writable, NotExecutable, Hidden, Empty, Shown}
 use Rattle.mount_settings.specs.Effects.{brings}
 
@@ -25,37 +27,48 @@ by_home HomeYes = brings Hidden homes
 by_home HomeReadOnly = brings ReadOnly homes
 by_home Tmpfs = brings (Empty true) homes
 
+-- what an effect at paths brings, where it is on
+abbrev pub when : Bool → Effect → List (List ℕ) → List Mention
+when on effect texts = if on then brings effect texts else []
+
+-- one group of a table: whether it is on, its effect and its paths
+abbrev pub by_group : Bool × Effect × Bor (List (Bor (List ℕ))) → List Mention
+by_group group = when group.0 group.1 (map (λ text. text.now) group.2.now)
+
 -- PrivateTmp=: folders for temporary files of the service's own
 abbrev pub by_tmp : Bool → List Mention
-by_tmp false = []
-by_tmp true = brings (Empty false) (codes "/tmp" ∷ codes "/var/tmp" ∷ [])
+by_tmp on = when on (Empty false) (codes "/tmp" ∷ codes "/var/tmp" ∷ [])
+
+abbrev pub devices : List (List ℕ)
+devices = codes "/dev" ∷ []
+
+abbrev pub harmless_devices : List (List ℕ)
+harmless_devices = codes "/dev/null" ∷ codes "/dev/zero" ∷ codes "/dev/full" ∷ codes "/dev/random" ∷ codes "/dev/urandom" ∷ codes "/dev/tty" ∷ []
 
 -- PrivateDevices=: an empty folder of devices, with those in it that stand for no hardware
 abbrev pub by_devices : Bool → List Mention
-by_devices false = []
-by_devices true =
-    brings (Empty true) (codes "/dev" ∷ []) ++ (brings NotExecutable (codes "/dev" ∷ [])
-    ++ brings Shown (codes "/dev/null" ∷ codes "/dev/zero" ∷ codes "/dev/full" ∷ codes "/dev/random" ∷ codes "/dev/urandom" ∷ codes "/dev/tty" ∷ []))
+by_devices on = when on (Empty true) devices ++ (when on NotExecutable devices ++ when on Shown harmless_devices)
+
+abbrev pub tunables : List (List ℕ)
+tunables =
+    codes "/proc/sys" ∷ codes "/sys" ∷ codes "/proc/sysrq-trigger" ∷ codes "/proc/latency_stats" ∷ codes "/proc/acpi"
+    ∷ codes "/proc/timer_stats" ∷ codes "/proc/fs" ∷ codes "/proc/irq" ∷ []
+
+abbrev pub memory : List (List ℕ)
+memory = codes "/proc/kallsyms" ∷ codes "/proc/kcore" ∷ []
 
 -- ProtectKernelTunables=: the kernel's variables are read-only, and its symbols and memory hidden
 abbrev pub by_tunables : Bool → List Mention
-by_tunables false = []
-by_tunables true =
-    brings ReadOnly (codes "/proc/sys" ∷ codes "/sys" ∷ codes "/proc/sysrq-trigger" ∷ codes "/proc/latency_stats" ∷ codes "/proc/acpi"
-    ∷ codes "/proc/timer_stats" ∷ codes "/proc/fs" ∷ codes "/proc/irq" ∷ [])
-    ++ brings Hidden (codes "/proc/kallsyms" ∷ codes "/proc/kcore" ∷ [])
+by_tunables on = when on ReadOnly tunables ++ when on Hidden memory
 
 -- ProtectKernelModules=
 abbrev pub by_modules : Bool → List Mention
-by_modules false = []
-by_modules true = brings Hidden (codes "/usr/lib/modules" ∷ [])
+by_modules on = when on Hidden (codes "/usr/lib/modules" ∷ [])
 
 -- ProtectKernelLogs=
 abbrev pub by_logs : Bool → List Mention
-by_logs false = []
-by_logs true = brings Hidden (codes "/proc/kmsg" ∷ codes "/dev/kmsg" ∷ [])
+by_logs on = when on Hidden (codes "/proc/kmsg" ∷ codes "/dev/kmsg" ∷ [])
 
 -- ProtectControlGroups=
 abbrev pub by_control_groups : Bool → List Mention
-by_control_groups false = []
-by_control_groups true = brings ReadOnly (codes "/sys/fs/cgroup" ∷ [])
+by_control_groups on = when on ReadOnly (codes "/sys/fs/cgroup" ∷ [])

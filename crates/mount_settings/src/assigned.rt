@@ -1,9 +1,9 @@
 //! The written paths, assignment by assignment.
 ghost use Rattle.std.specs.Prelude.{◌≡◌, ◌++◌, [], IfOk, OnOk};
 ghost use Rattle.std.specs.List.{cons_option};
-ghost use Rattle.mount_settings.specs.Assigned.{key_of, given_to, assigned_by};
+ghost use Rattle.mount_settings.specs.Assigned.{assigned_by};
 ghost use Rattle.mount_settings.specs.Written.{unit_written};
-ghost use Rattle.mount_settings.specs.Notes.{given_notes, notes_by, written_notes};
+ghost use Rattle.mount_settings.specs.Notes.{notes_by, written_notes};
 ghost use Rattle.mount_settings.specs.Steps.{after};
 
 use crate::written::{WrittenPath, WrittenPaths, add_value};
@@ -13,33 +13,6 @@ use std::alloc::{AllocError, Global};
 use unit_grammar::Assignment;
 use unit_names::UnitName;
 use unit_values::{FileNote, Place, Said, service_assignments, value_at};
-
-// The key of an assignment, where it speaks of paths.
-fn key_of(assignment: &Assignment) -> Option<PathKey>
-    ensures { result ≡ key_of assignment.now }
-{
-    PathKey::named(assignment.key.as_str())
-}
-
-// What an assignment to a key that speaks of paths does to the paths so far.
-fn add_given(
-    alloc: Global,
-    name: &UnitName,
-    place: Place,
-    assignment: &Assignment,
-    key: PathKey,
-    paths: &mut Vec<WrittenPath>,
-    notes: &mut Vec<FileNote>,
-) -> Result<(), AllocError>
-    ensures means { OnOk result (paths.new.items ≡ after paths.old.items (cons_option (given_to name.now (place, assignment.now) key) [])) }
-    ensures noted { OnOk result (notes.new.items ≡ notes.old.items ++ given_notes name.now (place, assignment.now) key) }
-{
-    let value = value_at(alloc, name, place, assignment)?;
-    match value.noted_in(notes)? {
-        Some(value) => add_value(alloc, key, &value, paths, notes),
-        None => Ok(()),
-    }
-}
 
 // What an assignment does to the paths so far.
 fn add_assigned(
@@ -53,8 +26,12 @@ fn add_assigned(
     ensures means { OnOk result (paths.new.items ≡ after paths.old.items (cons_option (assigned_by name.now (place, assignment.now)) [])) }
     ensures noted { OnOk result (notes.new.items ≡ notes.old.items ++ notes_by name.now (place, assignment.now)) }
 {
-    match key_of(assignment) {
-        Some(key) => add_given(alloc, name, place, assignment, key, paths, notes),
+    let Some(key) = PathKey::named(assignment.key.as_str()) else {
+        return Ok(());
+    };
+    let value = value_at(alloc, name, place, assignment)?;
+    match value.noted_in(notes)? {
+        Some(value) => add_value(alloc, key, &value, paths, notes),
         None => Ok(()),
     }
 }

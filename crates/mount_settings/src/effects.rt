@@ -43,32 +43,26 @@ pub(crate) fn has_row(site: &SiteTable, path: &AbsPath) -> bool
     site.find(path, "").is_some()
 }
 
-fn mention_at(alloc: Global, effect: Effect, text: &str) -> Result<Option<Mention>, AllocError>
-    ensures { IfOk result (λ mention. mention ≡ mention_at effect text.now) }
-{
-    let Some(path) = read_setting_path(alloc, text)? else {
-        return Ok(None);
-    };
-    let kind = kind_at(alloc, effect, &path)?;
-    Ok(Some(Mention {
-        path,
-        kind,
-        optional: true,
-    }))
-}
-
-// Adds a mention, if there is one and the site has its path.
-fn add_standing(
+// Adds what a protection does at a path, if the text is one and the site has it.
+fn bring_one(
+    alloc: Global,
     site: &SiteTable,
-    mention: Option<Mention>,
+    effect: Effect,
+    text: &str,
     mentions: &mut Vec<Mention>,
 ) -> Result<(), AllocError>
-    ensures { OnOk result (mentions.new.items ≡ mentions.old.items ++ filter (stands site.now) (cons_option mention [])) }
+    ensures { OnOk result (mentions.new.items ≡ mentions.old.items ++ filter (stands site.now) (cons_option (mention_at effect text.now) [])) }
 {
-    if let Some(mention) = mention {
-        if has_row(site, &mention.path) {
-            mentions.push(mention)?;
-        }
+    let Some(path) = read_setting_path(alloc, text)? else {
+        return Ok(());
+    };
+    if has_row(site, &path) {
+        let kind = kind_at(alloc, effect, &path)?;
+        mentions.push(Mention {
+            path,
+            kind,
+            optional: true,
+        })?;
     }
     Ok(())
 }
@@ -84,8 +78,7 @@ pub(crate) fn bring(
     ensures { OnOk result (mentions.new.items ≡ mentions.old.items ++ filter (stands site.now) (brings effect (map (λ text. text.now) texts.now))) }
 {
     'texts: for text in texts {
-        let mention = mention_at(alloc, effect, text)?;
-        add_standing(site, mention, mentions)?;
+        bring_one(alloc, site, effect, text, mentions)?;
     }
     Ok(())
 }

@@ -73,9 +73,7 @@ fn raised(home: HomeProtection) -> HomeProtection
 {
     match home {
         HomeProtection::No => HomeProtection::ReadOnly,
-        HomeProtection::Yes => HomeProtection::Yes,
-        HomeProtection::ReadOnly => HomeProtection::ReadOnly,
-        HomeProtection::Tmpfs => HomeProtection::Tmpfs,
+        other => other,
     }
 }
 

@@ -29,27 +29,15 @@ pub struct MountSettings {
     pub mentions: Mentions,
 }
 
-// Adds a path that is written, unless it is implied.
-fn add_written(
-    alloc: Global,
-    path: &WrittenPath,
-    mentions: &mut Vec<Mention>,
-) -> Result<(), AllocError>
-    ensures { OnOk result (mentions.new.items ≡ mentions.old.items ++ as_written (path.now ∷ [])) }
-{
-    if !path.key.is_implied() {
-        mentions.push(path.mention.copy(alloc)?)?;
-    }
-    Ok(())
-}
-
 // The mentions of the written paths.
 fn written_mentions(alloc: Global, paths: &[WrittenPath]) -> Result<Vec<Mention>, AllocError>
     ensures { IfOk result (λ mentions. mentions.items ≡ as_written paths.now) }
 {
     let mut mentions = Vec::new(alloc);
     'paths: for path in paths {
-        add_written(alloc, path, &mut mentions)?;
+        if !path.key.is_implied() {
+            mentions.push(path.mention.copy(alloc)?)?;
+        }
     }
     Ok(mentions)
 }

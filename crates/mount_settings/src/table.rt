@@ -1,17 +1,63 @@
 //! The paths that each protection speaks of (systemd.exec(5), Sandboxing).
-ghost use Rattle.std.specs.Prelude.{◌≡◌, ◌++◌, filter, OnOk};
+ghost use Rattle.std.specs.Prelude.{◌≡◌, ◌++◌, filter, flat_map, OnOk};
 ghost use Rattle.mount_settings.specs.Effects.{stands};
-ghost use Rattle.mount_settings.specs.Table.{by_system, by_home, by_tmp, by_devices, by_tunables, by_modules, by_logs, by_control_groups};
+ghost use Rattle.mount_settings.specs.Table.{by_system, by_home, by_group};
+ghost use Rattle.mount_settings.specs.Implied.{joined, by_files, by_kernel};
 
 use crate::effects::{Effect, bring};
 use crate::home::HomeProtection;
+use crate::protections::{Protections, Switches};
 use crate::system::SystemProtection;
 use path_settings::Mention;
 use site_table::SiteTable;
 use std::alloc::{AllocError, Global};
 
-/// ProtectSystem=
-pub(crate) fn bring_system(
+const BARE: Effect = Effect::Empty { read_only: true };
+
+const FRESH: Effect = Effect::Empty { read_only: false };
+
+const SYSTEM: &[&str] = &["/usr", "/boot", "/efi"];
+
+const SYSTEM_AND_ETC: &[&str] = &["/usr", "/boot", "/efi", "/etc"];
+
+const KERNELS: &[&str] = &["/dev", "/proc", "/sys"];
+
+const HOMES: &[&str] = &["/home", "/root", "/run/user"];
+
+const TEMPORARY: &[&str] = &["/tmp", "/var/tmp"];
+
+const DEVICES: &[&str] = &["/dev"];
+
+const HARMLESS_DEVICES: &[&str] = &[
+    "/dev/null",
+    "/dev/zero",
+    "/dev/full",
+    "/dev/random",
+    "/dev/urandom",
+    "/dev/tty",
+];
+
+const TUNABLES: &[&str] = &[
+    "/proc/sys",
+    "/sys",
+    "/proc/sysrq-trigger",
+    "/proc/latency_stats",
+    "/proc/acpi",
+    "/proc/timer_stats",
+    "/proc/fs",
+    "/proc/irq",
+];
+
+const MEMORY: &[&str] = &["/proc/kallsyms", "/proc/kcore"];
+
+const MODULES: &[&str] = &["/usr/lib/modules"];
+
+const LOGS: &[&str] = &["/proc/kmsg", "/dev/kmsg"];
+
+const CONTROL_GROUPS: &[&str] = &["/sys/fs/cgroup"];
+
+// ProtectSystem=
+fn bring_system(
     alloc: Global,
     site: &SiteTable,
     system: SystemProtection,
@@ -21,24 +67,17 @@ pub(crate) fn bring_system(
 {
     match system {
         SystemProtection::No => Ok(()),
-        SystemProtection::Yes => {
-            let files = ["/usr", "/boot", "/efi"];
-            bring(alloc, site, Effect::ReadOnly, &files, mentions)
-        }
-        SystemProtection::Full => {
-            let files = ["/usr", "/boot", "/efi", "/etc"];
-            bring(alloc, site, Effect::ReadOnly, &files, mentions)
-        }
+        SystemProtection::Yes => bring(alloc, site, Effect::ReadOnly, SYSTEM, mentions),
+        SystemProtection::Full => bring(alloc, site, Effect::ReadOnly, SYSTEM_AND_ETC, mentions),
         SystemProtection::Strict => {
             bring(alloc, site, Effect::ReadOnly, &["/"], mentions)?;
-            let kernels = ["/dev", "/proc", "/sys"];
-            bring(alloc, site, Effect::Writable, &kernels, mentions)
+            bring(alloc, site, Effect::Writable, KERNELS, mentions)
         }
     }
 }
 
-/// ProtectHome=
-pub(crate) fn bring_home(
+// ProtectHome=
+fn bring_home(
     alloc: Global,
     site: &SiteTable,
     home: HomeProtection,
@@ -46,129 +85,71 @@ pub(crate) fn bring_home(
 ) -> Result<(), AllocError>
     ensures { OnOk result (mentions.new.items ≡ mentions.old.items ++ filter (stands site.now) (by_home home)) }
 {
-    let homes = ["/home", "/root", "/run/user"];
     match home {
         HomeProtection::No => Ok(()),
-        HomeProtection::Yes => bring(alloc, site, Effect::Hidden, &homes, mentions),
-        HomeProtection::ReadOnly => bring(alloc, site, Effect::ReadOnly, &homes, mentions),
-        HomeProtection::Tmpfs => {
-            let empty = Effect::Empty { read_only: true };
-            bring(alloc, site, empty, &homes, mentions)
+        HomeProtection::Yes => bring(alloc, site, Effect::Hidden, HOMES, mentions),
+        HomeProtection::ReadOnly => bring(alloc, site, Effect::ReadOnly, HOMES, mentions),
+        HomeProtection::Tmpfs => bring(alloc, site, BARE, HOMES, mentions),
+    }
+}
+
+// Adds what each group brings where it is on: an effect at paths.
+fn bring_groups(
+    alloc: Global,
+    site: &SiteTable,
+    groups: &[(bool, Effect, &[&str])],
+    mentions: &mut Vec<Mention>,
+) -> Result<(), AllocError>
+    ensures { OnOk result (mentions.new.items ≡ mentions.old.items ++ filter (stands site.now) (flat_map by_group groups.now)) }
+{
+    'groups: for group in groups {
+        if group.0 {
+            bring(alloc, site, group.1, group.2, mentions)?;
         }
     }
+    Ok(())
 }
 
-/// PrivateTmp=
-pub(crate) fn bring_tmp(
+/// ProtectSystem=, ProtectHome=, PrivateTmp= and PrivateDevices=
+pub(crate) fn bring_files(
     alloc: Global,
     site: &SiteTable,
-    on: bool,
+    switches: Switches,
+    protections: Protections,
     mentions: &mut Vec<Mention>,
 ) -> Result<(), AllocError>
-    ensures { OnOk result (mentions.new.items ≡ mentions.old.items ++ filter (stands site.now) (by_tmp on)) }
+    ensures { OnOk result (mentions.new.items ≡ mentions.old.items ++ filter (stands site.now) (joined (by_files switches protections))) }
 {
-    if !on {
-        return Ok(());
-    }
-    let empty = Effect::Empty { read_only: false };
-    bring(alloc, site, empty, &["/tmp", "/var/tmp"], mentions)
-}
-
-/// PrivateDevices=
-pub(crate) fn bring_devices(
-    alloc: Global,
-    site: &SiteTable,
-    on: bool,
-    mentions: &mut Vec<Mention>,
-) -> Result<(), AllocError>
-    ensures { OnOk result (mentions.new.items ≡ mentions.old.items ++ filter (stands site.now) (by_devices on)) }
-{
-    if !on {
-        return Ok(());
-    }
-    let empty = Effect::Empty { read_only: true };
-    bring(alloc, site, empty, &["/dev"], mentions)?;
-    bring(alloc, site, Effect::NotExecutable, &["/dev"], mentions)?;
-    let devices = [
-        "/dev/null",
-        "/dev/zero",
-        "/dev/full",
-        "/dev/random",
-        "/dev/urandom",
-        "/dev/tty",
+    bring_system(alloc, site, protections.protect_system, mentions)?;
+    bring_home(alloc, site, protections.protect_home, mentions)?;
+    let devices = switches.private_devices;
+    let groups = [
+        (protections.private_tmp, FRESH, TEMPORARY),
+        (devices, BARE, DEVICES),
+        (devices, Effect::NotExecutable, DEVICES),
+        (devices, Effect::Shown, HARMLESS_DEVICES),
     ];
-    bring(alloc, site, Effect::Shown, &devices, mentions)
+    bring_groups(alloc, site, &groups, mentions)
 }
 
-/// ProtectKernelTunables=
-pub(crate) fn bring_tunables(
+/// ProtectKernelTunables=, ProtectKernelModules=, ProtectKernelLogs= and ProtectControlGroups=
+pub(crate) fn bring_kernel(
     alloc: Global,
     site: &SiteTable,
-    on: bool,
+    switches: Switches,
+    protections: Protections,
     mentions: &mut Vec<Mention>,
 ) -> Result<(), AllocError>
-    ensures { OnOk result (mentions.new.items ≡ mentions.old.items ++ filter (stands site.now) (by_tunables on)) }
+    ensures { OnOk result (mentions.new.items ≡ mentions.old.items ++ filter (stands site.now) (joined (by_kernel switches protections))) }
 {
-    if !on {
-        return Ok(());
-    }
-    let variables = [
-        "/proc/sys",
-        "/sys",
-        "/proc/sysrq-trigger",
-        "/proc/latency_stats",
-        "/proc/acpi",
-        "/proc/timer_stats",
-        "/proc/fs",
-        "/proc/irq",
+    let tunables = protections.protect_kernel_tunables;
+    let control_groups = protections.protect_control_groups;
+    let groups = [
+        (tunables, Effect::ReadOnly, TUNABLES),
+        (tunables, Effect::Hidden, MEMORY),
+        (switches.protect_kernel_modules, Effect::Hidden, MODULES),
+        (switches.protect_kernel_logs, Effect::Hidden, LOGS),
+        (control_groups, Effect::ReadOnly, CONTROL_GROUPS),
     ];
-    bring(alloc, site, Effect::ReadOnly, &variables, mentions)?;
-    let memory = ["/proc/kallsyms", "/proc/kcore"];
-    bring(alloc, site, Effect::Hidden, &memory, mentions)
-}
-
-/// ProtectKernelModules=
-pub(crate) fn bring_modules(
-    alloc: Global,
-    site: &SiteTable,
-    on: bool,
-    mentions: &mut Vec<Mention>,
-) -> Result<(), AllocError>
-    ensures { OnOk result (mentions.new.items ≡ mentions.old.items ++ filter (stands site.now) (by_modules on)) }
-{
-    if !on {
-        return Ok(());
-    }
-    bring(alloc, site, Effect::Hidden, &["/usr/lib/modules"], mentions)
-}
-
-/// ProtectKernelLogs=
-pub(crate) fn bring_logs(
-    alloc: Global,
-    site: &SiteTable,
-    on: bool,
-    mentions: &mut Vec<Mention>,
-) -> Result<(), AllocError>
-    ensures { OnOk result (mentions.new.items ≡ mentions.old.items ++ filter (stands site.now) (by_logs on)) }
-{
-    if !on {
-        return Ok(());
-    }
-    let logs = ["/proc/kmsg", "/dev/kmsg"];
-    bring(alloc, site, Effect::Hidden, &logs, mentions)
-}
-
-/// ProtectControlGroups=
-pub(crate) fn bring_control_groups(
-    alloc: Global,
-    site: &SiteTable,
-    on: bool,
-    mentions: &mut Vec<Mention>,
-) -> Result<(), AllocError>
-    ensures { OnOk result (mentions.new.items ≡ mentions.old.items ++ filter (stands site.now) (by_control_groups on)) }
-{
-    if !on {
-        return Ok(());
-    }
-    bring(alloc, site, Effect::ReadOnly, &["/sys/fs/cgroup"], mentions)
+    bring_groups(alloc, site, &groups, mentions)
 }
