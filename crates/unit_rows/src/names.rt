@@ -28,18 +28,19 @@ pub fn name(alloc: Global, text: &str) -> Result<String, AllocError> {
     }
 }
 
-fn letters(alloc: Global, count: u64) -> Result<String, AllocError> {
+// So many of this piece.
+fn repeated(alloc: Global, piece: &str, count: u64) -> Result<String, AllocError> {
     let mut text = String::new(alloc);
     for _ in 0..count {
-        text.push('a')?;
+        text.push_str(piece)?;
     }
-    text.push_str(".service")?;
     Ok(text)
 }
 
 /// Whether so many letters and `.service` are a name.
 pub fn long_name(alloc: Global, count: &str) -> Result<String, AllocError> {
-    let text = letters(alloc, number(count))?;
+    let mut text = repeated(alloc, "a", number(count))?;
+    text.push_str(".service")?;
     match &UnitName::read(alloc, text.as_str()) {
         Ok(_) => said(alloc, "a name"),
         Err(error) => error.to_string(alloc),
@@ -65,6 +66,28 @@ fn expanded_for(alloc: Global, name: &UnitName, value: &str) -> Result<String, A
 pub fn expanded(alloc: Global, text: &str, value: &str) -> Result<String, AllocError> {
     match &UnitName::read(alloc, text) {
         Ok(name) => expanded_for(alloc, name, value),
+        Err(error) => error.to_string(alloc),
+    }
+}
+
+fn length_for(alloc: Global, name: &UnitName, value: &str) -> Result<String, AllocError> {
+    match &expand(alloc, name, value) {
+        Ok(text) => text.len().to_string(alloc),
+        Err(error) => error.to_string(alloc),
+    }
+}
+
+/// How many bytes so many times the name and so many letters behind them are.
+pub fn expanded_length(
+    alloc: Global,
+    text: &str,
+    count: u64,
+    letters: u64,
+) -> Result<String, AllocError> {
+    let mut value = repeated(alloc, "%n", count)?;
+    value.push_str(repeated(alloc, "a", letters)?.as_str())?;
+    match &UnitName::read(alloc, text) {
+        Ok(name) => length_for(alloc, name, value.as_str()),
         Err(error) => error.to_string(alloc),
     }
 }

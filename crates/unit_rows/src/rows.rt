@@ -70,6 +70,9 @@ fn of_name(alloc: Global, words: &[&str]) -> Result<String, AllocError> {
         ["letters", count] => names::long_name(alloc, count),
         ["folders", text] => names::folders(alloc, text),
         ["expand", text, value] => names::expanded(alloc, text, value),
+        ["expand many", text, count, letters] => {
+            names::expanded_length(alloc, text, number(count), number(letters))
+        }
         _ => no_row(alloc),
     }
 }
