@@ -1,12 +1,21 @@
 -- Notes behind one another, key by key.
-use Rattle.std.proofs.Common.{◌≡◌, List, ◌++◌}
+use Rattle.std.proofs.Common.{◌≡◌, List, ◌++◌, ap, ◌∙◌, append_assoc}
 
-pub three_behind : {X : Type 0} (a b c d : List X) {k m n o : List X} → k ≡ a → m ≡ k ++ b → n ≡ m ++ c → o ≡ n ++ d → o ≡ ((a ++ b) ++ c) ++ d
-three_behind a b c d first second third fourth = cc
+four_apart : {X : Type 0} (o a b c d : List X) → (((o ++ a) ++ b) ++ c) ++ d ≡ o ++ (((a ++ b) ++ c) ++ d)
+four_apart o a b c d = ap (λ l. (l ++ c) ++ d) (append_assoc o a b) ∙ ap (λ l. l ++ d) (append_assoc o (a ++ b) c) ∙ append_assoc o ((a ++ b) ++ c) d
 
-pub four_behind : {X : Type 0} (a b c d e : List X) {k m n o p : List X} → k ≡ a → m ≡ k ++ b → n ≡ m ++ c → o ≡ n ++ d → p ≡ o ++ e → p ≡ (((a ++ b) ++ c) ++ d) ++ e
-four_behind a b c d e first second third fourth fifth = cc
+pub four_behind : {X : Type 0} (o a b c d : List X) {k m n p : List X} → k ≡ o ++ a → m ≡ k ++ b → n ≡ m ++ c → p ≡ n ++ d → p ≡ o ++ (((a ++ b) ++ c) ++ d)
+four_behind o a b c d {k} {m} {n} {p} first second third fourth = all ∙ four_apart o a b c d
+  where
+    all : p ≡ (((o ++ a) ++ b) ++ c) ++ d
+    all = cc
+
+pub five_behind : {X : Type 0} (o a b c d e : List X) {k m n p q : List X} → k ≡ o ++ a → m ≡ k ++ b → n ≡ m ++ c → p ≡ n ++ d → q ≡ p ++ e → q ≡ o ++ ((((a ++ b) ++ c) ++ d) ++ e)
+five_behind o a b c d e first second third fourth fifth = fifth ∙ ap (λ l. l ++ e) (four_behind o a b c d first second third fourth) ∙ append_assoc o (((a ++ b) ++ c) ++ d) e
 
 -- the same of notes that come with what is said
-pub three_said : {X : Type 0} (a b c d : List X) {x y z k m n o : List X} → k ≡ a → x ≡ b → m ≡ k ++ x → y ≡ c → n ≡ m ++ y → z ≡ d → o ≡ n ++ z → o ≡ ((a ++ b) ++ c) ++ d
-three_said a b c d first second to_second third to_third fourth to_fourth = cc
+pub four_said : {X : Type 0} (o a b c d : List X) {w x y z k m n p : List X} → w ≡ a → k ≡ o ++ w → x ≡ b → m ≡ k ++ x → y ≡ c → n ≡ m ++ y → z ≡ d → p ≡ n ++ z → p ≡ o ++ (((a ++ b) ++ c) ++ d)
+four_said o a b c d {w} {x} {y} {z} {k} {m} {n} {p} first to_first second to_second third to_third fourth to_fourth = all ∙ four_apart o a b c d
+  where
+    all : p ≡ (((o ++ a) ++ b) ++ c) ++ d
+    all = cc

@@ -1,12 +1,41 @@
 -- The settings of all keys together.
-use Rattle.std.proofs.Common.{◌≡◌}
+use Rattle.std.proofs.Common.{◌≡◌, Bool, Option, codes}
 use Rattle.dropin_merge.specs.declared.resolved.Resolved.{Resolved}
 use Rattle.call_table.specs.Table.{Table}
-use Rattle.filter_settings.specs.declared.lists.Lists.{Lists}
-use Rattle.filter_settings.specs.declared.flags.Restrictions.{Restrictions}
-use Rattle.filter_settings.specs.declared.flags.Protections.{Protections}
-use Rattle.filter_settings.specs.Parts.{ReadsLists, ReadsRestrictions, ReadsProtections, joined}
+use Rattle.call_rules.specs.declared.actions.Action.{Action}
+use Rattle.filter_rules.specs.declared.mentions.CallList.{CallList}
+use Rattle.filter_rules.specs.declared.mentions.FamilyList.{FamilyList}
+use Rattle.filter_rules.specs.declared.namespace_types.NamespaceTypes.{NamespaceTypes}
+use Rattle.filter_rules.specs.declared.settings.FilterSettings.{FilterSettings}
+use Rattle.unit_values.specs.Flags.{unit_flag}
+use Rattle.filter_settings.specs.ErrorActions.{unit_error_action}
+use Rattle.filter_settings.specs.CallLists.{unit_call_list}
+use Rattle.filter_settings.specs.FamilyLists.{unit_family_list}
+use Rattle.filter_settings.specs.Namespaces.{unit_namespaces}
 use Rattle.filter_settings.specs.Settings.{settings_of}
 
-pub joined_settings : (unit : Resolved) (table : Table) (lists : Lists) (restrictions : Restrictions) (protections : Protections) → ReadsLists unit table lists → ReadsRestrictions unit restrictions → ReadsProtections unit protections → joined lists restrictions protections ≡ settings_of unit table
-joined_settings unit table lists restrictions protections l r p = cc
+abbrev made : Bool → Bool → Bool → Bool → Bool → Bool → Bool → Bool → Bool → Action → NamespaceTypes → Option FamilyList → Option CallList → FilterSettings
+made memory realtime suid personality hostname modules logs clock devices action types families calls =
+    record {
+      calls = calls;
+      default_action = action;
+      families = families;
+      namespaces = types;
+      memory_deny_write_execute = memory;
+      restrict_realtime = realtime;
+      restrict_suid_sgid = suid;
+      lock_personality = personality;
+      protect_hostname = hostname;
+      protect_kernel_modules = modules;
+      protect_kernel_logs = logs;
+      protect_clock = clock;
+      private_devices = devices;
+    }
+
+pub joined_settings : (unit : Resolved) (table : Table) {memory realtime suid personality hostname modules logs clock devices : Bool} {action : Action} {types : NamespaceTypes} {families : Option FamilyList} {calls : Option CallList}
+    → memory ≡ unit_flag unit (codes "MemoryDenyWriteExecute") → realtime ≡ unit_flag unit (codes "RestrictRealtime") → suid ≡ unit_flag unit (codes "RestrictSUIDSGID") → personality ≡ unit_flag unit (codes "LockPersonality")
+    → hostname ≡ unit_flag unit (codes "ProtectHostname") → modules ≡ unit_flag unit (codes "ProtectKernelModules") → logs ≡ unit_flag unit (codes "ProtectKernelLogs") → clock ≡ unit_flag unit (codes "ProtectClock")
+    → devices ≡ unit_flag unit (codes "PrivateDevices") → action ≡ unit_error_action unit (codes "SystemCallErrorNumber") → types ≡ unit_namespaces unit (codes "RestrictNamespaces")
+    → families ≡ unit_family_list unit table (codes "RestrictAddressFamilies") → calls ≡ unit_call_list unit table (codes "SystemCallFilter")
+    → made memory realtime suid personality hostname modules logs clock devices action types families calls ≡ settings_of unit table
+joined_settings unit table a b c d e f g h i j k l m = cc

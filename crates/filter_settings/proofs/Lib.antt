@@ -1,4 +1,3 @@
-mod Fronts
 mod Chained
 mod Each
 mod NextModes

@@ -7,4 +7,3 @@ pub mod FamilyLists
 pub mod Namespaces
 pub mod Settings
 pub mod Steps
-pub mod Parts

@@ -1,18 +1,16 @@
 //! What a word of SystemCallFilter= says (systemd.exec(5)).
-ghost use Rattle.std.specs.Prelude.{◌≡◌, ◌++◌, ◌∷◌, [], is_some, if◌then◌else◌, OnOk};
-ghost use Rattle.std.specs.List.{cons_option};
+ghost use Rattle.std.specs.Prelude.{◌≡◌, ◌++◌, ◌∷◌, [], Some, is_some, if◌then◌else◌, IfOk, OnOk};
 ghost use Rattle.std.specs.Option.{option_map};
 ghost use Rattle.unit_grammar.specs.declared.notes.NoteCause.TheVariants.{Value as ValueCause, UnknownName};
 ghost use Rattle.unit_values.specs.Notes.{notes_at};
-ghost use Rattle.call_table.specs.Names.{behind_at};
 ghost use Rattle.call_table.specs.Lookups.{group_named};
-ghost use Rattle.filter_settings.specs.CallWords.{may_have_suffix, suffixed, word_of, is_known, mention_of, word_mention, seen};
-ghost use Rattle.filter_settings.specs.CallLists.{word_notes};
+ghost use Rattle.filter_settings.specs.CallWords.{may_have_suffix, suffixed, word_of, is_known, mention_of, seen};
 
 use crate::error_actions::error_action;
+use crate::list_words::ListMention;
 use call_rules::Action;
-use call_table::CallTable;
-use filter_rules::{Mention, Mentions, Mode};
+use call_table::{CallTable, behind_at};
+use filter_rules::{Mention, Mode};
 use std::alloc::{AllocError, Global};
 use unit_grammar::{NoteCause, Text};
 use unit_values::{FileNote, Value, note_value};
@@ -71,12 +69,6 @@ fn read_word(may: bool, word: &str) -> Option<CallWord<'_>>
     }
 }
 
-fn group_name(name: &str) -> Option<&str>
-    ensures { option_map (λ group. group.now) result ≡ behind_at name.now }
-{
-    name.strip_prefix('@')
-}
-
 fn has_group(table: &CallTable, group: &str) -> bool
     ensures { result ≡ is_some (group_named group.now table.now.groups) }
 {
@@ -87,47 +79,29 @@ fn has_group(table: &CallTable, group: &str) -> bool
 fn is_known(table: &CallTable, name: &str) -> bool
     ensures { result ≡ is_known table.now name.now }
 {
-    match group_name(name) {
+    match behind_at(name) {
         Some(group) => has_group(table, group),
         None => table.position(name).is_some(),
     }
 }
 
-// Mentions a name that is known.
-fn add_known(
+// The mention of a name that is known.
+fn known_mention(
     alloc: Global,
     table: &CallTable,
     adds: bool,
-    name: &str,
-    action: Option<Action>,
-    mentions: &mut Mentions,
-) -> Result<(), AllocError>
-    ensures { OnOk result (mentions.new ≡ mentions.old ++ (if is_known table.now name.now then record { adds = adds; name = name.now; action = action } ∷ [] else [])) }
+    word: CallWord,
+) -> Result<Option<Mention>, AllocError>
+    ensures { IfOk result (λ mention. mention ≡ mention_of table.now adds (Some (seen word.entry))) }
 {
-    if is_known(table, name) {
-        mentions.push(Mention {
+    if is_known(table, word.name) {
+        Ok(Some(Mention {
             adds,
-            name: Text::new(alloc, name)?,
-            action,
-        })?;
-    }
-    Ok(())
-}
-
-/// Mentions what a word of a line speaks of, where the word can be read and the table has its name.
-pub fn add_mention(
-    alloc: Global,
-    table: &CallTable,
-    mode: Mode,
-    adds: bool,
-    word: &str,
-    mentions: &mut Mentions,
-) -> Result<(), AllocError>
-    ensures { OnOk result (mentions.new ≡ mentions.old ++ cons_option (word_mention table.now mode adds word.now) []) }
-{
-    match read_word(may_have_suffix(mode, adds), word) {
-        Some(read) => add_known(alloc, table, adds, read.name, read.action, mentions),
-        None => Ok(()),
+            name: Text::new(alloc, word.name)?,
+            action: word.action,
+        }))
+    } else {
+        Ok(None)
     }
 }
 
@@ -154,23 +128,43 @@ fn note_unknown(
     Ok(())
 }
 
-/// Notes what is wrong with a word of a line: that it cannot be read, or else a suffix that counts for nothing, and
-/// then a name that the table lacks.
-pub fn note_word(
-    table: &CallTable,
-    mode: Mode,
-    adds: bool,
-    value: &Value,
-    word: &str,
-    notes: &mut Vec<FileNote>,
-) -> Result<(), AllocError>
-    ensures { OnOk result (notes.new.items ≡ notes.old.items ++ word_notes table.now mode adds value.now word.now) }
-{
-    match read_word(may_have_suffix(mode, adds), word) {
-        Some(read) => {
-            note_stray(read.has_stray, value, notes)?;
-            note_unknown(table, read.name, value, notes)
+impl ListMention for Mention {
+    ghost use Rattle.filter_settings.specs.CallWords.{word_mention, word_causes};
+
+    ghost mention_of = { word_mention };
+
+    ghost causes_of = { word_causes };
+
+    // The mention, where the word can be read and the table has its name.
+    fn read(
+        alloc: Global,
+        table: &CallTable,
+        mode: Mode,
+        adds: bool,
+        word: &str,
+    ) -> Result<Option<Self>, AllocError> {
+        match read_word(may_have_suffix(mode, adds), word) {
+            Some(read) => known_mention(alloc, table, adds, read),
+            None => Ok(None),
         }
-        None => note_value(notes, value, NoteCause::Value),
+    }
+
+    // Notes that the word cannot be read, or else a suffix that counts for nothing, and then a name that the table
+    // lacks.
+    fn note(
+        table: &CallTable,
+        mode: Mode,
+        adds: bool,
+        value: &Value,
+        word: &str,
+        notes: &mut Vec<FileNote>,
+    ) -> Result<(), AllocError> {
+        match read_word(may_have_suffix(mode, adds), word) {
+            Some(read) => {
+                note_stray(read.has_stray, value, notes)?;
+                note_unknown(table, read.name, value, notes)
+            }
+            None => note_value(notes, value, NoteCause::Value),
+        }
     }
 }

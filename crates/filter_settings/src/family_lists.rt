@@ -1,16 +1,17 @@
 //! RestrictAddressFamilies=: a list of address families that is allowed, or denied (systemd.exec(5)).
-ghost use Rattle.std.specs.Prelude.{◌≡◌, ◌++◌, [], IfOk, OnOk, not, flat_map};
-ghost use Rattle.std.specs.List.{after_last, cons_option, filter_map, list_any, suffix_len};
-ghost use Rattle.filter_settings.specs.FamilyLists.{family_mention, family_mentions, is_none_word, is_none_line, list_of, begun_by, family_list, word_notes, line_notes, family_notes, unit_family_list, unit_family_list_notes};
+ghost use Rattle.std.specs.Prelude.{◌≡◌, ◌++◌, IfOk, OnOk, not};
+ghost use Rattle.std.specs.List.{after_last, list_any, suffix_len};
+ghost use Rattle.filter_settings.specs.FamilyLists.{is_none_word, is_none_line, list_of, begun_by, family_list, line_notes, family_notes, unit_family_list, unit_family_list_notes};
 
 use crate::lines::in_force;
-use crate::modes::{adds_to, mode_of};
+use crate::list_words::{ListMention, add_lines, note_words};
+use crate::modes::mode_of;
 use call_table::CallTable;
 use dropin_merge::Resolved;
 use filter_rules::{FamilyList, FamilyMention, FamilyMentions, Mode};
 use std::alloc::{AllocError, Global};
 use unit_grammar::{NoteCause, Text};
-use unit_values::{FileNote, Line, Listed, Said, Value, lines_of_key, note_value};
+use unit_values::{FileNote, Listed, Said, Value, lines_of_key, note_value};
 
 fn is_none_word(words: &[Text]) -> bool
     ensures { result ≡ is_none_word words.now }
@@ -51,43 +52,39 @@ fn behind_none(lines: &[Listed]) -> &[Listed]
     &lines[lines.len() - count_behind_none(lines)..]
 }
 
-fn add_family(
-    table: &CallTable,
-    adds: bool,
-    word: &str,
-    mentions: &mut FamilyMentions,
-) -> Result<(), AllocError>
-    ensures { OnOk result (mentions.new ≡ mentions.old ++ cons_option (family_mention table.now adds word.now) []) }
-{
-    match table.family(word) {
-        Some(number) => mentions.push(FamilyMention { adds, number }),
-        None => Ok(()),
-    }
-}
+impl ListMention for FamilyMention {
+    ghost use Rattle.filter_settings.specs.FamilyLists.{family_number, family_mention, family_causes};
 
-fn add_families(
-    table: &CallTable,
-    adds: bool,
-    words: &[Text],
-    mentions: &mut FamilyMentions,
-) -> Result<(), AllocError>
-    ensures { OnOk result (mentions.new ≡ mentions.old ++ filter_map (family_mention table.now adds) words.now) }
-{
-    'words: for word in words {
-        add_family(table, adds, word.as_str(), mentions)?;
-    }
-    Ok(())
-}
+    ghost mention_of = { λ table mode adds word. family_mention table adds word };
 
-fn add_line(
-    table: &CallTable,
-    mode: Mode,
-    line: &Line,
-    mentions: &mut FamilyMentions,
-) -> Result<(), AllocError>
-    ensures { OnOk result (mentions.new ≡ mentions.old ++ family_mentions table.now mode line.now) }
-{
-    add_families(table, adds_to(mode, line), line.words.list(), mentions)
+    ghost causes_of = { λ table mode adds word. family_causes (family_number table word) };
+
+    fn read(
+        _: Global,
+        table: &CallTable,
+        _: Mode,
+        adds: bool,
+        word: &str,
+    ) -> Result<Option<Self>, AllocError> {
+        match table.family(word) {
+            Some(number) => Ok(Some(FamilyMention { adds, number })),
+            None => Ok(None),
+        }
+    }
+
+    fn note(
+        table: &CallTable,
+        _: Mode,
+        _: bool,
+        value: &Value,
+        word: &str,
+        notes: &mut Vec<FileNote>,
+    ) -> Result<(), AllocError> {
+        match table.family(word) {
+            Some(_) => Ok(()),
+            None => note_value(notes, value, NoteCause::UnknownName),
+        }
+    }
 }
 
 // The list of these lines.
@@ -99,11 +96,12 @@ fn list_of(
 ) -> Result<FamilyList, AllocError>
     ensures { IfOk result (λ list. list ≡ list_of table.now mode lines.now) }
 {
-    let mut mentions = FamilyMentions::new(Vec::new(alloc));
-    'lines: for one in lines {
-        add_line(table, mode, &one.line, &mut mentions)?;
-    }
-    Ok(FamilyList { mode, mentions })
+    let mut mentions: Vec<FamilyMention> = Vec::new(alloc);
+    add_lines(alloc, table, mode, lines, &mut mentions)?;
+    Ok(FamilyList {
+        mode,
+        mentions: FamilyMentions::new(mentions),
+    })
 }
 
 // The list of lines of which none is `none`: the first fixes the mode.
@@ -135,41 +133,13 @@ fn family_list(
     }
 }
 
-fn note_word(
-    table: &CallTable,
-    value: &Value,
-    word: &str,
-    notes: &mut Vec<FileNote>,
-) -> Result<(), AllocError>
-    ensures { OnOk result (notes.new.items ≡ notes.old.items ++ word_notes table.now value.now word.now) }
-{
-    match table.family(word) {
-        Some(_) => Ok(()),
-        None => note_value(notes, value, NoteCause::UnknownName),
-    }
-}
-
-fn note_words(
-    table: &CallTable,
-    value: &Value,
-    words: &[Text],
-    notes: &mut Vec<FileNote>,
-) -> Result<(), AllocError>
-    ensures { OnOk result (notes.new.items ≡ notes.old.items ++ flat_map (word_notes table.now value.now) words.now) }
-{
-    'words: for word in words {
-        note_word(table, value, word.as_str(), notes)?;
-    }
-    Ok(())
-}
-
 fn note_line(table: &CallTable, one: &Listed, notes: &mut Vec<FileNote>) -> Result<(), AllocError>
     ensures { OnOk result (notes.new.items ≡ notes.old.items ++ line_notes table.now one.now) }
 {
     if is_none_line(one) {
         return Ok(());
     }
-    note_words(table, &one.value, one.line.words.list(), notes)
+    note_words::<FamilyMention>(table, mode_of(&one.line), one, notes)
 }
 
 // Notes the words of all lines.

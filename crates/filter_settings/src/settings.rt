@@ -1,36 +1,31 @@
 //! What the keys of the system call filters say.
-ghost use Rattle.std.specs.Prelude.{◌≡◌, IfOk};
+ghost use Rattle.std.specs.Prelude.{◌≡◌, ◌++◌, IfOk, OnOk};
+ghost use Rattle.unit_values.specs.Flags.{unit_flag, unit_flag_notes};
 ghost use Rattle.filter_rules.specs.Known.{HasKnownFamilies};
 ghost use Rattle.filter_rules.specs.Refusing.{AreRefusing};
-ghost use Rattle.filter_settings.specs.Parts.{joined};
 ghost use Rattle.filter_settings.specs.Settings.{settings_of, filter_notes};
 
-use crate::flags::{Protections, Restrictions, read_protections, read_restrictions};
-use crate::lists::{Lists, read_lists};
+use crate::call_lists::call_list_of_key;
+use crate::error_actions::error_action_of_key;
+use crate::family_lists::family_list_of_key;
+use crate::namespaces::namespaces_of_key;
 use call_table::CallTable;
 use dropin_merge::Resolved;
 use filter_rules::FilterSettings;
 use std::alloc::{AllocError, Global};
-use unit_values::Said;
+use unit_values::{FileNote, Said, flag_of_key};
 
-fn joined(lists: Lists, restrictions: Restrictions, protections: Protections) -> FilterSettings
-    ensures { result ≡ joined lists restrictions protections }
+// What a boolean key says; its notes are put behind those that are there.
+fn flag(
+    alloc: Global,
+    unit: &Resolved,
+    key: &str,
+    notes: &mut Vec<FileNote>,
+) -> Result<bool, AllocError>
+    ensures means { IfOk result (λ on. on ≡ unit_flag unit.now key.now) }
+    ensures noted { OnOk result (notes.new.items ≡ notes.old.items ++ unit_flag_notes unit.now key.now) }
 {
-    FilterSettings {
-        calls: lists.calls,
-        default_action: lists.default_action,
-        families: lists.families,
-        namespaces: lists.namespaces,
-        memory_deny_write_execute: restrictions.memory_deny_write_execute,
-        restrict_realtime: restrictions.restrict_realtime,
-        restrict_suid_sgid: restrictions.restrict_suid_sgid,
-        lock_personality: restrictions.lock_personality,
-        protect_hostname: protections.protect_hostname,
-        protect_kernel_modules: protections.protect_kernel_modules,
-        protect_kernel_logs: protections.protect_kernel_logs,
-        protect_clock: protections.protect_clock,
-        private_devices: protections.private_devices,
-    }
+    flag_of_key(alloc, unit, key)?.noted_in(notes)
 }
 
 /// What the files of a unit say of the keys of the system call filters (systemd.exec(5)): SystemCallFilter,
@@ -51,14 +46,25 @@ pub fn filter_settings(
     // What is done to a refused call is the end of the process, or an error number that seccomp(2) answers.
     ensures refusals { IfOk result (λ said. AreRefusing said.what) }
 {
-    let Said {
-        what: restrictions,
-        mut notes,
-    } = read_restrictions(alloc, unit)?;
-    let protections = read_protections(alloc, unit)?.noted_in(&mut notes)?;
-    let lists = read_lists(alloc, unit, table)?.noted_in(&mut notes)?;
-    Ok(Said {
-        what: joined(lists, restrictions, protections),
-        notes,
-    })
+    let mut notes = Vec::new(alloc);
+    let what = FilterSettings {
+        memory_deny_write_execute: flag(alloc, unit, "MemoryDenyWriteExecute", &mut notes)?,
+        restrict_realtime: flag(alloc, unit, "RestrictRealtime", &mut notes)?,
+        restrict_suid_sgid: flag(alloc, unit, "RestrictSUIDSGID", &mut notes)?,
+        lock_personality: flag(alloc, unit, "LockPersonality", &mut notes)?,
+        protect_hostname: flag(alloc, unit, "ProtectHostname", &mut notes)?,
+        protect_kernel_modules: flag(alloc, unit, "ProtectKernelModules", &mut notes)?,
+        protect_kernel_logs: flag(alloc, unit, "ProtectKernelLogs", &mut notes)?,
+        protect_clock: flag(alloc, unit, "ProtectClock", &mut notes)?,
+        private_devices: flag(alloc, unit, "PrivateDevices", &mut notes)?,
+        default_action: error_action_of_key(alloc, unit, "SystemCallErrorNumber")?.noted_in(
+            &mut notes,
+        )?,
+        namespaces: namespaces_of_key(alloc, unit, "RestrictNamespaces")?.noted_in(&mut notes)?,
+        families: family_list_of_key(alloc, unit, table, "RestrictAddressFamilies")?.noted_in(
+            &mut notes,
+        )?,
+        calls: call_list_of_key(alloc, unit, table, "SystemCallFilter")?.noted_in(&mut notes)?,
+    };
+    Ok(Said { what, notes })
 }

@@ -17,7 +17,7 @@ lines-preserved c =
       mode = c.next_mode-mode.ensures ∙ ap (λ mode. next_mode mode one) c.lines.invariant.mode ∙ sym (mode_next all i one below c.one-item.is);
       noted =
           notes_next c.args.table.now all i one c.args.notes.now.items now _ below c.one-item.is c.lines.invariant.noted
-          (c.in_ok-note_line.ensures
+          (c.in_ok-note_words.ensures
           ∙ ap (λ mode. now ++ line_notes c.args.table.now mode one) (c.unwrap_or.ensures ∙ ap (unwrap_or c.lines.mode) c.mode_of.ensures)
           ∙ ap (λ mode. now ++ line_notes c.args.table.now (unwrap_or mode (mode_of one.line)) one) c.lines.invariant.mode);
     }

@@ -1,0 +1,99 @@
+//! Keys that are lists of words, which lines add to and take off (systemd.exec(5), SystemCallFilter=).
+ghost use Rattle.std.specs.Prelude.{◌≡◌, ◌++◌, OnOk, flat_map};
+ghost use Rattle.std.specs.List.{filter_map};
+ghost use Rattle.unit_values.specs.Notes.{notes_at};
+ghost use Rattle.filter_settings.specs.Modes.{adds_to};
+
+use crate::modes::adds_to;
+use call_table::CallTable;
+use filter_rules::Mode;
+use std::alloc::{AllocError, Global};
+use unit_values::{FileNote, Line, Listed, Value};
+
+/// What a word of a list speaks of.
+pub trait ListMention: Drop {
+    ghost use Rattle.std.specs.Prelude.{◌≡◌, ◌++◌, ℕ, Bool, Option, List, IfOk, OnOk};
+    ghost use Rattle.unit_grammar.specs.declared.notes.NoteCause.{NoteCause};
+    ghost use Rattle.unit_values.specs.Notes.{notes_at};
+    ghost use Rattle.call_table.specs.Table.{Table};
+    ghost use Rattle.filter_rules.specs.declared.mentions.Mode.{Mode};
+
+    /// What a word says that is added to a list of this mode, or taken off.
+    ghost mention_of: { Table → Mode → Bool → List ℕ → Option Self };
+
+    /// What is wrong with the word.
+    ghost causes_of: { Table → Mode → Bool → List ℕ → List NoteCause };
+
+    /// What a word says that is added to a list of this mode, or taken off.
+    fn read(
+        alloc: Global,
+        table: &CallTable,
+        mode: Mode,
+        adds: bool,
+        word: &str,
+    ) -> Result<Option<Self>, AllocError>
+        ensures { IfOk result (λ mention. mention ≡ mention_of table.now mode adds word.now) };
+
+    /// Notes what is wrong with the word.
+    fn note(
+        table: &CallTable,
+        mode: Mode,
+        adds: bool,
+        value: &Value,
+        word: &str,
+        notes: &mut Vec<FileNote>,
+    ) -> Result<(), AllocError>
+        ensures { OnOk result (notes.new.items ≡ notes.old.items ++ notes_at value.now (causes_of table.now mode adds word.now)) };
+}
+
+fn add_line<M: ListMention>(
+    alloc: Global,
+    table: &CallTable,
+    mode: Mode,
+    line: &Line,
+    mentions: &mut Vec<M>,
+) -> Result<(), AllocError>
+    ensures { OnOk result (mentions.new.items ≡ mentions.old.items ++ filter_map (M.mention_of table.now mode (adds_to mode line.now)) line.now.words) }
+{
+    let adds = adds_to(mode, line);
+    let words = line.words.list();
+    'words: for word in words {
+        if let Some(mention) = M::read(alloc, table, mode, adds, word.as_str())? {
+            mentions.push(mention)?;
+        }
+    }
+    Ok(())
+}
+
+/// Adds what the words of these lines say to a list of this mode.
+pub fn add_lines<M: ListMention>(
+    alloc: Global,
+    table: &CallTable,
+    mode: Mode,
+    lines: &[Listed],
+    mentions: &mut Vec<M>,
+) -> Result<(), AllocError>
+    ensures { OnOk result (mentions.new.items ≡ mentions.old.items ++ flat_map (λ one. filter_map (M.mention_of table.now mode (adds_to mode one.line)) one.line.words) lines.now) }
+{
+    'lines: for one in lines {
+        add_line(alloc, table, mode, &one.line, mentions)?;
+    }
+    Ok(())
+}
+
+/// Notes what is wrong with the words of a line of a list of this mode.
+pub fn note_words<M: ListMention>(
+    table: &CallTable,
+    mode: Mode,
+    one: &Listed,
+    notes: &mut Vec<FileNote>,
+) -> Result<(), AllocError>
+    ensures { OnOk result (notes.new.items ≡ notes.old.items ++ flat_map (λ word. notes_at one.now.value (M.causes_of table.now mode (adds_to mode one.now.line) word)) one.now.line.words) }
+{
+    let adds = adds_to(mode, &one.line);
+    let words = one.line.words.list();
+    'words: for word in words {
+        M::note(table, mode, adds, &one.value, word.as_str(), notes)?;
+    }
+    Ok(())
+}
