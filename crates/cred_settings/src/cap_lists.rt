@@ -1,14 +1,13 @@
 //! Sets of capabilities, by lines that add to them or take off (systemd.exec(5)).
 ghost use Rattle.std.specs.Prelude.{◌≡◌, ◌++◌, IfOk, OnOk, flat_map};
-ghost use Rattle.cred_settings.specs.CapNames.{word_notes};
-ghost use Rattle.cred_settings.specs.CapLists.{with_plain, with_inverted, with_line, with_listed, caps_by, names_notes, unit_caps, unit_caps_notes};
+ghost use Rattle.cred_settings.specs.CapLists.{with_plain, with_inverted, with_listed, caps_by, names_notes, unit_caps, unit_caps_notes};
 
-use crate::cap_names::{named_caps, note_unknown};
+use crate::cap_names::{named_caps, note_words};
 use cap_sets::CapSet;
 use dropin_merge::Resolved;
 use std::alloc::{AllocError, Global};
 use unit_grammar::Text;
-use unit_values::{FileNote, Line, Listed, Said, Value, lines_of_key};
+use unit_values::{FileNote, Listed, Said, lines_of_key};
 
 // What a plain line with these capabilities makes of a set.
 fn with_plain(default: CapSet, set: CapSet, named: CapSet) -> CapSet
@@ -32,25 +31,17 @@ fn with_inverted(default: CapSet, set: CapSet, words: &[Text]) -> CapSet
     base.minus(named_caps(words))
 }
 
-// What a line makes of a set.
-fn with_line(default: CapSet, set: CapSet, line: &Line) -> CapSet
-    ensures { result ≡ with_line default set line.now }
-{
-    if line.is_inverted {
-        with_inverted(default, set, line.words.list())
-    } else {
-        with_plain(default, set, named_caps(line.words.list()))
-    }
-}
-
 // What the set is behind one more value.
 fn with_listed(default: CapSet, set: CapSet, one: &Listed) -> CapSet
     ensures { result ≡ with_listed default set one.now }
 {
+    let words = one.line.words.list();
     if one.is_reset() {
         CapSet::empty()
+    } else if one.line.is_inverted {
+        with_inverted(default, set, words)
     } else {
-        with_line(default, set, &one.line)
+        with_plain(default, set, named_caps(words))
     }
 }
 
@@ -63,16 +54,6 @@ fn caps_by(default: CapSet, lines: &[Listed]) -> CapSet
         set = with_listed(default, set, one);
     }
     set
-}
-
-// Notes the words of a line that name no capability.
-fn note_words(notes: &mut Vec<FileNote>, value: &Value, words: &[Text]) -> Result<(), AllocError>
-    ensures { OnOk result (notes.new.items ≡ notes.old.items ++ flat_map (word_notes value.now) words.now) }
-{
-    'words: for word in words {
-        note_unknown(notes, value, word.as_str())?;
-    }
-    Ok(())
 }
 
 // Notes the words of all lines that name no capability.

@@ -1,5 +1,5 @@
 //! Names of capabilities in lists, in any case (capabilities(7)).
-ghost use Rattle.std.specs.Prelude.{◌≡◌, ◌≤◌, ◌++◌, IfSome, OnOk};
+ghost use Rattle.std.specs.Prelude.{◌≡◌, ◌≤◌, ◌++◌, IfSome, OnOk, flat_map};
 ghost use Rattle.cred_settings.specs.CapNames.{cap_named, named_caps, word_notes};
 
 use cap_sets::CapSet;
@@ -27,12 +27,18 @@ pub fn named_caps(words: &[Text]) -> CapSet
     set
 }
 
-/// Notes a word of a value, if it names no capability.
-pub fn note_unknown(notes: &mut Vec<FileNote>, value: &Value, word: &str) -> Result<(), AllocError>
-    ensures { OnOk result (notes.new.items ≡ notes.old.items ++ word_notes value.now word.now) }
+/// Notes the words of a value that name no capability.
+pub fn note_words(
+    notes: &mut Vec<FileNote>,
+    value: &Value,
+    words: &[Text],
+) -> Result<(), AllocError>
+    ensures { OnOk result (notes.new.items ≡ notes.old.items ++ flat_map (word_notes value.now) words.now) }
 {
-    if cap_named(word).is_none() {
-        note_value(notes, value, NoteCause::UnknownName)?;
+    'words: for word in words {
+        if cap_named(word.as_str()).is_none() {
+            note_value(notes, value, NoteCause::UnknownName)?;
+        }
     }
     Ok(())
 }

@@ -1,25 +1,20 @@
 //! Numbers of users and groups (credentials(7)).
 ghost use Rattle.std.specs.Prelude.{◌≡◌};
-ghost use Rattle.cred_settings.specs.Ids.{id_in_range, id_number};
+ghost use Rattle.cred_settings.specs.Ids.{id_number};
 
 use text_forms::read_decimal;
 
 /// The greatest id. The number above stands for none in setresuid(2) and the like.
 const GREATEST_ID: u64 = 4_294_967_294;
 
-fn id_in_range(number: u64) -> Option<u32>
-    ensures { result ≡ id_in_range number }
+/// The id that a word is: decimal, 0 to 4,294,967,294.
+pub fn read_id(word: &str) -> Option<u32>
+    ensures { result ≡ id_number word.now }
 {
+    let number = read_decimal(word)?;
     if number <= GREATEST_ID {
         Some(number as u32)
     } else {
         None
     }
-}
-
-/// The id that a word is: decimal, 0 to 4,294,967,294.
-pub fn read_id(word: &str) -> Option<u32>
-    ensures { result ≡ id_number word.now }
-{
-    id_in_range(read_decimal(word)?)
 }

@@ -1,17 +1,11 @@
 //! User=: whom a service runs as (systemd.exec(5)).
 ghost use Rattle.std.specs.Prelude.{◌≡◌, IfOk, Some};
-ghost use Rattle.cred_settings.specs.Users.{superuser, identity_of_user, identity_of_id, numbered, user_meant, account_of};
+ghost use Rattle.cred_settings.specs.Users.{identity_of_user, identity_of_id, numbered, user_meant, account_of};
 
 use crate::accounts::{Account, Gids, Identity};
 use crate::ids::read_id;
 use site_table::{SiteTable, User};
 use std::alloc::{AllocError, Global};
-
-fn superuser(alloc: Global) -> Identity
-    ensures { result ≡ superuser }
-{
-    identity_of_id(alloc, 0)
-}
 
 fn identity_of_user(alloc: Global, user: &User) -> Result<Identity, AllocError>
     ensures { IfOk result (λ identity. identity ≡ identity_of_user user.now) }
@@ -71,7 +65,7 @@ pub fn account(
         return Ok(Some(if is_dynamic {
             Account::Dynamic
         } else {
-            Account::Fixed(superuser(alloc))
+            Account::Fixed(identity_of_id(alloc, 0))
         }));
     }
     match user_meant(alloc, site, word)? {

@@ -1,7 +1,7 @@
 use Rattle.std.proofs.Common.{◌≡◌, ◌++◌, take}
 use Rattle.std.specs.Prelude.{flat_map}
 use Rattle.cred_settings.specs.CapNames.{word_notes}
-use Rattle.cred_settings.proofs.cap_lists.note_words.Given as goal
+use Rattle.cred_settings.proofs.cap_names.note_words.Given as goal
 
 abbrev pub invariant-words : goal.invariant-words
 invariant-words l = l.notes.items ≡ l.fn.notes.items ++ flat_map (word_notes l.value) (take l.word-index l.words)
