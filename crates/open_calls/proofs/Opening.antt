@@ -3,7 +3,7 @@ use Rattle.std.proofs.Common.{◌≡◌, ℕ, Bool, true, false, cond, Option, S
 use Rattle.std.specs.Prelude.{find, ◌&&◌, ◌||◌, not}
 use Rattle.std.specs.List.{list_any}
 use Rattle.site_table.specs.declared.row.Row.{Row}
-use Rattle.kernel_laws.specs.Bound.{any_gid, any_uid, can_run, caps_at, ceiling, grouped_by, owned_by, power_of}
+use Rattle.kernel_laws.specs.Bound.{any_gid, any_uid, can_run, caps_at, ceiling, grouped_by, is_open, owned_by, power_of}
 use Rattle.kernel_laws.specs.Kinds.{Kind, TakesUid, TakesGid}
 use Rattle.kernel_laws.specs.Launched.{Launch, lets}
 use Rattle.kernel_laws.specs.Reach.{Power, Nowise}
@@ -12,7 +12,8 @@ use Rattle.chosen_calls.specs.Chosen.{IsIdOpen, runner}
 use Rattle.chosen_calls.specs.Gaining.{CapWay, CapCanBeMade, IsRunner, at_once}
 use Rattle.chosen_calls.proofs.Gained.{found_runner, once_can_be_made}
 use Rattle.chosen_calls.proofs.Ids.{uid_open, gid_open}
-use Rattle.open_calls.specs.Meanings.{gives}
+use Rattle.open_calls.specs.Meanings.{asked, gives, is_had, meant_kind}
+use Rattle.open_calls.specs.declared.ids.IdKind.{IdKind}
 use Rattle.open_calls.specs.declared.ids.IdKind.TheVariants.{User, Group}
 
 module _ (launch : Launch) (o : Offers launch) where
@@ -30,12 +31,16 @@ module _ (launch : Launch) (o : Offers launch) where
       by true e = once_can_be_made launch o number way e
       by false e = cc
 
-pub uid_is_open : (launch : Launch) (id : ℕ) → (ceiling launch).uid id ≡ true → eqb id launch.creds.uids.effective ≡ false → IsIdOpen launch TakesUid (gives User id)
+uid_is_open : (launch : Launch) (id : ℕ) → (ceiling launch).uid id ≡ true → eqb id launch.creds.uids.effective ≡ false → IsIdOpen launch TakesUid (gives User id)
 uid_is_open launch id h off =
     let e = ap (λ b. any_uid launch (caps_at launch (power_of launch)) || (b || (not launch.creds.no_new_privs && list_any (owned_by launch (power_of launch) id) launch.site.rows))) off in
     elim (uid_open launch id (sym e ∙ h)) [ inl both ↦ inl both.1 | inr own ↦ inr own ]
 
-pub gid_is_open : (launch : Launch) (id : ℕ) → (ceiling launch).gid id ≡ true → (eqb id launch.creds.gids.effective || list_any (λ group. eqb id group) launch.creds.groups) ≡ false → IsIdOpen launch TakesGid (gives Group id)
+gid_is_open : (launch : Launch) (id : ℕ) → (ceiling launch).gid id ≡ true → (eqb id launch.creds.gids.effective || list_any (λ group. eqb id group) launch.creds.groups) ≡ false → IsIdOpen launch TakesGid (gives Group id)
 gid_is_open launch id h off =
     let e = ap (λ b. any_gid launch (caps_at launch (power_of launch)) || (b || (not launch.creds.no_new_privs && list_any (grouped_by launch (power_of launch) id) launch.site.rows))) off in
     elim (gid_open launch id (sym e ∙ h)) [ inl both ↦ inl both.1 | inr own ↦ inr own ]
+
+pub id_is_open : (launch : Launch) (kind : IdKind) (id : ℕ) → is_open launch (asked kind id) ≡ true → is_had kind launch id ≡ false → IsIdOpen launch (meant_kind kind) (gives kind id)
+id_is_open launch User id h off = uid_is_open launch id h off
+id_is_open launch Group id h off = gid_is_open launch id h off

@@ -1,8 +1,11 @@
 -- What a way of gaining a capability means, over the rows of the site; and what gives and takes an id.
-use Rattle.std.specs.Prelude.{ℕ, Bool}
+use Rattle.std.specs.Prelude.{ℕ, Bool, ◌==◌, ◌||◌}
+use Rattle.std.specs.List.{list_any}
 use Rattle.chosen_calls.specs.Gaining as way
 use Rattle.kernel_laws.specs.Bound.{is_owner}
 use Rattle.kernel_laws.specs.Kinds.{Kind, TakesUid, TakesGid}
+use Rattle.kernel_laws.specs.Launched.{Launch}
+use Rattle.kernel_laws.specs.Questions.{Question, Uid, Gid}
 use Rattle.linux_numbers.specs.Capabilities.{cap_setuid, cap_setgid}
 use Rattle.site_table.specs.declared.row.Row.{Row}
 use Rattle.open_calls.specs.declared.ids.IdKind.{IdKind}
@@ -41,3 +44,13 @@ meant_number Group = cap_setgid
 abbrev pub gives : IdKind → ℕ → Row → Bool
 gives User id row = is_owner id row.setuid
 gives Group id row = is_owner id row.setgid
+
+-- the launch has it, credentials(7)
+abbrev pub is_had : IdKind → Launch → ℕ → Bool
+is_had User launch id = id == launch.creds.uids.effective
+is_had Group launch id = id == launch.creds.gids.effective || list_any (λ group. id == group) launch.creds.groups
+
+-- the question whether it can be had
+abbrev pub asked : IdKind → ℕ → Question
+asked User id = Uid id
+asked Group id = Gid id

@@ -1,26 +1,25 @@
 //! The calls that take an id.
 
-ghost use Rattle.std.specs.Prelude.{◌≡◌, ◌++◌, ◌&&◌, if◌then◌else◌, true, find, option_copied, option_map, OnOk, None};
+ghost use Rattle.std.specs.Prelude.{◌≡◌, ◌++◌, ◌==◌, ◌&&◌, [], if◌then◌else◌, true, find, option_copied, option_map, OnOk, None};
+ghost use Rattle.std.specs.List.{list_any};
 ghost use Rattle.chosen_calls.specs.Chosen.{IsIdOpen, id_at_power, id_by_cap, id_calls, runner, taking};
 ghost use Rattle.chosen_calls.specs.Gaining.{at_once};
-ghost use Rattle.kernel_laws.specs.Bound.{can_run, power_of};
+ghost use Rattle.kernel_laws.specs.Bound.{can_run, is_open, power_of};
 ghost use Rattle.kernel_laws.specs.Launched.{IsLaunchedWorld, launch_of, lets};
 ghost use Rattle.kernel_ways.specs.Laws.{IsServedWorld};
 ghost use Rattle.reach_paths.specs.Meanings.{meant_power};
 ghost use Rattle.ceilings.specs.Meanings.{meant_kind as call_kind};
-ghost use Rattle.open_calls.specs.Meanings.{gives, meant_cap, meant_kind, meant_number};
+ghost use Rattle.open_calls.specs.Meanings.{asked, gives, is_had, meant_cap, meant_kind, meant_number};
 
-use crate::making::{push_cap, push_gaining, push_run};
-use crate::taking::id_call;
+use crate::first::id_call;
+use crate::service::{Made, Service};
 use crate::ways::{CapWay, at_once};
-use abs_path::AbsPath;
 use ceilings::{CallKind, can_run, launched_process, lets};
 use kernel_calls::Call;
 use kernel_model::World;
 use linux_numbers::capabilities::{CAP_SETGID, CAP_SETUID, CAP_SYS_ADMIN};
 use reach_paths::Power;
 use site_table::Row;
-use std::alloc::{AllocError, Global};
 
 /// Whose ids, credentials(7).
 #[derive(Clone, Copy)]
@@ -61,6 +60,25 @@ impl IdKind {
             IdKind::Group => row.setgid == Some(id),
         }
     }
+
+    // Whether the process has the id at launch, a gid also among its groups.
+    fn is_had(self, world: &World<'_>, id: u32) -> bool
+        requires { IsLaunchedWorld world.now }
+        ensures { result ≡ is_had self (launch_of world.now) id }
+    {
+        let creds = &launched_process(world).creds;
+        match self {
+            IdKind::User => id == creds.uids().1,
+            IdKind::Group => id == creds.gids().1 || is_among(id, creds.groups()),
+        }
+    }
+}
+
+// Whether the id is among these.
+fn is_among(id: u32, ids: &[u32]) -> bool
+    ensures { result ≡ list_any (λ own. id == own) ids.now }
+{
+    ids.iter().any(|own| id == *own)
 }
 
 // The first row that gives the id and that can be run.
@@ -99,88 +117,61 @@ fn cap_way<'a>(world: &'a World<'_>, kind: IdKind) -> Option<CapWay<'a>>
     }
 }
 
-// Adds the call that takes the id.
-fn push_taking(
-    calls: &mut Vec<Call>,
-    alloc: Global,
-    world: &World<'_>,
-    kind: IdKind,
-    id: u32,
-) -> Result<(), AllocError>
-    requires some_passes { lets (launch_of world.now) (meant_kind kind) ≡ true }
-    ensures { OnOk result (calls.new.items ≡ calls.old.items ++ taking (launch_of world.now) (meant_kind kind) id) }
-{
-    calls.push(id_call(alloc, world, kind.kind(), id)?)?;
-    Ok(())
-}
-
-// Adds the calls with the launch's power over mount tables: by a row, else by the capability.
-fn push_at_power(
-    calls: &mut Vec<Call>,
-    alloc: Global,
-    world: &World<'_>,
-    program: &AbsPath,
-    power: Power,
-    kind: IdKind,
-    id: u32,
-) -> Result<(), AllocError>
-    requires served { IsServedWorld world.now }
-    requires its_own { meant_power power ≡ power_of (launch_of world.now) }
-    requires reachable { IsIdOpen (launch_of world.now) (meant_kind kind) (gives kind id) }
-    ensures { let launch = launch_of world.now in
-        OnOk result (calls.new.items ≡ calls.old.items ++ id_at_power launch program.now (meant_kind kind) (meant_number kind) id (runner launch (power_of launch) (gives kind id))) }
-{
-    if let Some(row) = runner(world, power, kind, id) {
-        push_gaining(calls, alloc, world, program, power, CAP_SYS_ADMIN)?;
-        return push_run(calls, alloc, world, power, row);
+impl Service<'_> {
+    // Adds the call that takes the id.
+    fn push_taking(&self, calls: &mut Vec<Call>, kind: IdKind, id: u32) -> Made<()>
+        requires some_passes { lets (launch_of self.now.world.now) (meant_kind kind) ≡ true }
+        ensures { OnOk result (calls.new.items ≡ calls.old.items ++ taking (launch_of self.now.world.now) (meant_kind kind) id) }
+    {
+        calls.push(id_call(self.alloc, self.world, kind.kind(), id)?)?;
+        Ok(())
     }
-    push_gaining(calls, alloc, world, program, power, kind.cap())?;
-    push_taking(calls, alloc, world, kind, id)
-}
 
-// Adds the calls by the capability, if it is gained on the launched table; else with the launch's power.
-fn push_by_cap(
-    calls: &mut Vec<Call>,
-    alloc: Global,
-    world: &World<'_>,
-    program: &AbsPath,
-    power: Power,
-    kind: IdKind,
-    id: u32,
-) -> Result<(), AllocError>
-    requires served { IsServedWorld world.now }
-    requires its_own { meant_power power ≡ power_of (launch_of world.now) }
-    requires reachable { IsIdOpen (launch_of world.now) (meant_kind kind) (gives kind id) }
-    ensures { let launch = launch_of world.now in
-        OnOk result (calls.new.items ≡ calls.old.items ++ id_by_cap launch program.now (meant_kind kind) (meant_number kind) id (gives kind id) (if lets launch (meant_kind kind) then at_once launch (meant_number kind) else None)) }
-{
-    match cap_way(world, kind) {
-        Some(way) => {
-            push_cap(calls, alloc, world, program, Power::None, way)?;
-            push_taking(calls, alloc, world, kind, id)
+    // Adds the calls with the launch's power over mount tables: by a row, else by the capability.
+    fn push_at_power(&self, calls: &mut Vec<Call>, kind: IdKind, id: u32) -> Made<()>
+        requires served { IsServedWorld self.now.world.now }
+        requires reachable { IsIdOpen (launch_of self.now.world.now) (meant_kind kind) (gives kind id) }
+        ensures { let launch = launch_of self.now.world.now in
+            OnOk result (calls.new.items ≡ calls.old.items ++ id_at_power launch self.now.program.now (meant_kind kind) (meant_number kind) id (runner launch (power_of launch) (gives kind id))) }
+    {
+        if let Some(row) = runner(self.world, self.power, kind, id) {
+            self.push_gaining(calls, CAP_SYS_ADMIN)?;
+            return self.push_run(calls, self.power, row);
         }
-        None => push_at_power(calls, alloc, world, program, power, kind, id),
+        self.push_gaining(calls, kind.cap())?;
+        self.push_taking(calls, kind, id)
     }
-}
 
-/// Adds the calls that take an id that can be had, and that the launch does not have: by a row of the launched table, else by the
-/// capability there, else with the launch's power over mount tables.
-pub(crate) fn push_id(
-    calls: &mut Vec<Call>,
-    alloc: Global,
-    world: &World<'_>,
-    program: &AbsPath,
-    power: Power,
-    kind: IdKind,
-    id: u32,
-) -> Result<(), AllocError>
-    requires served { IsServedWorld world.now }
-    requires its_own { meant_power power ≡ power_of (launch_of world.now) }
-    requires reachable { IsIdOpen (launch_of world.now) (meant_kind kind) (gives kind id) }
-    ensures { OnOk result (calls.new.items ≡ calls.old.items ++ id_calls (launch_of world.now) program.now (meant_kind kind) (meant_number kind) id (gives kind id)) }
-{
-    match runner(world, Power::None, kind, id) {
-        Some(row) => push_run(calls, alloc, world, Power::None, row),
-        None => push_by_cap(calls, alloc, world, program, power, kind, id),
+    // Adds the calls by the capability, if it is gained on the launched table; else with the launch's power.
+    fn push_by_cap(&self, calls: &mut Vec<Call>, kind: IdKind, id: u32) -> Made<()>
+        requires served { IsServedWorld self.now.world.now }
+        requires reachable { IsIdOpen (launch_of self.now.world.now) (meant_kind kind) (gives kind id) }
+        ensures { let launch = launch_of self.now.world.now in
+            OnOk result (calls.new.items ≡ calls.old.items ++ id_by_cap launch self.now.program.now (meant_kind kind) (meant_number kind) id (gives kind id) (if lets launch (meant_kind kind) then at_once launch (meant_number kind) else None)) }
+    {
+        match cap_way(self.world, kind) {
+            Some(way) => {
+                self.push_cap(calls, Power::None, way)?;
+                self.push_taking(calls, kind, id)
+            }
+            None => self.push_at_power(calls, kind, id),
+        }
+    }
+
+    /// Adds the calls that take an id that can be had, and none for one that the launch has: by a row of the launched table,
+    /// else by the capability there, else with the launch's power over mount tables.
+    pub(crate) fn push_id(&self, calls: &mut Vec<Call>, kind: IdKind, id: u32) -> Made<()>
+        requires served { IsServedWorld self.now.world.now }
+        requires reachable { is_open (launch_of self.now.world.now) (asked kind id) ≡ true }
+        ensures { let launch = launch_of self.now.world.now in
+            OnOk result (calls.new.items ≡ calls.old.items ++ (if is_had kind launch id then [] else id_calls launch self.now.program.now (meant_kind kind) (meant_number kind) id (gives kind id))) }
+    {
+        if kind.is_had(self.world, id) {
+            return Ok(());
+        }
+        match runner(self.world, Power::None, kind, id) {
+            Some(row) => self.push_run(calls, Power::None, row),
+            None => self.push_by_cap(calls, kind, id),
+        }
     }
 }

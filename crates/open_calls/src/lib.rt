@@ -12,7 +12,7 @@ mod ids;
 mod making;
 mod names;
 mod rows;
-mod taking;
+mod service;
 mod ways;
 
 pub use answering::calls;

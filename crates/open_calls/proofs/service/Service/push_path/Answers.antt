@@ -5,13 +5,13 @@ use Rattle.kernel_laws.specs.Launched.{launch_of}
 use Rattle.kernel_ways.proofs.Rows.{known_at}
 use Rattle.reach_paths.specs.Meanings.{meant_wish}
 use Rattle.open_calls.proofs.Listed.{row_is}
-use Rattle.open_calls.proofs.answering.push_path.Goals as goal
+use Rattle.open_calls.proofs.service.Service.push_path.Goals as goal
 
 pub push_row-requires-clause-known : goal.push_row-requires-clause-known
-push_row-requires-clause-known c = known_at c.args.world.now.site c.requires.served.offers.site c.args.at c.in-Some.row.now (sym c.in-Some.ensures)
+push_row-requires-clause-known c = known_at c.args.self.now.world.now.site c.requires.served.offers.site c.args.at c.in-Some.row.now (sym c.in-Some.ensures)
 
 pub returns : goal.returns
 returns c =
-    let same = row_is (launch_of c.args.world.now) c.args.program.now c.args.at (meant_wish c.args.wish) c.in-Some.row.now (sym c.in-Some.ensures) in
+    let same = row_is (launch_of c.args.self.now.world.now) c.args.self.now.program.now c.args.at (meant_wish c.args.wish) c.in-Some.row.now (sym c.in-Some.ensures) in
     let P : List Call → Type 0 = λ calls. OnOk c.push_row.result (c.push_row.new.calls.items ≡ c.args.calls.now.items ++ calls) in
     subst P same c.push_row.ensures

@@ -1,9 +1,0 @@
-use Rattle.std.proofs.Common.{sym}
-use Rattle.kernel_laws.specs.Launched.{launch_of}
-use Rattle.kernel_laws.specs.Reach.{Nowise}
-use Rattle.open_calls.specs.Meanings.{gives}
-use Rattle.open_calls.proofs.Opening.{runs}
-use Rattle.open_calls.proofs.ids.push_id.Goals as goal
-
-pub push_run-requires-clause-runs : goal.push_run-requires-clause-runs
-push_run-requires-clause-runs c = runs (launch_of c.args.world.now) c.requires.served.offers Nowise (gives c.args.kind c.args.id) c.in-Some.row.now (sym c.in-Some.ensures)

@@ -1,0 +1,16 @@
+use Rattle.std.proofs.Common.{◌≡◌, ◌⊎◌, inl, inr, ap, arith}
+use Rattle.kernel_laws.specs.Reach.{Nowise, Unmounting}
+use Rattle.reach_paths.specs.Meanings.{meant_power, meant_wish}
+use Rattle.open_calls.proofs.Leading.{below_proc, leads_by}
+use Rattle.open_calls.proofs.service.Service.exposing_path.Goals as goal
+
+pub below_proc-requires : goal.below_proc-requires
+below_proc-requires c =
+    let short = below_proc c.args.self.now.world.now c.requires.served c.args.aim.now.row.now c.requires.aimed.known in
+    record { short = omega (arith, short) }
+
+pub shown_at-requires : goal.shown_at-requires
+shown_at-requires c =
+    let weak : (meant_power c.args.aim.now.power ≡ Nowise) ⊎ (meant_power c.args.aim.now.power ≡ Unmounting) = elim c.in-None.is [ inl e ↦ inl (ap meant_power e) | inr e ↦ inr (ap meant_power e) ] in
+    let x = leads_by c.args.self.now.world.now c.requires.served c.args.aim.now.row.now c.requires.aimed.known (meant_wish c.args.aim.now.wish) (meant_power c.args.aim.now.power) weak c.requires.aimed.reached c.launched_table.result.now c.lead-at.result c.launched_table.ensures.its_own c.lead-at.ensures.first in
+    record { in_range = x.in_range; leads = x.leads }
