@@ -73,13 +73,14 @@ use Rattle.exec_settings.specs.Order.{AreInOrder}
 use Rattle.exec_settings.specs.Dynamic.{dynamic_notes, is_dynamic, sets_new_privileges, unit_filters, with_dynamic_user}
 use Rattle.exec_settings.specs.Mounts.{paths_refusal, unit_mentions, unit_switches}
 use Rattle.exec_settings.specs.Settings.{has_filter, program_path, unit_bounding, unit_new_privileges, unit_program}
-use Rattle.exec_settings.proofs.FilterSame.{made_of, same_settings}
+use Rattle.filter_settings.proofs.Joined.{made}
+use Rattle.exec_settings.proofs.FilterSame.{same_settings}
 
 abbrev any_namespace : NamespaceTypes
 any_namespace = record { cgroup = true; ipc = true; net = true; mnt = true; pid = true; user = true; uts = true }
 
 abbrev bare : FilterSettings
-bare = made_of None KillProcess None any_namespace false false false false false false false false false
+bare = made false false false false false false false false false KillProcess any_namespace None None
 
 abbrev unprotected : Protections
 unprotected = record { protect_system = system.No; protect_home = home.No; private_tmp = false; protect_kernel_tunables = false; protect_control_groups = false }

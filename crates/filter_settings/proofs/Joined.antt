@@ -14,7 +14,8 @@ use Rattle.filter_settings.specs.FamilyLists.{unit_family_list}
 use Rattle.filter_settings.specs.Namespaces.{unit_namespaces}
 use Rattle.filter_settings.specs.Settings.{settings_of}
 
-abbrev made : Bool → Bool → Bool → Bool → Bool → Bool → Bool → Bool → Bool → Action → NamespaceTypes → Option FamilyList → Option CallList → FilterSettings
+-- the settings that these make
+abbrev pub made : Bool → Bool → Bool → Bool → Bool → Bool → Bool → Bool → Bool → Action → NamespaceTypes → Option FamilyList → Option CallList → FilterSettings
 made memory realtime suid personality hostname modules logs clock devices action types families calls =
     record {
       calls = calls;

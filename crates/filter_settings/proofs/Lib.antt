@@ -2,6 +2,6 @@ mod Chained
 mod Each
 mod NextModes
 mod Permitting
-mod Joined
+pub mod Joined
 mod KnownOnes
 pub mod Refusals

@@ -47,7 +47,7 @@ use Rattle.unit_values.specs.Assignments.{service_assignments}
 use Rattle.unit_values.specs.Lasting.{unit_last, unit_last_text}
 use Rattle.unit_values.specs.Listed.{unit_listed}
 use Rattle.unit_values.specs.Words.{unit_words}
-use Rattle.exec_settings.proofs.FilterSame.{made_of}
+use Rattle.filter_settings.proofs.Joined.{made}
 use Rattle.sample_inputs.specs.Facts.{program}
 use Rattle.sample_settings.specs.Mentions.{sample_mentions}
 use Rattle.sample_settings.specs.Settled.{AreSampleSettings, SettingsAreNotRefused, SettingsAreTheSamples}
@@ -63,7 +63,7 @@ any_namespace = record { cgroup = true; ipc = true; net = true; mnt = true; pid 
 
 -- no filter is asked for
 abbrev bare : FilterSettings
-bare = made_of None KillProcess None any_namespace false false false false false false false false false
+bare = made false false false false false false false false false KillProcess any_namespace None None
 
 or_false : (b : Bool) → (b || false) ≡ b
 or_false true = refl
