@@ -15,104 +15,80 @@ use exposure_score::{Fact, FactId};
 use filter_rules::{all_types, permits_family};
 use std::alloc::{AllocError, Global};
 
-// Puts the fact of an identifier and what stands behind it behind the others.
-fn push_fact(
+// What the facts of a line are told of.
+#[derive(Drop)]
+struct Teller<'a> {
     alloc: Global,
-    front: &str,
-    end: &str,
-    badness: u32,
-    facts: &mut Vec<Fact>,
-) -> Result<(), AllocError>
-    ensures { OnOk result (told facts.new.items ≡ told facts.old.items ++ behind front.now (end.now, badness) ∷ []) }
-{
-    let id = FactId::from_string(format!(in alloc; "{front}{end}")?);
-    facts.push(Fact { id, badness })?;
-    Ok(())
+    // The front of their identifiers.
+    front: &'a str,
+    sandbox: &'a Sandbox,
+    calls: &'a CallTable,
 }
 
-// Those of capabilities.
-fn push_caps(
-    alloc: Global,
-    front: &str,
-    sandbox: &Sandbox,
-    calls: &CallTable,
-    facts: &mut Vec<Fact>,
-) -> Result<(), AllocError>
-    ensures { OnOk result (told facts.new.items ≡ told facts.old.items ++ map (behind front.now) (ends sandbox.now calls.now Matter.EachCapability)) }
-{
-    'telling: for cap in 0..41u8 {
-        let badness = one_if(sandbox.bounding.contains(cap));
-        push_fact(alloc, front, CapSet::name(cap), badness, facts)?;
+impl Teller<'_> {
+    // Puts the fact of an identifier and what stands behind it behind the others.
+    fn push_fact(&self, end: &str, badness: u32, facts: &mut Vec<Fact>) -> Result<(), AllocError>
+        ensures { OnOk result (told facts.new.items ≡ told facts.old.items ++ behind self.now.front.now (end.now, badness) ∷ []) }
+    {
+        let id = FactId::from_string(format!(in self.alloc; "{}{end}", self.front)?);
+        facts.push(Fact { id, badness })?;
+        Ok(())
     }
-    Ok(())
-}
 
-// Those of types of namespaces.
-fn push_types(
-    alloc: Global,
-    front: &str,
-    sandbox: &Sandbox,
-    calls: &CallTable,
-    facts: &mut Vec<Fact>,
-) -> Result<(), AllocError>
-    ensures { OnOk result (told facts.new.items ≡ told facts.old.items ++ map (behind front.now) (ends sandbox.now calls.now Matter.EachNamespaceType)) }
-{
-    'telling: for kind in all_types() {
-        let badness = one_if(sandbox.filters.namespaces.permits(*kind));
-        push_fact(alloc, front, kind.name(), badness, facts)?;
+    // Those of capabilities.
+    fn push_caps(&self, facts: &mut Vec<Fact>) -> Result<(), AllocError>
+        ensures { OnOk result (told facts.new.items ≡ told facts.old.items ++ map (behind self.now.front.now) (ends self.now.sandbox.now self.now.calls.now Matter.EachCapability)) }
+    {
+        'telling: for cap in 0..41u8 {
+            let badness = one_if(self.sandbox.bounding.contains(cap));
+            self.push_fact(CapSet::name(cap), badness, facts)?;
+        }
+        Ok(())
     }
-    Ok(())
-}
 
-// Those of families.
-fn push_families(
-    alloc: Global,
-    front: &str,
-    sandbox: &Sandbox,
-    calls: &CallTable,
-    facts: &mut Vec<Fact>,
-) -> Result<(), AllocError>
-    ensures { OnOk result (told facts.new.items ≡ told facts.old.items ++ map (behind front.now) (ends sandbox.now calls.now Matter.EachFamily)) }
-{
-    'telling: for family in calls.families() {
-        let badness = one_if(permits_family(&sandbox.filters.families, family.number));
-        push_fact(alloc, front, family.name.as_str(), badness, facts)?;
+    // Those of types of namespaces.
+    fn push_types(&self, facts: &mut Vec<Fact>) -> Result<(), AllocError>
+        ensures { OnOk result (told facts.new.items ≡ told facts.old.items ++ map (behind self.now.front.now) (ends self.now.sandbox.now self.now.calls.now Matter.EachNamespaceType)) }
+    {
+        'telling: for kind in all_types() {
+            let badness = one_if(self.sandbox.filters.namespaces.permits(*kind));
+            self.push_fact(kind.name(), badness, facts)?;
+        }
+        Ok(())
     }
-    Ok(())
-}
 
-// Those of groups.
-fn push_groups(
-    alloc: Global,
-    front: &str,
-    sandbox: &Sandbox,
-    calls: &CallTable,
-    facts: &mut Vec<Fact>,
-) -> Result<(), AllocError>
-    ensures { OnOk result (told facts.new.items ≡ told facts.old.items ++ map (behind front.now) (ends sandbox.now calls.now Matter.EachGroup)) }
-{
-    'telling: for group in calls.groups() {
-        let badness = one_if(lets_through(calls, &sandbox.filters, group));
-        push_fact(alloc, front, group.name.as_str(), badness, facts)?;
+    // Those of families.
+    fn push_families(&self, facts: &mut Vec<Fact>) -> Result<(), AllocError>
+        ensures { OnOk result (told facts.new.items ≡ told facts.old.items ++ map (behind self.now.front.now) (ends self.now.sandbox.now self.now.calls.now Matter.EachFamily)) }
+    {
+        'telling: for family in self.calls.families() {
+            let badness = one_if(permits_family(&self.sandbox.filters.families, family.number));
+            self.push_fact(family.name.as_str(), badness, facts)?;
+        }
+        Ok(())
     }
-    Ok(())
-}
 
-// That of both families of the Internet, where there is one.
-fn push_internet(
-    alloc: Global,
-    front: &str,
-    sandbox: &Sandbox,
-    calls: &CallTable,
-    facts: &mut Vec<Fact>,
-) -> Result<(), AllocError>
-    ensures { OnOk result (told facts.new.items ≡ told facts.old.items ++ map (behind front.now) (ends sandbox.now calls.now Matter.InternetFamilies)) }
-{
-    if !has_internet(calls) {
-        return Ok(());
+    // Those of groups.
+    fn push_groups(&self, facts: &mut Vec<Fact>) -> Result<(), AllocError>
+        ensures { OnOk result (told facts.new.items ≡ told facts.old.items ++ map (behind self.now.front.now) (ends self.now.sandbox.now self.now.calls.now Matter.EachGroup)) }
+    {
+        'telling: for group in self.calls.groups() {
+            let badness = one_if(lets_through(self.calls, &self.sandbox.filters, group));
+            self.push_fact(group.name.as_str(), badness, facts)?;
+        }
+        Ok(())
     }
-    let badness = one_if(permits_internet(calls, &sandbox.filters));
-    push_fact(alloc, front, "", badness, facts)
+
+    // That of both families of the Internet, where there is one.
+    fn push_internet(&self, facts: &mut Vec<Fact>) -> Result<(), AllocError>
+        ensures { OnOk result (told facts.new.items ≡ told facts.old.items ++ map (behind self.now.front.now) (ends self.now.sandbox.now self.now.calls.now Matter.InternetFamilies)) }
+    {
+        if !has_internet(self.calls) {
+            return Ok(());
+        }
+        let badness = one_if(permits_internet(self.calls, &self.sandbox.filters));
+        self.push_fact("", badness, facts)
+    }
 }
 
 /// Puts the facts of a line of the table behind the others.
@@ -125,33 +101,32 @@ pub fn push_line(
 ) -> Result<(), AllocError>
     ensures { OnOk result (told facts.new.items ≡ told facts.old.items ++ told_by_line sandbox.now calls.now (line.now.0.now, line.now.1)) }
 {
-    let front = line.0;
+    let teller = Teller {
+        alloc,
+        front: line.0,
+        sandbox,
+        calls,
+    };
     match line.1 {
-        Matter::EachCapability => push_caps(alloc, front, sandbox, calls, facts),
-        Matter::EachNamespaceType => push_types(alloc, front, sandbox, calls, facts),
-        Matter::EachFamily => push_families(alloc, front, sandbox, calls, facts),
-        Matter::EachGroup => push_groups(alloc, front, sandbox, calls, facts),
-        Matter::InternetFamilies => push_internet(alloc, front, sandbox, calls, facts),
-        Matter::RunsAsRoot => push_fact(alloc, front, "", one_if(sandbox.uid == 0), facts),
-        Matter::NamesGroups => push_fact(alloc, front, "", one_if(sandbox.names_groups), facts),
-        Matter::GainsPrivileges => push_fact(
-            alloc,
-            front,
-            "",
-            one_if(!sandbox.no_new_privs),
-            facts,
-        ),
-        Matter::HasAmbient => push_fact(alloc, front, "", one_if(has_ambient(sandbox)), facts),
+        Matter::EachCapability => teller.push_caps(facts),
+        Matter::EachNamespaceType => teller.push_types(facts),
+        Matter::EachFamily => teller.push_families(facts),
+        Matter::EachGroup => teller.push_groups(facts),
+        Matter::InternetFamilies => teller.push_internet(facts),
+        Matter::RunsAsRoot => teller.push_fact("", one_if(sandbox.uid == 0), facts),
+        Matter::NamesGroups => teller.push_fact("", one_if(sandbox.names_groups), facts),
+        Matter::GainsPrivileges => teller.push_fact("", one_if(!sandbox.no_new_privs), facts),
+        Matter::HasAmbient => teller.push_fact("", one_if(has_ambient(sandbox)), facts),
         Matter::Lacks(protection) => {
-            push_fact(alloc, front, "", one_if(!is_on(sandbox, protection)), facts)
+            teller.push_fact("", one_if(!is_on(sandbox, protection)), facts)
         }
         Matter::WritesSystem => {
             let badness = system_badness(sandbox.protections.protect_system);
-            push_fact(alloc, front, "", badness, facts)
+            teller.push_fact("", badness, facts)
         }
         Matter::SeesHomes => {
             let badness = home_badness(sandbox.protections.protect_home);
-            push_fact(alloc, front, "", badness, facts)
+            teller.push_fact("", badness, facts)
         }
     }
 }

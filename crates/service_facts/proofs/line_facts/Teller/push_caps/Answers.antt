@@ -4,17 +4,17 @@ use Rattle.cap_sets.specs.Sets.{has}
 use Rattle.service_facts.specs.Badness.{one_if}
 use Rattle.service_facts.specs.Facts.{told, behind}
 use Rattle.service_facts.proofs.Telling.{one_more_number, all_numbers}
-use Rattle.service_facts.proofs.line_facts.push_caps.Goals as goal
+use Rattle.service_facts.proofs.line_facts.Teller.push_caps.Goals as goal
 
 pub telling-preserved : goal.telling-preserved
 telling-preserved c =
-    one_more_number (told c.args.facts.now.items) c.args.front.now (λ number. (name_of number, one_if (has c.args.sandbox.now.bounding number))) c.telling.cap
+    one_more_number (told c.args.facts.now.items) c.args.self.now.front.now (λ number. (name_of number, one_if (has c.args.self.now.sandbox.now.bounding number))) c.telling.cap
     (told c.telling.facts.items) (told c.push_fact.new.facts.items) c.telling.invariant
     (c.in_ok-push_fact.ensures
-    ∙ (ap (λ name. told c.telling.facts.items ++ behind c.args.front.now (name, c.one_if-badness.result) ∷ []) c.name.ensures
-    ∙ ap (λ badness. told c.telling.facts.items ++ behind c.args.front.now (name_of c.telling.cap, badness) ∷ []) (c.one_if-badness.ensures ∙ ap one_if c.contains.ensures.has)))
+    ∙ (ap (λ name. told c.telling.facts.items ++ behind c.args.self.now.front.now (name, c.one_if-badness.result) ∷ []) c.name.ensures
+    ∙ ap (λ badness. told c.telling.facts.items ++ behind c.args.self.now.front.now (name_of c.telling.cap, badness) ∷ []) (c.one_if-badness.ensures ∙ ap one_if c.contains.ensures.has)))
 
 pub returns : goal.returns
 returns c =
-    all_numbers (told c.args.facts.now.items) c.args.front.now (λ number. (name_of number, one_if (has c.args.sandbox.now.bounding number))) c.telling.cap 41
+    all_numbers (told c.args.facts.now.items) c.args.self.now.front.now (λ number. (name_of number, one_if (has c.args.self.now.sandbox.now.bounding number))) c.telling.cap 41
     (told c.telling.facts.items) (omega arith) c.telling.invariant

@@ -3,7 +3,7 @@ use Rattle.filter_rules.specs.NamespaceTypes.{permits, name_of}
 use Rattle.service_facts.specs.Badness.{one_if}
 use Rattle.service_facts.specs.Facts.{told}
 use Rattle.service_facts.proofs.Telling.{Tells}
-use Rattle.service_facts.proofs.line_facts.push_types.Given as goal
+use Rattle.service_facts.proofs.line_facts.Teller.push_types.Given as goal
 
 abbrev pub invariant-telling : goal.invariant-telling
-invariant-telling l = Tells (told l.initial.facts.items) l.front (λ kind. (name_of kind, one_if (permits l.sandbox.filters.namespaces kind))) (take l.kind-index l.kind-items) (told l.facts.items)
+invariant-telling l = Tells (told l.initial.facts.items) l.self.front.now (λ kind. (name_of kind, one_if (permits l.self.sandbox.now.filters.namespaces kind))) (take l.kind-index l.kind-items) (told l.facts.items)
