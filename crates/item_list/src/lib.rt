@@ -2,11 +2,15 @@
 //!
 //! A type that a definition compares holds such a list in place of a plain `Vec`, and names it by an alias:
 //! `pub type Notes = ItemList<Note>`. It rests on std alone; `ItemList::new(notes).list()` lends the notes again.
+//! A `HeldList` keeps a fact of its items besides, which their type tells.
 #![tactic(auto)]
 
 ghost use Rattle.std.specs.Prelude.{◌≡◌, ◌==◌, ◌++◌, ◌∷◌, [], IfOk, OnOk, OnErr};
 ghost use Rattle.std.specs.List.{list_any};
 
+mod held;
+
+pub use held::{Held, HeldList};
 use std::alloc::{AllocError, Global};
 use std::marker::Model;
 

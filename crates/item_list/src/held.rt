@@ -1,0 +1,70 @@
+//! Items of which a fact holds as a list, as that their names ascend.
+//!
+//! The type of an item tells the fact, and an alias names the list: `impl Held for Row { ghost AreHeld = { AreOrdered }; }`
+//! and `pub type OrderedRows = HeldList<Row>`. Who makes such a list owes the fact, and who is lent its items has it.
+
+ghost use Rattle.std.specs.Prelude.{◌≡◌, ◌≤◌, insert, length, OnOk, OnErr};
+
+use std::alloc::AllocError;
+use std::marker::Model;
+
+/// Items of which a fact holds wherever they stand in a list of their own.
+pub trait Held: Sized {
+    ghost use Rattle.std.specs.Prelude.{List};
+
+    ghost AreHeld: { List Self → Type 0 };
+}
+
+/// Items in their order, of which their fact holds; contracts see them as a list.
+#[derive(Drop)]
+pub struct HeldList<T: Held> {
+    items: Vec<T>,
+}
+
+impl<T: Held> Model for HeldList<T> {
+    ghost use Rattle.std.specs.Prelude.{List};
+
+    ghost Value = { List T };
+
+    ghost view = { λ list. list.items.items };
+
+    ghost invariant = { λ list. T.AreHeld list.items.items };
+}
+
+impl<T: Held> HeldList<T> {
+    /// These items, of which the fact holds.
+    pub fn new(items: Vec<T>) -> Self
+        requires { T.AreHeld items.items }
+        ensures { result ≡ items.items }
+    {
+        HeldList { items }
+    }
+
+    /// The items in their order, and the fact with them.
+    pub fn list(&self) -> &[T]
+        ensures all_in_order { result.now ≡ self.now }
+        ensures as_held { T.AreHeld self.now }
+    {
+        &self.items
+    }
+
+    /// The items alone.
+    pub fn into_items(self) -> Vec<T>
+        ensures { result.items ≡ self }
+    {
+        self.items
+    }
+}
+
+impl<T: Held + Drop> HeldList<T> {
+    /// Puts an item at a place where the fact goes on to hold; where there is no memory they stay as they were.
+    pub fn insert(&mut self, at: usize, item: T) -> Result<(), AllocError>
+        requires in_range { at ≤ length self.old }
+        requires goes_on { T.AreHeld (insert self.old at item) }
+        ensures longer { OnOk result (self.new ≡ insert self.old at item) }
+        ensures unchanged { OnErr result (self.new ≡ self.old) }
+    {
+        self.items.insert(at, item)?;
+        Ok(())
+    }
+}
