@@ -1,7 +1,7 @@
 //! Words of BindPaths= and BindReadOnlyPaths=.
 
 ghost use Rattle.std.specs.Prelude.{◌≡◌, IfOk, map};
-ghost use Rattle.std.specs.Option.{option_map, option_and_then};
+ghost use Rattle.std.specs.Option.{option_map};
 ghost use Rattle.path_settings.specs.Binds.{bind_pieces, is_bind_option, ends_of, bind_between, bind_mention};
 
 use crate::marks::{is_marked, without};

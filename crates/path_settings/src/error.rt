@@ -3,7 +3,7 @@
 ghost use Rattle.std.specs.Prelude.{◌≡◌};
 ghost use Rattle.path_settings.specs.declared.error.MentionError.TheVariants.{Memory};
 
-use std::alloc::AllocFailed;
+use std::alloc::AllocError;
 use thiserror::Error;
 
 /// Why a mention is not added.
@@ -17,10 +17,10 @@ pub enum MentionError {
     Memory,
 }
 
-impl<T: Drop> From<AllocFailed<T>> for MentionError {
+impl From<AllocError> for MentionError {
     ghost from_gives = { λ _ e. e ≡ Memory };
 
-    fn from(_: AllocFailed<T>) -> Self {
+    fn from(_: AllocError) -> Self {
         MentionError::Memory
     }
 }

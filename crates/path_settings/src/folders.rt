@@ -1,6 +1,6 @@
 //! Words of StateDirectory=, RuntimeDirectory=, CacheDirectory= and LogsDirectory=.
 
-ghost use Rattle.std.specs.Prelude.{◌≡◌, ◌++◌, IfOk, codes, string_bytes};
+ghost use Rattle.std.specs.Prelude.{◌≡◌, IfOk, string_bytes};
 ghost use Rattle.path_settings.specs.Folders.{is_relative, text_below, folder_mention};
 
 use crate::mentions::{Kind, Mention};
@@ -10,10 +10,7 @@ use std::alloc::{AllocError, Global};
 fn is_relative(name: &str) -> bool
     ensures { result ≡ is_relative name.now }
 {
-    match name.as_bytes().first() {
-        None => false,
-        Some(byte) => *byte != b'/',
-    }
+    name.as_bytes().first().is_some_and(|byte| *byte != b'/')
 }
 
 fn text_below(alloc: Global, folder: &str, name: &str) -> Result<String, AllocError>

@@ -7,6 +7,7 @@ ghost use Rattle.path_settings.specs.Mentions.{hides, is_tmp, is_bind, source_of
 
 use crate::error::MentionError;
 use abs_path::AbsPath;
+use item_list::ItemList;
 use std::alloc::{AllocError, Global};
 use std::marker::Model;
 
@@ -119,7 +120,7 @@ impl Mention {
 /// Mentions in the order in which they were written, at most 160, which contracts see as a list.
 #[derive(Drop)]
 pub struct Mentions {
-    items: Vec<Mention>,
+    items: ItemList<Mention>,
 }
 
 impl Model for Mentions {
@@ -129,9 +130,9 @@ impl Model for Mentions {
 
     ghost Value = { List Mention };
 
-    ghost view = { λ mentions. mentions.items.items };
+    ghost view = { λ mentions. mentions.items };
 
-    ghost invariant = { λ mentions. AreKept mentions.items.items };
+    ghost invariant = { λ mentions. AreKept mentions.items };
 }
 
 // Does nothing; a path lends with its text the fact that it is normal and short.
@@ -156,7 +157,7 @@ impl Mentions {
         ensures empty { result ≡ [] }
     {
         Mentions {
-            items: Vec::new(alloc),
+            items: ItemList::empty(alloc),
         }
     }
 
@@ -166,14 +167,14 @@ impl Mentions {
         ensures at_most_160 { length self.now ≤ 160 }
         ensures whole { IsTrue (list_all is_whole self.now) }
     {
-        &self.items
+        self.items.list()
     }
 
     /// Whether no mention hides the root, empties it or puts another object there.
     pub fn leaves_the_root(&self) -> bool
         ensures root_is_the_hosts { result ≡ leaves_the_root self.now }
     {
-        self.items.iter().all(|mention| !(mention.path.is_root() && mention.kind.is_origin()))
+        self.list().iter().all(|mention| !(mention.path.is_root() && mention.kind.is_origin()))
     }
 
     /// Puts a mention behind the others. Full where there are 160 of them; on an error they stay as they were.
@@ -182,7 +183,7 @@ impl Mentions {
         ensures full_exactly_at_160 { IsErrOf result MentionError.Full ↔ (length self.old ≡ 160) }
         ensures unchanged_on_error { OnErr result (self.new ≡ self.old) }
     {
-        if self.items.len() == MOST {
+        if self.items.list().len() == MOST {
             return Err(MentionError::Full);
         }
         know_path(&mention.path);

@@ -12,11 +12,7 @@ const LONGEST: usize = 250;
 fn if_short(path: AbsPath) -> Option<AbsPath>
     ensures { result ≡ if_short path }
 {
-    if path.text().len() <= LONGEST {
-        Some(path)
-    } else {
-        None
-    }
+    (path.text().len() <= LONGEST).then_some(path)
 }
 
 /// The path that a text of a setting is: absolute, without `..` and NUL, and at most 250 bytes long once it is folded.

@@ -1,8 +1,7 @@
 //! Words of TemporaryFileSystem=.
 
 ghost use Rattle.std.specs.Prelude.{◌≡◌, IfOk, ◌==◌};
-ghost use Rattle.std.specs.List.{before_first, after_first};
-ghost use Rattle.path_settings.specs.Temporary.{is_colon, asks_read_only, temporary_at, temporary_mention};
+ghost use Rattle.path_settings.specs.Temporary.{asks_read_only, temporary_at, temporary_mention};
 
 use crate::mentions::{Kind, Mention};
 use crate::paths::read_setting_path;
