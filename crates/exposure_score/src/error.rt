@@ -3,7 +3,7 @@
 ghost use Rattle.std.specs.Prelude.{◌≡◌};
 ghost use Rattle.exposure_score.specs.declared.error.ScoreError.TheVariants.{Memory};
 
-use std::alloc::{AllocError, AllocFailed};
+use std::alloc::AllocError;
 use thiserror::Error;
 
 /// Why there is no score.
@@ -21,14 +21,6 @@ impl From<AllocError> for ScoreError {
     ghost from_gives = { λ _ e. e ≡ Memory };
 
     fn from(_: AllocError) -> Self {
-        ScoreError::Memory
-    }
-}
-
-impl<T: Drop> From<AllocFailed<T>> for ScoreError {
-    ghost from_gives = { λ _ e. e ≡ Memory };
-
-    fn from(_: AllocFailed<T>) -> Self {
         ScoreError::Memory
     }
 }

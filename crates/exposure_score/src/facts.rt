@@ -1,6 +1,6 @@
 //! What is known of the settings of a service.
 
-ghost use Rattle.std.specs.Prelude.{◌≡◌, ◌<◌, ◌^◌};
+ghost use Rattle.std.specs.Prelude.{◌<◌, ◌^◌};
 
 use cap_sets::CapSet;
 use item_list::ItemList;

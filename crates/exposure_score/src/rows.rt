@@ -1,7 +1,5 @@
 //! The type of a score: what each test of a policy came to, and the exposure.
 
-ghost use Rattle.std.specs.Prelude.{◌≡◌};
-
 use item_list::ItemList;
 use policy_file::TestId;
 

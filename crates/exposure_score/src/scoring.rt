@@ -1,6 +1,6 @@
 //! The score of a service, from its facts and a policy.
 
-ghost use Rattle.std.specs.Prelude.{◌≡◌, ◌≤◌, ◌<◌, length, IfOk, OnOk, IfErr};
+ghost use Rattle.std.specs.Prelude.{◌≡◌, ◌<◌, IfOk, OnOk, IfErr};
 ghost use Rattle.std.specs.List.{AllZip, AllByRecursion};
 ghost use Rattle.policy_file.specs.Policy.{IsTest};
 ghost use Rattle.exposure_score.specs.declared.error.ScoreError.TheVariants.{NoWeight};
@@ -90,7 +90,7 @@ pub fn score(
     ensures no_weight { IfErr result (λ error. error ≡ NoWeight
         → counted_weight (λ one. one.id) facts.now.tests tests.now policy.now ≡ 0) }
 {
-    let rows = score_rows(alloc, policy.tests(), facts, tests)?;
+    let rows = score_rows(alloc, policy.list(), facts, tests)?;
     let weights = sum_of_weights(&rows);
     if weights == 0 {
         return Err(ScoreError::NoWeight);

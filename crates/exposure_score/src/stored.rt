@@ -1,6 +1,6 @@
 //! What the two tests say that the program hands in.
 
-ghost use Rattle.std.specs.Prelude.{◌≡◌, ◌≤◌, min};
+ghost use Rattle.std.specs.Prelude.{◌≡◌, ◌≤◌};
 ghost use Rattle.exposure_score.specs.Stored.{ambient_count, writable_paths};
 
 use crate::facts::Facts;

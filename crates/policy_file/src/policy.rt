@@ -1,10 +1,7 @@
 //! The type of a policy, which contracts see as the list of its tests.
 
-ghost use Rattle.std.specs.Prelude.{◌≡◌};
-ghost use Rattle.policy_file.specs.Policy.{IsPolicy};
-
 use crate::identifier::TestId;
-use std::marker::Model;
+use item_list::{Held, HeldList};
 
 /// A test of a policy: what its badness may be at most, and what that weighs.
 #[derive(Drop)]
@@ -16,38 +13,11 @@ pub struct PolicyTest {
     pub range: u32,
 }
 
-/// At most 512 tests in byte order of their identifiers, of which no two are equal.
-#[derive(Drop)]
-pub struct Policy {
-    tests: Vec<PolicyTest>,
-}
-
-impl Model for Policy {
-    ghost use Rattle.std.specs.Prelude.{List};
-    ghost use Rattle.policy_file.specs.declared.policy.PolicyTest.{PolicyTest};
+impl Held for PolicyTest {
     ghost use Rattle.policy_file.specs.Policy.{IsPolicy};
 
-    ghost Value = { List PolicyTest };
-
-    ghost view = { λ policy. policy.tests.items };
-
-    ghost invariant = { λ policy. IsPolicy policy.tests.items };
+    ghost AreHeld = { IsPolicy };
 }
 
-impl Policy {
-    /// The policy of these tests.
-    pub fn new(tests: Vec<PolicyTest>) -> Policy
-        requires { IsPolicy tests.items }
-        ensures same_tests { result ≡ tests.items }
-    {
-        Policy { tests }
-    }
-
-    /// The tests in byte order of their identifiers.
-    pub fn tests(&self) -> &[PolicyTest]
-        ensures same_tests { result.now ≡ self.now }
-        ensures holds_of_each_policy { IsPolicy self.now }
-    {
-        &self.tests
-    }
-}
+/// At most 512 tests in byte order of their identifiers, of which no two are equal.
+pub type Policy = HeldList<PolicyTest>;

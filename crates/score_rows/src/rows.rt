@@ -99,11 +99,11 @@ impl Follow for Rows {
 
 // The tests of a policy, or how many where they are many.
 fn shown(alloc: Global, policy: &Policy) -> Result<String, AllocError> {
-    if policy.tests().len() > 9 {
-        return format!(in alloc; "{} tests", policy.tests().len());
+    if policy.list().len() > 9 {
+        return format!(in alloc; "{} tests", policy.list().len());
     }
     let mut text = String::from_str(alloc, "read")?;
-    for test in policy.tests() {
+    for test in policy.list() {
         text.push_str(format!(in alloc;
             " {} {}/{}",
             test.id.as_str(),
