@@ -1,12 +1,12 @@
 -- What a search by text finds in rows in byte order.
-use Rattle.std.proofs.Common.{◌≡◌, ℕ, zero, suc, ◌+◌, ◌-◌, ◌<◌, ◌≤◌, inl, inr, Bool, true, false, cond, ltb, List, [], ◌∷◌, ◌++◌, map, length, get_or, insert, Option, Some, None, Result, Ok, Err, nat_cmp, Ordering, Less, Equal, Greater, refl, sym, ap, ◌∙◌, subst, arith}
-use Rattle.std.specs.Prelude.{not, slice_get}
+use Rattle.std.proofs.Common.{◌≡◌, ℕ, zero, suc, ◌+◌, ◌-◌, ◌<◌, ◌≤◌, inl, inr, Bool, true, false, cond, ltb, List, [], ◌∷◌, ◌++◌, map, length, get_or, insert, Option, Some, None, Result, Ok, Err, nat_cmp, Ordering, Less, Equal, Greater, refl, sym, ap, ◌∙◌, subst, append-nil, arith}
+use Rattle.std.specs.Prelude.{MatchOption, not, slice_get}
 use Rattle.std.specs.Cmp.Lexicographic.{slice_cmp}
 use Rattle.std.specs.List.{AllByRecursion, position_or_len, prefix_len}
 use Rattle.std.specs.List.Sorted.{IsBinarySearchResult, IsSearchInRange, IsSortedBy}
 use Rattle.std.specs.Option.{option_map_or}
 use Rattle.std.specs.Ordering.{is_lt, ordering_reverse}
-use Rattle.std.specs.Result.{result_ok}
+use Rattle.std.specs.Result.{result_ok, result_err}
 use Rattle.std.specs.Str.{bytes_eq}
 use Rattle.std.proofs.lemmas.Bool.{false≢true, false_from_ne_true, lt-ltb, le-ltb, cases_lt, and_parts, and_from}
 use Rattle.std.proofs.lemmas.Cmp.{nat_list_cmp_total, tied_itself}
@@ -163,19 +163,25 @@ pub text_place : (rows : List Row) (text : List ℕ) (found : Result ℕ ℕ) �
 text_place rows text (Ok at) up h = sym (found_place rows text at up h)
 text_place rows text (Err at) up h = sym (gap_place rows text at h)
 
-pub goes_at : (rows : List Row) (path : Path) (at : ℕ) → is_normal path ≡ true → IsGap rows (tail_of path) at → GoesAt rows path at
-goes_at rows path at clean gap = record {
+pub goes_at : (rows : List Row) (path : Path) (at : ℕ) → AreOrdered rows → is_normal path ≡ true → IsGap rows (tail_of path) at → GoesAt rows path at
+goes_at rows path at ordered clean gap = record {
+  ordered = ordered;
   within = gap.within;
   absent = gap_absent rows path at gap;
   normal = clean;
   placed = λ row same. gap_placed rows row at (subst (λ (p : Path). IsGap rows (tail_of p) at) (sym same) gap);
 }
 
+-- where a path goes, by what is found at its text
+pub place_searched : (rows : List Row) (path : Path) (found : Result ℕ ℕ) → AreOrdered rows → is_normal path ≡ true → Searches rows (tail_of path ++ []) found → MatchOption (result_err found) (has_row rows path ≡ true) (GoesAt rows path)
+place_searched rows path (Ok at) ordered clean here = has_found rows path at ordered.normal clean (subst (λ (text : List ℕ). IsAt rows text at) (append-nil (tail_of path)) here)
+place_searched rows path (Err at) ordered clean gap = goes_at rows path at ordered clean (subst (λ (text : List ℕ). IsGap rows text at) (append-nil (tail_of path)) gap)
+
 -- rows with one more in its place are in order too
-pub ordered_more : (rows : List Row) (row : Row) (at : ℕ) → AreOrdered rows → GoesAt rows row.path at → AreOrdered (insert rows at row)
-ordered_more rows row at ordered goes = subst AreOrdered (goes.placed row refl) (record {
-  ascending = subst AreAscending (sym (paths-placed row rows)) (placed_ascending row.path (paths_of rows) ordered.ascending);
-  normal = all_placed (λ r. is_normal r.path ≡ true) row rows goes.normal ordered.normal;
+pub ordered_more : (rows : List Row) (row : Row) (at : ℕ) → GoesAt rows row.path at → AreOrdered (insert rows at row)
+ordered_more rows row at goes = subst AreOrdered (goes.placed row refl) (record {
+  ascending = subst AreAscending (sym (paths-placed row rows)) (placed_ascending row.path (paths_of rows) goes.ordered.ascending);
+  normal = all_placed (λ r. is_normal r.path ≡ true) row rows goes.normal goes.ordered.normal;
 })
 
 -- ---- paths and their texts

@@ -56,6 +56,7 @@ Searches rows text (Err at) = IsGap rows text at
 
 -- a row of this path goes to a place among rows in order
 pub record GoesAt (rows : List Row) (path : Path) (at : ℕ) : Type 0 where
+  pub ordered : AreOrdered rows
   pub within : at ≤ length rows
   pub absent : has_row rows path ≡ false
   pub normal : is_normal path ≡ true

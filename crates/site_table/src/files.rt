@@ -1,10 +1,9 @@
 //! What a row of the file says by itself.
 
-ghost use Rattle.std.specs.Prelude.{◌≡◌, ◌&&◌, ◌||◌, not, false, Some, map, drop};
-ghost use Rattle.toml.specs.Data.{get};
+ghost use Rattle.std.specs.Prelude.{◌≡◌, ◌&&◌, ◌||◌, not, false, Some, drop};
 ghost use Rattle.toml.specs.View.{view};
 ghost use Rattle.site_table.specs.Kinds.{is_dir, is_exe};
-ghost use Rattle.site_table.specs.Rows.{path_of, kind_of, cap_names, has, has_exe_key, is_always_dir, has_wrong_number, has_wrong_caps, has_both, first_of, own_causes, row_of};
+ghost use Rattle.site_table.specs.Rows.{path_of, kind_of, has, has_exe_key, is_always_dir, has_wrong_number, has_wrong_caps, has_both, first_of, own_causes, row_of};
 ghost use Rattle.site_table.specs.RowSteps.{is_always_dir_text, plain_file, SaysFile, SaysRow};
 ghost use Rattle.std.specs.Option.{option_map_or};
 
@@ -110,8 +109,8 @@ fn exe_cause(row: &Value) -> Option<RowCause>
     None
 }
 
-// what the row says of the file at its path, where it has no key that only an executable may have
-fn plain_file(path: AbsPath, kind: RowKind) -> Row
+/// What a row says of the file at its path, where it has no key that only an executable may have.
+pub fn plain_file(path: AbsPath, kind: RowKind) -> Row
     ensures { result ≡ plain_file path kind }
 {
     Row {
@@ -171,8 +170,5 @@ pub fn read_row(alloc: Global, number: u64, row: &Value) -> Result<Row, SiteErro
     let Some(path) = path_of(alloc, row)? else {
         return Err(SiteError::Row(number, RowCause::Path));
     };
-    match read_file(path, row) {
-        Ok(row) => Ok(row),
-        Err(cause) => Err(SiteError::Row(number, cause)),
-    }
+    read_file(path, row).map_err(|cause| SiteError::Row(number, cause))
 }

@@ -1,6 +1,6 @@
 //! Ids of users and groups.
 
-ghost use Rattle.std.specs.Prelude.{◌≡◌, ◌≤◌, IfOk, IfSome, map, is_some};
+ghost use Rattle.std.specs.Prelude.{◌≡◌, IfOk, is_some};
 ghost use Rattle.std.specs.List.{filter_map, list_all};
 ghost use Rattle.toml.specs.View.{view};
 ghost use Rattle.site_table.specs.Ids.{id_of, id_at, is_out_of_range, as_id, ids_at, are_ids};
@@ -34,10 +34,7 @@ pub fn id_at(value: &Value, key: &str) -> Option<u32>
 pub fn is_out_of_range(value: &Value, key: &str) -> bool
     ensures { result ≡ is_out_of_range key.now (view value.now) }
 {
-    match number_at(value, key) {
-        Some(number) => id_of(number).is_none(),
-        None => false,
-    }
+    number_at(value, key).is_some_and(|number| id_of(number).is_none())
 }
 
 fn as_id(value: &Value) -> Option<u32>

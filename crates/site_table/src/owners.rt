@@ -49,10 +49,7 @@ impl OwnerKind {
 fn name_of(owner: &Value) -> &str
     ensures { result.now ≡ name_of (view owner.now) }
 {
-    match text_at(owner, "name") {
-        Some(name) => name,
-        None => "",
-    }
+    text_at(owner, "name").unwrap_or("")
 }
 
 // wrong keys, an id out of range or an empty name

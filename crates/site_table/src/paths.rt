@@ -1,6 +1,6 @@
 //! The paths of rows.
 
-ghost use Rattle.std.specs.Prelude.{◌≡◌, IfOk, IfSome, IsTrue, option_map};
+ghost use Rattle.std.specs.Prelude.{◌≡◌, IfOk, IsTrue, option_map};
 ghost use Rattle.toml.specs.View.{view};
 ghost use Rattle.abs_path.specs.Paths.{tail_of, is_normal};
 ghost use Rattle.site_table.specs.Paths.{short_path, parent_of};
@@ -19,18 +19,9 @@ fn short_path(alloc: Global, text: &str) -> Result<Option<AbsPath>, AllocError>
     ensures { IfOk result (λ path. path ≡ short_path text.now) }
 {
     match AbsPath::read(alloc, text) {
-        Ok(path) => {
-            if path.text().len() <= LONGEST {
-                Ok(Some(path))
-            } else {
-                Ok(None)
-            }
-        }
+        Ok(path) if path.text().len() <= LONGEST => Ok(Some(path)),
         Err(PathError::Memory) => Err(AllocError),
-        Err(PathError::TooLong) => Ok(None),
-        Err(PathError::HasNul) => Ok(None),
-        Err(PathError::Relative) => Ok(None),
-        Err(PathError::DotDot) => Ok(None),
+        _ => Ok(None),
     }
 }
 

@@ -1,6 +1,6 @@
 //! A site, from its bytes to its table.
 
-ghost use Rattle.std.specs.Prelude.{◌≡◌, ◌≢◌, Ok, Err, IfOk, IfErr, nat_lt, ◌||◌, length};
+ghost use Rattle.std.specs.Prelude.{◌≡◌, ◌≢◌, Ok, Err, IfOk, IfErr, ◌||◌};
 ghost use Rattle.toml.specs.View.{view};
 ghost use Rattle.site_table.specs.declared.error.SiteError.TheVariants.{Memory};
 ghost use Rattle.site_table.specs.Reading.{IsUnlessMemory, unless_fault, faults_of, site_in, site_of, SaysTop, is_too_large};

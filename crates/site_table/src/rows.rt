@@ -1,19 +1,17 @@
 //! The rows of a site: each by itself, and then its place among the others.
 
-ghost use Rattle.std.specs.Prelude.{◌≡◌, ◌||◌, ℕ, List, [], true, cond, map, Ok, OnOk, IfOk, IfSome};
-ghost use Rattle.std.specs.List.{list_any};
-ghost use Rattle.toml.specs.Data.{Data};
+ghost use Rattle.std.specs.Prelude.{◌≡◌, ◌||◌, ℕ, List, map, Ok, OnOk, IfOk, IfSome};
 ghost use Rattle.toml.specs.View.{view};
 ghost use Rattle.site_table.specs.Paths.{proc};
 ghost use Rattle.site_table.specs.Order.{with_fixed, rows_in_order};
 ghost use Rattle.site_table.specs.Reading.{IsUnlessMemory, unless_fault, row_faults};
-ghost use Rattle.site_table.specs.Rows.{row_of, kind_of};
+ghost use Rattle.site_table.specs.Rows.{row_of};
 ghost use Rattle.site_table.specs.RowSteps.{Places, stands_in, has_folder, TakesFolder, fixed_placed, PlacesBehind};
 ghost use Rattle.site_table.specs.Texts.{has_text};
 
 use crate::error::{RowCause, SiteError};
 use crate::files::{is_always_dir_text, is_dir, read_row};
-use crate::order::OrderedRows;
+use crate::order::{OrderedRows, folder_of, place_for, put, put_dir};
 use crate::paths::{parent, path_of, tail};
 use crate::row::Row;
 use crate::seen::Seen;
@@ -50,24 +48,20 @@ fn listed_folders(alloc: Global, rows: &[Value]) -> Result<Seen, AllocError>
 fn stands_in(folders: &Seen, path: &AbsPath) -> bool
     ensures { result ≡ stands_in folders.now path.now }
 {
-    match parent(path) {
-        Some(folder) => is_always_dir_text(folder) || folders.has(folder),
-        None => true,
-    }
+    parent(path).is_none_or(|folder| is_always_dir_text(folder) || folders.has(folder))
 }
 
 // puts the row of this number in its place
 fn place(number: u64, folders: &Seen, ordered: &mut OrderedRows, row: Row) -> Result<(), SiteError>
     ensures { Places number folders.now ordered.old row ordered.new result }
 {
-    let Some(at) = ordered.place_for(&row.path) else {
+    let Some(at) = place_for(ordered, &row.path) else {
         return Err(SiteError::Row(number, RowCause::Duplicate));
     };
     if !stands_in(folders, &row.path) {
         return Err(SiteError::Row(number, RowCause::NoParent));
     }
-    ordered.put(at, row)?;
-    Ok(())
+    Ok(put(ordered, at, row)?)
 }
 
 // puts a row in its place, where it has no fault and its folder is among the rows before it; the number
@@ -85,13 +79,13 @@ fn place_behind(
         Err(SiteError::Memory) => return Err(AllocError),
         Err(_) => return Ok(None),
     };
-    let Some(at) = ordered.place_for(&row.path) else {
+    let Some(at) = place_for(ordered, &row.path) else {
         return Ok(None);
     };
-    let Some(folder) = ordered.folder_of(hint, &row.path) else {
+    let Some(folder) = folder_of(ordered, hint, &row.path) else {
         return Ok(None);
     };
-    ordered.put(at, row)?;
+    put(ordered, at, row)?;
     Ok(Some(folder))
 }
 
@@ -100,7 +94,7 @@ fn rows_behind_folders(alloc: Global, rows: &[Value]) -> Result<Option<OrderedRo
     ensures { IfOk result (λ found. IfSome found (λ ordered.
         unless_fault (row_faults (map view rows.now)) (rows_in_order (map row_of (map view rows.now))) ≡ Ok ordered)) }
 {
-    let mut ordered = OrderedRows::new(alloc);
+    let mut ordered = OrderedRows::new(Vec::new(alloc));
     let mut hint = 0;
     'rows: for value in rows {
         match place_behind(alloc, &mut ordered, hint, value)? {
@@ -117,7 +111,7 @@ fn all_rows(alloc: Global, rows: &[Value]) -> Result<OrderedRows, SiteError>
         (unless_fault (row_faults (map view rows.now)) (rows_in_order (map row_of (map view rows.now)))) }
 {
     let folders = listed_folders(alloc, rows)?;
-    let mut ordered = OrderedRows::new(alloc);
+    let mut ordered = OrderedRows::new(Vec::new(alloc));
     'rows: for (at, value) in rows.iter().enumerate() {
         let number = at as u64 + 1;
         let row = read_row(alloc, number, value)?;
@@ -145,10 +139,7 @@ fn proc_path(alloc: Global) -> Result<AbsPath, AllocError>
     match AbsPath::read(alloc, "/proc") {
         Ok(path) => Ok(path),
         Err(PathError::Memory) => Err(AllocError),
-        Err(PathError::TooLong) => unreachable!(),
-        Err(PathError::HasNul) => unreachable!(),
-        Err(PathError::Relative) => unreachable!(),
-        Err(PathError::DotDot) => unreachable!(),
+        Err(_) => unreachable!(),
     }
 }
 
@@ -156,9 +147,9 @@ fn proc_path(alloc: Global) -> Result<AbsPath, AllocError>
 fn complete(alloc: Global, mut ordered: OrderedRows) -> Result<Vec<Row>, AllocError>
     ensures { IfOk result (λ rows. rows.items ≡ fixed_placed ordered) }
 {
-    ordered.put_dir(AbsPath::root(alloc))?;
-    ordered.put_dir(proc_path(alloc)?)?;
-    Ok(ordered.into_rows())
+    put_dir(&mut ordered, AbsPath::root(alloc))?;
+    put_dir(&mut ordered, proc_path(alloc)?)?;
+    Ok(ordered.into_items())
 }
 
 /// The rows that the elements of the tree describe, in byte order of their paths, with `/` and `/proc`

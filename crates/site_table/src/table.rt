@@ -2,7 +2,7 @@
 //!
 //! A contract sees a site as its dynamic uid and the lists of its rows, users and groups.
 
-ghost use Rattle.std.specs.Prelude.{◌≡◌, ◌++◌, ◌<◌, ◌≤◌, length, slice_get, Some, option_copied, option_map, true};
+ghost use Rattle.std.specs.Prelude.{◌≡◌, ◌++◌, ◌<◌, length, slice_get, Some, option_copied, option_map, true};
 ghost use Rattle.abs_path.specs.Paths.{tail_of, parts_of};
 ghost use Rattle.abs_path.specs.Prefix.{IsRest, is_prefix, rest_of};
 ghost use Rattle.site_table.specs.Table.{IsSite, site_with, place_of, place_of_text, row_at, user_named, user_with, group_named};
@@ -114,10 +114,7 @@ impl SiteTable {
         requires { is_prefix place.now path.now ≡ true }
         ensures { option_map (λ row. row.now) result ≡ row_at self.now.rows (source.now ++ rest_of place.now path.now) }
     {
-        match place.rest(path) {
-            None => None,
-            Some(rest) => self.row_behind(source, rest),
-        }
+        self.row_behind(source, place.rest(path)?)
     }
 
     /// The user of this name.

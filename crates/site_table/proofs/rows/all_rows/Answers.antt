@@ -1,4 +1,4 @@
-use Rattle.std.proofs.Common.{map, List, arith}
+use Rattle.std.proofs.Common.{map, List, ◌∙◌, arith}
 use Rattle.std.proofs.lemmas.List.{length-map}
 use Rattle.std.proofs.lemmas.Result.{err_from_is_err_and}
 use Rattle.toml.specs.View.{view}
@@ -10,7 +10,7 @@ use Rattle.site_table.proofs.RowsRead.{rows_none, row_more, row_stops, place_sto
 use Rattle.site_table.proofs.rows.all_rows.Goals as goal
 
 pub rows-init : goal.rows-init
-rows-init c = rows_none (map view c.args.rows.now) c.new-ordered.result c.new-ordered.ensures
+rows-init c = rows_none (map view c.args.rows.now) c.new-ordered.result (c.new-ordered.ensures ∙ c.new.ensures.items)
 
 pub rows-preserved : goal.rows-preserved
 rows-preserved c =

@@ -1,4 +1,4 @@
-use Rattle.std.proofs.Common.{map, arith, ℕ, Option, subst}
+use Rattle.std.proofs.Common.{map, arith, ℕ, Option, ◌∙◌, subst}
 use Rattle.std.specs.Prelude.{IfSome}
 use Rattle.site_table.specs.RowSteps.{PlacesBehind}
 use Rattle.std.proofs.lemmas.List.{length-map}
@@ -9,7 +9,9 @@ use Rattle.site_table.proofs.RowsRead.{rows_none, rows_all}
 use Rattle.site_table.proofs.rows.rows_behind_folders.Goals as goal
 
 pub rows-init : goal.rows-init
-rows-init c = behind_none (map view c.args.rows.now) c.new-ordered.result c.new-ordered.ensures (rows_none (map view c.args.rows.now) c.new-ordered.result c.new-ordered.ensures)
+rows-init c =
+    let empty = c.new-ordered.ensures ∙ c.new.ensures.items in
+    behind_none (map view c.args.rows.now) c.new-ordered.result empty (rows_none (map view c.args.rows.now) c.new-ordered.result empty)
 
 pub rows-preserved : goal.rows-preserved
 rows-preserved c =
