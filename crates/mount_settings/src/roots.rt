@@ -1,7 +1,5 @@
 //! Keys that would put something in the place of the root.
 ghost use Rattle.std.specs.Prelude.{◌≡◌, ◌&&◌};
-ghost use Rattle.std.specs.List.{list_any};
-ghost use Rattle.abs_path.specs.Paths.{is_root};
 ghost use Rattle.mount_settings.specs.Assigned.{is_key};
 ghost use Rattle.mount_settings.specs.Roots.{mentions_root};
 

@@ -1,6 +1,5 @@
 //! All mentions of a unit's settings.
-ghost use Rattle.std.specs.Prelude.{◌≡◌, ◌≢◌, ◌↔◌, ◌<◌, ◌≤◌, ◌++◌, ◌∷◌, [], None, not, length, filter, IfOk, OnOk, IsErrOf, IsTrue};
-ghost use Rattle.path_settings.specs.Keys.{is_implied};
+ghost use Rattle.std.specs.Prelude.{◌≡◌, ◌↔◌, ◌<◌, ◌≤◌, None, not, length, IfOk, IsErrOf, IsTrue};
 ghost use Rattle.mount_settings.specs.Protections.{protection_notes};
 ghost use Rattle.mount_settings.specs.Settings.{as_written, mentions_of, protections_of};
 ghost use Rattle.path_settings.specs.Mentions.{leaves_the_root};

@@ -4,12 +4,11 @@ ghost use Rattle.std.specs.List.{cons_option};
 ghost use Rattle.mount_settings.specs.Assigned.{is_key};
 ghost use Rattle.mount_settings.specs.Written.{path_in, paths_in};
 ghost use Rattle.mount_settings.specs.Notes.{word_notes, value_notes};
-ghost use Rattle.mount_settings.specs.Roots.{AreRead};
 ghost use Rattle.mount_settings.specs.Steps.{without_key, with_value};
 
+use item_list::{Held, HeldList};
 use path_settings::{Mention, PathKey, read_mention};
 use std::alloc::{AllocError, Global};
-use std::marker::Model;
 use unit_grammar::{NoteCause, Text};
 use unit_values::{FileNote, Value, note_value, read_words};
 
@@ -22,42 +21,15 @@ pub struct WrittenPath {
     pub mention: Mention,
 }
 
-/// The paths that are written in the files of a unit and are in force, which contracts see as a list.
-#[derive(Drop)]
-pub struct WrittenPaths {
-    items: Vec<WrittenPath>,
-}
-
-impl Model for WrittenPaths {
-    ghost use Rattle.std.specs.Prelude.{List};
-    ghost use Rattle.mount_settings.specs.declared.written.WrittenPath.{WrittenPath};
+impl Held for WrittenPath {
     ghost use Rattle.mount_settings.specs.Roots.{AreRead};
 
-    ghost Value = { List WrittenPath };
-
-    ghost view = { λ paths. paths.items.items };
-
-    ghost invariant = { λ paths. AreRead paths.items.items };
+    ghost AreHeld = { AreRead };
 }
 
-impl WrittenPaths {
-    // The paths of a list.
-    pub(crate) fn new(items: Vec<WrittenPath>) -> WrittenPaths
-        requires { AreRead items.items }
-        ensures { result ≡ items.items }
-    {
-        WrittenPaths { items }
-    }
-
-    /// The paths in their order. Only the keys that say what stands at a path hide it, empty it or put another there,
-    /// and each path, and each source of a bind, has at most 250 bytes.
-    pub fn list(&self) -> &[WrittenPath]
-        ensures all_in_order { result.now ≡ self.now }
-        ensures as_they_are_read { AreRead self.now }
-    {
-        &self.items
-    }
-}
+/// The paths that are written in the files of a unit and are in force, in their order. Only the keys that say what stands
+/// at a path hide it, empty it or put another there, and each path, and each source of a bind, has at most 250 bytes.
+pub type WrittenPaths = HeldList<WrittenPath>;
 
 /// Whether two keys are the same.
 pub(crate) fn is_key(one: PathKey, other: PathKey) -> bool
