@@ -4,7 +4,7 @@ ghost use Rattle.std.specs.Prelude.{◌≡◌, ◌≤◌, ◌↔◌, map, IsTrue
 ghost use Rattle.std.specs.List.Sorted.{IsStrictlyIncreasing};
 
 use crate::actions::Action;
-use item_list::ItemList;
+use item_list::{Held, HeldList, ItemList};
 use std::marker::Model;
 
 /// A test of an argument: the low 32 bits of argument `arg`, from 0 to 5, and `mask` are `value`.
@@ -59,41 +59,15 @@ pub struct CallRule {
     pub rest: Action,
 }
 
-/// The rules of some calls, whose numbers ascend strictly.
-#[derive(Drop)]
-pub struct CallRules {
-    items: Vec<CallRule>,
-}
-
-impl Model for CallRules {
-    ghost use Rattle.std.specs.Prelude.{List, map};
-    ghost use Rattle.call_rules.specs.declared.rules.CallRule.{CallRule};
+impl Held for CallRule {
+    ghost use Rattle.std.specs.Prelude.{map};
     ghost use Rattle.std.specs.List.Sorted.{IsStrictlyIncreasing};
 
-    ghost Value = { List CallRule };
-
-    ghost view = { λ c. c.items.items };
-
-    ghost invariant = { λ c. IsStrictlyIncreasing (map (λ call. call.number) c.items.items) };
+    ghost AreHeld = { λ calls. IsStrictlyIncreasing (map (λ call. call.number) calls) };
 }
 
-impl CallRules {
-    /// These rules, whose numbers ascend, as `are_ascending` tests.
-    pub fn new(items: Vec<CallRule>) -> Self
-        requires { IsStrictlyIncreasing (map (λ call. call.number) items.items) }
-        ensures { result ≡ items.items }
-    {
-        CallRules { items }
-    }
-
-    /// The rules, ascending by number.
-    pub fn list(&self) -> &[CallRule]
-        ensures lends_the_rules { result.now ≡ self.now }
-        ensures ascending { IsStrictlyIncreasing (map (λ call. call.number) self.now) }
-    {
-        &self.items
-    }
-}
+/// The rules of some calls, whose numbers ascend strictly, as `are_ascending` tests.
+pub type CallRules = HeldList<CallRule>;
 
 /// Whether the numbers of these rules ascend strictly.
 pub fn are_ascending(calls: &[CallRule]) -> bool
