@@ -1,5 +1,5 @@
 // What is wrong with an instruction, and whether the last one ends the program.
-ghost use Rattle.std.specs.Prelude.{◌≡◌, ◌+◌, ◌-◌, ◌≤◌, ℕ, length, Some, None, MatchOption};
+ghost use Rattle.std.specs.Prelude.{◌≡◌, ◌-◌, Some, None, MatchOption};
 ghost use Rattle.bpf_code.specs.Ops.{op_of};
 ghost use Rattle.bpf_code.specs.Accepted.{unless, number_fault, op_fault, fault_of, AreFine, IsFirstFault, is_return, ends_in_return};
 

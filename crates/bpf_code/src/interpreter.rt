@@ -20,10 +20,7 @@ fn step(insn: Insn, left: usize, regs: &mut Regs, input: &CallData) -> Effect
     ensures effect { effect_by (op_of insn.code) insn regs.old input.now ≡ Some (result, regs.new) }
     ensures inside { StaysWithin left result }
 {
-    match decode(insn.code) {
-        None => unreachable!(),
-        Some(op) => perform(op, insn, regs, input),
-    }
+    perform(decode(insn.code).unwrap(), insn, regs, input)
 }
 
 /// What the program answers for the data of a call.

@@ -72,10 +72,7 @@ fn room(programs: &[Program]) -> usize
 fn with_newer(strongest: Option<u32>, newest: u32) -> u32
     ensures { result ≡ pushed strongest newest }
 {
-    match strongest {
-        None => newest,
-        Some(older) => stronger_answer(older, newest),
-    }
+    strongest.map_or(newest, |older| stronger_answer(older, newest))
 }
 
 // The answer that decides.
