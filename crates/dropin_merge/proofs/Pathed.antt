@@ -1,6 +1,6 @@
 -- Where the files lie that are answered or refused.
-use Rattle.std.proofs.Common.{◌≡◌, ℕ, ◌+◌, ◌<◌, ◌≤◌, true, List, [], ◌∷◌, ◌++◌, length, get_or, Option, Some, None, Result, Ok, Err, map, String, Global, sym, ap, ◌∙◌, subst, arith, append-nil}
-use Rattle.std.specs.Prelude.{IfOk, IfSome, string_bytes, option_to_list}
+use Rattle.std.proofs.Common.{◌≡◌, ℕ, ◌+◌, ◌<◌, ◌≤◌, true, List, [], ◌∷◌, ◌++◌, length, get_or, Result, Ok, Err, map, String, Global, sym, ap, ◌∙◌, subst, arith, append-nil}
+use Rattle.std.specs.Prelude.{IfOk, string_bytes}
 use Rattle.std.specs.List.{All, Contains}
 use Rattle.std.specs.Map.{values_of}
 use Rattle.std.specs.String.{string_cmp}
@@ -13,8 +13,10 @@ use Rattle.std.proofs.lemmas.Map.Views.{All-values-insert_entry}
 use Rattle.dropin_merge.specs.Answers.{IsDropinPath}
 use Rattle.dropin_merge.specs.Places.{below}
 use Rattle.dropin_merge.specs.Winners.{ends_in_conf}
-use Rattle.dropin_merge.specs.Steps.{RefusesAt, IsLedBy, KeepsTo}
+use Rattle.dropin_merge.specs.Steps.{RefusesAt, file_in, LiesAt, IsLedBy, KeepsTo}
 use Rattle.dropin_merge.specs.declared.resolved.UnitFile.{UnitFile}
+use Rattle.dropin_merge.specs.declared.files.Found.{Found}
+use Rattle.dropin_merge.specs.declared.files.Found.TheVariants.{Missing, Empty, Says}
 use Rattle.dropin_merge.specs.declared.errors.ResolveError.{ResolveError}
 use Rattle.dropin_merge.specs.declared.errors.ResolveError.TheVariants.{BadName, NotFound, Masked, DropIns, TooLarge, Text, ReadFault, Memory}
 
@@ -55,12 +57,14 @@ module _ (P : UnitFile → Type 0) (fragment : UnitFile) where
       record { dropins = l.dropins; led = l.led; few = omega arith; placed = l.placed }
 
 -- one more path was read, and its file is there or not
-pub led_next : (fragment : UnitFile) (all : List (List ℕ)) (count : ℕ) (done new : List UnitFile) (found : Option UnitFile) (text : List ℕ)
-    → IsLedBy (λ file. Contains all file.path) fragment count done → IfSome found (λ file. file.path ≡ text) → Contains all text → new ≡ done ++ option_to_list found
+pub led_next : (fragment : UnitFile) (all : List (List ℕ)) (count : ℕ) (done new : List UnitFile) (found : Found) (text : List ℕ)
+    → IsLedBy (λ file. Contains all file.path) fragment count done → LiesAt text found → Contains all text → new ≡ done ++ file_in found
     → IsLedBy (λ file. Contains all file.path) fragment (count + 1) new
-led_next fragment all count done new None text l at here made =
+led_next fragment all count done new Missing text l at here made =
     subst (IsLedBy (λ file. Contains all file.path) fragment (count + 1)) (sym (made ∙ append-nil done)) (led_upto (λ file. Contains all file.path) fragment count (count + 1) done l (omega arith))
-led_next fragment all count done new (Some file) text l at here made =
+led_next fragment all count done new Empty text l at here made =
+    subst (IsLedBy (λ file. Contains all file.path) fragment (count + 1)) (sym (made ∙ append-nil done)) (led_upto (λ file. Contains all file.path) fragment count (count + 1) done l (omega arith))
+led_next fragment all count done new (Says file) text l at here made =
     subst (IsLedBy (λ file. Contains all file.path) fragment (count + 1)) (sym made) (led_more (λ file. Contains all file.path) fragment count done file l (subst (Contains all) (sym at) here))
 
 pub led_weaker : (P Q : UnitFile → Type 0) (fragment : UnitFile) (count most : ℕ) (files : List UnitFile) → ((file : UnitFile) → P file → Q file) → count ≤ most → IsLedBy P fragment count files → IsLedBy Q fragment most files

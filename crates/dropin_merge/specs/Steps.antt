@@ -1,5 +1,5 @@
 -- What the parts of a resolution answer each other, where the shelf tells its files.
-use Rattle.std.specs.Prelude.{Vec, String, string_bytes, ◌≡◌, ◌≢◌, ◌≤◌, ◌&&◌, nat_lt, ℕ, true, false, cond, Option, Some, None, Result, Ok, Err, List, ◌∷◌, map, length}
+use Rattle.std.specs.Prelude.{Vec, String, string_bytes, ◌≡◌, ◌≢◌, ◌≤◌, ◌&&◌, nat_lt, ℕ, true, false, cond, Option, Some, None, Result, Ok, Err, List, [], ◌∷◌, map, length}
 use Rattle.std.specs.List.{All, list_any}
 use Rattle.std.specs.Map.{values_of}
 use Rattle.std.specs.Option.{option_map}
@@ -11,39 +11,35 @@ use Rattle.unit_grammar.specs.declared.unit.UnitError.TheVariants as fault
 use Rattle.dropin_merge.specs.Answers.{IsDropinPath}
 use Rattle.dropin_merge.specs.Places.{below}
 use Rattle.dropin_merge.specs.Winners.{ends_in_conf, winner_among}
-use Rattle.dropin_merge.specs.Judging.{is_empty, is_too_large, judged, fragment_judged}
+use Rattle.dropin_merge.specs.Judging.{is_empty, judged}
 use Rattle.dropin_merge.specs.Resolving.{is_overfull}
 use Rattle.dropin_merge.specs.declared.resolved.UnitFile.{UnitFile}
+use Rattle.dropin_merge.specs.declared.files.Found.{Found}
+use Rattle.dropin_merge.specs.declared.files.Found.TheVariants.{Missing, Empty, Says}
 use Rattle.dropin_merge.specs.declared.errors.ResolveError.{ResolveError}
 use Rattle.dropin_merge.specs.declared.errors.ResolveError.TheVariants.{BadName, NotFound, Masked, DropIns, TooLarge, Text, ReadFault, Memory}
 
--- what is found of a file that is there with these bytes, or is not there
-abbrev pub FindsBytes : List ℕ → Option (List ℕ) → Result (Option (Vec ℕ Global)) ResolveError → Type 0
-FindsBytes path file (Ok None) = file ≡ None
-FindsBytes path file (Ok (Some bytes)) = (file ≡ Some bytes.items) × (is_too_large bytes.items ≡ false)
-FindsBytes path file (Err (TooLarge large)) = (large ≡ path) × ((bytes : List ℕ) × (file ≡ Some bytes) × (is_too_large bytes ≡ true))
-FindsBytes path file (Err ReadFault) = Unit {0}
-FindsBytes path file (Err Memory) = Unit {0}
-FindsBytes path file (Err BadName) = ⊥
-FindsBytes path file (Err NotFound) = ⊥
-FindsBytes path file (Err Masked) = ⊥
-FindsBytes path file (Err DropIns) = ⊥
-FindsBytes path file (Err (Text refused fault)) = ⊥
+-- a file that says something
+abbrev pub says : Result UnitFile ResolveError → Result Found ResolveError
+says (Ok file) = Ok (Says file)
+says (Err refusal) = Err refusal
 
--- a file that is read
-abbrev pub some_file : Result UnitFile ResolveError → Result (Option UnitFile) ResolveError
-some_file (Ok file) = Ok (Some file)
-some_file (Err refusal) = Err refusal
+-- what is found at a path, by the bytes of the file that is there
+abbrev pub file_at : List ℕ → Option (List ℕ) → Result Found ResolveError
+file_at path None = Ok Missing
+file_at path (Some bytes) = cond (is_empty bytes) (Ok Empty) (says (judged path bytes))
 
--- what is read of a fragment, by its bytes where it is there
-abbrev pub fragment_at : List ℕ → Option (List ℕ) → Result (Option UnitFile) ResolveError
-fragment_at path None = Ok None
-fragment_at path (Some bytes) = some_file (fragment_judged path bytes)
+-- the file that says something, if there is one
+abbrev pub file_in : Found → List UnitFile
+file_in Missing = []
+file_in Empty = []
+file_in (Says file) = file ∷ []
 
--- what is read of a drop-in
-abbrev pub dropin_at : List ℕ → Option (List ℕ) → Result (Option UnitFile) ResolveError
-dropin_at path None = Ok None
-dropin_at path (Some bytes) = cond (is_empty bytes) (Ok None) (some_file (judged path bytes))
+-- it lies at this path
+abbrev pub LiesAt : List ℕ → Found → Type 0
+LiesAt path Missing = Unit {0}
+LiesAt path Empty = Unit {0}
+LiesAt path (Says file) = file.path ≡ path
 
 -- the names of a folder are answered, in any order
 abbrev pub ListsPlace : List (List ℕ) → Result (Vec (String Global) Global) ResolveError → Type 0

@@ -3,15 +3,14 @@ ghost use Rattle.std.specs.Prelude.{◌≡◌, ◌∷◌, [], IfOk, IfSome, leng
 ghost use Rattle.std.specs.List.{Contains};
 ghost use Rattle.std.specs.String.{string_bytes};
 ghost use Rattle.host_io.specs.Causes.{StaysUnless};
-ghost use Rattle.host_io.specs.Files.{bytes_at};
 ghost use Rattle.dropin_merge.specs.Answers.{HasCause, IsDropinPath, IsUnlessFailed};
 ghost use Rattle.dropin_merge.specs.Places.{dropin_places};
 ghost use Rattle.dropin_merge.specs.Resolving.{dropins_read, files_of, joined_by};
-ghost use Rattle.dropin_merge.specs.Steps.{dropin_at, IsLedBy, RefusesAt};
+ghost use Rattle.dropin_merge.specs.Steps.{IsLedBy, RefusesAt};
 ghost use Rattle.dropin_merge.specs.declared.errors.ResolveError.TheVariants.{ReadFault};
 
 use crate::errors::ResolveError;
-use crate::files::{judge_file, read_file};
+use crate::files::{Found, file_at};
 use crate::places::dropin_places;
 use crate::resolved::{UnitFile, UnitFiles};
 use crate::winners::{collect_winners, winning_paths};
@@ -21,25 +20,6 @@ use unit_names::UnitName;
 
 /// The most drop-ins of a unit.
 const MOST_DROPINS: usize = 256;
-
-// What the drop-in at a path says, or none where it is missing or empty.
-fn dropin_at<S: Shelf>(
-    alloc: Global,
-    shelf: &mut S,
-    path: &str,
-) -> Result<Option<UnitFile>, ResolveError>
-    ensures has_the_path { IfOk result (λ found. IfSome found (λ file. file.path ≡ path.now)) }
-    ensures refuses_the_path { RefusesAt (λ p. p ≡ path.now) result }
-    ensures reads_the_dropin { IfSome (S.told shelf.old) (λ files. IsUnlessFailed result (dropin_at path.now (bytes_at files path.now))) }
-    ensures map_stays { S.told shelf.new ≡ S.told shelf.old }
-    ensures fault_rose { HasCause (S.faults shelf.old) (S.faults shelf.new) result }
-    ensures no_other_fault { StaysUnless ReadFault (S.faults shelf.old) (S.faults shelf.new) result }
-{
-    match read_file(alloc, shelf, path)? {
-        Some(bytes) if !bytes.is_empty() => Ok(Some(judge_file(alloc, path, bytes.as_slice())?)),
-        _ => Ok(None),
-    }
-}
 
 // A fragment, and the drop-ins at these paths behind it.
 fn read_dropins<S: Shelf>(
@@ -55,14 +35,14 @@ fn read_dropins<S: Shelf>(
     ensures fault_rose { HasCause (S.faults shelf.old) (S.faults shelf.new) result }
     ensures no_other_fault { StaysUnless ReadFault (S.faults shelf.old) (S.faults shelf.new) result }
 {
-    let mut files = Vec::new(alloc);
+    let mut files = UnitFiles::empty(alloc);
     files.push(fragment)?;
     for path in paths {
-        if let Some(dropin) = dropin_at(alloc, shelf, path.as_str())? {
+        if let Found::Says(dropin) = file_at(alloc, shelf, path.as_str())? {
             files.push(dropin)?;
         }
     }
-    Ok(UnitFiles::new(files))
+    Ok(files)
 }
 
 /// The files in force of a unit whose fragment this is.

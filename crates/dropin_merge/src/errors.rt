@@ -2,7 +2,7 @@
 ghost use Rattle.std.specs.Prelude.{◌≡◌};
 ghost use Rattle.dropin_merge.specs.declared.errors.ResolveError.TheVariants.{Memory};
 
-use std::alloc::{AllocError, AllocFailed};
+use std::alloc::AllocError;
 use thiserror::Error;
 use unit_grammar::{Text, UnitError};
 
@@ -39,14 +39,6 @@ impl From<AllocError> for ResolveError {
     ghost from_gives = { λ _ e. e ≡ Memory };
 
     fn from(_: AllocError) -> Self {
-        ResolveError::Memory
-    }
-}
-
-impl<T: Drop> From<AllocFailed<T>> for ResolveError {
-    ghost from_gives = { λ _ e. e ≡ Memory };
-
-    fn from(_: AllocFailed<T>) -> Self {
         ResolveError::Memory
     }
 }

@@ -3,39 +3,16 @@ ghost use Rattle.std.specs.Prelude.{◌≡◌, IfOk, IfSome, map};
 ghost use Rattle.std.specs.List.{Contains};
 ghost use Rattle.std.specs.String.{string_bytes};
 ghost use Rattle.host_io.specs.Causes.{StaysUnless};
-ghost use Rattle.host_io.specs.Files.{bytes_at};
 ghost use Rattle.dropin_merge.specs.Answers.{HasCause, IsUnlessFailed};
 ghost use Rattle.dropin_merge.specs.Resolving.{fragment_of, fragment_read};
-ghost use Rattle.dropin_merge.specs.Steps.{fragment_at, RefusesAt};
+ghost use Rattle.dropin_merge.specs.Steps.{RefusesAt};
 ghost use Rattle.dropin_merge.specs.declared.errors.ResolveError.TheVariants.{ReadFault};
 
 use crate::errors::ResolveError;
-use crate::files::{judge_file, read_file};
+use crate::files::{Found, file_at};
 use crate::resolved::UnitFile;
 use host_io::Shelf;
 use std::alloc::Global;
-
-// What the fragment at a path says, or none where it is missing.
-fn fragment_at<S: Shelf>(
-    alloc: Global,
-    shelf: &mut S,
-    path: &str,
-) -> Result<Option<UnitFile>, ResolveError>
-    ensures has_the_path { IfOk result (λ found. IfSome found (λ file. file.path ≡ path.now)) }
-    ensures refuses_the_path { RefusesAt (λ p. p ≡ path.now) result }
-    ensures reads_the_fragment { IfSome (S.told shelf.old) (λ files. IsUnlessFailed result (fragment_at path.now (bytes_at files path.now))) }
-    ensures map_stays { S.told shelf.new ≡ S.told shelf.old }
-    ensures fault_rose { HasCause (S.faults shelf.old) (S.faults shelf.new) result }
-    ensures no_other_fault { StaysUnless ReadFault (S.faults shelf.old) (S.faults shelf.new) result }
-{
-    let Some(bytes) = read_file(alloc, shelf, path)? else {
-        return Ok(None);
-    };
-    if bytes.is_empty() {
-        return Err(ResolveError::Masked);
-    }
-    Ok(Some(judge_file(alloc, path, bytes.as_slice())?))
-}
 
 /// What the first of these paths says that is there.
 pub fn read_fragment<S: Shelf>(
@@ -51,8 +28,10 @@ pub fn read_fragment<S: Shelf>(
     ensures no_other_fault { StaysUnless ReadFault (S.faults shelf.old) (S.faults shelf.new) result }
 {
     for path in paths {
-        if let Some(fragment) = fragment_at(alloc, shelf, path.as_str())? {
-            return Ok(fragment);
+        match file_at(alloc, shelf, path.as_str())? {
+            Found::Missing => {}
+            Found::Empty => return Err(ResolveError::Masked),
+            Found::Says(fragment) => return Ok(fragment),
         }
     }
     Err(ResolveError::NotFound)

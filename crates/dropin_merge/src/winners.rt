@@ -1,7 +1,7 @@
 // The drop-ins that win their file names.
 //
 // Folders are looked through by their rank, so the first path of a file name wins it.
-ghost use Rattle.std.specs.Prelude.{◌≡◌, ◌↔◌, List, ℕ, IfSome, OnOk, IfOk, IsTrue, map};
+ghost use Rattle.std.specs.Prelude.{◌≡◌, List, ℕ, IfSome, OnOk, IfOk, map};
 ghost use Rattle.std.specs.List.{Contains};
 ghost use Rattle.std.specs.Map.{values_of};
 ghost use Rattle.std.specs.String.{string_bytes};

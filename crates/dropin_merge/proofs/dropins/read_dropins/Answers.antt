@@ -1,20 +1,21 @@
-use Rattle.std.proofs.Common.{◌≡◌, ◌++◌, ◌∷◌, [], map, sym, ◌∙◌, subst, append-nil, rules, List, Option}
-use Rattle.std.specs.Prelude.{option_to_list}
+use Rattle.std.proofs.Common.{◌≡◌, ◌++◌, ◌∷◌, [], map, sym, ◌∙◌, subst, append-nil, rules, List}
 use Rattle.std.specs.List.{Contains}
 use Rattle.std.specs.String.{string_bytes}
 use Rattle.std.proofs.lemmas.Result.{err_from_is_err_and}
 use Rattle.dropin_merge.specs.Resolving.{dropins_read, joined_by}
+use Rattle.dropin_merge.specs.Steps.{file_in}
+use Rattle.dropin_merge.specs.declared.files.Found.{Found}
 use Rattle.dropin_merge.specs.declared.resolved.UnitFile.{UnitFile}
 use Rattle.dropin_merge.proofs.Pathed.{contains_read, refuses_wider, led_next}
 use Rattle.dropin_merge.proofs.Reading.{dropin_more, dropin_stops}
 use Rattle.dropin_merge.proofs.dropins.read_dropins.Goals as goal
-use Rattle.dropin_merge.proofs.dropins.read_dropins.Goals.{in-Some+in_ok-push-2, in_default}
+use Rattle.dropin_merge.proofs.dropins.read_dropins.Goals.{in-Says+in_ok-push-2, in_default}
 
 pub returns-in_err-dropin-clause-refuses_a_path : goal.returns-in_err-dropin-clause-refuses_a_path
 returns-in_err-dropin-clause-refuses_a_path g c =
     let p = err_from_is_err_and c.from_residual-in_err-dropin.result c.from_residual-in_err-dropin.ensures.1 in
     rw (p.1, p.2)
-    (refuses_wider (Option UnitFile) (List UnitFile) (λ path. path ≡ c.as_str.result.now) (Contains (map string_bytes c.args.paths.now)) c.in_err-dropin.field-0.0
+    (refuses_wider Found (List UnitFile) (λ path. path ≡ c.as_str.result.now) (Contains (map string_bytes c.args.paths.now)) c.in_err-dropin.field-0.0
     (λ path same.
     subst (Contains (map string_bytes c.args.paths.now)) (sym same)
     (contains_read c.args.paths.now c.loop-path.path-index c.path-item.result c.as_str.result.now c.loop-path-test.true c.path-item.is c.as_str.ensures.value))
@@ -25,21 +26,21 @@ returns-in_err-dropin-clause-reads_in_order g c =
     let p = err_from_is_err_and c.from_residual-in_err-dropin.result c.from_residual-in_err-dropin.ensures.1 in
     rw (p.1, p.2)
     (dropin_stops (g.S.Shelf.told c.args.shelf.now) (g.S.Shelf.told c.loop-path.shelf) (λ files. joined_by (c.args.fragment ∷ []) (dropins_read files (map string_bytes c.args.paths.now)))
-    c.loop-path.files.items c.args.paths.now c.loop-path.path-index c.path-item.result c.as_str.result.now c.in_err-dropin.field-0.0
-    c.loop-path.invariant.told c.loop-path-test.true c.path-item.is c.as_str.ensures.value c.in_err-dropin.ensures.reads_the_dropin c.loop-path.invariant.left)
+    c.loop-path.files c.args.paths.now c.loop-path.path-index c.path-item.result c.as_str.result.now c.in_err-dropin.field-0.0
+    c.loop-path.invariant.told c.loop-path-test.true c.path-item.is c.as_str.ensures.value c.in_err-dropin.ensures.reads_the_file c.loop-path.invariant.left)
 
 pub loop-path-preserved : goal.loop-path-preserved
 loop-path-preserved g c =
-    let made : c.match-branch-3.files.items ≡ c.loop-path.files.items ++ option_to_list c.in_ok-dropin.field-0 =
-    elim c.match-branch-3.branch [ in-Some+in_ok-push-2 w ↦ search rules | in_default w ↦ search (rules, append-nil) ] in
+    let made : c.match-branch-3.files ≡ c.loop-path.files ++ file_in c.in_ok-dropin.field-0 =
+    elim c.match-branch-3.branch [ in-Says+in_ok-push-2 w ↦ search rules | in_default w ↦ search (rules, append-nil) ] in
     record {
       told = c.in_ok-dropin.ensures.map_stays ∙ c.loop-path.invariant.told;
       stays = c.in_ok-dropin.ensures.no_other_fault ∙ c.loop-path.invariant.stays;
       left = λ files e.
-          dropin_more files (g.S.Shelf.told c.loop-path.shelf) c.loop-path.files.items c.match-branch-3.files.items c.args.paths.now c.loop-path.path-index c.path-item.result c.as_str.result.now c.in_ok-dropin.field-0 _
-          (c.loop-path.invariant.told ∙ e) c.loop-path-test.true c.path-item.is c.as_str.ensures.value c.in_ok-dropin.ensures.reads_the_dropin made (c.loop-path.invariant.left files e);
+          dropin_more files (g.S.Shelf.told c.loop-path.shelf) c.loop-path.files c.match-branch-3.files c.args.paths.now c.loop-path.path-index c.path-item.result c.as_str.result.now c.in_ok-dropin.field-0 _
+          (c.loop-path.invariant.told ∙ e) c.loop-path-test.true c.path-item.is c.as_str.ensures.value c.in_ok-dropin.ensures.reads_the_file made (c.loop-path.invariant.left files e);
       led =
-          led_next c.args.fragment (map string_bytes c.args.paths.now) c.loop-path.path-index c.loop-path.files.items c.match-branch-3.files.items c.in_ok-dropin.field-0 c.as_str.result.now
+          led_next c.args.fragment (map string_bytes c.args.paths.now) c.loop-path.path-index c.loop-path.files c.match-branch-3.files c.in_ok-dropin.field-0 c.as_str.result.now
           c.loop-path.invariant.led c.in_ok-dropin.ensures.has_the_path
           (contains_read c.args.paths.now c.loop-path.path-index c.path-item.result c.as_str.result.now c.loop-path-test.true c.path-item.is c.as_str.ensures.value)
           made;
