@@ -9,8 +9,8 @@ use Rattle.std.proofs.lemmas.Bool.{and_parts, and_from, not-true, eqb-true, leb-
 use Rattle.std.proofs.lemmas.Option.{none-some, same_Some, cond_some, option_and_then_some}
 use Rattle.unit_names.specs.Names.{Name}
 use Rattle.unit_names.specs.Unescaping.{onto}
-use Rattle.unit_names.specs.Specifiers.{spelling, meaning, letter_of, specifiers, specifier_at}
-use Rattle.unit_names.specs.Expansion.{percent, Piece, specified, literal, longest_value, is_piece, piece_text, pieces_meaning, Expands, onto_pieces, pieces_of, if_short, if_text, expanded_bytes, short_bytes, expansion}
+use Rattle.unit_names.specs.Specifiers.{percent, spelling, meaning, letter_of, specifiers, specifier_at}
+use Rattle.unit_names.specs.Expansion.{Piece, specified, literal, longest_value, is_piece, piece_text, pieces_meaning, Expands, onto_pieces, pieces_of, if_short, if_text, expanded_bytes, short_bytes, expansion}
 use Rattle.unit_names.specs.declared.specifier.Specifier.{Specifier}
 use Rattle.unit_names.specs.declared.specifier.Specifier.TheVariants.{Percent, WholeName, Stem, Prefix, Instance, LastPart, PrefixUnescaped, InstanceUnescaped, LastPartUnescaped, RuntimeFolder, StateFolder, CacheFolder, LogFolder, ConfigFolder, TemporaryFolder, LastingTemporaryFolder, UserName, UserNumber, HomeFolder}
 use Rattle.unit_names.proofs.Appending.{option_append_none}

@@ -4,8 +4,8 @@ use Rattle.std.specs.Fmt.{option_append}
 use Rattle.std.proofs.lemmas.Bool.{ne_eqb}
 use Rattle.unit_names.specs.Names.{Name}
 use Rattle.unit_names.specs.Unescaping.{unescaped}
-use Rattle.unit_names.specs.Specifiers.{meaning, specifier_at}
-use Rattle.unit_names.specs.Expansion.{percent, expanded_bytes}
+use Rattle.unit_names.specs.Specifiers.{percent, meaning, specifier_at}
+use Rattle.unit_names.specs.Expansion.{expanded_bytes}
 use Rattle.unit_names.specs.Taking.{TakesPart, AddsMeaning}
 use Rattle.unit_names.specs.declared.specifier.Specifier.{Specifier}
 use Rattle.unit_names.specs.declared.expansion.ExpandError.{ExpandError}

@@ -5,12 +5,8 @@ use Rattle.std.specs.List.{list_all}
 use Rattle.std.specs.Str.{is_utf8}
 use Rattle.std.specs.Fmt.{option_append}
 use Rattle.unit_names.specs.Names.{Name}
-use Rattle.unit_names.specs.Specifiers.{spelling, meaning, specifier_at}
+use Rattle.unit_names.specs.Specifiers.{percent, spelling, meaning, specifier_at}
 use Rattle.unit_names.specs.declared.specifier.Specifier.{Specifier}
-
--- `%`
-abbrev pub percent : ℕ
-percent = 37
 
 -- the most bytes of an expanded value: systemd's limit of a line, 1 MiB (LONG_LINE_MAX)
 abbrev pub longest_value : ℕ

@@ -6,27 +6,31 @@ use Rattle.unit_names.specs.Unescaping.{dash, unescaped}
 use Rattle.unit_names.specs.declared.specifier.Specifier.{Specifier}
 use Rattle.unit_names.specs.declared.specifier.Specifier.TheVariants.{Percent, WholeName, Stem, Prefix, Instance, LastPart, PrefixUnescaped, InstanceUnescaped, LastPartUnescaped, RuntimeFolder, StateFolder, CacheFolder, LogFolder, ConfigFolder, TemporaryFolder, LastingTemporaryFolder, UserName, UserNumber, HomeFolder}
 
--- how each is written
+-- `%`
+abbrev pub percent : ℕ
+percent = 37
+
+-- how each is written: a percent sign and a letter
 abbrev pub spelling : Specifier → List ℕ
-spelling Percent = codes "%%"
-spelling WholeName = codes "%n"
-spelling Stem = codes "%N"
-spelling Prefix = codes "%p"
-spelling Instance = codes "%i"
-spelling LastPart = codes "%j"
-spelling PrefixUnescaped = codes "%P"
-spelling InstanceUnescaped = codes "%I"
-spelling LastPartUnescaped = codes "%J"
-spelling RuntimeFolder = codes "%t"
-spelling StateFolder = codes "%S"
-spelling CacheFolder = codes "%C"
-spelling LogFolder = codes "%L"
-spelling ConfigFolder = codes "%E"
-spelling TemporaryFolder = codes "%T"
-spelling LastingTemporaryFolder = codes "%V"
-spelling UserName = codes "%u"
-spelling UserNumber = codes "%U"
-spelling HomeFolder = codes "%h"
+spelling Percent = percent ∷ codes "%"
+spelling WholeName = percent ∷ codes "n"
+spelling Stem = percent ∷ codes "N"
+spelling Prefix = percent ∷ codes "p"
+spelling Instance = percent ∷ codes "i"
+spelling LastPart = percent ∷ codes "j"
+spelling PrefixUnescaped = percent ∷ codes "P"
+spelling InstanceUnescaped = percent ∷ codes "I"
+spelling LastPartUnescaped = percent ∷ codes "J"
+spelling RuntimeFolder = percent ∷ codes "t"
+spelling StateFolder = percent ∷ codes "S"
+spelling CacheFolder = percent ∷ codes "C"
+spelling LogFolder = percent ∷ codes "L"
+spelling ConfigFolder = percent ∷ codes "E"
+spelling TemporaryFolder = percent ∷ codes "T"
+spelling LastingTemporaryFolder = percent ∷ codes "V"
+spelling UserName = percent ∷ codes "u"
+spelling UserNumber = percent ∷ codes "U"
+spelling HomeFolder = percent ∷ codes "h"
 
 -- the prefix behind its last dash, or all of it
 abbrev pub last_part : List ℕ → List ℕ

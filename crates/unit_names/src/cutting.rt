@@ -37,16 +37,11 @@ fn sides_of_at(stem: &str) -> Option<(&str, &str)>
 pub fn parts_of(stem: &str) -> Parts<'_>
     ensures { borrowed_name result ≡ of_stem stem.now }
 {
-    match sides_of_at(stem) {
-        Some((prefix, instance)) => Parts {
-            prefix,
-            instance: Some(instance),
-        },
-        None => Parts {
-            prefix: stem,
-            instance: None,
-        },
-    }
+    let (prefix, instance) = match sides_of_at(stem) {
+        Some((prefix, instance)) => (prefix, Some(instance)),
+        None => (stem, None),
+    };
+    Parts { prefix, instance }
 }
 
 fn is_prefix_byte(byte: u8) -> bool
@@ -88,10 +83,7 @@ fn is_instance_text(text: &str) -> bool
 fn is_instance(instance: Option<&str>) -> bool
     ensures { result ≡ is_instance (option_copied instance.entry) }
 {
-    match instance {
-        Some(instance) => is_instance_text(instance),
-        None => true,
-    }
+    instance.is_none_or(|instance| is_instance_text(instance))
 }
 
 /// The parts of the name that a text is, or nothing where it is none.
@@ -99,9 +91,6 @@ pub fn name_parts(text: &str) -> Option<Parts<'_>>
     ensures { option_map (λ parts. borrowed_name parts) result ≡ name_of text.now }
 {
     let parts = parts_of(stem_of(text)?);
-    if is_prefix(parts.prefix) && is_instance(parts.instance) && text.len() <= LONGEST_NAME {
-        Some(parts)
-    } else {
-        None
-    }
+    let allowed = is_prefix(parts.prefix) && is_instance(parts.instance);
+    (allowed && text.len() <= LONGEST_NAME).then_some(parts)
 }

@@ -3,16 +3,16 @@
 // The pieces of a value are taken one by one; `specifier` tells what each stands for.
 ghost use Rattle.std.specs.Prelude.{◌≡◌, ◌↔◌, ◌∷◌, List, ℕ, IfOk, Some, None};
 ghost use Rattle.std.specs.String.{string_bytes};
-ghost use Rattle.unit_names.specs.Specifiers.{meaning};
+ghost use Rattle.unit_names.specs.Specifiers.{percent, meaning};
 ghost use Rattle.unit_names.specs.Unescaping.{unescaped, Unescapes};
 ghost use Rattle.unit_names.specs.Taking.{AddsMeaning, TakesPiece, GivesBytes, GivesText};
-ghost use Rattle.unit_names.specs.Expansion.{percent, expansion, short_bytes, if_text, Expands};
+ghost use Rattle.unit_names.specs.Expansion.{expansion, short_bytes, if_text, Expands};
 ghost use Rattle.unit_names.specs.declared.expansion.ExpandError.TheVariants.{Specifier as NotExpanded, Memory};
 
 use crate::name::UnitName;
 use crate::specifier::Specifier;
 use crate::unescape::push_unescaped;
-use std::alloc::{AllocError, AllocFailed, Global};
+use std::alloc::{AllocError, Global};
 use thiserror::Error;
 
 /// The most bytes of an expanded value: systemd's limit of a line.
@@ -38,14 +38,6 @@ impl From<AllocError> for ExpandError {
     }
 }
 
-impl<T: Drop> From<AllocFailed<T>> for ExpandError {
-    ghost from_gives = { λ _ e. e ≡ Memory };
-
-    fn from(_: AllocFailed<T>) -> Self {
-        ExpandError::Memory
-    }
-}
-
 // Puts what a specifier stands for behind the bytes.
 fn push_meaning(
     bytes: &mut Vec<u8>,
@@ -58,8 +50,7 @@ fn push_meaning(
     if specifier.unescapes() {
         push_unescaped(bytes, text)
     } else {
-        bytes.extend_from_slice(text)?;
-        Ok(())
+        Ok(bytes.extend_from_slice(text)?)
     }
 }
 
@@ -71,12 +62,8 @@ fn push_specifier<'a>(
 ) -> Result<&'a [u8], ExpandError>
     ensures { TakesPiece name.now (percent ∷ behind.now) bytes.old.items result bytes.new.items }
 {
-    let Some((letter, rest)) = behind.split_first() else {
-        return Err(ExpandError::Specifier);
-    };
-    let Some(specifier) = Specifier::with_letter(*letter) else {
-        return Err(ExpandError::Specifier);
-    };
+    let (letter, rest) = behind.split_first().ok_or(ExpandError::Specifier)?;
+    let specifier = Specifier::with_letter(*letter).ok_or(ExpandError::Specifier)?;
     push_meaning(bytes, name, specifier)?;
     Ok(rest)
 }
@@ -93,7 +80,7 @@ fn push_piece<'a>(
     if first == b'%' {
         push_specifier(bytes, name, behind)
     } else {
-        bytes.push(first)?;
+        bytes.extend_from_slice(&[first])?;
         Ok(behind)
     }
 }

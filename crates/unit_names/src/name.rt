@@ -116,10 +116,7 @@ impl UnitName {
     pub fn instance(&self) -> Option<&str>
         ensures { option_copied result ≡ self.now.instance }
     {
-        match &self.instance {
-            Some(instance) => Some(instance.as_str()),
-            None => None,
-        }
+        self.instance.as_ref().map(|instance| instance.as_str())
     }
 
     /// What stands before `.service`.

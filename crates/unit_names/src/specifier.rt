@@ -2,7 +2,7 @@
 //
 // systemd.unit(5), Specifiers, has the table; `expand` puts the texts into a value.
 ghost use Rattle.std.specs.Prelude.{◌≡◌};
-ghost use Rattle.unit_names.specs.Specifiers.{letter_of, specifier_at, specified_text, unescapes, instance_text, last_part};
+ghost use Rattle.unit_names.specs.Specifiers.{specifier_at, specified_text, unescapes, instance_text, last_part};
 
 use crate::name::UnitName;
 
@@ -49,65 +49,33 @@ pub enum Specifier {
     HomeFolder,
 }
 
-/// All of them.
-const SPECIFIERS: [Specifier; 19] = [
-    Specifier::Percent,
-    Specifier::WholeName,
-    Specifier::Stem,
-    Specifier::Prefix,
-    Specifier::Instance,
-    Specifier::LastPart,
-    Specifier::PrefixUnescaped,
-    Specifier::InstanceUnescaped,
-    Specifier::LastPartUnescaped,
-    Specifier::RuntimeFolder,
-    Specifier::StateFolder,
-    Specifier::CacheFolder,
-    Specifier::LogFolder,
-    Specifier::ConfigFolder,
-    Specifier::TemporaryFolder,
-    Specifier::LastingTemporaryFolder,
-    Specifier::UserName,
-    Specifier::UserNumber,
-    Specifier::HomeFolder,
-];
-
 impl Specifier {
-    /// The character behind the `%`.
-    fn letter(self) -> u8
-        ensures { result ≡ letter_of self }
-    {
-        match self {
-            Specifier::Percent => b'%',
-            Specifier::WholeName => b'n',
-            Specifier::Stem => b'N',
-            Specifier::Prefix => b'p',
-            Specifier::Instance => b'i',
-            Specifier::LastPart => b'j',
-            Specifier::PrefixUnescaped => b'P',
-            Specifier::InstanceUnescaped => b'I',
-            Specifier::LastPartUnescaped => b'J',
-            Specifier::RuntimeFolder => b't',
-            Specifier::StateFolder => b'S',
-            Specifier::CacheFolder => b'C',
-            Specifier::LogFolder => b'L',
-            Specifier::ConfigFolder => b'E',
-            Specifier::TemporaryFolder => b'T',
-            Specifier::LastingTemporaryFolder => b'V',
-            Specifier::UserName => b'u',
-            Specifier::UserNumber => b'U',
-            Specifier::HomeFolder => b'h',
-        }
-    }
-
     /// The specifier with this letter, if there is one.
     pub fn with_letter(letter: u8) -> Option<Specifier>
         ensures { result ≡ specifier_at letter }
     {
-        SPECIFIERS
-            .iter()
-            .copied()
-            .find(|specifier| specifier.letter() == letter)
+        Some(match letter {
+            b'%' => Specifier::Percent,
+            b'n' => Specifier::WholeName,
+            b'N' => Specifier::Stem,
+            b'p' => Specifier::Prefix,
+            b'i' => Specifier::Instance,
+            b'j' => Specifier::LastPart,
+            b'P' => Specifier::PrefixUnescaped,
+            b'I' => Specifier::InstanceUnescaped,
+            b'J' => Specifier::LastPartUnescaped,
+            b't' => Specifier::RuntimeFolder,
+            b'S' => Specifier::StateFolder,
+            b'C' => Specifier::CacheFolder,
+            b'L' => Specifier::LogFolder,
+            b'E' => Specifier::ConfigFolder,
+            b'T' => Specifier::TemporaryFolder,
+            b'V' => Specifier::LastingTemporaryFolder,
+            b'u' => Specifier::UserName,
+            b'U' => Specifier::UserNumber,
+            b'h' => Specifier::HomeFolder,
+            _ => return None,
+        })
     }
 
     /// Whether it stands for an unescaped text.

@@ -60,7 +60,7 @@ pub fn push_unescaped(bytes: &mut Vec<u8>, text: &[u8]) -> Result<(), ExpandErro
 {
     let mut rest = text;
     while let Some((byte, behind)) = first_byte(rest)? {
-        bytes.push(byte)?;
+        bytes.extend_from_slice(&[byte])?;
         rest = behind;
     }
     Ok(())

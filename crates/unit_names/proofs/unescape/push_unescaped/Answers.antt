@@ -11,5 +11,5 @@ returns-in_err-byte c =
 
 pub loop-byte-preserved : goal.loop-byte-preserved
 loop-byte-preserved c =
-    part_taken c.loop-byte.bytes.items c.push.new.self.items c.loop-byte.rest.now c.in_ok-byte.field-0 c.in-Some.byte c.in-Some.behind c.in_ok-byte.ensures c.in-Some.is c.in_ok-push.ensures.items
+    part_taken c.loop-byte.bytes.items c.extend_from_slice.new.self.items c.loop-byte.rest.now c.in_ok-byte.field-0 c.in-Some.byte c.in-Some.behind c.in_ok-byte.ensures c.in-Some.is c.in_ok-extend_from_slice.ensures.items
     ∙ c.loop-byte.invariant
