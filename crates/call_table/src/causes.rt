@@ -4,7 +4,7 @@ ghost use Rattle.call_table.specs.Causes.{cause_text};
 ghost use Rattle.call_table.specs.declared.causes.CallsError.TheVariants.{Memory};
 
 use crate::names::Name;
-use std::alloc::{AllocError, AllocFailed};
+use std::alloc::AllocError;
 use thiserror::Error;
 
 /// What is wrong with a line; of several, the first in this order.
@@ -68,14 +68,6 @@ impl From<AllocError> for CallsError {
     ghost from_gives = { λ _ e. e ≡ Memory };
 
     fn from(_: AllocError) -> Self {
-        CallsError::Memory
-    }
-}
-
-impl<T: Drop> From<AllocFailed<T>> for CallsError {
-    ghost from_gives = { λ _ e. e ≡ Memory };
-
-    fn from(_: AllocFailed<T>) -> Self {
         CallsError::Memory
     }
 }

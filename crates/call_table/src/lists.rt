@@ -21,7 +21,7 @@ use crate::names::Name;
 use crate::numbers::{read_cap, read_number};
 use call_names::is_known;
 use line_text::{Line, words};
-use std::alloc::Global;
+use std::alloc::{AllocError, Global};
 
 /// The most calls of a table.
 const MOST_CALLS: usize = 512;
@@ -64,9 +64,7 @@ fn check_entry(
 ) -> Result<(u32, Option<u8>), CallsCause>
     ensures { ChecksEntry lines.now most without_cap (seen_entry row.entry) result }
 {
-    let Some(number) = read_number(row.digits) else {
-        return Err(CallsCause::Number);
-    };
+    let number = read_number(row.digits).ok_or(CallsCause::Number)?;
     let cap = read_written_cap(row.cap_word)?;
     if without_cap && cap.is_some() {
         return Err(CallsCause::Modelled);
@@ -97,7 +95,8 @@ fn add_entry(
     match check_entry(lines, most, without_cap, row) {
         Ok((number, cap)) => {
             let name = Name::new(alloc, row.name)?;
-            lines.push(CallLine { name, number, cap })?;
+            let line = CallLine { name, number, cap };
+            lines.push(line).map_err(AllocError::from)?;
             Ok(())
         }
         Err(cause) => Err(CallsError::Line(at, cause)),
@@ -132,7 +131,8 @@ fn add_group(
         return Err(CallsError::Line(at, CallsCause::TooMany));
     }
     let name = Name::new(alloc, name)?;
-    groups.push(GroupLine { name, members })?;
+    let group = GroupLine { name, members };
+    groups.push(group).map_err(AllocError::from)?;
     Ok(())
 }
 

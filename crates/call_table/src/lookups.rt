@@ -1,5 +1,5 @@
 // Lines by name and by number: a list has at most 512, and is gone through.
-ghost use Rattle.std.specs.Prelude.{◌≡◌, ℕ, option_copied};
+ghost use Rattle.std.specs.Prelude.{◌≡◌, option_copied};
 ghost use Rattle.std.specs.List.{list_any};
 ghost use Rattle.std.specs.Str.{bytes_eq};
 ghost use Rattle.call_table.specs.Lookups.{has_number, numbered, place_named, group_named};

@@ -38,10 +38,7 @@ fn read_abi(alloc: Global, line: &Line) -> Result<u32, CallsError>
     let Some(digits) = abi_digits(words.as_slice()) else {
         return Err(CallsError::Line(line.number, CallsCause::Words));
     };
-    match read_arch(digits) {
-        Some(arch) => Ok(arch),
-        None => Err(CallsError::Line(line.number, CallsCause::Number)),
-    }
+    read_arch(digits).ok_or(CallsError::Line(line.number, CallsCause::Number))
 }
 
 // The lines behind the abi line.
@@ -59,9 +56,7 @@ fn read_rest(alloc: Global, arch: u32, lines: &[Line]) -> Result<Lists, CallsErr
 fn read_table(alloc: Global, lines: &[Line]) -> Result<CallTable, CallsError>
     ensures { IsUnlessMemory result (table_of_lines (map line_view lines.now)) }
 {
-    let Some((first, rest)) = lines.split_first() else {
-        return Err(CallsError::NoAbi);
-    };
+    let (first, rest) = lines.split_first().ok_or(CallsError::NoAbi)?;
     let arch = read_abi(alloc, first)?;
     CallTable::of(alloc, read_rest(alloc, arch, rest)?)
 }

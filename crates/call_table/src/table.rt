@@ -1,8 +1,7 @@
 // The table of system calls, as contracts and callers see it.
 ghost use Rattle.std.specs.Prelude.{◌≡◌, ◌≤◌, None, map, find, length, option_and_then};
-ghost use Rattle.std.specs.List.{All};
 ghost use Rattle.std.specs.Option.{option_map, option_copied};
-ghost use Rattle.call_table.specs.Lookups.{named, numbered, place_named, group_named, AreOnce, IsInRange};
+ghost use Rattle.call_table.specs.Lookups.{named, numbered, place_named, group_named};
 ghost use Rattle.call_table.specs.ByNumber.{AscendsByNumber};
 ghost use Rattle.call_table.specs.Facts.{AreLines, AreGroups, IsTable};
 ghost use Rattle.call_table.specs.Faults.{most_calls, most_families, most_groups};

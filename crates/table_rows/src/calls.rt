@@ -41,7 +41,8 @@ fn numbered(alloc: Global, kind: &str, number: u64) -> Result<String, AllocError
 }
 
 fn table_of(alloc: Global, bytes: &[u8]) -> Result<Box<CallTable>, CallsError> {
-    Ok(Box::new(alloc, read_calls(alloc, bytes)?)?)
+    let table = read_calls(alloc, bytes)?;
+    Ok(Box::new(alloc, table).map_err(AllocError::from)?)
 }
 
 fn refused(alloc: Global, error: &CallsError) -> Result<String, AllocError> {

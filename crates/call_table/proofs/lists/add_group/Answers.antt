@@ -14,4 +14,4 @@ returns-clause-sound c =
     let found = subst (FindsMembers c.args.calls.now groups names) c.in-Some.is
     (subst (λ (shown : List GroupLine). FindsMembers c.args.calls.now shown names c.in_ok-members.field-0) c.deref-2.ensures.value c.in_ok-members.ensures) in
     groups_more c.args.calls.now groups c.args.name.now names c.in-Some.members c.push.new.self.items c.requires.groups absent found.1
-    (c.in_ok-push.ensures.items ∙ ap (λ name. groups ++ record { name = name; members = c.in-Some.members } ∷ []) c.in_ok-name.ensures)
+    ((rw (sym c.in_ok-map_err.ensures.variant) at c.push.ensures.items) ∙ ap (λ name. groups ++ record { name = name; members = c.in-Some.members } ∷ []) c.in_ok-name.ensures)
