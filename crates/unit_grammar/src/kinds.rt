@@ -43,10 +43,7 @@ fn sides_of_equals(line: &str) -> Option<(&str, &str)>
 fn header_kind(rest: &str) -> Kind<'_>
     ensures { seen result ≡ named_header (before 93 rest.now) }
 {
-    match before_bracket(rest) {
-        Some(section) => Kind::Header(section),
-        None => Kind::BadHeader,
-    }
+    before_bracket(rest).map_or(Kind::BadHeader, |section| Kind::Header(section))
 }
 
 fn keyed_kind<'a>(key: &'a str, value: &'a str) -> Kind<'a>

@@ -1,7 +1,7 @@
 // What is remarked on a line that is passed over.
 //
 // The grammar makes two of the causes; the others are for the readers of the values.
-ghost use Rattle.std.specs.Prelude.{◌≡◌, IfOk};
+ghost use Rattle.std.specs.Prelude.{◌≡◌};
 ghost use Rattle.unit_grammar.specs.Causes.{cause_text};
 
 use item_list::ItemList;

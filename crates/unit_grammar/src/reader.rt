@@ -26,34 +26,32 @@ use std::str;
 const MOST_ASSIGNMENTS: usize = 4096;
 
 // Puts a note on a line behind the others.
-fn add_note(notes: &mut Vec<Note>, line: u64, cause: NoteCause) -> Result<(), UnitError>
-    ensures { AddsNote notes.old.items (record { line = line; cause = cause }) result notes.new.items }
+fn add_note(notes: &mut Notes, line: u64, cause: NoteCause) -> Result<(), UnitError>
+    ensures { AddsNote notes.old (record { line = line; cause = cause }) result notes.new }
 {
-    notes.push(Note { line, cause })?;
-    Ok(())
+    Ok(notes.push(Note { line, cause })?)
 }
 
 // Puts an assignment in a section behind the others.
 fn add_assignment(
-    assignments: &mut Vec<Assignment>,
+    assignments: &mut Assignments,
     alloc: Global,
     line: u64,
     section: &str,
     key: &str,
     value: &str,
 ) -> Result<(), UnitError>
-    ensures { AddsAssignment assignments.old.items (record { section = section.now; key = key.now; value = value.now; line = line }) result assignments.new.items }
+    ensures { AddsAssignment assignments.old (record { section = section.now; key = key.now; value = value.now; line = line }) result assignments.new }
 {
-    if assignments.len() >= MOST_ASSIGNMENTS {
+    if assignments.list().len() >= MOST_ASSIGNMENTS {
         return Err(UnitError::TooMany);
     }
-    assignments.push(Assignment {
+    Ok(assignments.push(Assignment {
         section: Text::new(alloc, section)?,
         key: Text::new(alloc, key)?,
         value: Text::new(alloc, value)?,
         line,
-    })?;
-    Ok(())
+    })?)
 }
 
 // What has been read: the section of the last header, what stands in the joined lines so far, and
@@ -61,16 +59,16 @@ fn add_assignment(
 #[derive(Drop)]
 struct Reader {
     section: Option<Text>,
-    assignments: Vec<Assignment>,
-    notes: Vec<Note>,
+    assignments: Assignments,
+    notes: Notes,
     begun: Option<Line>,
 }
 
 impl Reader {
     // Takes the next joined line.
     fn take(&mut self, alloc: Global, number: u64, text: &str) -> Result<(), UnitError>
-        ensures taken { (lines : List Line) → HasRead lines self.old.section self.old.assignments.items self.old.notes.items
-            → Takes lines (record { number = number; text = text.now }) result self.new.section self.new.assignments.items self.new.notes.items }
+        ensures taken { (lines : List Line) → HasRead lines self.old.section self.old.assignments self.old.notes
+            → Takes lines (record { number = number; text = text.now }) result self.new.section self.new.assignments self.new.notes }
         ensures begun { self.new.begun ≡ self.old.begun }
     {
         match kind_of_line(text) {
@@ -97,8 +95,8 @@ impl Reader {
 
     // Takes the next part, which ends a joined line or goes on.
     fn take_part(&mut self, alloc: Global, number: u64, part: &str) -> Result<(), UnitError>
-        ensures { (lines parts : List Line) → StandsBefore lines self.old.begun (record { number = number; text = part.now } ∷ parts) self.old.section self.old.assignments.items self.old.notes.items
-            → Passes lines parts result self.new.begun self.new.section self.new.assignments.items self.new.notes.items }
+        ensures { (lines parts : List Line) → StandsBefore lines self.old.begun (record { number = number; text = part.now } ∷ parts) self.old.section self.old.assignments self.old.notes
+            → Passes lines parts result self.new.begun self.new.section self.new.assignments self.new.notes }
     {
         let begun = self.begun.take();
         if continues_line(part) {
@@ -116,8 +114,8 @@ impl Reader {
 
     // Takes the next line of the file.
     fn take_line(&mut self, alloc: Global, number: u64, line: &str) -> Result<(), UnitError>
-        ensures { (lines : List Line) (more : List (List ℕ)) → StandsBefore lines self.old.begun (parts_from number (line.now ∷ more)) self.old.section self.old.assignments.items self.old.notes.items
-            → Passes lines (parts_from (number + 1) more) result self.new.begun self.new.section self.new.assignments.items self.new.notes.items }
+        ensures { (lines : List Line) (more : List (List ℕ)) → StandsBefore lines self.old.begun (parts_from number (line.now ∷ more)) self.old.section self.old.assignments self.old.notes
+            → Passes lines (parts_from (number + 1) more) result self.new.begun self.new.section self.new.assignments self.new.notes }
     {
         let part = trimmed_start(line);
         if is_comment_line(part) {
@@ -128,8 +126,8 @@ impl Reader {
 
     // Takes the line that goes on, where the file ends.
     fn take_begun(&mut self, alloc: Global) -> Result<(), UnitError>
-        ensures passed { (lines : List Line) → StandsBefore lines self.old.begun [] self.old.section self.old.assignments.items self.old.notes.items
-            → Passes lines [] result self.new.begun self.new.section self.new.assignments.items self.new.notes.items }
+        ensures passed { (lines : List Line) → StandsBefore lines self.old.begun [] self.old.section self.old.assignments self.old.notes
+            → Passes lines [] result self.new.begun self.new.section self.new.assignments self.new.notes }
         ensures begun { self.new.begun ≡ None }
     {
         match self.begun.take() {
@@ -140,17 +138,14 @@ impl Reader {
 
     // What has been read.
     fn unit(self) -> UnitText
-        ensures { (lines : List Line) → HasRead lines self.section self.assignments.items self.notes.items → unit_of_lines lines ≡ Ok result }
+        ensures { (lines : List Line) → HasRead lines self.section self.assignments self.notes → unit_of_lines lines ≡ Ok result }
     {
         let Reader {
             assignments,
             notes,
             ..
         } = self;
-        UnitText {
-            assignments: Assignments::new(assignments),
-            notes: Notes::new(notes),
-        }
+        UnitText { assignments, notes }
     }
 }
 
@@ -167,8 +162,8 @@ fn read_text(alloc: Global, text: &str) -> Result<UnitText, UnitError>
 {
     let mut reader = Reader {
         section: None,
-        assignments: Vec::new(alloc),
-        notes: Vec::new(alloc),
+        assignments: Assignments::empty(alloc),
+        notes: Notes::empty(alloc),
         begun: None,
     };
     let mut rest = text;

@@ -7,7 +7,7 @@ ghost use Rattle.unit_grammar.specs.declared.unit.UnitError.TheVariants.{Memory}
 use crate::notes::Notes;
 use crate::texts::Text;
 use item_list::ItemList;
-use std::alloc::{AllocError, AllocFailed, Global};
+use std::alloc::{AllocError, Global};
 use thiserror::Error;
 
 /// A key of a section, and the value that it is given.
@@ -89,14 +89,6 @@ impl From<AllocError> for UnitError {
     ghost from_gives = { λ _ e. e ≡ Memory };
 
     fn from(_: AllocError) -> Self {
-        UnitError::Memory
-    }
-}
-
-impl<T: Drop> From<AllocFailed<T>> for UnitError {
-    ghost from_gives = { λ _ e. e ≡ Memory };
-
-    fn from(_: AllocFailed<T>) -> Self {
         UnitError::Memory
     }
 }

@@ -25,5 +25,5 @@ returns-in-None-clause-taken c = λ lines h.
     let number = c.args.number in
     let kind = assigns c.in-Assigns.key.now c.in-Assigns.value.now in
     takes_note lines _ kind _ _ _ _ _ _ _ _ h c.in-Assigns.ensures refl
-    (ap (λ o. overfull o (length c.args.self.now.assignments.items)) c.in-None.is) (ap (λ o. unplaced o number) c.in-None.is) (ap (λ o. under o number c.in-Assigns.key.now c.in-Assigns.value.now) c.in-None.is)
+    (ap (λ o. overfull o (length c.args.self.now.assignments)) c.in-None.is) (ap (λ o. unplaced o number) c.in-None.is) (ap (λ o. under o number c.in-Assigns.key.now c.in-Assigns.value.now) c.in-None.is)
     c.add_note-in-None.ensures refl refl
