@@ -7,7 +7,7 @@ ghost use Rattle.host_io.specs.Causes.{StaysUnless};
 ghost use Rattle.host_io.specs.Files.{Files, is_file_map};
 ghost use Rattle.host_io.specs.Reading.{Reads, Lists, HasCause};
 
-use std::alloc::{AllocError, AllocFailed, Global};
+use std::alloc::{AllocError, Global};
 use thiserror::Error;
 
 /// Why a file or a folder was not read.
@@ -31,14 +31,6 @@ impl From<AllocError> for ShelfError {
     ghost from_gives = { λ _ e. e ≡ Memory };
 
     fn from(_: AllocError) -> Self {
-        ShelfError::Memory
-    }
-}
-
-impl<T: Drop> From<AllocFailed<T>> for ShelfError {
-    ghost from_gives = { λ _ e. e ≡ Memory };
-
-    fn from(_: AllocFailed<T>) -> Self {
         ShelfError::Memory
     }
 }

@@ -176,7 +176,8 @@ impl<'a> Shelf for Fickle<'a> {
 
     fn list(&mut self, alloc: Global, _: &str) -> Result<Vec<String>, ShelfError> {
         let mut names = Vec::new(alloc);
-        names.push(String::from_str(alloc, "gone.conf")?)?;
+        let gone = String::from_str(alloc, "gone.conf")?;
+        names.push(gone).map_err(AllocError::from)?;
         Ok(names)
     }
 }
