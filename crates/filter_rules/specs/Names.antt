@@ -10,15 +10,17 @@ all_filters =
 
 -- as they are printed
 abbrev pub text_of : FilterName → List ℕ
-text_of Families = codes "families"
-text_of MemoryDenyWriteExecute = codes "mdwe"
-text_of Realtime = codes "realtime"
-text_of Suid = codes "suid"
-text_of Namespaces = codes "namespaces"
-text_of Hostname = codes "hostname"
-text_of Modules = codes "modules"
-text_of Logs = codes "logs"
-text_of Clock = codes "clock"
-text_of Devices = codes "devices"
-text_of Personality = codes "personality"
-text_of Calls = codes "calls"
+text_of = elim [
+  | Families ↦ codes "families"
+  | MemoryDenyWriteExecute ↦ codes "mdwe"
+  | Realtime ↦ codes "realtime"
+  | Suid ↦ codes "suid"
+  | Namespaces ↦ codes "namespaces"
+  | Hostname ↦ codes "hostname"
+  | Modules ↦ codes "modules"
+  | Logs ↦ codes "logs"
+  | Clock ↦ codes "clock"
+  | Devices ↦ codes "devices"
+  | Personality ↦ codes "personality"
+  | Calls ↦ codes "calls"
+]

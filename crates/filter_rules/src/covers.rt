@@ -3,21 +3,18 @@ ghost use Rattle.std.specs.Prelude.{◌≡◌};
 ghost use Rattle.std.specs.List.{list_any};
 ghost use Rattle.filter_rules.specs.Covers.{is_named, covers};
 
-use call_table::{CallLine, CallTable, behind_at};
+use call_table::{CallTable, behind_at};
 
-fn is_named(calls: &[CallLine], name: &str, position: usize) -> bool
-    ensures { result ≡ is_named calls.now name.now position }
+// Whether the call of this name is one of the members, which are positions in the calls of the table.
+fn has_member_named(table: &CallTable, name: &str, members: &[usize]) -> bool
+    ensures { result ≡ list_any (is_named table.now.calls name.now) members.now }
 {
-    match calls.get(position) {
-        Some(call) => name == call.name.as_str(),
+    // What finding a call by its name rests on: no other has it.
+    let _ = table.calls();
+    match table.position(name) {
+        Some(position) => members.contains(&position),
         None => false,
     }
-}
-
-fn has_member_named(calls: &[CallLine], name: &str, members: &[usize]) -> bool
-    ensures { result ≡ list_any (is_named calls.now name.now) members.now }
-{
-    members.iter().any(|at| is_named(calls, name, *at))
 }
 
 /// Whether the word speaks of the calls of this name.
@@ -28,7 +25,7 @@ pub fn covers(table: &CallTable, word: &str, name: &str) -> bool
     match behind_at(word) {
         None => word == name,
         Some(group) => match table.members(group) {
-            Some(members) => has_member_named(table.calls(), name, members),
+            Some(members) => has_member_named(table, name, members),
             None => false,
         },
     }

@@ -1,11 +1,9 @@
 //! Lists of calls and of address families, as the words that were written, in their order.
 //!
 //! Nothing is taken out of such a list: of several mentions of one thing the last decides.
-ghost use Rattle.std.specs.Prelude.{◌≡◌, ◌++◌, ◌∷◌, [], OnOk, OnErr};
 
 use call_rules::Action;
 use item_list::ItemList;
-use std::alloc::AllocError;
 use unit_grammar::Text;
 
 /// What a list is for (systemd.exec(5), SystemCallFilter= and RestrictAddressFamilies=).

@@ -2,6 +2,8 @@
 ghost use Rattle.std.specs.Prelude.{◌≡◌};
 ghost use Rattle.filter_rules.specs.NamespaceTypes.{all_types, flag_of, name_of, permits};
 
+use NamespaceType::{Cgroup, Ipc, Mnt, Net, Pid, User, Uts};
+
 /// A type of namespaces (namespaces(7)).
 #[derive(Clone, Copy)]
 pub enum NamespaceType {
@@ -20,13 +22,13 @@ impl NamespaceType {
         ensures { result.now ≡ name_of self }
     {
         match self {
-            NamespaceType::Cgroup => "cgroup",
-            NamespaceType::Ipc => "ipc",
-            NamespaceType::Net => "net",
-            NamespaceType::Mnt => "mnt",
-            NamespaceType::Pid => "pid",
-            NamespaceType::User => "user",
-            NamespaceType::Uts => "uts",
+            Cgroup => "cgroup",
+            Ipc => "ipc",
+            Net => "net",
+            Mnt => "mnt",
+            Pid => "pid",
+            User => "user",
+            Uts => "uts",
         }
     }
 
@@ -35,13 +37,13 @@ impl NamespaceType {
         ensures { result ≡ flag_of self }
     {
         match self {
-            NamespaceType::Cgroup => 0x0200_0000,
-            NamespaceType::Ipc => 0x0800_0000,
-            NamespaceType::Net => 0x4000_0000,
-            NamespaceType::Mnt => 0x0002_0000,
-            NamespaceType::Pid => 0x2000_0000,
-            NamespaceType::User => 0x1000_0000,
-            NamespaceType::Uts => 0x0400_0000,
+            Cgroup => 0x0200_0000,
+            Ipc => 0x0800_0000,
+            Net => 0x4000_0000,
+            Mnt => 0x0002_0000,
+            Pid => 0x2000_0000,
+            User => 0x1000_0000,
+            Uts => 0x0400_0000,
         }
     }
 }
@@ -64,13 +66,13 @@ impl NamespaceTypes {
         ensures { result ≡ permits self kind }
     {
         match kind {
-            NamespaceType::Cgroup => self.cgroup,
-            NamespaceType::Ipc => self.ipc,
-            NamespaceType::Net => self.net,
-            NamespaceType::Mnt => self.mnt,
-            NamespaceType::Pid => self.pid,
-            NamespaceType::User => self.user,
-            NamespaceType::Uts => self.uts,
+            Cgroup => self.cgroup,
+            Ipc => self.ipc,
+            Net => self.net,
+            Mnt => self.mnt,
+            Pid => self.pid,
+            User => self.user,
+            Uts => self.uts,
         }
     }
 }
@@ -79,13 +81,5 @@ impl NamespaceTypes {
 pub fn all_types() -> &'static [NamespaceType]
     ensures { result.now ≡ all_types }
 {
-    &[
-        NamespaceType::Cgroup,
-        NamespaceType::Ipc,
-        NamespaceType::Net,
-        NamespaceType::Mnt,
-        NamespaceType::Pid,
-        NamespaceType::User,
-        NamespaceType::Uts,
-    ]
+    &[Cgroup, Ipc, Net, Mnt, Pid, User, Uts]
 }
