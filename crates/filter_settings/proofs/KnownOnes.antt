@@ -15,7 +15,7 @@ use Rattle.filter_rules.specs.declared.mentions.Mode.TheVariants.{Allow}
 use Rattle.filter_rules.specs.declared.mentions.FamilyList.{FamilyList}
 use Rattle.filter_rules.specs.Known.{IsKnown}
 use Rattle.filter_settings.specs.Lines.{in_force}
-use Rattle.filter_settings.specs.Modes.{mode_of, adds_to}
+use Rattle.filter_settings.specs.Modes.{list_mode, adds_to}
 use Rattle.filter_settings.specs.FamilyLists.{family_mention, family_mentions, is_none_line, list_of, begun_by, family_list, unit_family_list}
 use Rattle.filter_settings.proofs.Each.{each_some, each_of_all, for_some}
 
@@ -59,8 +59,11 @@ lines_known table mode lines =
     lines
 
 begun_known : (table : Table) (lines : List Listed) → IfSome (begun_by table lines) (AllKnown table)
-begun_known table [] = tt
-begun_known table (first ∷ more) = lines_known table (mode_of first.line) (first ∷ more)
+begun_known table lines = by (list_mode lines)
+  where
+    by : (mode : Option Mode) → IfSome (option_map (λ mode. list_of table mode lines) mode) (AllKnown table)
+    by None = tt
+    by (Some mode) = lines_known table mode lines
 
 list_known : (table : Table) (lines : List Listed) → IfSome (family_list table lines) (AllKnown table)
 list_known table lines = by (list_any is_none_line lines)

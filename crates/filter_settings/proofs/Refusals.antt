@@ -22,7 +22,7 @@ use Rattle.filter_rules.specs.declared.mentions.Mode.TheVariants.{Allow, Deny}
 use Rattle.filter_rules.specs.declared.mentions.CallList.{CallList}
 use Rattle.filter_rules.specs.Refusing.{IsRefusing, HasRefusal, HasRefusals, AreRefusing}
 use Rattle.filter_settings.specs.Lines.{in_force}
-use Rattle.filter_settings.specs.Modes.{mode_of, adds_to}
+use Rattle.filter_settings.specs.Modes.{list_mode, adds_to}
 use Rattle.filter_settings.specs.ErrorActions.{error_action, default_action, error_action_value, unit_error_action}
 use Rattle.filter_settings.specs.CallWords.{CallWord, may_have_suffix, suffixed, word_of_sides, word_of, is_known, mention_of, word_mention}
 use Rattle.filter_settings.specs.CallLists.{implied, line_mentions, list_of, call_list, unit_call_list}
@@ -92,8 +92,11 @@ lines_refuse table mode lines =
     (each_of_all HasRefusal (λ one. line_mentions table mode one.line) (λ one. each_some HasRefusal (word_mention table mode (adds_to mode one.line)) (mention_refuses table mode (adds_to mode one.line)) one.line.words) lines)
 
 list_refuses : (table : Table) (lines : List Listed) → IfSome (call_list table lines) AllRefuse
-list_refuses table [] = tt
-list_refuses table (first ∷ more) = lines_refuse table (mode_of first.line) (first ∷ more)
+list_refuses table lines = by (list_mode lines)
+  where
+    by : (mode : Option Mode) → IfSome (option_map (λ mode. list_of table mode lines) mode) AllRefuse
+    by None = tt
+    by (Some mode) = lines_refuse table mode lines
 
 suffixes_refuse : (unit : Resolved) (table : Table) (key : List ℕ) → HasRefusals (unit_call_list unit table key)
 unfolding unit_call_list

@@ -1,5 +1,6 @@
 -- systemd.exec(5), SystemCallFilter=: which calls are listed.
-use Rattle.std.specs.Prelude.{ℕ, Bool, Option, Some, None, List, [], ◌∷◌, ◌++◌, codes, flat_map, true}
+use Rattle.std.specs.Prelude.{ℕ, Bool, Option, None, List, [], ◌∷◌, ◌++◌, codes, flat_map, true}
+use Rattle.std.specs.Option.{option_map}
 use Rattle.std.specs.List.{filter_map}
 use Rattle.unit_grammar.specs.Before.{with_before}
 use Rattle.dropin_merge.specs.declared.resolved.Resolved.{Resolved}
@@ -15,7 +16,7 @@ use Rattle.filter_rules.specs.declared.mentions.Mode.TheVariants.{Allow, Deny}
 use Rattle.filter_rules.specs.declared.mentions.Mention.{Mention}
 use Rattle.filter_rules.specs.declared.mentions.CallList.{CallList}
 use Rattle.filter_settings.specs.Lines.{in_force}
-use Rattle.filter_settings.specs.Modes.{mode_of, adds_to, mode_behind}
+use Rattle.filter_settings.specs.Modes.{adds_to, list_mode, mode_behind}
 use Rattle.filter_settings.specs.CallWords.{word_mention, word_causes}
 
 -- the words of a line on a list of this mode
@@ -32,8 +33,7 @@ list_of table mode lines = record { mode = mode; mentions = implied mode ++ flat
 
 -- the first line fixes the mode, and the mentions of all lines stand in their order
 abbrev pub call_list : Table → List Listed → Option CallList
-call_list table [] = None
-call_list table (first ∷ more) = Some (list_of table (mode_of first.line) (first ∷ more))
+call_list table lines = option_map (λ mode. list_of table mode lines) (list_mode lines)
 
 -- what is noted of a word, at the place of its value
 abbrev pub word_notes : Table → Mode → Bool → Value → List ℕ → List FileNote

@@ -19,7 +19,7 @@ use Rattle.filter_rules.specs.declared.mentions.Mode.TheVariants.{Allow}
 use Rattle.filter_rules.specs.declared.mentions.FamilyMention.{FamilyMention}
 use Rattle.filter_rules.specs.declared.mentions.FamilyList.{FamilyList}
 use Rattle.filter_settings.specs.Lines.{in_force}
-use Rattle.filter_settings.specs.Modes.{mode_of, adds_to}
+use Rattle.filter_settings.specs.Modes.{adds_to, list_mode}
 
 -- the number that the table has for a family
 abbrev pub family_number : Table → List ℕ → Option ℕ
@@ -46,8 +46,7 @@ list_of table mode lines = record { mode = mode; mentions = flat_map (λ one. fa
 
 -- the first line fixes the mode, and the mentions of all lines stand in their order
 abbrev pub begun_by : Table → List Listed → Option FamilyList
-begun_by table [] = None
-begun_by table (first ∷ more) = Some (list_of table (mode_of first.line) (first ∷ more))
+begun_by table lines = option_map (λ mode. list_of table mode lines) (list_mode lines)
 
 -- behind the last `none`, if there is one, lines go on from a list that allows nothing
 abbrev pub family_list : Table → List Listed → Option FamilyList

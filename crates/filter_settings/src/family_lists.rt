@@ -1,17 +1,17 @@
 //! RestrictAddressFamilies=: a list of address families that is allowed, or denied (systemd.exec(5)).
-ghost use Rattle.std.specs.Prelude.{◌≡◌, ◌++◌, IfOk, OnOk, not};
+ghost use Rattle.std.specs.Prelude.{◌≡◌, IfOk, not};
 ghost use Rattle.std.specs.List.{after_last, list_any, suffix_len};
-ghost use Rattle.filter_settings.specs.FamilyLists.{is_none_word, is_none_line, list_of, begun_by, family_list, line_notes, family_notes, unit_family_list, unit_family_list_notes};
+ghost use Rattle.filter_settings.specs.FamilyLists.{is_none_word, is_none_line, family_list, family_notes};
 
+use crate::key_lists::KeyList;
 use crate::lines::in_force;
 use crate::list_words::{ListMention, add_lines, note_words};
-use crate::modes::mode_of;
+use crate::modes::{list_mode, mode_of};
 use call_table::CallTable;
-use dropin_merge::Resolved;
 use filter_rules::{FamilyList, FamilyMention, FamilyMentions, Mode};
 use std::alloc::{AllocError, Global};
 use unit_grammar::{NoteCause, Text};
-use unit_values::{FileNote, Listed, Said, Value, lines_of_key, note_value};
+use unit_values::{FileNote, Listed, Value, note_value};
 
 fn is_none_word(words: &[Text]) -> bool
     ensures { result ≡ is_none_word words.now }
@@ -87,38 +87,7 @@ impl ListMention for FamilyMention {
     }
 }
 
-// The list of these lines.
-fn list_of(
-    alloc: Global,
-    table: &CallTable,
-    mode: Mode,
-    lines: &[Listed],
-) -> Result<FamilyList, AllocError>
-    ensures { IfOk result (λ list. list ≡ list_of table.now mode lines.now) }
-{
-    let mut mentions: Vec<FamilyMention> = Vec::new(alloc);
-    add_lines(alloc, table, mode, lines, &mut mentions)?;
-    Ok(FamilyList {
-        mode,
-        mentions: FamilyMentions::new(mentions),
-    })
-}
-
-// The list of lines of which none is `none`: the first fixes the mode.
-fn begun_by(
-    alloc: Global,
-    table: &CallTable,
-    lines: &[Listed],
-) -> Result<Option<FamilyList>, AllocError>
-    ensures { IfOk result (λ list. list ≡ begun_by table.now lines.now) }
-{
-    match lines {
-        [] => Ok(None),
-        [first, ..] => Ok(Some(list_of(alloc, table, mode_of(&first.line), lines)?)),
-    }
-}
-
-// The list that lines in force make: behind the last `none` they go on from a list that allows nothing.
+// Behind the last `none` lines go on from a list that allows nothing; else the first fixes the mode.
 fn family_list(
     alloc: Global,
     table: &CallTable,
@@ -126,48 +95,35 @@ fn family_list(
 ) -> Result<Option<FamilyList>, AllocError>
     ensures { IfOk result (λ list. list ≡ family_list table.now lines.now) }
 {
-    if has_none(lines) {
-        Ok(Some(list_of(alloc, table, Mode::Allow, behind_none(lines))?))
-    } else {
-        begun_by(alloc, table, lines)
-    }
+    let (mode, lines) = match list_mode(lines) {
+        _ if has_none(lines) => (Mode::Allow, behind_none(lines)),
+        Some(mode) => (mode, lines),
+        None => return Ok(None),
+    };
+    let mut mentions: Vec<FamilyMention> = Vec::new(alloc);
+    add_lines(alloc, table, mode, lines, &mut mentions)?;
+    Ok(Some(FamilyList {
+        mode,
+        mentions: FamilyMentions::new(mentions),
+    }))
 }
 
-fn note_line(table: &CallTable, one: &Listed, notes: &mut Vec<FileNote>) -> Result<(), AllocError>
-    ensures { OnOk result (notes.new.items ≡ notes.old.items ++ line_notes table.now one.now) }
-{
-    if is_none_line(one) {
-        return Ok(());
-    }
-    note_words::<FamilyMention>(table, mode_of(&one.line), one, notes)
-}
+impl KeyList for FamilyList {
+    ghost list_of = { family_list };
 
-// Notes the words of all lines.
-fn note_all(table: &CallTable, all: &[Listed], notes: &mut Vec<FileNote>) -> Result<(), AllocError>
-    ensures { OnOk result (notes.new.items ≡ notes.old.items ++ family_notes table.now all.now) }
-{
-    'lines: for one in all {
-        note_line(table, one, notes)?;
-    }
-    Ok(())
-}
+    ghost notes_of = { family_notes };
 
-/// What the files of a unit say of a key such as RestrictAddressFamilies, with its notes.
-#[tactic(auto, unfolding(crate::specs::FamilyLists::unit_family_list, crate::specs::FamilyLists::unit_family_list_notes))]
-pub fn family_list_of_key(
-    alloc: Global,
-    unit: &Resolved,
-    table: &CallTable,
-    key: &str,
-) -> Result<Said<Option<FamilyList>>, AllocError>
-    ensures means { IfOk result (λ said. said.what ≡ unit_family_list unit.now table.now key.now) }
-    ensures noted { IfOk result (λ said. said.notes.items ≡ unit_family_list_notes unit.now table.now key.now) }
-{
-    let Said {
-        what: all,
-        mut notes,
-    } = lines_of_key(alloc, unit, key)?;
-    note_all(table, all.as_slice(), &mut notes)?;
-    let what = family_list(alloc, table, in_force(all.as_slice()))?;
-    Ok(Said { what, notes })
+    fn read(
+        alloc: Global,
+        table: &CallTable,
+        all: &[Listed],
+        notes: &mut Vec<FileNote>,
+    ) -> Result<Option<Self>, AllocError> {
+        'lines: for one in all {
+            if !is_none_line(one) {
+                note_words::<FamilyMention>(table, mode_of(&one.line), one, notes)?;
+            }
+        }
+        family_list(alloc, table, in_force(all))
+    }
 }

@@ -11,6 +11,7 @@ mod call_lists;
 mod call_words;
 mod error_actions;
 mod family_lists;
+mod key_lists;
 mod lines;
 mod list_words;
 mod modes;

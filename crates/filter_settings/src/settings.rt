@@ -5,9 +5,8 @@ ghost use Rattle.filter_rules.specs.Known.{HasKnownFamilies};
 ghost use Rattle.filter_rules.specs.Refusing.{AreRefusing};
 ghost use Rattle.filter_settings.specs.Settings.{settings_of, filter_notes};
 
-use crate::call_lists::call_list_of_key;
 use crate::error_actions::error_action_of_key;
-use crate::family_lists::family_list_of_key;
+use crate::key_lists::list_of_key;
 use crate::namespaces::namespaces_of_key;
 use call_table::CallTable;
 use dropin_merge::Resolved;
@@ -61,10 +60,8 @@ pub fn filter_settings(
             &mut notes,
         )?,
         namespaces: namespaces_of_key(alloc, unit, "RestrictNamespaces")?.noted_in(&mut notes)?,
-        families: family_list_of_key(alloc, unit, table, "RestrictAddressFamilies")?.noted_in(
-            &mut notes,
-        )?,
-        calls: call_list_of_key(alloc, unit, table, "SystemCallFilter")?.noted_in(&mut notes)?,
+        families: list_of_key(alloc, unit, table, "RestrictAddressFamilies")?.noted_in(&mut notes)?,
+        calls: list_of_key(alloc, unit, table, "SystemCallFilter")?.noted_in(&mut notes)?,
     };
     Ok(Said { what, notes })
 }

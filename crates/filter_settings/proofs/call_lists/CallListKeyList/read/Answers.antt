@@ -4,7 +4,7 @@ use Rattle.filter_settings.specs.Modes.{mode_of}
 use Rattle.filter_settings.specs.CallLists.{line_notes}
 use Rattle.filter_settings.specs.Steps.{next_mode}
 use Rattle.filter_settings.proofs.NextModes.{mode_next, notes_next}
-use Rattle.filter_settings.proofs.call_lists.note_all.Goals as goal
+use Rattle.filter_settings.proofs.call_lists.CallListKeyList.read.Goals as goal
 
 pub lines-preserved : goal.lines-preserved
 lines-preserved c =

@@ -1,6 +1,6 @@
 use Rattle.std.proofs.Common.{◌≡◌, ◌++◌, drop}
 use Rattle.filter_settings.specs.FamilyLists.{family_notes}
-use Rattle.filter_settings.proofs.family_lists.note_all.Given as goal
+use Rattle.filter_settings.proofs.family_lists.FamilyListKeyList.read.Given as goal
 
 abbrev pub invariant-lines : goal.invariant-lines
 invariant-lines l =

@@ -2,7 +2,7 @@ use Rattle.std.proofs.Common.{◌≡◌, ◌++◌, take}
 use Rattle.filter_settings.specs.Lines.{in_force}
 use Rattle.filter_settings.specs.Modes.{list_mode}
 use Rattle.filter_settings.specs.CallLists.{call_notes}
-use Rattle.filter_settings.proofs.call_lists.note_all.Given as goal
+use Rattle.filter_settings.proofs.call_lists.CallListKeyList.read.Given as goal
 
 abbrev pub invariant-lines : goal.invariant-lines
 invariant-lines l = record {

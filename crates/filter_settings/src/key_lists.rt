@@ -1,0 +1,52 @@
+//! Keys whose lines make a list (systemd.exec(5), SystemCallFilter=).
+ghost use Rattle.std.specs.Prelude.{◌≡◌, ◌++◌, IfOk};
+ghost use Rattle.unit_values.specs.Listed.{unit_listed, unit_listed_notes};
+ghost use Rattle.filter_settings.specs.Lines.{in_force};
+
+use call_table::CallTable;
+use dropin_merge::Resolved;
+use std::alloc::{AllocError, Global};
+use unit_values::{FileNote, Listed, Said, lines_of_key};
+
+/// A list that the lines of a key make.
+pub trait KeyList: Drop {
+    ghost use Rattle.std.specs.Prelude.{◌≡◌, ◌++◌, Option, List, IfOk, OnOk};
+    ghost use Rattle.unit_values.specs.declared.listed.Listed.{Listed};
+    ghost use Rattle.unit_values.specs.declared.value.FileNote.{FileNote};
+    ghost use Rattle.call_table.specs.Table.{Table};
+    ghost use Rattle.filter_settings.specs.Lines.{in_force};
+
+    /// The list of lines in force.
+    ghost list_of: { Table → List Listed → Option Self };
+
+    /// What is noted of the words of all lines.
+    ghost notes_of: { Table → List Listed → List FileNote };
+
+    /// The list of those of the lines that are in force. The words of all are noted.
+    fn read(
+        alloc: Global,
+        table: &CallTable,
+        all: &[Listed],
+        notes: &mut Vec<FileNote>,
+    ) -> Result<Option<Self>, AllocError>
+        ensures means { IfOk result (λ list. list ≡ list_of table.now (in_force all.now)) }
+        ensures noted { OnOk result (notes.new.items ≡ notes.old.items ++ notes_of table.now all.now) };
+}
+
+/// What the files of a unit say of such a key, with its notes.
+pub fn list_of_key<L: KeyList>(
+    alloc: Global,
+    unit: &Resolved,
+    table: &CallTable,
+    key: &str,
+) -> Result<Said<Option<L>>, AllocError>
+    ensures means { IfOk result (λ said. said.what ≡ L.list_of table.now (in_force (unit_listed unit.now key.now))) }
+    ensures noted { IfOk result (λ said. said.notes.items ≡ unit_listed_notes unit.now key.now ++ L.notes_of table.now (unit_listed unit.now key.now)) }
+{
+    let Said {
+        what: all,
+        mut notes,
+    } = lines_of_key(alloc, unit, key)?;
+    let what = L::read(alloc, table, all.as_slice(), &mut notes)?;
+    Ok(Said { what, notes })
+}
