@@ -9,6 +9,5 @@ pub mod Outside
 pub mod Prefixed
 pub mod Reasons
 pub mod Seen
-pub mod Tabled
 pub mod Whole
 pub mod OtherSites

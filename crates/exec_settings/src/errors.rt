@@ -2,7 +2,7 @@
 ghost use Rattle.std.specs.Prelude.{◌≡◌};
 ghost use Rattle.exec_settings.specs.declared.errors.SettingsError.TheVariants.{Memory};
 
-use std::alloc::{AllocError, AllocFailed};
+use std::alloc::AllocError;
 use thiserror::Error;
 use unit_grammar::Text;
 
@@ -40,14 +40,6 @@ impl From<AllocError> for SettingsError {
     ghost from_gives = { λ _ e. e ≡ Memory };
 
     fn from(_: AllocError) -> Self {
-        SettingsError::Memory
-    }
-}
-
-impl<T: Drop> From<AllocFailed<T>> for SettingsError {
-    ghost from_gives = { λ _ e. e ≡ Memory };
-
-    fn from(_: AllocFailed<T>) -> Self {
         SettingsError::Memory
     }
 }

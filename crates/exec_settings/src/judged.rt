@@ -1,5 +1,5 @@
 //! Keys of the service that are not judged, and are noted.
-ghost use Rattle.std.specs.Prelude.{◌≡◌, ◌++◌, [], map, OnOk};
+ghost use Rattle.std.specs.Prelude.{◌≡◌, ◌++◌, [], OnOk};
 ghost use Rattle.std.specs.List.{cons_option, list_any};
 ghost use Rattle.std.specs.Str.{bytes_eq};
 ghost use Rattle.exec_settings.specs.Keys.{is_judged};

@@ -3,7 +3,7 @@ ghost use Rattle.std.specs.Prelude.{◌≡◌, ◌++◌, Some, None, IfOk, OnOk,
 ghost use Rattle.mount_settings.specs.Roots.{root_key};
 ghost use Rattle.mount_settings.specs.Written.{unit_written};
 ghost use Rattle.exec_settings.specs.declared.errors.SettingsError.TheVariants.{OutsideProfile};
-ghost use Rattle.exec_settings.specs.Commands.{unit_command, unit_command_notes};
+ghost use Rattle.exec_settings.specs.Commands.{unit_command_notes};
 ghost use Rattle.exec_settings.specs.Profile.{outside_key};
 ghost use Rattle.exec_settings.specs.Refusals.{RefusesFirst, command_refusal};
 ghost use Rattle.exec_settings.specs.Settings.{path_of, unit_program};
