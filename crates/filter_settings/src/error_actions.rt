@@ -16,10 +16,7 @@ pub fn error_action(text: &str) -> Option<Action>
     if text == "kill" {
         return Some(Action::KillProcess);
     }
-    match errno_number(text) {
-        Some(number) => Some(Action::Errno(number as u16)),
-        None => None,
-    }
+    Some(Action::Errno(errno_number(text)? as u16))
 }
 
 /// What a value of the key says.
@@ -44,10 +41,9 @@ impl KeyValue for ErrorAction {
         if text.is_empty() {
             return Some(default_action());
         }
-        match error_action(text) {
-            Some(action) => Some(ErrorAction { action }),
-            None => None,
-        }
+        Some(ErrorAction {
+            action: error_action(text)?,
+        })
     }
 }
 

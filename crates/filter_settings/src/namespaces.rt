@@ -1,6 +1,6 @@
 //! RestrictNamespaces=: which types of namespaces are permitted (systemd.exec(5), namespaces(7)).
 ghost use Rattle.std.specs.Prelude.{◌≡◌, ◌++◌, IfOk, OnOk, flat_map};
-ghost use Rattle.filter_settings.specs.Namespaces.{switch_of, is_plain, has_word, listed_type, says_by, says, is_type_name, word_notes, line_notes, namespaces_of, namespaces_notes, unit_namespaces, unit_namespaces_notes};
+ghost use Rattle.filter_settings.specs.Namespaces.{switch_of, is_plain, has_word, listed_type, says_by, says, is_type_name, word_notes, namespaces_of, namespaces_notes, unit_namespaces, unit_namespaces_notes};
 ghost use Rattle.filter_settings.specs.Steps.{next_type, next_types, next_plain};
 
 use dropin_merge::Resolved;
@@ -120,31 +120,15 @@ fn is_type_name(word: &str) -> bool
     all_types().iter().any(|kind| word == kind.name())
 }
 
-fn note_word(value: &Value, word: &str, notes: &mut Vec<FileNote>) -> Result<(), AllocError>
-    ensures { OnOk result (notes.new.items ≡ notes.old.items ++ word_notes value.now word.now) }
-{
-    if is_type_name(word) {
-        return Ok(());
-    }
-    note_value(notes, value, NoteCause::Value)
-}
-
 fn note_words(value: &Value, words: &[Text], notes: &mut Vec<FileNote>) -> Result<(), AllocError>
     ensures { OnOk result (notes.new.items ≡ notes.old.items ++ flat_map (word_notes value.now) words.now) }
 {
     'words: for word in words {
-        note_word(value, word.as_str(), notes)?;
+        if !is_type_name(word.as_str()) {
+            note_value(notes, value, NoteCause::Value)?;
+        }
     }
     Ok(())
-}
-
-fn note_line(one: &Listed, notes: &mut Vec<FileNote>) -> Result<(), AllocError>
-    ensures { OnOk result (notes.new.items ≡ notes.old.items ++ line_notes one.now) }
-{
-    if switch_of(one).is_some() {
-        return Ok(());
-    }
-    note_words(&one.value, one.line.words.list(), notes)
 }
 
 // Notes the words of all lines.
@@ -152,7 +136,9 @@ fn note_all(all: &[Listed], notes: &mut Vec<FileNote>) -> Result<(), AllocError>
     ensures { OnOk result (notes.new.items ≡ notes.old.items ++ namespaces_notes all.now) }
 {
     'lines: for one in all {
-        note_line(one, notes)?;
+        if switch_of(one).is_none() {
+            note_words(&one.value, one.line.words.list(), notes)?;
+        }
     }
     Ok(())
 }
