@@ -17,24 +17,15 @@ code_of Differs = 8
 
 -- everything that there is to print was printed
 abbrev pub is_whole : Ending → Bool
-is_whole Done = true
-is_whole AboveThreshold = true
-is_whole NoCommand = true
-is_whole Refused = true
 is_whole ReadFault = false
 is_whole WriteFault = false
 is_whole OutOfMemory = false
-is_whole LaunchRefused = true
-is_whole Differs = true
+is_whole ending = true
 
 -- what was asked is answered: nothing is refused but a launch, and nothing failed
 abbrev pub is_answer : Ending → Bool
 is_answer Done = true
 is_answer AboveThreshold = true
-is_answer NoCommand = false
-is_answer Refused = false
-is_answer ReadFault = false
-is_answer WriteFault = false
-is_answer OutOfMemory = false
 is_answer LaunchRefused = true
 is_answer Differs = true
+is_answer ending = false
