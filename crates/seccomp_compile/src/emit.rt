@@ -2,7 +2,7 @@
 //!
 //! A program is made from its end: what is added stands in front, and leads to what stands already. A place is
 //! counted from the end, so that it stays the same. An ending that stands near is used again.
-ghost use Rattle.std.specs.Prelude.{◌≡◌, ◌+◌, ◌-◌, ◌<◌, ◌≤◌, ◌∷◌, ◌++◌, [], length, drop, OnOk, IfOk, MatchOption};
+ghost use Rattle.std.specs.Prelude.{◌≡◌, ◌+◌, ◌-◌, ◌<◌, ◌≤◌, ◌++◌, length, OnOk, IfOk, MatchOption};
 ghost use Rattle.std.specs.List.{All};
 ghost use Rattle.bpf_code.specs.Reading.{Fits};
 ghost use Rattle.seccomp_compile.specs.Code.{look_code};

@@ -19,10 +19,7 @@ pub struct Run {
 fn ends_with(tree: &Tree, action: Action) -> bool
     ensures { IsTrue result → decision_of tree.now ≡ ends action }
 {
-    match tree.ending() {
-        Some(other) => other == action,
-        None => false,
-    }
+    tree.ending().is_some_and(|other| other == action)
 }
 
 // Where the runs begin, which stand one below the other; without a run, above all numbers.
@@ -39,12 +36,9 @@ fn floor(runs: &[Run]) -> u64
 fn end_alike(runs: &[Run], run: &Run) -> bool
     ensures { IsTrue result → EndAlike runs.now run.now }
 {
-    match runs.last() {
-        Some(above) => match run.tree.ending() {
-            Some(action) => ends_with(&above.tree, action),
-            None => false,
-        },
-        None => false,
+    match (runs.last(), run.tree.ending()) {
+        (Some(above), Some(action)) => ends_with(&above.tree, action),
+        _ => false,
     }
 }
 
@@ -90,12 +84,9 @@ fn enclosed(alloc: Global, middle: Run, run: Run) -> Result<Run, AllocError>
 fn extends(runs: &[Run], run: &Run) -> bool
     ensures { IsTrue result → Extends runs.now run.now }
 {
-    match run.tree.ending() {
-        Some(action) => match runs.last() {
-            Some(lowest) => goes_around(&lowest.tree, lowest.from, action),
-            None => false,
-        },
-        None => false,
+    match (runs.last(), run.tree.ending()) {
+        (Some(lowest), Some(action)) => goes_around(&lowest.tree, lowest.from, action),
+        _ => false,
     }
 }
 
@@ -104,19 +95,16 @@ fn goes_around(tree: &Tree, from: u32, action: Action) -> bool
     ensures { IsTrue result → GoesAround from action (decision_of tree.now) }
 {
     match tree {
-        Tree::End(_) => false,
-        Tree::Look { .. } => false,
         Tree::Split {
             comparison,
             number,
             miss,
             ..
         } => match comparison {
-            Comparison::AtLeast => false,
-            Comparison::AnyBit => false,
             Comparison::Equal => from <= *number && ends_with(miss, action),
+            _ => false,
         },
-        Tree::Both { .. } => false,
+        _ => false,
     }
 }
 
@@ -159,14 +147,11 @@ fn fill(alloc: Global, runs: &mut Vec<Run>, from: u64, rest: Action) -> Result<(
     if floor(runs) <= from {
         return Ok(());
     }
-    add_run(
-        alloc,
-        runs,
-        Run {
-            from: from as u32,
-            tree: Tree::End(rest),
-        },
-    )?;
+    let run = Run {
+        from: from as u32,
+        tree: Tree::End(rest),
+    };
+    add_run(alloc, runs, run)?;
     Ok(())
 }
 
@@ -182,8 +167,7 @@ pub fn add_number(
     ensures there { number < 2 ^ 32 }
 {
     fill(alloc, runs, u64::from(number) + 1, rest)?;
-    add_run(alloc, runs, Run { from: number, tree })?;
-    Ok(())
+    add_run(alloc, runs, Run { from: number, tree })
 }
 
 // The lowest runs, so many, as one.
@@ -209,10 +193,9 @@ fn join(alloc: Global, runs: &mut Vec<Run>, count: usize) -> Result<Run, AllocEr
 }
 
 /// The tree of all numbers, of which those below the runs end with the rest.
-pub fn close(alloc: Global, runs: Vec<Run>, rest: Action) -> Result<Tree, AllocError>
+pub fn close(alloc: Global, mut runs: Vec<Run>, rest: Action) -> Result<Tree, AllocError>
     ensures { IfOk result (λ tree. Closes runs.items rest (decision_of tree)) }
 {
-    let mut runs = runs;
     fill(alloc, &mut runs, 0, rest)?;
     let count = runs.len();
     let run = join(alloc, &mut runs, count)?;

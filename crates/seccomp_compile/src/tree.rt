@@ -50,9 +50,7 @@ impl Tree {
     {
         match self {
             Tree::End(action) => Some(*action),
-            Tree::Look { .. } => None,
-            Tree::Split { .. } => None,
-            Tree::Both { .. } => None,
+            _ => None,
         }
     }
 
@@ -65,40 +63,8 @@ impl Tree {
                 offset: other,
                 mask: part,
                 next,
-            } => {
-                if other == offset && part == mask {
-                    Box::into_inner(next)
-                } else {
-                    Tree::Look {
-                        offset: other,
-                        mask: part,
-                        next,
-                    }
-                }
-            }
-            Tree::End(action) => Tree::End(action),
-            Tree::Split {
-                comparison,
-                number,
-                miss,
-                hit,
-            } => Tree::Split {
-                comparison,
-                number,
-                miss,
-                hit,
-            },
-            Tree::Both {
-                first,
-                second,
-                action,
-                otherwise,
-            } => Tree::Both {
-                first,
-                second,
-                action,
-                otherwise,
-            },
+            } if other == offset && part == mask => Box::into_inner(next),
+            tree => tree,
         }
     }
 
@@ -113,12 +79,7 @@ impl Tree {
     pub fn is_split(&self) -> bool
         ensures { result ≡ is_split (decision_of self.now) }
     {
-        match self {
-            Tree::End(_) => false,
-            Tree::Look { .. } => false,
-            Tree::Split { .. } => true,
-            Tree::Both { .. } => false,
-        }
+        matches!(self, Tree::Split { .. })
     }
 
     /// Ends with the action where the comparison of the word with the value holds, and goes on where it fails.

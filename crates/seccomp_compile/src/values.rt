@@ -1,6 +1,6 @@
 //! The values of an argument: cases of one test each, of all of the low 32 bits of one argument.
 ghost use Rattle.std.specs.Prelude.{◌≡◌, ℕ, ◌==◌, ◌<◌, ◌≤◌, [], length, map, find, option_copied, IfOk, IfSome, None};
-ghost use Rattle.std.specs.List.{list_all, list_any};
+ghost use Rattle.std.specs.List.{list_all};
 ghost use Rattle.std.specs.List.Sorted.{IsStrictlyIncreasing};
 ghost use Rattle.seccomp_compile.specs.Decisions.{decision_of, ends};
 ghost use Rattle.seccomp_compile.specs.Rules.{values_onto, value_in, value_wanted, first_arg, is_value_test, is_value_of, AreValuesOf, DecidesValues, HaveSameMembers};
@@ -24,9 +24,9 @@ fn is_whole(test: Test, arg: u8) -> bool
 fn is_value(case: &Case, arg: u8) -> bool
     ensures { result ≡ is_value_of arg case.now }
 {
-    match case.tests.list().split_first() {
-        Some((test, others)) => others.is_empty() && is_whole(*test, arg),
-        None => false,
+    match case.tests.list() {
+        [test] => is_whole(*test, arg),
+        _ => false,
     }
 }
 
@@ -48,13 +48,9 @@ fn arg_of_first(cases: &[Case]) -> Option<u8>
     ensures is { result ≡ first_arg cases.now }
     ensures there { IfSome result (λ arg. arg ≤ 5) }
 {
-    match cases.split_first() {
-        Some((case, _)) => match case.tests.list().split_first() {
-            Some((test, _)) => Some(arg_of(*test)),
-            None => None,
-        },
-        None => None,
-    }
+    let (case, _) = cases.split_first()?;
+    let (test, _) = case.tests.list().split_first()?;
+    Some(arg_of(*test))
 }
 
 /// The argument of which each case is a value.
@@ -62,26 +58,14 @@ pub fn value_arg(cases: &[Case]) -> Option<u8>
     ensures values { IfSome result (λ arg. (arg ≤ 5) × (0 < length cases.now) × AreValuesOf arg cases.now) }
     ensures others { result ≡ None → (arg : ℕ) → AreValuesOf arg cases.now → cases.now ≡ [] }
 {
-    match arg_of_first(cases) {
-        Some(arg) => {
-            if are_values(cases, arg) {
-                Some(arg)
-            } else {
-                None
-            }
-        }
-        None => None,
-    }
+    arg_of_first(cases).filter(|arg| are_values(cases, *arg))
 }
 
 // The value that the first test of the case compares.
 fn value_of(case: &Case) -> u32
     ensures { result ≡ value_in case.now }
 {
-    match case.tests.list().split_first() {
-        Some((test, _)) => test.value,
-        None => 0,
-    }
+    case.tests.list().first().map_or(0, |test| test.value)
 }
 
 fn collect_values(alloc: Global, cases: &[Case]) -> Result<Vec<u32>, AllocError>
@@ -116,10 +100,7 @@ fn case_with(cases: &[Case], value: u32) -> Option<&Case>
 fn action_of_value(cases: &[Case], value: u32, rest: Action) -> Action
     ensures { result ≡ value_wanted cases.now rest value }
 {
-    match case_with(cases, value) {
-        Some(case) => case.action,
-        None => rest,
-    }
+    case_with(cases, value).map_or(rest, |case| case.action)
 }
 
 // The values in turn.

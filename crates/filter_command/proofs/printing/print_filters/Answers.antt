@@ -1,20 +1,15 @@
-use Rattle.std.proofs.Common.{length, subst}
-use Rattle.std.specs.Prelude.{flat_map}
-use Rattle.command_answers.specs.Printing.{HasWriteCause}
-use Rattle.command_answers.proofs.Texts.{text_at_error, text_cut, text_then}
-use Rattle.filter_command.specs.Lines.{count_line, filter_text}
-use Rattle.filter_command.proofs.printing.print_filters.Goals as goal
+use Rattle.std.proofs.Common.{arith, ◌∙◌}
+use Rattle.command_answers.proofs.Texts.{items_cut, items_more, text_at_error}
+use Rattle.filter_command.specs.Lines.{filter_text}
+use Rattle.filter_command.proofs.printing.print_each.Goals as goal
 
-pub returns-in_err-print_each-clause-takes_the_text : goal.returns-in_err-print_each-clause-takes_the_text
-returns-in_err-print_each-clause-takes_the_text g c =
-    text_at_error _ _ _ c.in_err-print_each.field-0.0 c.from_residual.result c.from_residual.ensures.0
-    (text_cut _ _ (flat_map filter_text c.args.filters.now) (count_line (length c.args.filters.now)) c.in_err-print_each.field-0.0 c.in_err-print_each.ensures.takes_the_text)
+pub filters-preserved : goal.filters-preserved
+filters-preserved g c = record {
+  taken = items_more filter_text c.args.filters.now c.filters.filter-index c.filter-item.result c.filter-item.result _ _ _ (omega arith) c.filter-item.is c.filters.invariant.taken c.in_ok-print_filter.ensures.takes_the_text;
+  same = c.in_ok-print_filter.ensures.fault_rose.no_other_fault ∙ c.filters.invariant.same;
+}
 
-pub returns-clause-takes_the_text : goal.returns-clause-takes_the_text
-returns-clause-takes_the_text g c =
-    text_then _ _ _ (flat_map filter_text c.args.filters.now) (count_line (length c.args.filters.now)) c.put_line.result
-    c.in_ok-print_each.ensures.takes_the_text
-    (c.put_line.ensures.takes_the_line _ c.count_line.ensures)
-
-pub returns-clause-fault_rose : goal.returns-clause-fault_rose
-returns-clause-fault_rose g c = subst (λ before. HasWriteCause before (g.K.Sink.faults c.put_line.new.out) c.put_line.result) c.in_ok-print_each.ensures.fault_rose.no_other_fault c.put_line.ensures.fault_rose
+pub returns-in_err-print_filter-clause-takes_the_text : goal.returns-in_err-print_filter-clause-takes_the_text
+returns-in_err-print_filter-clause-takes_the_text g c =
+    text_at_error _ _ _ c.in_err-print_filter.field-0.0 c.from_residual.result c.from_residual.ensures.0
+    (items_cut filter_text c.args.filters.now c.filters.filter-index c.filter-item.result c.filter-item.result _ _ _ c.in_err-print_filter.field-0.0 (omega arith) c.filter-item.is c.filters.invariant.taken c.in_err-print_filter.ensures.takes_the_text)
