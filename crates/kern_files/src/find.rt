@@ -1,8 +1,7 @@
 //! What a path finds on a mount table (path_resolution(7)): no path is built, and no memory is taken.
 
-ghost use Rattle.std.specs.Prelude.{◌≡◌, ◌++◌, option_map, true};
-ghost use Rattle.abs_path.specs.Paths.{parts_of};
-ghost use Rattle.abs_path.specs.Prefix.{IsRest, is_prefix, rest_of};
+ghost use Rattle.std.specs.Prelude.{◌≡◌, option_map, true};
+ghost use Rattle.abs_path.specs.Prefix.{is_prefix};
 ghost use Rattle.site_table.specs.Table.{row_at};
 ghost use Rattle.kern_mounts.specs.Entry.{entry_of};
 ghost use Rattle.kern_mounts.specs.Finds.{row_or_nothing, found_by, finds};
@@ -27,10 +26,7 @@ pub enum Found<'a> {
 fn row_or_nothing<'a>(row: Option<&'a Row>) -> Found<'a>
     ensures { shown result ≡ row_or_nothing (option_map (λ row. row.now) row.entry) }
 {
-    match row {
-        None => Found::Nothing(ENOENT),
-        Some(row) => Found::Row(row),
-    }
+    row.map_or(Found::Nothing(ENOENT), Found::Row)
 }
 
 // what an entry shows at a path that its place leads to
@@ -40,13 +36,8 @@ fn found_by<'a>(site: &'a SiteTable, entry: &MountStep, path: &AbsPath) -> Found
 {
     match &entry.what {
         What::Host(source) => row_or_nothing(site.row_through(source, &entry.place, path)),
-        What::Empty => {
-            if entry.place == *path {
-                Found::EmptyDirectory
-            } else {
-                Found::Nothing(ENOENT)
-            }
-        }
+        What::Empty if entry.place == *path => Found::EmptyDirectory,
+        What::Empty => Found::Nothing(ENOENT),
         What::Hidden(_) => Found::Nothing(EACCES),
     }
 }

@@ -1,6 +1,6 @@
 //! Laws of calls on paths, each the contract of a function that does nothing.
 
-ghost use Rattle.std.specs.Prelude.{◌≡◌, ◌↔◌, ◌⊎◌, ◌==◌, ◌||◌, ℕ, Bool, true, false, [], Option, Some, Ok, Err};
+ghost use Rattle.std.specs.Prelude.{◌≡◌, ◌↔◌, ◌⊎◌, ◌==◌, ◌||◌, ℕ, Bool, true, false, [], Option, Ok, Err};
 ghost use Rattle.abs_path.specs.Paths.{Path};
 ghost use Rattle.linux_numbers.specs.Errnos.{eacces, ebusy, einval, enotdir};
 ghost use Rattle.site_table.specs.declared.row.Row.{Row};

@@ -4,8 +4,7 @@ ghost use Rattle.std.specs.Prelude.{◌≡◌, ℕ};
 ghost use Rattle.site_table.specs.Kinds.{is_dir};
 ghost use Rattle.site_table.specs.Table.{row_at};
 ghost use Rattle.kern_mounts.specs.Finds.{finds};
-ghost use Rattle.kern_files.specs.Found.{shown};
-ghost use Rattle.kern_files.specs.Looking.{flags_at, valued, see_answer, write_answer, open_answer, access_mode, is_writing};
+ghost use Rattle.kern_files.specs.Looking.{flags_at, valued, see_answer, write_answer, open_answer};
 
 use crate::find::{Found, find};
 use crate::flags::flags_at;

@@ -47,10 +47,9 @@ fn remount(table: &mut MountTable, target: &AbsPath, flags: u32) -> Result<(), M
         (after_remount table.old target.now (flags_of flags)) }
     ensures takes_no_memory { IsErrOf result MountError.Memory → ⊥ }
 {
-    match table.remount(target, flags_of(flags)) {
-        Ok(()) => Ok(()),
-        Err(errno) => Err(MountError::Errno(errno)),
-    }
+    table
+        .remount(target, flags_of(flags))
+        .map_err(MountError::Errno)
 }
 
 // Mounts an empty file system on the target.

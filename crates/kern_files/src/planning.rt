@@ -6,7 +6,7 @@ ghost use Rattle.kern_mounts.specs.Bind.{can_bind};
 ghost use Rattle.kern_mounts.specs.Finds.{finds};
 ghost use Rattle.kern_files.specs.Found.{shown};
 ghost use Rattle.kern_files.specs.Bits.{has_all};
-ghost use Rattle.kern_files.specs.MountCall.{ms_remount_bind, kind_found, hidden_kind, target_kind, bind_found, mount_onto, after_mount};
+ghost use Rattle.kern_files.specs.MountCall.{ms_remount_bind, kind_found, hidden_kind, target_kind, mount_onto, after_mount};
 ghost use Rattle.kern_files.specs.Planning.{Plans, CanPerform};
 
 use crate::find::{Found, entry_of, find};
@@ -56,13 +56,7 @@ fn hidden_kind(entry: &MountStep, path: &AbsPath) -> Option<bool>
     ensures { result ≡ hidden_kind entry.now.place entry.now.what path.now }
 {
     match &entry.what {
-        What::Hidden(directory) => {
-            if entry.place == *path {
-                Some(*directory)
-            } else {
-                None
-            }
-        }
+        What::Hidden(directory) if entry.place == *path => Some(*directory),
         _ => None,
     }
 }
