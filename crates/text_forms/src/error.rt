@@ -3,7 +3,7 @@
 ghost use Rattle.std.specs.Prelude.{◌≡◌};
 ghost use Rattle.text_forms.specs.declared.error.WordsError.TheVariants.{Memory};
 
-use std::alloc::{AllocError, AllocFailed};
+use std::alloc::AllocError;
 use thiserror::Error;
 
 /// Why a text is no list of words. Of several faults the one listed first is told.
@@ -27,14 +27,6 @@ impl From<AllocError> for WordsError {
     ghost from_gives = { λ _ e. e ≡ Memory };
 
     fn from(_: AllocError) -> Self {
-        WordsError::Memory
-    }
-}
-
-impl<T: Drop> From<AllocFailed<T>> for WordsError {
-    ghost from_gives = { λ _ e. e ≡ Memory };
-
-    fn from(_: AllocFailed<T>) -> Self {
         WordsError::Memory
     }
 }
