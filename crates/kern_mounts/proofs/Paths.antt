@@ -2,10 +2,9 @@
 use Rattle.std.proofs.Common.{◌≡◌, ◌≤◌, ◌+◌, ℕ, Bool, true, false, List, [], ◌∷◌, ◌++◌, ◌⊎◌, inl, inr, length, refl, sym, ap, ◌∙◌, arith, length-append, cond, Some, None}
 use Rattle.std.specs.Prelude.{nat_lt, not}
 use Rattle.std.proofs.lemmas.Bool.{and_parts, and_from, false≢true}
-use Rattle.abs_path.specs.Paths.{Path, tail_of, parts_of, is_normal}
+use Rattle.abs_path.specs.Paths.{Path, tail_of}
 use Rattle.abs_path.specs.Prefix.{is_prefix, is_same, rest_of, rest_text, is_below as is_path_below}
 use Rattle.abs_path.proofs.ByteOrder.{tail-append}
-use Rattle.abs_path.proofs.Reading.{rest_then_join}
 use Rattle.abs_path.proofs.Prefixes.{part_itself, prefix_itself, prefix_and_rest, prefix-append, prefix_chain, prefix_trans, same_path}
 use Rattle.kern_mounts.specs.declared.step.MountStep.{MountStep}
 use Rattle.kern_mounts.specs.Split.{is_below}

@@ -4,7 +4,7 @@ pub mod changes;
 
 ghost use Rattle.std.specs.Prelude.{◌≡◌, ℕ, true, false, List, ◌∷◌, [], ◌++◌, map, Bool, Option, Some, slice_get, Contains};
 ghost use Rattle.abs_path.specs.Paths.{Path};
-ghost use Rattle.abs_path.specs.Prefix.{is_prefix, rest_of};
+ghost use Rattle.abs_path.specs.Prefix.{is_prefix};
 ghost use Rattle.abs_path.specs.ByteOrder.{AreAscending};
 ghost use Rattle.kern_mounts.specs.declared.step.MountStep.{MountStep};
 ghost use Rattle.kern_mounts.specs.declared.step.What.TheVariants.{Empty, Hidden};

@@ -18,80 +18,56 @@ use Rattle.kernel_calls.specs.Words.{low_word}
 
 bare_form : (doing : Doing) (payload : Payload) → (form_of_payload payload ≡ form.Nothing) ↔ IsSome (bare doing payload)
 bare_form doing Nothing = (λ h. refl, λ h. refl)
-bare_form doing (OnePath path) = (λ h. cc, λ h. cc)
-bare_form doing (TwoPaths source target) = (λ h. cc, λ h. cc)
-bare_form doing (Sets permitted effective inheritable) = (λ h. cc, λ h. cc)
-bare_form doing (Ids ids) = (λ h. cc, λ h. cc)
-bare_form doing (Code bytes) = (λ h. cc, λ h. cc)
+bare_form doing payload = (λ h. cc, λ h. cc)
 
 by_path_form : (doing : Path → Doing) (payload : Payload) → (form_of_payload payload ≡ form.OnePath) ↔ IsSome (by_path doing payload)
-by_path_form doing Nothing = (λ h. cc, λ h. cc)
 by_path_form doing (OnePath path) = (λ h. refl, λ h. refl)
-by_path_form doing (TwoPaths source target) = (λ h. cc, λ h. cc)
-by_path_form doing (Sets permitted effective inheritable) = (λ h. cc, λ h. cc)
-by_path_form doing (Ids ids) = (λ h. cc, λ h. cc)
-by_path_form doing (Code bytes) = (λ h. cc, λ h. cc)
+by_path_form doing payload = (λ h. cc, λ h. cc)
 
 by_paths_form : (doing : Path → Path → Doing) (payload : Payload) → (form_of_payload payload ≡ form.TwoPaths) ↔ IsSome (by_paths doing payload)
-by_paths_form doing Nothing = (λ h. cc, λ h. cc)
-by_paths_form doing (OnePath path) = (λ h. cc, λ h. cc)
 by_paths_form doing (TwoPaths source target) = (λ h. refl, λ h. refl)
-by_paths_form doing (Sets permitted effective inheritable) = (λ h. cc, λ h. cc)
-by_paths_form doing (Ids ids) = (λ h. cc, λ h. cc)
-by_paths_form doing (Code bytes) = (λ h. cc, λ h. cc)
+by_paths_form doing payload = (λ h. cc, λ h. cc)
 
 by_sets_form : (doing : ℕ → ℕ → ℕ → Doing) (payload : Payload) → (form_of_payload payload ≡ form.Sets) ↔ IsSome (by_sets doing payload)
-by_sets_form doing Nothing = (λ h. cc, λ h. cc)
-by_sets_form doing (OnePath path) = (λ h. cc, λ h. cc)
-by_sets_form doing (TwoPaths source target) = (λ h. cc, λ h. cc)
 by_sets_form doing (Sets permitted effective inheritable) = (λ h. refl, λ h. refl)
-by_sets_form doing (Ids ids) = (λ h. cc, λ h. cc)
-by_sets_form doing (Code bytes) = (λ h. cc, λ h. cc)
+by_sets_form doing payload = (λ h. cc, λ h. cc)
 
 by_ids_form : (doing : List ℕ → Doing) (payload : Payload) → (form_of_payload payload ≡ form.Ids) ↔ IsSome (by_ids doing payload)
-by_ids_form doing Nothing = (λ h. cc, λ h. cc)
-by_ids_form doing (OnePath path) = (λ h. cc, λ h. cc)
-by_ids_form doing (TwoPaths source target) = (λ h. cc, λ h. cc)
-by_ids_form doing (Sets permitted effective inheritable) = (λ h. cc, λ h. cc)
 by_ids_form doing (Ids ids) = (λ h. refl, λ h. refl)
-by_ids_form doing (Code bytes) = (λ h. cc, λ h. cc)
+by_ids_form doing payload = (λ h. cc, λ h. cc)
 
 by_code_form : (doing : List ℕ → Doing) (payload : Payload) → (form_of_payload payload ≡ form.Program) ↔ IsSome (by_code doing payload)
-by_code_form doing Nothing = (λ h. cc, λ h. cc)
-by_code_form doing (OnePath path) = (λ h. cc, λ h. cc)
-by_code_form doing (TwoPaths source target) = (λ h. cc, λ h. cc)
-by_code_form doing (Sets permitted effective inheritable) = (λ h. cc, λ h. cc)
-by_code_form doing (Ids ids) = (λ h. cc, λ h. cc)
 by_code_form doing (Code bytes) = (λ h. refl, λ h. refl)
+by_code_form doing payload = (λ h. cc, λ h. cc)
 
 known_form : (rule : CallRule) (args : List ℕ) (payload : Payload) → (form_of_payload payload ≡ form_of rule) ↔ IsSome (known_doing rule args payload)
-known_form known.See args payload = by_path_form See payload
-known_form (known.Open flags) args payload = by_path_form (Open (low_word args (place_of flags))) payload
-known_form known.Create args payload = by_path_form Create payload
-known_form known.Truncate args payload = by_path_form Truncate payload
-known_form known.Execve args payload = by_path_form Execve payload
-known_form (known.SetMode mode) args payload = bare_form (SetMode (low_word args (place_of mode))) payload
-known_form known.Map args payload = bare_form (Map (low_word args 2)) payload
-known_form known.Protect args payload = bare_form (Protect (low_word args 2)) payload
-known_form known.Attach args payload = bare_form (Attach (low_word args 2)) payload
-known_form known.Schedule args payload = bare_form (Schedule (low_word args 1)) payload
-known_form known.Personality args payload = bare_form (Personality (low_word args 0)) payload
-known_form known.Socket args payload = bare_form (Socket (low_word args 0)) payload
-known_form known.Enter args payload = bare_form Enter payload
-known_form known.Fork args payload = bare_form Fork payload
-known_form known.Clone args payload = bare_form (Clone (low_word args 0)) payload
-known_form known.Unshare args payload = bare_form (Unshare (low_word args 0)) payload
-known_form known.Exit args payload = bare_form Exit payload
-known_form known.Mount args payload = by_paths_form (λ source target. Mount source target (low_word args 3)) payload
-known_form known.Umount args payload = by_path_form (λ path. Umount path (low_word args 1)) payload
-known_form known.Setuid args payload = bare_form (Setuid (low_word args 0)) payload
-known_form known.Setgid args payload = bare_form (Setgid (low_word args 0)) payload
-known_form known.Setresuid args payload = bare_form (Setresuid (low_word args 0) (low_word args 1) (low_word args 2)) payload
-known_form known.Setresgid args payload = bare_form (Setresgid (low_word args 0) (low_word args 1) (low_word args 2)) payload
-known_form known.Setgroups args payload = by_ids_form Setgroups payload
-known_form known.Capset args payload = by_sets_form Capset payload
-known_form known.Prctl args payload = bare_form (Prctl (low_word args 0) (low_word args 1) (low_word args 2)) payload
-known_form known.Seccomp args payload = by_code_form (Seccomp (low_word args 0) (low_word args 1)) payload
+known_form known.See args = by_path_form See
+known_form (known.Open flags) args = by_path_form (Open (low_word args (place_of flags)))
+known_form known.Create args = by_path_form Create
+known_form known.Truncate args = by_path_form Truncate
+known_form known.Execve args = by_path_form Execve
+known_form (known.SetMode mode) args = bare_form (SetMode (low_word args (place_of mode)))
+known_form known.Map args = bare_form (Map (low_word args 2))
+known_form known.Protect args = bare_form (Protect (low_word args 2))
+known_form known.Attach args = bare_form (Attach (low_word args 2))
+known_form known.Schedule args = bare_form (Schedule (low_word args 1))
+known_form known.Personality args = bare_form (Personality (low_word args 0))
+known_form known.Socket args = bare_form (Socket (low_word args 0))
+known_form known.Enter args = bare_form Enter
+known_form known.Fork args = bare_form Fork
+known_form known.Clone args = bare_form (Clone (low_word args 0))
+known_form known.Unshare args = bare_form (Unshare (low_word args 0))
+known_form known.Exit args = bare_form Exit
+known_form known.Mount args = by_paths_form (λ source target. Mount source target (low_word args 3))
+known_form known.Umount args = by_path_form (λ path. Umount path (low_word args 1))
+known_form known.Setuid args = bare_form (Setuid (low_word args 0))
+known_form known.Setgid args = bare_form (Setgid (low_word args 0))
+known_form known.Setresuid args = bare_form (Setresuid (low_word args 0) (low_word args 1) (low_word args 2))
+known_form known.Setresgid args = bare_form (Setresgid (low_word args 0) (low_word args 1) (low_word args 2))
+known_form known.Setgroups args = by_ids_form Setgroups
+known_form known.Capset args = by_sets_form Capset
+known_form known.Prctl args = bare_form (Prctl (low_word args 0) (low_word args 1) (low_word args 2))
+known_form known.Seccomp args = by_code_form (Seccomp (low_word args 0) (low_word args 1))
 
 pub form_decides : (rule : Rule) (args : List ℕ) (payload : Payload) → (form_of_payload payload ≡ form_of_rule rule) ↔ IsSome (doing_by rule args payload)
 form_decides (rule.Known call) args payload = known_form call args payload
@@ -101,12 +77,12 @@ within : (argument : Argument) → place_of argument < 6
 within Second = omega arith
 within Third = omega arith
 
+three_low : (doing : ℕ → ℕ → ℕ → Doing) (args other : List ℕ) (payload : Payload) → ((at : ℕ) → at < 6 → low_word args at ≡ low_word other at)
+    → bare (doing (low_word args 0) (low_word args 1) (low_word args 2)) payload ≡ bare (doing (low_word other 0) (low_word other 1) (low_word other 2)) payload
+three_low doing args other payload same = rw (same 0 (omega arith), same 1 (omega arith), same 2 (omega arith)) refl
+
 known_low : (rule : CallRule) (args other : List ℕ) (payload : Payload) → ((at : ℕ) → at < 6 → low_word args at ≡ low_word other at) → known_doing rule args payload ≡ known_doing rule other payload
-known_low known.See args other payload same = refl
 known_low (known.Open flags) args other payload same = ap (λ w. by_path (Open w) payload) (same (place_of flags) (within flags))
-known_low known.Create args other payload same = refl
-known_low known.Truncate args other payload same = refl
-known_low known.Execve args other payload same = refl
 known_low (known.SetMode mode) args other payload same = ap (λ w. bare (SetMode w) payload) (same (place_of mode) (within mode))
 known_low known.Map args other payload same = ap (λ w. bare (Map w) payload) (same 2 (omega arith))
 known_low known.Protect args other payload same = ap (λ w. bare (Protect w) payload) (same 2 (omega arith))
@@ -114,21 +90,17 @@ known_low known.Attach args other payload same = ap (λ w. bare (Attach w) paylo
 known_low known.Schedule args other payload same = ap (λ w. bare (Schedule w) payload) (same 1 (omega arith))
 known_low known.Personality args other payload same = ap (λ w. bare (Personality w) payload) (same 0 (omega arith))
 known_low known.Socket args other payload same = ap (λ w. bare (Socket w) payload) (same 0 (omega arith))
-known_low known.Enter args other payload same = refl
-known_low known.Fork args other payload same = refl
 known_low known.Clone args other payload same = ap (λ w. bare (Clone w) payload) (same 0 (omega arith))
 known_low known.Unshare args other payload same = ap (λ w. bare (Unshare w) payload) (same 0 (omega arith))
-known_low known.Exit args other payload same = refl
 known_low known.Mount args other payload same = ap (λ w. by_paths (λ source target. Mount source target w) payload) (same 3 (omega arith))
 known_low known.Umount args other payload same = ap (λ w. by_path (λ path. Umount path w) payload) (same 1 (omega arith))
 known_low known.Setuid args other payload same = ap (λ w. bare (Setuid w) payload) (same 0 (omega arith))
 known_low known.Setgid args other payload same = ap (λ w. bare (Setgid w) payload) (same 0 (omega arith))
-known_low known.Setresuid args other payload same = ap (λ w. bare (Setresuid w (low_word args 1) (low_word args 2)) payload) (same 0 (omega arith)) ∙ ap (λ w. bare (Setresuid (low_word other 0) w (low_word args 2)) payload) (same 1 (omega arith)) ∙ ap (λ w. bare (Setresuid (low_word other 0) (low_word other 1) w) payload) (same 2 (omega arith))
-known_low known.Setresgid args other payload same = ap (λ w. bare (Setresgid w (low_word args 1) (low_word args 2)) payload) (same 0 (omega arith)) ∙ ap (λ w. bare (Setresgid (low_word other 0) w (low_word args 2)) payload) (same 1 (omega arith)) ∙ ap (λ w. bare (Setresgid (low_word other 0) (low_word other 1) w) payload) (same 2 (omega arith))
-known_low known.Setgroups args other payload same = refl
-known_low known.Capset args other payload same = refl
-known_low known.Prctl args other payload same = ap (λ w. bare (Prctl w (low_word args 1) (low_word args 2)) payload) (same 0 (omega arith)) ∙ ap (λ w. bare (Prctl (low_word other 0) w (low_word args 2)) payload) (same 1 (omega arith)) ∙ ap (λ w. bare (Prctl (low_word other 0) (low_word other 1) w) payload) (same 2 (omega arith))
+known_low known.Setresuid args other payload same = three_low Setresuid args other payload same
+known_low known.Setresgid args other payload same = three_low Setresgid args other payload same
+known_low known.Prctl args other payload same = three_low Prctl args other payload same
 known_low known.Seccomp args other payload same = ap (λ w. by_code (Seccomp w (low_word args 1)) payload) (same 0 (omega arith)) ∙ ap (λ w. by_code (Seccomp (low_word other 0) w) payload) (same 1 (omega arith))
+known_low call args other payload same = refl
 
 pub low_halves_decide : (rule : Rule) (args other : List ℕ) (payload : Payload) → ((at : ℕ) → at < 6 → low_word args at ≡ low_word other at) → doing_by rule args payload ≡ doing_by rule other payload
 low_halves_decide (rule.Known call) args other payload same = known_low call args other payload same
