@@ -2,7 +2,6 @@
 
 ghost use Rattle.std.specs.Prelude.{◌≡◌, ◌<◌};
 ghost use Rattle.kernel_calls.specs.Words.{low_word};
-ghost use Rattle.kernel_calls.specs.Calls.{IsCall};
 
 use crate::payload::Payload;
 use crate::words::low_word;

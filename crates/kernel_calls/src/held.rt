@@ -1,6 +1,6 @@
 //! What every call that a program holds keeps: its numbers are those of their types.
 
-ghost use Rattle.std.specs.Prelude.{◌≡◌, ℕ, ◌<◌, ◌^◌, length, All};
+ghost use Rattle.std.specs.Prelude.{◌<◌, ◌^◌, All};
 ghost use Rattle.kernel_calls.specs.Calls.{IsPath, FitsPayload, IsCall};
 
 use crate::call::Call;

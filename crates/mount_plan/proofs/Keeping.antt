@@ -4,9 +4,8 @@ use Rattle.std.specs.Prelude.{◌||◌, not}
 use Rattle.std.specs.List.{list_any, filter_map, enumerate_from}
 use Rattle.std.proofs.lemmas.Bool.{and_parts}
 use Rattle.std.proofs.lemmas.List.Elements.{filter_map-append}
-use Rattle.abs_path.specs.Paths.{Path, parts_of, is_normal}
-use Rattle.abs_path.specs.Prefix.{is_prefix, is_same, rest_of, rest_text, is_below}
-use Rattle.abs_path.proofs.Reading.{rest_then_join}
+use Rattle.abs_path.specs.Paths.{Path}
+use Rattle.abs_path.specs.Prefix.{is_prefix, is_same, is_below}
 use Rattle.path_settings.specs.declared.mentions.Mention.{Mention}
 use Rattle.path_settings.specs.Mentions.{is_origin}
 use Rattle.view_map.specs.View.{above, longest}

@@ -1,8 +1,7 @@
 //! The entry of a plan at one place, by the view of that place.
 
-ghost use Rattle.std.specs.Prelude.{◌≡◌, ◌≤◌, ◌++◌, length, true, map, IfOk};
-ghost use Rattle.abs_path.specs.Paths.{tail_of};
-ghost use Rattle.abs_path.specs.Prefix.{is_prefix, rest_of};
+ghost use Rattle.std.specs.Prelude.{◌≡◌, true, map, IfOk};
+ghost use Rattle.abs_path.specs.Prefix.{is_prefix};
 ghost use Rattle.view_map.specs.Object.{object_at, object_by};
 ghost use Rattle.mount_plan.specs.Host.{host_of};
 ghost use Rattle.mount_plan.specs.Plan.{what_of, flags_by, hides_dir, hides_dir_at, step_at};

@@ -4,7 +4,7 @@ ghost use Rattle.std.specs.Prelude.{◌≡◌};
 ghost use Rattle.mount_plan.specs.declared.error.PlanError.TheVariants.{Memory};
 
 use abs_path::AbsPath;
-use std::alloc::{AllocError, AllocFailed};
+use std::alloc::AllocError;
 use std::fmt::{self, Debug, Formatter, Write};
 use thiserror::Error;
 
@@ -32,14 +32,6 @@ impl From<AllocError> for PlanError {
     ghost from_gives = { λ _ e. e ≡ Memory };
 
     fn from(_: AllocError) -> Self {
-        PlanError::Memory
-    }
-}
-
-impl<T: Drop> From<AllocFailed<T>> for PlanError {
-    ghost from_gives = { λ _ e. e ≡ Memory };
-
-    fn from(_: AllocFailed<T>) -> Self {
         PlanError::Memory
     }
 }

@@ -1,8 +1,8 @@
 //! The mentions at one path: which of them no other beats, and what becomes of each.
 
-ghost use Rattle.std.specs.Prelude.{◌≡◌, map, filter, IfOk};
+ghost use Rattle.std.specs.Prelude.{◌≡◌, map, IfOk};
 ghost use Rattle.std.specs.List.{list_any};
-ghost use Rattle.path_settings.specs.Mentions.{hides, is_tmp, is_bind, is_origin};
+ghost use Rattle.path_settings.specs.Mentions.{hides, is_tmp, is_bind};
 ghost use Rattle.view_map.specs.Kept.{at_path, is_beaten, unbeaten, is_kept, source_row, puts};
 ghost use Rattle.mount_plan.specs.Host.{host_of};
 ghost use Rattle.mount_plan.specs.Here.{is_asked, fate_beside};

@@ -2,7 +2,7 @@
 
 ghost use Rattle.std.specs.Prelude.{◌≡◌, ◌++◌, [], true, map, filter, OnOk};
 ghost use Rattle.std.specs.List.{filter_map};
-ghost use Rattle.abs_path.specs.Prefix.{is_prefix, rest_of};
+ghost use Rattle.abs_path.specs.Prefix.{is_prefix};
 ghost use Rattle.view_map.specs.Object.{object_by};
 ghost use Rattle.view_map.specs.Kept.{beneath_row, beneath_by, beneath_at, refusal_of, is_kept, kept_among, kept_at, kept_from};
 ghost use Rattle.mount_plan.specs.Host.{host_of};

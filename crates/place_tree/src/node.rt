@@ -1,6 +1,6 @@
 //! A node of the tree, which stands for a path, and the ways from it to the paths with one more part.
 
-ghost use Rattle.std.specs.Prelude.{◌≡◌, ◌<◌, None, Some, ℕ, List, length};
+ghost use Rattle.std.specs.Prelude.{◌≡◌, ◌<◌, None, ℕ, List, length};
 ghost use Rattle.std.specs.BTreeMap.{get_by_text};
 ghost use Rattle.place_tree.specs.Arena.{child_at, number_at};
 
