@@ -1,6 +1,6 @@
 -- A child in a namespace of its own, as clone(2) with CLONE_NEWNS makes it, and a process that is moved to one, as by unshare(2).
 use Rattle.std.proofs.Common.{◌≡◌, ℕ, ◌<◌, ◌+◌, true, List, [], ◌∷◌, ◌++◌, length, get_or, Some, refl, sym, ap, ◌∙◌, subst}
-use Rattle.std.specs.Prelude.{slice_set, ◌-◌}
+use Rattle.std.specs.Prelude.{slice_set}
 use Rattle.kern_mounts.specs.Split.{Table}
 use Rattle.kernel_model.specs.declared.process.Process.{Process}
 use Rattle.kernel_model.specs.declared.reply.Reply.{Reply}

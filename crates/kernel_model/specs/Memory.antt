@@ -7,7 +7,7 @@ use Rattle.bpf_code.specs.Stack.{decision_on}
 use Rattle.kern_files.specs.Bits.{has_all}
 use Rattle.kern_files.specs.MountCall.{ms_remount_bind}
 use Rattle.kernel_calls.specs.declared.call.Call.{Call}
-use Rattle.kernel_calls.specs.Doing.{Doing, See, Open, Create, Truncate, Execve, SetMode, Map, Protect, Attach, Schedule, Personality, Socket, Enter, Fork, Clone, Unshare, Exit, Mount, Umount, Setuid, Setgid, Setresuid, Setresgid, Setgroups, Capset, Prctl, Seccomp, Plain, Asked, Lacking, Misformed, Does, asked_of}
+use Rattle.kernel_calls.specs.Doing.{Doing, Mount, Setgroups, Seccomp, Asked, Lacking, Misformed, Does, asked_of}
 use Rattle.kernel_model.specs.declared.process.Process.{Process}
 use Rattle.kernel_model.specs.Effects.{Effect, Refuse, Answer, SetCreds, SetTable, Push, Child, OwnTable, End, effect_of}
 use Rattle.kernel_model.specs.World.{World, living_of, host_of, caller_of}
@@ -18,31 +18,7 @@ abbrev pub asks_for_room : Doing → Bool
 asks_for_room (Mount source target flags) = not (has_all ms_remount_bind flags)
 asks_for_room (Setgroups ids) = true
 asks_for_room (Seccomp operation flags bytes) = true
-asks_for_room (See path) = false
-asks_for_room (Open flags path) = false
-asks_for_room (Create path) = false
-asks_for_room (Truncate path) = false
-asks_for_room (Execve path) = false
-asks_for_room (SetMode mode) = false
-asks_for_room (Map protection) = false
-asks_for_room (Protect protection) = false
-asks_for_room (Attach flags) = false
-asks_for_room (Schedule policy) = false
-asks_for_room (Personality persona) = false
-asks_for_room (Socket family) = false
-asks_for_room Enter = false
-asks_for_room Fork = false
-asks_for_room (Clone flags) = false
-asks_for_room (Unshare flags) = false
-asks_for_room Exit = false
-asks_for_room (Umount path flags) = false
-asks_for_room (Setuid id) = false
-asks_for_room (Setgid id) = false
-asks_for_room (Setresuid real effective saved) = false
-asks_for_room (Setresgid real effective saved) = false
-asks_for_room (Capset permitted effective inheritable) = false
-asks_for_room (Prctl option value third) = false
-asks_for_room (Plain cap) = false
+asks_for_room doing = false
 
 -- a process or a namespace is made: there is room for it among so many processes and namespaces
 abbrev pub makes_one : ℕ → ℕ → Effect → Bool

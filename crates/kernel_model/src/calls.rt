@@ -1,6 +1,6 @@
 //! What the calls of a process come to, once its programs have let them through.
 
-ghost use Rattle.std.specs.Prelude.{◌≡◌, ◌<◌, ℕ, false, length, IfOk, IsOk, OnErr};
+ghost use Rattle.std.specs.Prelude.{◌≡◌, ◌<◌, false, length, IfOk, IsOk, OnErr};
 ghost use Rattle.std.specs.List.{AllByRecursion};
 ghost use Rattle.kernel_calls.specs.Seen.{seen};
 ghost use Rattle.kernel_model.specs.Memory.{asks_for_room, takes_doing};

@@ -1,6 +1,5 @@
 //! What clone(2) and unshare(2) ask for, by their flags.
 
-ghost use Rattle.std.specs.Prelude.{◌≡◌};
 ghost use Rattle.kernel_model.specs.Effects.{clone_effect, unshare_effect};
 ghost use Rattle.kernel_model.specs.Parts.{Leaves};
 

@@ -1,12 +1,12 @@
 //! Calls that change nothing: stat(2) and its like, open(2), creat(2), truncate(2), socket(2), sched_setscheduler(2), and
 //! those of which nothing is asked but a capability. None takes memory.
 
-ghost use Rattle.std.specs.Prelude.{◌≡◌, find, option_copied};
+ghost use Rattle.std.specs.Prelude.{◌≡◌, option_copied};
 ghost use Rattle.call_table.specs.Lookups.{numbered};
 ghost use Rattle.site_table.specs.Table.{row_at};
 ghost use Rattle.kern_mounts.specs.Finds.{finds};
 ghost use Rattle.kern_files.specs.Looking.{flags_at, valued, see_answer, write_answer, open_answer};
-ghost use Rattle.kernel_model.specs.Effects.{Answer, looks, is_policy, schedule_answer, socket_effect, with_cap_of};
+ghost use Rattle.kernel_model.specs.Effects.{Answer, schedule_answer, socket_effect, with_cap_of};
 ghost use Rattle.kernel_model.specs.Replies.{Answers, value_reply};
 
 use crate::reply::{Reply, value_reply};

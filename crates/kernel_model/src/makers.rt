@@ -1,6 +1,6 @@
 //! The calls that make processes and mount namespaces: fork(2), clone(2), unshare(2).
 
-ghost use Rattle.std.specs.Prelude.{◌≡◌, ◌<◌, ℕ, true, false, length, IfOk, IsOk, OnOk, OnErr};
+ghost use Rattle.std.specs.Prelude.{◌≡◌, ◌<◌, true, false, length, IfOk, IsOk, OnOk, OnErr};
 ghost use Rattle.std.specs.List.{AllByRecursion};
 ghost use Rattle.kernel_model.specs.Effects.{Child, OwnTable};
 ghost use Rattle.kernel_model.specs.Memory.{makes_one};

@@ -1,6 +1,5 @@
 //! prctl(2): the operations that are modelled, by their numbers.
 
-ghost use Rattle.std.specs.Prelude.{◌≡◌};
 ghost use Rattle.kernel_model.specs.Effects.{is_set_effect, ambient_effect, no_new_privs_effect, keepcaps_effect, prctl_effect};
 ghost use Rattle.kernel_model.specs.Replies.{Answers, Changes};
 

@@ -1,6 +1,6 @@
 //! The processes and mount tables that were made, each under its number, from 1.
 
-ghost use Rattle.std.specs.Prelude.{◌≡◌, ◌∷◌, [], ◌<◌, ◌-◌, ◌+◌, ◌≤◌, ℕ, length, slice_get, Some, IfOk, IfSome, option_map};
+ghost use Rattle.std.specs.Prelude.{◌≡◌, ◌∷◌, [], ◌<◌, ◌-◌, ◌+◌, length, Some, IfOk, IfSome, option_map};
 ghost use Rattle.std.specs.List.{AllByRecursion};
 ghost use Rattle.bpf_code.specs.Stack.{decision_on};
 ghost use Rattle.bpf_code.specs.declared.machine.CallData.{CallData};
