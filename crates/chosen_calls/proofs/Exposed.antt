@@ -30,7 +30,7 @@ use Rattle.kernel_calls.specs.declared.rule.Rule.{Rule}
 use Rattle.kernel_laws.specs.Bound.{caps_at}
 use Rattle.kernel_laws.specs.Kinds.{ChangesMounts, RemovesMounts}
 use Rattle.kernel_laws.specs.Launched.{Launch, IsLaunched, lets, passes}
-use Rattle.kernel_laws.specs.Questions.{Wish, ToSee, ToRead, ToWrite, ToExec}
+use Rattle.kernel_laws.specs.Questions.{Wish}
 use Rattle.kernel_laws.specs.Reach.{fits, Leads, Power, Nowise, Unmounting, Mounting, reach, reaches}
 use Rattle.reach_paths.specs.First.{LeadsBy, Shows, IsFirst}
 use Rattle.reach_paths.proofs.Looping.{from_here}
@@ -44,6 +44,7 @@ use Rattle.kernel_ways.specs.Uncovering.{covering, Detaches, still, then_one, um
 use Rattle.kernel_ways.specs.Ways.{Way, here}
 use Rattle.kernel_ways.proofs.ByName.{unmounts_show_row, two_mounts_show_rows}
 use Rattle.kernel_ways.proofs.Choices as choices
+use Rattle.kernel_ways.proofs.Lines.{choice_of}
 use Rattle.kernel_ways.proofs.Exposing.{HasPower, marks_count, remounted_fits, unmounts_pass, mounts_pass}
 use Rattle.kernel_ways.proofs.Rows.{IsKnown}
 use Rattle.chosen_calls.specs.Exposing.{shown_by, shown_if, shown_at, lead, exposing_path, exposing_calls}
@@ -113,23 +114,23 @@ module _ (launch : Launch) (l : IsLaunched launch) (o : Offers launch) (creds : 
       }
 
   -- the first call for mounts, and that for unmounts
-  mount_line : (own : Rule) (args : List ℕ) → choices.Mounts own args → (nr : ℕ) → nr < 2 ^ 32 → rule_at launch.calls.calls nr ≡ Some own → passes launch nr args → has creds.effective 21 ≡ true → CanMount launch creds known.Mount nr
+  mount_line : (own : Rule) (args : List ℕ) → choices.Choice ChangesMounts own args → (nr : ℕ) → nr < 2 ^ 32 → rule_at launch.calls.calls nr ≡ Some own → passes launch nr args → has creds.effective 21 ≡ true → CanMount launch creds known.Mount nr
   mount_line own args choices.mounts nr n at t admin = record { admin = admin; number = n; follows = at; through = t }
 
-  umount_line : (own : Rule) (args : List ℕ) → choices.Unmounts own args → (nr : ℕ) → nr < 2 ^ 32 → rule_at launch.calls.calls nr ≡ Some own → passes launch nr args → has creds.effective 21 ≡ true → CanMount launch creds known.Umount nr
+  umount_line : (own : Rule) (args : List ℕ) → choices.Choice RemovesMounts own args → (nr : ℕ) → nr < 2 ^ 32 → rule_at launch.calls.calls nr ≡ Some own → passes launch nr args → has creds.effective 21 ≡ true → CanMount launch creds known.Umount nr
   umount_line own args choices.unmounts nr n at t admin = record { admin = admin; number = n; follows = at; through = t }
 
   can_mount : lets launch ChangesMounts ≡ true → has creds.effective 21 ≡ true → CanMount launch creds known.Mount (line_of launch ChangesMounts).number
   can_mount e admin =
       let c = chosen launch l ChangesMounts e in
       let x = c.line in
-      subst (CanMount launch creds known.Mount) (sym (number_is c)) (mount_line x.own x.args (choices.of_mounts x.own x.args x.are) x.line.number x.number x.at x.through admin)
+      subst (CanMount launch creds known.Mount) (sym (number_is c)) (mount_line x.own x.args (choice_of x) x.line.number x.number x.at x.through admin)
 
   can_umount : lets launch RemovesMounts ≡ true → has creds.effective 21 ≡ true → CanMount launch creds known.Umount (line_of launch RemovesMounts).number
   can_umount e admin =
       let c = chosen launch l RemovesMounts e in
       let x = c.line in
-      subst (CanMount launch creds known.Umount) (sym (number_is c)) (umount_line x.own x.args (choices.of_unmounts x.own x.args x.are) x.line.number x.number x.at x.through admin)
+      subst (CanMount launch creds known.Umount) (sym (number_is c)) (umount_line x.own x.args (choice_of x) x.line.number x.number x.at x.through admin)
 
   -- by two mounts, with any flags that remount a single one
   pub by_mounts : (target : Row) → IsKnown launch.site target → (wish : Wish) → lets launch ChangesMounts ≡ true → has creds.effective 21 ≡ true → (flags : ℕ) → flags < 2 ^ 32 → has_all ms_remount_bind flags ≡ true → has_other_kind flags ≡ false → fits wish (flags_of flags) ≡ true

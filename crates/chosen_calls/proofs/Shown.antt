@@ -17,7 +17,7 @@ use Rattle.kernel_calls.specs.declared.payload.Payload.TheVariants.{Nothing}
 use Rattle.kernel_calls.specs.declared.rule.Rule.{Rule}
 use Rattle.kernel_model.specs.World.{World}
 use Rattle.kernel_laws.specs.Bound.{is_user, can_reach, can_have_cap, can_have_for, if_listed, power_of, ceiling, is_open}
-use Rattle.kernel_laws.specs.Denied.{asks_space, asks_map, asks_protect, asks_attach, asks_realtime, asks_personality, asks_mode, asks_family, is_family, Shows}
+use Rattle.kernel_laws.specs.Denied.{asks_space, asks_family, is_family, Shows}
 use Rattle.kernel_laws.specs.Kinds as k
 use Rattle.kernel_laws.specs.Kinds.{Kind}
 use Rattle.kernel_laws.specs.Launched.{Launch, IsLaunched, launch_of, lets, lets_line}
@@ -31,9 +31,9 @@ use Rattle.kernel_ways.specs.Showing.{Answers}
 use Rattle.kernel_ways.specs.Ways.{Way, here, IsSolo}
 use Rattle.kernel_ways.proofs.Choices as choices
 use Rattle.kernel_ways.proofs.Doings.{Performed}
-use Rattle.kernel_ways.proofs.Lines.{Line, first_by, low_number, line_at}
+use Rattle.kernel_ways.proofs.Lines.{Line, choice_of, first_by, low_number, line_at}
 use Rattle.kernel_ways.proofs.Performing as performing
-use Rattle.kernel_ways.proofs.Performing.{CapAtHand}
+use Rattle.kernel_ways.proofs.Performing.{CapAtHand, is_free}
 use Rattle.kernel_ways.proofs.Showing.{calls_show, creds_show}
 use Rattle.kernel_ways.proofs.Starts.{starts_solo}
 use Rattle.chosen_calls.specs.Chosen.{plain_cap, row_calls, plain_calls, socket_calls, calls_for}
@@ -49,14 +49,14 @@ module _ (world : World) (launch : Launch) (l : IsLaunched launch) (o : Offers l
   by_performed : (question : Question) (asks : Doing → Bool) {front : List Call} (creds : Creds) (now : Table) → Way launch launch.creds launch.table front creds now → {call : Call} → (x : Performed launch creds now asks call) → Answers launch now question call x.doing → Shows world question (front ++ call ∷ [])
   by_performed question asks {front = front} creds now way {call = call} x a = calls_show launch launch.creds creds launch.table now world front question x.doing call x.effect s way x.makes x.doable a
 
-  -- the first call of a kind, at once
-  at_once : (question : Question) (asks : Doing → Bool) (kind : Kind) → lets launch kind ≡ true → ((line : Line launch kind) → Performed launch launch.creds launch.table asks (first_by line.line.number line.args Nothing))
-      → ((call : Call) (x : Performed launch launch.creds launch.table asks call) → Answers launch launch.table question call x.doing) → Shows world question (call_by launch kind Nothing ∷ [])
-  at_once question asks kind e performs answers =
+  -- the first call of a kind that every process may ask for
+  shown_free : (question : Question) (kind : Kind) → is_free kind ≡ true → lets launch kind ≡ true → ((call : Call) (x : Performed launch launch.creds launch.table (k.asks kind) call) → Answers launch launch.table question call x.doing)
+      → Shows world question (call_by launch kind Nothing ∷ [])
+  shown_free question kind h e answers =
       let c = chosen launch l kind e in
-      let P : Call → Type 0 = λ call. Performed launch launch.creds launch.table asks call in
-      let x = subst P (sym (call_is c Nothing)) (performs c.line) in
-      by_performed question asks launch.creds launch.table here x (answers (call_by launch kind Nothing) x)
+      let P : Call → Type 0 = λ call. Performed launch launch.creds launch.table (k.asks kind) call in
+      let x = subst P (sym (call_is c Nothing)) (performing.free launch launch.creds launch.table kind h c.line) in
+      by_performed question (k.asks kind) launch.creds launch.table here x (answers (call_by launch kind Nothing) x)
 
   -- a way to credentials that have the capability, if one is asked for
   record Having (number : Option ℕ) : Type 0 where
@@ -92,11 +92,11 @@ module _ (world : World) (launch : Launch) (l : IsLaunched launch) (o : Offers l
       let P : List Call → Type 0 = λ calls. Shows world (q.Call place) calls in
       subst P (ap (λ call. gaining_if launch program r.0 ++ call ∷ []) args ∙ ap (λ number. gaining_if launch program number ++ bare_call line.number ∷ []) (sym same)) shown
     where
-      bare_by : {own : Rule} {args : List ℕ} → choices.Plains own args → args ≡ k.no_words
+      bare_by : {own : Rule} {args : List ℕ} → choices.Choice k.PlainCall own args → args ≡ k.no_words
       bare_by (choices.plain number) = refl
 
       bare : (line : Line launch k.PlainCall) → line.args ≡ k.no_words
-      bare line = bare_by (choices.of_plains line.own line.args line.are)
+      bare line = bare_by (choice_of line)
 
   shown_socket : (place : ℕ) (line : CallLine) → slice_get launch.calls.families place ≡ Some line → lets launch (k.ForFamily line.number) ≡ true → can_have_cap (ceiling launch) line.cap ≡ true → Shows world (q.Socket place) (socket_calls launch program line)
   shown_socket place line listed e h =
@@ -135,12 +135,12 @@ module _ (world : World) (launch : Launch) (l : IsLaunched launch) (o : Offers l
       let both = and_parts (not (is_user space)) (lets launch (k.ForSpace space) && has (ceiling launch).effective 21) e in
       let more = and_parts (lets launch (k.ForSpace space)) (has (ceiling launch).effective 21) both.1 in
       shown_space space (not-true (is_user space) both.0) more.0 more.1
-  shown q.MapWx fit e = at_once q.MapWx asks_map k.MapsWx e (performing.maps launch launch.creds launch.table) (λ call x. x.such)
-  shown q.ProtectX fit e = at_once q.ProtectX asks_protect k.ProtectsX e (performing.protects launch launch.creds launch.table) (λ call x. x.such)
-  shown q.ShmX fit e = at_once q.ShmX asks_attach k.AttachesX e (performing.attaches launch launch.creds launch.table) (λ call x. x.such)
-  shown q.Realtime fit e = at_once q.Realtime asks_realtime k.SchedulesRealtime e (performing.schedules launch launch.creds launch.table) (λ call x. x.such)
-  shown q.Personality fit e = at_once q.Personality asks_personality k.TakesPersonality e (performing.personality launch launch.creds launch.table) (λ call x. x.such)
-  shown q.SuidBit fit e = at_once q.SuidBit asks_mode k.SetsMode e (performing.mode launch launch.creds launch.table) (λ call x. x.such)
+  shown q.MapWx fit e = shown_free q.MapWx k.MapsWx refl e (λ call x. x.such)
+  shown q.ProtectX fit e = shown_free q.ProtectX k.ProtectsX refl e (λ call x. x.such)
+  shown q.ShmX fit e = shown_free q.ShmX k.AttachesX refl e (λ call x. x.such)
+  shown q.Realtime fit e = shown_free q.Realtime k.SchedulesRealtime refl e (λ call x. x.such)
+  shown q.Personality fit e = shown_free q.Personality k.TakesPersonality refl e (λ call x. x.such)
+  shown q.SuidBit fit e = shown_free q.SuidBit k.SetsMode refl e (λ call x. x.such)
   shown (q.Cap number) fit e = let g = gained launch l o program p number e in creds_show launch launch.creds g.creds launch.table g.now world (gaining launch program number) (q.Cap number) s g.way g.holds
   shown (q.Uid id) fit e = uid_shown world launch l o s program p id fit e
   shown (q.Gid id) fit e = gid_shown world launch l o s program p id fit e

@@ -23,6 +23,7 @@ use Rattle.kernel_laws.specs.Launched.{Launch, IsLaunched, data_at, passes, is_p
 use Rattle.kern_mounts.specs.Split.{Table}
 use Rattle.kernel_laws.proofs.Filters.{at_position}
 use Rattle.kernel_ways.specs.Ways.{Makes, host_at, caller_at}
+use Rattle.kernel_ways.proofs.Choices.{Choice, of_words}
 
 pub record Line (launch : Launch) (kind : Kind) : Type 0 where
   pub line : CallLine
@@ -33,6 +34,9 @@ pub record Line (launch : Launch) (kind : Kind) : Type 0 where
   pub args : List ℕ
   pub are : words kind own ≡ Some args
   pub through : passes launch line.number args
+
+pub choice_of : {launch : Launch} {kind : Kind} → (line : Line launch kind) → Choice kind line.own line.args
+choice_of {launch} {kind} line = of_words kind line.own line.args line.are
 
 -- numbers of lines have 32 bits
 pub low_number : (lines : List CallLine) → All IsInRange lines → (at : ℕ) (line : CallLine) → slice_get lines at ≡ Some line → line.number < 2 ^ 32

@@ -18,16 +18,16 @@ use Rattle.kernel_calls.specs.declared.rule.Rule.TheVariants as rule
 use Rattle.kernel_model.specs.Effects as f
 use Rattle.kernel_model.specs.Effects.{Effect, effect_of, with_cap_of, socket_effect}
 use Rattle.kernel_laws.specs.Bound.{is_user}
-use Rattle.kernel_laws.specs.Denied.{asks_space, asks_map, asks_protect, asks_attach, asks_realtime, asks_personality, asks_mode}
+use Rattle.kernel_laws.specs.Denied.{asks_space}
 use Rattle.kernel_laws.specs.Kinds as k
-use Rattle.kernel_laws.specs.Kinds.{AreWords, asks_plain, no_words, one_word}
+use Rattle.kernel_laws.specs.Kinds.{Kind, AreWords, asks_plain, no_words, one_word}
 use Rattle.kernel_laws.specs.Launched.{Launch, passes}
 use Rattle.kernel_laws.specs.Questions as q
 use Rattle.kernel_laws.specs.Questions.{Space, flag_of}
 use Rattle.kernel_ways.specs.Ways.{host_at, caller_at}
 use Rattle.kernel_ways.proofs.Choices as choices
 use Rattle.kernel_ways.proofs.Doings.{Performed}
-use Rattle.kernel_ways.proofs.Lines.{Line, make, six, zeros, first_by}
+use Rattle.kernel_ways.proofs.Lines.{Line, choice_of, make, six, zeros, first_by}
 use Rattle.kernel_ways.specs.Showing.{IsDoable}
 
 -- the capability is effective, if there is one
@@ -38,6 +38,16 @@ CapAtHand creds (Some number) = has creds.effective number ≡ true
 cap_lets : (creds : Creds) (o : Option ℕ) (effect : Effect) → CapAtHand creds o → with_cap_of o creds effect ≡ effect
 cap_lets creds None effect h = refl
 cap_lets creds (Some number) effect h = ap (λ b. cond b effect (f.Refuse eperm)) h
+
+-- a call asks for it by its words alone, and every process may
+abbrev pub is_free : Kind → Bool
+is_free k.MapsWx = true
+is_free k.ProtectsX = true
+is_free k.AttachesX = true
+is_free k.SchedulesRealtime = true
+is_free k.TakesPersonality = true
+is_free k.SetsMode = true
+is_free kind = false
 
 module _ (launch : Launch) (creds : Creds) (table : Table) where
   -- a call without a payload, by its number and its words
@@ -51,57 +61,31 @@ module _ (launch : Launch) (creds : Creds) (table : Table) where
     such = such;
   }
 
-  maps_by : {own : Rule} {args : List ℕ} → (nr : ℕ) → nr < 2 ^ 32 → rule_at launch.calls.calls nr ≡ Some own → passes launch nr args → choices.Maps own args → Performed launch creds table asks_map (first_by nr args pay.Nothing)
-  maps_by nr n at t choices.maps = bare_call asks_map nr (rule.Known known.Map) (one_word 2 6) (d.Map 6) (f.Answer 0) n (six 0 0 6 0 (omega arith) (omega arith) (omega arith) (omega arith)) at t refl refl tt refl
+  free_by : {kind : Kind} {own : Rule} {args : List ℕ} → (nr : ℕ) → nr < 2 ^ 32 → rule_at launch.calls.calls nr ≡ Some own → passes launch nr args → is_free kind ≡ true → choices.Choice kind own args → Performed launch creds table (k.asks kind) (first_by nr args pay.Nothing)
+  free_by nr n at t h choices.maps = bare_call (k.asks k.MapsWx) nr (rule.Known known.Map) (one_word 2 6) (d.Map 6) (f.Answer 0) n (six 0 0 6 0 (omega arith) (omega arith) (omega arith) (omega arith)) at t refl refl tt refl
+  free_by nr n at t h choices.protects = bare_call (k.asks k.ProtectsX) nr (rule.Known known.Protect) (one_word 2 4) (d.Protect 4) (f.Answer 0) n (six 0 0 4 0 (omega arith) (omega arith) (omega arith) (omega arith)) at t refl refl tt refl
+  free_by nr n at t h choices.attaches = bare_call (k.asks k.AttachesX) nr (rule.Known known.Attach) (one_word 2 0x8000) (d.Attach 0x8000) (f.Answer 0) n (six 0 0 0x8000 0 (omega arith) (omega arith) (omega arith) (omega arith)) at t refl refl tt refl
+  free_by nr n at t h choices.schedules = bare_call (k.asks k.SchedulesRealtime) nr (rule.Known known.Schedule) (one_word 1 1) (d.Schedule 1) (f.Answer 0) n (six 0 1 0 0 (omega arith) (omega arith) (omega arith) (omega arith)) at t refl refl tt refl
+  free_by nr n at t h choices.personality = bare_call (k.asks k.TakesPersonality) nr (rule.Known known.Personality) (one_word 0 8) (d.Personality 8) (f.Answer 0) n (six 8 0 0 0 (omega arith) (omega arith) (omega arith) (omega arith)) at t refl refl tt refl
+  free_by nr n at t h (choices.mode argument.Second) = bare_call (k.asks k.SetsMode) nr (rule.Known (known.SetMode argument.Second)) (one_word 1 0x800) (d.SetMode 0x800) (f.Answer 0) n (six 0 0x800 0 0 (omega arith) (omega arith) (omega arith) (omega arith)) at t refl refl tt refl
+  free_by nr n at t h (choices.mode argument.Third) = bare_call (k.asks k.SetsMode) nr (rule.Known (known.SetMode argument.Third)) (one_word 2 0x800) (d.SetMode 0x800) (f.Answer 0) n (six 0 0 0x800 0 (omega arith) (omega arith) (omega arith) (omega arith)) at t refl refl tt refl
+  free_by nr n at t h choice = cc
 
-  pub maps : (line : Line launch k.MapsWx) → Performed launch creds table asks_map (first_by line.line.number line.args pay.Nothing)
-  maps line = maps_by line.line.number line.number line.at line.through (choices.of_maps line.own line.args line.are)
-
-  protects_by : {own : Rule} {args : List ℕ} → (nr : ℕ) → nr < 2 ^ 32 → rule_at launch.calls.calls nr ≡ Some own → passes launch nr args → choices.Protects own args → Performed launch creds table asks_protect (first_by nr args pay.Nothing)
-  protects_by nr n at t choices.protects = bare_call asks_protect nr (rule.Known known.Protect) (one_word 2 4) (d.Protect 4) (f.Answer 0) n (six 0 0 4 0 (omega arith) (omega arith) (omega arith) (omega arith)) at t refl refl tt refl
-
-  pub protects : (line : Line launch k.ProtectsX) → Performed launch creds table asks_protect (first_by line.line.number line.args pay.Nothing)
-  protects line = protects_by line.line.number line.number line.at line.through (choices.of_protects line.own line.args line.are)
-
-  attaches_by : {own : Rule} {args : List ℕ} → (nr : ℕ) → nr < 2 ^ 32 → rule_at launch.calls.calls nr ≡ Some own → passes launch nr args → choices.Attaches own args → Performed launch creds table asks_attach (first_by nr args pay.Nothing)
-  attaches_by nr n at t choices.attaches = bare_call asks_attach nr (rule.Known known.Attach) (one_word 2 0x8000) (d.Attach 0x8000) (f.Answer 0) n (six 0 0 0x8000 0 (omega arith) (omega arith) (omega arith) (omega arith)) at t refl refl tt refl
-
-  pub attaches : (line : Line launch k.AttachesX) → Performed launch creds table asks_attach (first_by line.line.number line.args pay.Nothing)
-  attaches line = attaches_by line.line.number line.number line.at line.through (choices.of_attaches line.own line.args line.are)
-
-  schedules_by : {own : Rule} {args : List ℕ} → (nr : ℕ) → nr < 2 ^ 32 → rule_at launch.calls.calls nr ≡ Some own → passes launch nr args → choices.Schedules own args → Performed launch creds table asks_realtime (first_by nr args pay.Nothing)
-  schedules_by nr n at t choices.schedules = bare_call asks_realtime nr (rule.Known known.Schedule) (one_word 1 1) (d.Schedule 1) (f.Answer 0) n (six 0 1 0 0 (omega arith) (omega arith) (omega arith) (omega arith)) at t refl refl tt refl
-
-  pub schedules : (line : Line launch k.SchedulesRealtime) → Performed launch creds table asks_realtime (first_by line.line.number line.args pay.Nothing)
-  schedules line = schedules_by line.line.number line.number line.at line.through (choices.of_schedules line.own line.args line.are)
-
-  personality_by : {own : Rule} {args : List ℕ} → (nr : ℕ) → nr < 2 ^ 32 → rule_at launch.calls.calls nr ≡ Some own → passes launch nr args → choices.Personalities own args → Performed launch creds table asks_personality (first_by nr args pay.Nothing)
-  personality_by nr n at t choices.personality = bare_call asks_personality nr (rule.Known known.Personality) (one_word 0 8) (d.Personality 8) (f.Answer 0) n (six 8 0 0 0 (omega arith) (omega arith) (omega arith) (omega arith)) at t refl refl tt refl
-
-  pub personality : (line : Line launch k.TakesPersonality) → Performed launch creds table asks_personality (first_by line.line.number line.args pay.Nothing)
-  personality line = personality_by line.line.number line.number line.at line.through (choices.of_personalities line.own line.args line.are)
-
-  mode_by : {own : Rule} {args : List ℕ} → (nr : ℕ) → nr < 2 ^ 32 → rule_at launch.calls.calls nr ≡ Some own → passes launch nr args → choices.Modes own args → Performed launch creds table asks_mode (first_by nr args pay.Nothing)
-  mode_by nr n at t (choices.mode argument.Second) =
-      bare_call asks_mode nr (rule.Known (known.SetMode argument.Second)) (one_word 1 0x800) (d.SetMode 0x800) (f.Answer 0) n (six 0 0x800 0 0 (omega arith) (omega arith) (omega arith) (omega arith)) at t refl refl tt refl
-  mode_by nr n at t (choices.mode argument.Third) =
-      bare_call asks_mode nr (rule.Known (known.SetMode argument.Third)) (one_word 2 0x800) (d.SetMode 0x800) (f.Answer 0) n (six 0 0 0x800 0 (omega arith) (omega arith) (omega arith) (omega arith)) at t refl refl tt refl
-
-  pub mode : (line : Line launch k.SetsMode) → Performed launch creds table asks_mode (first_by line.line.number line.args pay.Nothing)
-  mode line = mode_by line.line.number line.number line.at line.through (choices.of_modes line.own line.args line.are)
+  pub free : (kind : Kind) → is_free kind ≡ true → (line : Line launch kind) → Performed launch creds table (k.asks kind) (first_by line.line.number line.args pay.Nothing)
+  free kind h line = free_by line.line.number line.number line.at line.through h (choice_of line)
 
   -- a plain call, with its capability
   abbrev pub can_for : Option Rule → Type 0
   can_for (Some (rule.Plain number)) = CapAtHand creds number
   can_for _ = Unit {0}
 
-  rule_by : {own : Rule} {args : List ℕ} → (line : CallLine) → rule_of line ≡ Some own → choices.Plains own args → (number : Option ℕ) × (rule_of line ≡ Some (rule.Plain number))
+  rule_by : {own : Rule} {args : List ℕ} → (line : CallLine) → rule_of line ≡ Some own → choices.Choice k.PlainCall own args → (number : Option ℕ) × (rule_of line ≡ Some (rule.Plain number))
   rule_by line is (choices.plain number) = (number, is)
 
   pub plain_rule : (line : Line launch k.PlainCall) → (number : Option ℕ) × (rule_of line.line ≡ Some (rule.Plain number))
-  plain_rule line = rule_by line.line line.is (choices.of_plains line.own line.args line.are)
+  plain_rule line = rule_by line.line line.is (choice_of line)
 
-  plain_by : {own : Rule} {args : List ℕ} → (line : CallLine) → line.number < 2 ^ 32 → rule_of line ≡ Some own → rule_at launch.calls.calls line.number ≡ Some own → passes launch line.number args → choices.Plains own args → can_for (rule_of line) → Performed launch creds table asks_plain (first_by line.number args pay.Nothing)
+  plain_by : {own : Rule} {args : List ℕ} → (line : CallLine) → line.number < 2 ^ 32 → rule_of line ≡ Some own → rule_at launch.calls.calls line.number ≡ Some own → passes launch line.number args → choices.Choice k.PlainCall own args → can_for (rule_of line) → Performed launch creds table asks_plain (first_by line.number args pay.Nothing)
   plain_by line n is at t (choices.plain number) can =
       let has' : CapAtHand creds number = subst can_for is can in
       record {
@@ -113,22 +97,22 @@ module _ (launch : Launch) (creds : Creds) (table : Table) where
       }
 
   pub plain : (line : Line launch k.PlainCall) → can_for (rule_of line.line) → Performed launch creds table asks_plain (first_by line.line.number line.args pay.Nothing)
-  plain line can = plain_by line.line line.number line.is line.at line.through (choices.of_plains line.own line.args line.are) can
+  plain line can = plain_by line.line line.number line.is line.at line.through (choice_of line) can
 
   -- a socket of a family
   low : (n : ℕ) → n < 2 ^ 32 → n % 2 ^ 32 ≡ n
   low n h = omega (arith, h)
 
-  socket_by : {own : Rule} {args : List ℕ} → (nr : ℕ) → nr < 2 ^ 32 → rule_at launch.calls.calls nr ≡ Some own → passes launch nr args → (family : CallLine) → family.number < 2 ^ 32 → choices.Sockets family.number own args
+  socket_by : {own : Rule} {args : List ℕ} → (nr : ℕ) → nr < 2 ^ 32 → rule_at launch.calls.calls nr ≡ Some own → passes launch nr args → (family : CallLine) → family.number < 2 ^ 32 → choices.Choice (k.ForFamily family.number) own args
       → numbered family.number launch.calls.families ≡ Some family → CapAtHand creds family.cap → (p : Doing → Bool) → p (d.Socket family.number) ≡ true → Performed launch creds table p (first_by nr args pay.Nothing)
-  socket_by nr n at t family small choices.socket found can p such =
+  socket_by nr n at t family small (choices.socket _) found can p such =
       let word : family.number % 2 ^ 32 ≡ family.number = low family.number small in
       bare_call p nr (rule.Known known.Socket) (family.number ∷ 0 ∷ 0 ∷ 0 ∷ 0 ∷ 0 ∷ []) (d.Socket family.number) (f.Answer 3) n (six family.number 0 0 0 small (omega arith) (omega arith) (omega arith)) at t
       (ap (λ w. Some (d.Socket w)) word)
       (ap (socket_effect creds) found ∙ cap_lets creds family.cap (f.Answer 3) can) tt such
 
   pub socket : (family : CallLine) → family.number < 2 ^ 32 → (line : Line launch (k.ForFamily family.number)) → numbered family.number launch.calls.families ≡ Some family → CapAtHand creds family.cap → (p : Doing → Bool) → p (d.Socket family.number) ≡ true → Performed launch creds table p (first_by line.line.number line.args pay.Nothing)
-  socket family small line found can p such = socket_by line.line.number line.number line.at line.through family small (choices.of_sockets family.number line.own line.args line.are) found can p such
+  socket family small line found can p such = socket_by line.line.number line.number line.at line.through family small (choice_of line) found can p such
 
   -- a namespace of its own
   module _ (admin : has creds.effective 21 ≡ true) where
@@ -173,9 +157,9 @@ module _ (launch : Launch) (creds : Creds) (table : Table) where
     clone_by q.User u nr n at t = cc
     clone_by q.Uts u nr n at t = cloned q.Uts (f.Child false) nr n at t refl (admits (f.Child false)) tt refl
 
-    space_by : {own : Rule} {args : List ℕ} → (space : Space) → is_user space ≡ false → (nr : ℕ) → nr < 2 ^ 32 → rule_at launch.calls.calls nr ≡ Some own → passes launch nr args → choices.Spaces space own args → Performed launch creds table (asks_space space) (first_by nr args pay.Nothing)
-    space_by space u nr n at t choices.unshare = unshare_by space u nr n at t
-    space_by space u nr n at t choices.clone = clone_by space u nr n at t
+    space_by : {own : Rule} {args : List ℕ} → (space : Space) → is_user space ≡ false → (nr : ℕ) → nr < 2 ^ 32 → rule_at launch.calls.calls nr ≡ Some own → passes launch nr args → choices.Choice (k.ForSpace space) own args → Performed launch creds table (asks_space space) (first_by nr args pay.Nothing)
+    space_by space u nr n at t (choices.unshare _) = unshare_by space u nr n at t
+    space_by space u nr n at t (choices.clone _) = clone_by space u nr n at t
 
     pub own_space : (space : Space) → is_user space ≡ false → (line : Line launch (k.ForSpace space)) → Performed launch creds table (asks_space space) (first_by line.line.number line.args pay.Nothing)
-    own_space space u line = space_by space u line.line.number line.number line.at line.through (choices.of_spaces space line.own line.args line.are)
+    own_space space u line = space_by space u line.line.number line.number line.at line.through (choice_of line)

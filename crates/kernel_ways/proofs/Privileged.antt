@@ -32,7 +32,7 @@ use Rattle.kernel_ways.specs.Offers.{Offers, is_unlooked}
 use Rattle.kernel_ways.specs.Taking.{id_call, sets_call}
 use Rattle.kernel_ways.specs.Ways.{Makes}
 use Rattle.kernel_ways.proofs.Choices as choices
-use Rattle.kernel_ways.proofs.Lines.{Line, make, six, zeros, first_by}
+use Rattle.kernel_ways.proofs.Lines.{Line, choice_of, make, six, zeros, first_by}
 
 low : (n : ℕ) → n < 2 ^ 32 → n % 2 ^ 32 ≡ n
 low n h = omega (arith, h)
@@ -67,7 +67,7 @@ module _ (launch : Launch) (o : Offers launch) (creds : Creds) (table : Table) w
     flag_of true = 2
     flag_of false = 0
 
-    umount_by : {own : Rule} {args : List ℕ} → (nr : ℕ) → nr < 2 ^ 32 → rule_at launch.calls.calls nr ≡ Some own → passes launch nr args → choices.Unmounts own args
+    umount_by : {own : Rule} {args : List ℕ} → (nr : ℕ) → nr < 2 ^ 32 → rule_at launch.calls.calls nr ≡ Some own → passes launch nr args → choices.Choice k.RemovesMounts own args
         → (path : Path) → IsPath path → (detach : Bool) (now : Table) → after_umount table path detach ≡ Ok now → TableCall now
     umount_by nr n at t choices.unmounts path fit true now e =
         let w = six 0 2 0 0 (omega arith) (omega arith) (omega arith) (omega arith) in
@@ -90,9 +90,9 @@ module _ (launch : Launch) (o : Offers launch) (creds : Creds) (table : Table) w
         }
 
     pub umount_call : Line launch k.RemovesMounts → (path : Path) → IsPath path → (detach : Bool) (now : Table) → after_umount table path detach ≡ Ok now → TableCall now
-    umount_call line = umount_by line.line.number line.number line.at line.through (choices.of_unmounts line.own line.args line.are)
+    umount_call line = umount_by line.line.number line.number line.at line.through (choice_of line)
 
-    mount_by : {own : Rule} {args : List ℕ} → (nr : ℕ) → nr < 2 ^ 32 → rule_at launch.calls.calls nr ≡ Some own → passes launch nr args → choices.Mounts own args
+    mount_by : {own : Rule} {args : List ℕ} → (nr : ℕ) → nr < 2 ^ 32 → rule_at launch.calls.calls nr ≡ Some own → passes launch nr args → choices.Choice k.ChangesMounts own args
         → (source target : Path) → IsPath source → IsPath target → (flags : ℕ) → flags < 2 ^ 32 → (now : Table) → after_mount (row_at launch.site.rows) table source target flags ≡ Ok now → TableCall now
     mount_by nr n at t choices.mounts source target s g flags small now e =
         let w = six 0 0 0 flags (omega arith) (omega arith) (omega arith) small in
@@ -107,9 +107,9 @@ module _ (launch : Launch) (o : Offers launch) (creds : Creds) (table : Table) w
         }
 
     pub mount_call : Line launch k.ChangesMounts → (source target : Path) → IsPath source → IsPath target → (flags : ℕ) → flags < 2 ^ 32 → (now : Table) → after_mount (row_at launch.site.rows) table source target flags ≡ Ok now → TableCall now
-    mount_call line = mount_by line.line.number line.number line.at line.through (choices.of_mounts line.own line.args line.are)
+    mount_call line = mount_by line.line.number line.number line.at line.through (choice_of line)
 
-  capset_by : {own : Rule} {args : List ℕ} → (nr : ℕ) → nr < 2 ^ 32 → rule_at launch.calls.calls nr ≡ Some own → passes launch nr args → choices.SetsCaps own args
+  capset_by : {own : Rule} {args : List ℕ} → (nr : ℕ) → nr < 2 ^ 32 → rule_at launch.calls.calls nr ≡ Some own → passes launch nr args → choices.Choice k.SetsCaps own args
       → (p e i : ℕ) → p < 2 ^ 41 → e < 2 ^ 41 → i < 2 ^ 41 → may_capset creds p e i ≡ true → CredsCall true (with_sets creds p e i) (sets_call nr p e i)
   capset_by nr n at t choices.capset p e i hp he hi may = record {
     doing = d.Capset p e i;
@@ -120,14 +120,14 @@ module _ (launch : Launch) (o : Offers launch) (creds : Creds) (table : Table) w
   }
 
   pub capset_call : (line : Line launch k.SetsCaps) (p e i : ℕ) → p < 2 ^ 41 → e < 2 ^ 41 → i < 2 ^ 41 → may_capset creds p e i ≡ true → CredsCall true (with_sets creds p e i) (sets_call line.line.number p e i)
-  capset_call line = capset_by line.line.number line.number line.at line.through (choices.of_setscaps line.own line.args line.are)
+  capset_call line = capset_by line.line.number line.number line.at line.through (choice_of line)
 
   -- all three ids by the capability
   module _ (id : ℕ) (small : id ≤ 4294967294) where
     word : id < 2 ^ 32
     word = omega (arith, small)
 
-    uid_by : {own : Rule} {args : List ℕ} → (nr : ℕ) → nr < 2 ^ 32 → rule_at launch.calls.calls nr ≡ Some own → passes launch nr args → choices.Uids own args → has creds.effective 7 ≡ true → CredsCall false (with_uids creds (all_of id)) (id_call nr own id)
+    uid_by : {own : Rule} {args : List ℕ} → (nr : ℕ) → nr < 2 ^ 32 → rule_at launch.calls.calls nr ≡ Some own → passes launch nr args → choices.Choice k.TakesUid own args → has creds.effective 7 ≡ true → CredsCall false (with_uids creds (all_of id)) (id_call nr own id)
     uid_by nr n at t choices.setuid h =
         let w = six id 0 0 0 word (omega arith) (omega arith) (omega arith) in
         record {
@@ -148,14 +148,14 @@ module _ (launch : Launch) (o : Offers launch) (creds : Creds) (table : Table) w
         }
 
     pub uid_call : (line : Line launch k.TakesUid) → has creds.effective 7 ≡ true → CredsCall false (with_uids creds (all_of id)) (id_call line.line.number line.own id)
-    uid_call line = uid_by line.line.number line.number line.at line.through (choices.of_uids line.own line.args line.are)
+    uid_call line = uid_by line.line.number line.number line.at line.through (choice_of line)
 
     pub record GidCall (call : Call) : Type 0 where
       pub now : Creds
       pub change : GroupCall now call
       pub has_gid : HasGid id now
 
-    gid_by : {own : Rule} {args : List ℕ} → (nr : ℕ) → nr < 2 ^ 32 → rule_at launch.calls.calls nr ≡ Some own → passes launch nr args → choices.Gids own args → has creds.effective 6 ≡ true → GidCall (id_call nr own id)
+    gid_by : {own : Rule} {args : List ℕ} → (nr : ℕ) → nr < 2 ^ 32 → rule_at launch.calls.calls nr ≡ Some own → passes launch nr args → choices.Choice k.TakesGid own args → has creds.effective 6 ≡ true → GidCall (id_call nr own id)
     gid_by nr n at t choices.setgid h =
         let w = six id 0 0 0 word (omega arith) (omega arith) (omega arith) in
         record {
@@ -189,4 +189,4 @@ module _ (launch : Launch) (o : Offers launch) (creds : Creds) (table : Table) w
         }
 
     pub gid_call : (line : Line launch k.TakesGid) → has creds.effective 6 ≡ true → GidCall (id_call line.line.number line.own id)
-    gid_call line = gid_by line.line.number line.number line.at line.through (choices.of_gids line.own line.args line.are)
+    gid_call line = gid_by line.line.number line.number line.at line.through (choice_of line)

@@ -14,7 +14,7 @@ use Rattle.kern_mounts.specs.Finds.{row, finds}
 use Rattle.kernel_laws.specs.Bound.{is_barred, is_to_exec, is_mounting, is_user, can_reach, can_have_cap, can_have_for, if_listed, caps_at, power_of, ceiling, is_open}
 use Rattle.kernel_calls.specs.declared.call.Call.{Call}
 use Rattle.kernel_calls.specs.Calls.{IsPath}
-use Rattle.kernel_laws.specs.Denied.{asks_space, asks_map, asks_protect, asks_attach, asks_realtime, asks_personality, asks_mode, asks_family, is_family}
+use Rattle.kernel_laws.specs.Denied.{asks_space, asks_family, is_family}
 use Rattle.kernel_calls.specs.Doing as d
 use Rattle.kernel_calls.specs.declared.payload.Payload.TheVariants as pay
 use Rattle.kernel_calls.specs.Doing.{Doing}
@@ -22,6 +22,7 @@ use Rattle.kernel_model.specs.Effects.{SetCreds}
 use Rattle.kern_files.specs.Looking.{flags_at}
 use Rattle.kern_files.specs.Executing.{marks_of}
 use Rattle.kernel_laws.specs.Kinds as k
+use Rattle.kernel_laws.specs.Kinds.{Kind}
 use Rattle.kernel_laws.specs.Launched.{Launch, IsLaunched, launch_of, lets, lets_line}
 use Rattle.site_table.specs.Kinds.{is_dir, is_exe}
 use Rattle.kern_mounts.specs.Split.{Table}
@@ -41,7 +42,7 @@ use Rattle.kernel_ways.proofs.Solo.{way_join}
 use Rattle.kernel_ways.proofs.Lines.{Line, first_by, low_number, some_line, line_at}
 use Rattle.kernel_ways.proofs.Doings.{PathCall, Performed, see_path, read_path, write_path, exec_path}
 use Rattle.kernel_ways.proofs.Performing as performing
-use Rattle.kernel_ways.proofs.Performing.{CapAtHand}
+use Rattle.kernel_ways.proofs.Performing.{CapAtHand, is_free}
 use Rattle.kernel_ways.proofs.Rows.{IsKnown, known_at}
 use Rattle.kernel_ways.proofs.Exposing.{exposed, way_mounts, mounts_pass}
 use Rattle.kernel_ways.proofs.Attained.{Gained, attained, admin_gained}
@@ -154,26 +155,9 @@ module _ (world : World) (launch : Launch) (l : IsLaunched launch) (o : Offers l
   by_performed : (question : Question) (p : Doing → Bool) {calls : List Call} (creds : Creds) (now : Table) → Way launch launch.creds launch.table calls creds now → {call : Call} → (x : Performed launch creds now p call) → Answers launch now question call x.doing → IsShown world question
   by_performed question p {calls = calls} creds now way {call = call} x a = (calls ++ call ∷ [], calls_show launch launch.creds creds launch.table now world calls question x.doing call x.effect s way x.makes x.doable a)
 
-  at_once : (question : Question) (p : Doing → Bool) → {call : Call} → (x : Performed launch launch.creds launch.table p call) → Answers launch launch.table question call x.doing → IsShown world question
-  at_once question p x = by_performed question p launch.creds launch.table here x
-
-  shown_map : lets launch k.MapsWx ≡ true → IsShown world q.MapWx
-  shown_map e = let x = performing.maps launch launch.creds launch.table (some_line launch l k.MapsWx e) in at_once q.MapWx asks_map x x.such
-
-  shown_protect : lets launch k.ProtectsX ≡ true → IsShown world q.ProtectX
-  shown_protect e = let x = performing.protects launch launch.creds launch.table (some_line launch l k.ProtectsX e) in at_once q.ProtectX asks_protect x x.such
-
-  shown_attach : lets launch k.AttachesX ≡ true → IsShown world q.ShmX
-  shown_attach e = let x = performing.attaches launch launch.creds launch.table (some_line launch l k.AttachesX e) in at_once q.ShmX asks_attach x x.such
-
-  shown_realtime : lets launch k.SchedulesRealtime ≡ true → IsShown world q.Realtime
-  shown_realtime e = let x = performing.schedules launch launch.creds launch.table (some_line launch l k.SchedulesRealtime e) in at_once q.Realtime asks_realtime x x.such
-
-  shown_personality : lets launch k.TakesPersonality ≡ true → IsShown world q.Personality
-  shown_personality e = let x = performing.personality launch launch.creds launch.table (some_line launch l k.TakesPersonality e) in at_once q.Personality asks_personality x x.such
-
-  shown_mode : lets launch k.SetsMode ≡ true → IsShown world q.SuidBit
-  shown_mode e = let x = performing.mode launch launch.creds launch.table (some_line launch l k.SetsMode e) in at_once q.SuidBit asks_mode x x.such
+  -- what every process may ask for
+  shown_free : (question : Question) (kind : Kind) → is_free kind ≡ true → ((call : Call) (x : Performed launch launch.creds launch.table (k.asks kind) call) → Answers launch launch.table question call x.doing) → lets launch kind ≡ true → IsShown world question
+  shown_free question kind h answers e = let x = performing.free launch launch.creds launch.table kind h (some_line launch l kind e) in by_performed question (k.asks kind) launch.creds launch.table here x (answers _ x)
 
   shown_space : (space : Space) → is_user space ≡ false → lets launch (k.ForSpace space) ≡ true → has (ceiling launch).effective 21 ≡ true → IsShown world (q.Ns space)
   shown_space space u e h =
@@ -223,12 +207,12 @@ module _ (world : World) (launch : Launch) (l : IsLaunched launch) (o : Offers l
       let both = and_parts (not (is_user space)) (lets launch (k.ForSpace space) && has (ceiling launch).effective 21) e in
       let more = and_parts (lets launch (k.ForSpace space)) (has (ceiling launch).effective 21) both.1 in
       shown_space space (not-true (is_user space) both.0) more.0 more.1
-  shown q.MapWx fit e = shown_map e
-  shown q.ProtectX fit e = shown_protect e
-  shown q.ShmX fit e = shown_attach e
-  shown q.Realtime fit e = shown_realtime e
-  shown q.Personality fit e = shown_personality e
-  shown q.SuidBit fit e = shown_mode e
+  shown q.MapWx fit e = shown_free q.MapWx k.MapsWx refl (λ call x. x.such) e
+  shown q.ProtectX fit e = shown_free q.ProtectX k.ProtectsX refl (λ call x. x.such) e
+  shown q.ShmX fit e = shown_free q.ShmX k.AttachesX refl (λ call x. x.such) e
+  shown q.Realtime fit e = shown_free q.Realtime k.SchedulesRealtime refl (λ call x. x.such) e
+  shown q.Personality fit e = shown_free q.Personality k.TakesPersonality refl (λ call x. x.such) e
+  shown q.SuidBit fit e = shown_free q.SuidBit k.SetsMode refl (λ call x. x.such) e
   shown (q.Cap number) fit e = let x = attained launch l o number e in cap_shown number x.0 x.1
   shown (q.Uid id) fit e = let t = uid_taken launch l o id fit e in (t.calls, creds_show launch launch.creds t.creds launch.table t.now world t.calls (q.Uid id) s t.way t.has)
   shown (q.Gid id) fit e = let t = gid_taken launch l o id fit e in (t.calls, creds_show launch launch.creds t.creds launch.table t.now world t.calls (q.Gid id) s t.way t.has)
