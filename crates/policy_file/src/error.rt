@@ -4,7 +4,7 @@ ghost use Rattle.std.specs.Prelude.{◌≡◌};
 ghost use Rattle.policy_file.specs.declared.error.PolicyError.TheVariants.{Memory};
 
 use crate::identifier::TestId;
-use std::alloc::{AllocError, AllocFailed};
+use std::alloc::AllocError;
 use thiserror::Error;
 
 /// Why a policy is refused; of several reasons, the first in this order.
@@ -29,14 +29,6 @@ impl From<AllocError> for PolicyError {
     ghost from_gives = { λ _ e. e ≡ Memory };
 
     fn from(_: AllocError) -> Self {
-        PolicyError::Memory
-    }
-}
-
-impl<T: Drop> From<AllocFailed<T>> for PolicyError {
-    ghost from_gives = { λ _ e. e ≡ Memory };
-
-    fn from(_: AllocFailed<T>) -> Self {
         PolicyError::Memory
     }
 }

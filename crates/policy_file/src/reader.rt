@@ -11,7 +11,7 @@ use crate::error::PolicyError;
 use crate::member::read_test;
 use crate::policy::{Policy, PolicyTest};
 use serde_json::{Map, Value};
-use std::alloc::Global;
+use std::alloc::{AllocError, Global};
 
 /// The most tests that a policy may have.
 const MOST_TESTS: usize = 512;
@@ -23,7 +23,7 @@ fn read_tests(alloc: Global, members: &Map<String, Value>) -> Result<Vec<PolicyT
     let mut tests = Vec::new(alloc);
     'members: for (id, said) in members.iter() {
         let test = read_test(alloc, id.as_str(), said)?;
-        tests.push(test)?;
+        tests.push(test).map_err(AllocError::from)?;
     }
     Ok(tests)
 }

@@ -63,14 +63,6 @@ impl From<AllocError> for ScriptError {
     }
 }
 
-impl<T: Drop> From<AllocFailed<T>> for ScriptError {
-    ghost from_gives = { λ _ e. e ≡ Memory };
-
-    fn from(_: AllocFailed<T>) -> Self {
-        ScriptError::Memory
-    }
-}
-
 /// Why a line gives no call.
 #[derive(Clone, Copy)]
 pub(crate) enum LineFault {

@@ -14,7 +14,7 @@ use crate::line::read_line;
 use call_table::CallTable;
 use kernel_calls::Call;
 use line_text::{Line, read_lines, read_text};
-use std::alloc::Global;
+use std::alloc::{AllocError, Global};
 
 /// How many calls a script has at most.
 const MOST_CALLS: usize = 16384;
@@ -37,7 +37,7 @@ fn add(made: &mut Vec<Call>, call: Call) -> Result<(), ScriptError>
     if made.len() >= MOST_CALLS {
         return Err(ScriptError::TooMany);
     }
-    made.push(call)?;
+    made.push(call).map_err(AllocError::from)?;
     Ok(())
 }
 
