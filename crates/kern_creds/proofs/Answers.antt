@@ -15,6 +15,3 @@ left_ok P now p = record { held = λ new e. let same : now ≡ new = cc in subst
 pub left_if : (P : Creds → Type 0) (b : Bool) (x y : Result Creds ℕ) → (b ≡ true → Leaves P x) → (b ≡ false → Leaves P y) → Leaves P (cond b x y)
 left_if P true x y p q = p refl
 left_if P false x y p q = q refl
-
-pub left_more : {P Q : Creds → Type 0} {answer : Result Creds ℕ} → Leaves P answer → ((now : Creds) → P now → Q now) → Leaves Q answer
-left_more left more = record { held = λ now e. more now (left.held now e) }

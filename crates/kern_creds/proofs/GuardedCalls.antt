@@ -7,49 +7,17 @@ use Rattle.kern_creds.specs.declared.creds.Creds.{Creds}
 use Rattle.kern_creds.specs.RootChange.{with_uids, after_switch, after_leaving_root, has_root}
 use Rattle.kern_creds.specs.Setgroups.{after_setgroups}
 use Rattle.kern_creds.specs.Exec.{honours, is_refused, exec_done}
-use Rattle.kern_creds.specs.Calls.{Call, Setuid, Setgid, Setresuid, Setresgid, Setgroups, Capset, DropBounding, Raise, Lower, ClearAmbient, SetKeepcaps, SetNoNewPrivs, Exec, after}
+use Rattle.kern_creds.specs.Calls.{Call, Setuid, Setgid, Setresuid, Setresgid, Setgroups, Exec, after}
 use Rattle.kern_creds.specs.Guarded.{AreAmong, is_set_user, is_set_group}
-use Rattle.kern_creds.proofs.Answers.{Leaves, left_err, left_ok, left_if, left_more}
+use Rattle.kern_creds.proofs.Answers.{Leaves, left_err, left_ok, left_if}
 use Rattle.kern_creds.proofs.GuardedIds.{OwnUids, OwnGids, same_ids, own-setuid, own-setgid, own-setresuid, own-setresgid, own-exec}
-
--- the ids and the groups stay
-record SameIds (creds now : Creds) : Type 0 where
-  uids : now.uids ≡ creds.uids
-  gids : now.gids ≡ creds.gids
-  groups : now.groups ≡ creds.groups
-
-all_same : (creds now : Creds) → now.uids ≡ creds.uids → now.gids ≡ creds.gids → now.groups ≡ creds.groups → SameIds creds now
-all_same creds now uids gids groups = record { uids = uids; gids = gids; groups = groups }
-
-abbrev sets_no_id : Call → Bool
-sets_no_id (Capset p e i) = true
-sets_no_id (DropBounding number) = true
-sets_no_id (Raise number) = true
-sets_no_id (Lower number) = true
-sets_no_id ClearAmbient = true
-sets_no_id (SetKeepcaps on) = true
-sets_no_id SetNoNewPrivs = true
-sets_no_id call = false
-
-same_after : (creds : Creds) (call : Call) → sets_no_id call ≡ true → Leaves (SameIds creds) (after creds call)
-same_after creds (Capset p e i) own = search (rules, left_if, left_err, left_ok, all_same)
-same_after creds (DropBounding number) own = search (rules, left_if, left_err, left_ok, all_same)
-same_after creds (Raise number) own = search (rules, left_if, left_err, left_ok, all_same)
-same_after creds (Lower number) own = search (rules, left_if, left_err, left_ok, all_same)
-same_after creds ClearAmbient own = left_ok _ _ (all_same creds _ refl refl refl)
-same_after creds (SetKeepcaps on) own = left_ok _ _ (all_same creds _ refl refl refl)
-same_after creds SetNoNewPrivs own = left_ok _ _ (all_same creds _ refl refl refl)
-same_after creds call own = cc
 
 pub own_uids : (creds : Creds) (call : Call) → has creds.effective 7 ≡ false → is_set_user creds call ≡ false → Leaves (OwnUids creds) (after creds call)
 own_uids creds (Setuid id) no_cap h = own-setuid creds id no_cap
-own_uids creds (Setgid id) no_cap h = search (rules, left_if, left_err, left_ok, same_ids)
 own_uids creds (Setresuid r e s) no_cap h = own-setresuid creds r e s no_cap
-own_uids creds (Setresgid r e s) no_cap h = search (rules, left_if, left_err, left_ok, same_ids)
-own_uids creds (Setgroups ids) no_cap h = search (rules, left_if, left_err, left_ok, same_ids)
 own_uids creds (Exec file nosuid) no_cap h =
     left_if (OwnUids creds) (is_refused creds file nosuid) (Err 1) (Ok (exec_done creds file nosuid)) (λ e. left_err _ 1) (λ e. left_ok _ _ (own-exec (honours creds nosuid) creds.uids file.setuid h))
-own_uids creds call no_cap h = left_more (same_after creds call refl) (λ now same. subst (λ ids. AreAmong ids creds.uids) (sym same.uids) (same_ids creds.uids))
+own_uids creds call no_cap h = search (rules, left_if, left_err, left_ok, same_ids)
 
 -- a change of uids leaves the gids and the groups
 record Kept (creds now : Creds) : Type 0 where
@@ -79,10 +47,9 @@ own_gids creds (Setuid id) no_cap h = search (rules, left_if, left_err, left_ok,
 own_gids creds (Setgid id) no_cap h = own-setgid creds id no_cap
 own_gids creds (Setresuid r e s) no_cap h = search (rules, left_if, left_err, left_ok, gids_with)
 own_gids creds (Setresgid r e s) no_cap h = own-setresgid creds r e s no_cap
-own_gids creds (Setgroups ids) no_cap h = search (rules, left_if, left_err, left_ok, same_ids)
 own_gids creds (Exec file nosuid) no_cap h =
     left_if (OwnGids creds) (is_refused creds file nosuid) (Err 1) (Ok (exec_done creds file nosuid)) (λ e. left_err _ 1) (λ e. left_ok _ _ (own-exec (honours creds nosuid) creds.gids file.setgid h))
-own_gids creds call no_cap h = left_more (same_after creds call refl) (λ now same. subst (λ ids. AreAmong ids creds.gids) (sym same.gids) (same_ids creds.gids))
+own_gids creds call no_cap h = search (rules, left_if, left_err, left_ok, same_ids)
 
 abbrev pub SameGroups : Creds → Creds → Type 0
 SameGroups creds now = now.groups ≡ creds.groups
@@ -100,10 +67,8 @@ groups_refused creds ids no_cap =
 
 pub same_groups : (creds : Creds) (call : Call) → has creds.effective 6 ≡ false → Leaves (SameGroups creds) (after creds call)
 same_groups creds (Setuid id) no_cap = search (rules, left_if, left_err, left_ok, groups_with)
-same_groups creds (Setgid id) no_cap = search (rules, left_if, left_err, left_ok)
 same_groups creds (Setresuid r e s) no_cap = search (rules, left_if, left_err, left_ok, groups_with)
-same_groups creds (Setresgid r e s) no_cap = search (rules, left_if, left_err, left_ok)
 same_groups creds (Setgroups ids) no_cap = groups_refused creds ids no_cap
 same_groups creds (Exec file nosuid) no_cap =
     left_if (SameGroups creds) (is_refused creds file nosuid) (Err 1) (Ok (exec_done creds file nosuid)) (λ e. left_err _ 1) (λ e. left_ok _ _ refl)
-same_groups creds call no_cap = left_more (same_after creds call refl) (λ now same. same.groups)
+same_groups creds call no_cap = search (rules, left_if, left_err, left_ok)
