@@ -1,6 +1,6 @@
 -- Worlds that differ in the programs of the launch alone go on alike.
 use Rattle.std.proofs.Common.{◌≡◌, ℕ, zero, suc, Bool, true, false, cond, List, [], ◌∷◌, ◌++◌, Option, Some, None, ◌⊎◌, inl, inr, refl, ap, ◌∙◌, sym, subst, length, arith, eqb}
-use Rattle.std.specs.Prelude.{slice_get, slice_set, map, nat_lt, nat_le, ◌-◌, ◌+◌, ◌<◌, ◌≤◌, ◌^◌, ◌||◌, ◌&&◌, not}
+use Rattle.std.specs.Prelude.{slice_get, slice_set, map, nat_lt, nat_le, ◌-◌, ◌+◌, ◌<◌, ◌^◌, ◌||◌, ◌&&◌, not}
 use Rattle.std.specs.Option.{option_map}
 use Rattle.std.proofs.lemmas.Bool.Decides.{nat_tests}
 use Rattle.std.proofs.lemmas.List.Sums.{sum_by-append}
@@ -12,15 +12,14 @@ use Rattle.bpf_code.specs.Meaning.{IsCallData}
 use Rattle.bpf_code.specs.ProgramOf.{program_of}
 use Rattle.bpf_code.specs.Stack.{answer_of, answers_of, decision_by, deciding, decision_on, room_of}
 use Rattle.cap_sets.specs.Sets.{has}
-use Rattle.kern_creds.specs.declared.creds.Creds.{Creds}
 use Rattle.kernel_calls.specs.declared.call.Call.{Call}
-use Rattle.kernel_calls.specs.Calls.{IsCall, AreCalls}
+use Rattle.kernel_calls.specs.Calls.{IsCall}
 use Rattle.kernel_calls.specs.Doing as d
 use Rattle.kernel_calls.specs.Doing.{Doing, Asked, Lacking, Misformed, Does, asked_of}
 use Rattle.kernel_model.specs.Effects as f
 use Rattle.kernel_model.specs.Effects.{Effect, Caller, effect_of, seccomp_effect, push_effect}
 use Rattle.kernel_model.specs.declared.reply.Reply.TheVariants as w
-use Rattle.kernel_model.specs.World.{World, living_of, process_of, of_number, put_number, if_alive, with_process, with_copy, with_child, moved_to, ended, table_of, host_of}
+use Rattle.kernel_model.specs.World.{World, living_of, process_of, if_alive, with_process, with_copy, with_child, moved_to, ended, table_of, host_of}
 use Rattle.kernel_model.specs.declared.process.Process.{Process}
 use Rattle.kernel_model.specs.declared.reply.Reply.{Reply}
 use Rattle.kernel_model.specs.Step.{step, step_by, decided, answered, applied, child_of, data_of}

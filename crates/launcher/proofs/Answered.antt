@@ -1,9 +1,7 @@
 -- What the steps of a launch come to is what the launch answers.
-use Rattle.std.proofs.Common.{◌≡◌, ℕ, Bool, true, false, cond, List, [], ◌∷◌, ◌++◌, Result, Ok, Err, refl, ap, ◌∙◌, sym, subst, length, ◌≤◌, ◌<◌, arith}
-use Rattle.std.specs.Prelude.{map, ◌^◌, IsErrAnd}
+use Rattle.std.proofs.Common.{◌≡◌, ℕ, true, false, cond, List, ◌++◌, Result, Ok, Err, ap, ◌∙◌, sym, subst, ◌<◌, arith}
+use Rattle.std.specs.Prelude.{◌^◌, IsErrAnd}
 use Rattle.bpf_code.specs.declared.machine.Insn.{Insn}
-use Rattle.bpf_code.specs.Reading.{bytes_of}
-use Rattle.bpf_code.specs.Stack.{room_of}
 use Rattle.call_table.specs.Facts.{IsWhole}
 use Rattle.call_table.specs.Table as calls
 use Rattle.exec_settings.specs.declared.service.Settings.{Settings}
@@ -11,18 +9,16 @@ use Rattle.kern_mounts.specs.Finds.{finds}
 use Rattle.kern_mounts.specs.Launch.{CanBeMounted}
 use Rattle.kern_mounts.specs.Split.{Table}
 use Rattle.kernel_model.specs.World.{World, start_world}
-use Rattle.linux_numbers.specs.Limits.{max_insns_per_path}
 use Rattle.mount_plan.specs.Host.{host_of}
 use Rattle.site_table.specs.Table.{Site, row_at}
 use Rattle.launcher.specs.declared.error.LaunchError.{LaunchError}
 use Rattle.launcher.specs.declared.error.LaunchError.TheVariants as error
 use Rattle.launcher.specs.declared.filters.FilterProgram.{FilterProgram}
 use Rattle.launcher.specs.declared.launched.Launched.{Launched as Service}
-use Rattle.launcher.specs.Alike.{AnswerAlike}
-use Rattle.launcher.specs.Answers.{AreProgramsOf, EndsAs, EndsWithAll, LaunchesTo, LeavesService, codes_of, given_bytes, launch_with, wanted_of}
+use Rattle.launcher.specs.Answers.{AreProgramsOf, EndsAs, LaunchesTo, LeavesService, codes_of, given_bytes, launch_with, wanted_of}
 use Rattle.launcher.specs.Conditions.{CanBeLaunched}
 use Rattle.launcher.specs.Ends.{Ends}
-use Rattle.launcher.specs.Launch.{LaunchStep, Ending, Launched, StepRefused, StepKilled, PrivilegedProgram, call_steps, is_privileged_row, launch, launch_from, launch_steps, mount_steps, with_unshare}
+use Rattle.launcher.specs.Launch.{LaunchStep, Ending, Launched, StepRefused, StepKilled, PrivilegedProgram, call_steps, is_privileged_row, launch_from, launch_steps, mount_steps, with_unshare}
 use Rattle.launcher.specs.Launches.{AreRead}
 use Rattle.launcher.specs.LaunchesAlike.{AreInstalled, EndAlike}
 use Rattle.launcher.specs.Matching.{AreMatching}

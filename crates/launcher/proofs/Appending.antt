@@ -1,5 +1,5 @@
 -- Steps that loops put behind others.
-use Rattle.std.proofs.Common.{◌≡◌, ℕ, suc, Bool, true, false, cond, codes, List, [], ◌∷◌, ◌++◌, refl, ap, ◌∙◌, sym, subst, length, drop, get_or, drop-cons, add-one, ◌<◌, arith}
+use Rattle.std.proofs.Common.{◌≡◌, ℕ, suc, Bool, true, false, cond, codes, List, [], ◌∷◌, ◌++◌, refl, ap, ◌∙◌, sym, length, drop, get_or, drop-cons, add-one, ◌<◌, arith}
 use Rattle.std.specs.Prelude.{map, filter, ◌+◌, ◌-◌, ◌≤◌}
 use Rattle.bpf_code.specs.Reading.{bytes_of}
 use Rattle.call_table.specs.declared.listed.CallLine.{CallLine}

@@ -1,5 +1,5 @@
 -- Calls of a launch that are made one after another.
-use Rattle.std.proofs.Common.{◌≡◌, ℕ, suc, List, [], ◌∷◌, ◌++◌, Result, Ok, Err, refl, ap, ◌∙◌, sym, subst, length, drop, get_or, drop-cons, add-one, ◌<◌, ◌≤◌, arith}
+use Rattle.std.proofs.Common.{◌≡◌, ℕ, suc, List, ◌∷◌, ◌++◌, Result, Ok, Err, refl, ap, ◌∙◌, sym, subst, length, drop, get_or, drop-cons, add-one, ◌<◌, ◌≤◌}
 use Rattle.std.specs.Prelude.{map, ◌+◌}
 use Rattle.std.proofs.lemmas.List.{drop_all}
 use Rattle.kernel_calls.specs.declared.call.Call.{Call}

@@ -2,7 +2,7 @@
 use Rattle.std.proofs.Common.{arith}
 use Rattle.cred_settings.proofs.InRange.{ids_in_range}
 use Rattle.exec_settings.specs.Dynamic.{is_dynamic}
-use Rattle.launcher.specs.Conditions.{CanBeLaunched, SettingsCanBeLaunched}
+use Rattle.launcher.specs.Conditions.{SettingsCanBeLaunched}
 
 pub settings_can_be_launched : SettingsCanBeLaunched
 settings_can_be_launched unit table site made sound are =

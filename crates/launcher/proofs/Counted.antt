@@ -1,5 +1,5 @@
 -- A launch has few calls.
-use Rattle.std.proofs.Common.{◌≡◌, ℕ, zero, suc, Bool, true, false, cond, codes, List, [], ◌∷◌, ◌++◌, refl, ap, ◌∙◌, length, ◌≤◌, arith, eqb}
+use Rattle.std.proofs.Common.{◌≡◌, ℕ, zero, suc, Bool, true, false, cond, codes, List, [], ◌∷◌, ◌++◌, refl, ap, length, ◌≤◌, arith, eqb}
 use Rattle.std.specs.Prelude.{map, filter, ◌+◌, not}
 use Rattle.std.proofs.lemmas.List.{length-append, length-map}
 use Rattle.std.proofs.lemmas.List.Sums.{sum_by-cons}
@@ -14,7 +14,7 @@ use Rattle.kernel_laws.specs.Questions.{count_from, if_so}
 use Rattle.linux_numbers.specs.Limits.{max_insns_per_path}
 use Rattle.launcher.specs.declared.filters.FilterProgram.{FilterProgram}
 use Rattle.launcher.specs.Answers.{AreProgramsOf, codes_of, given_bytes}
-use Rattle.launcher.specs.Launch.{Wanted, LaunchStep, makes, prctl_step, if_user, group_steps, drop_steps, inherit_steps, user_steps, raise_steps, left_steps, privilege_steps, identity_steps, filter_steps, program_steps, call_steps, set_mode_filter, capbset_drop, cap_ambient, ambient_raise}
+use Rattle.launcher.specs.Launch.{Wanted, LaunchStep, makes, prctl_step, group_steps, drop_steps, inherit_steps, user_steps, raise_steps, left_steps, privilege_steps, identity_steps, filter_steps, program_steps, call_steps, set_mode_filter, capbset_drop, cap_ambient, ambient_raise}
 
 counted : (from count : ℕ) → length (count_from from count) ≡ count
 counted from zero = refl

@@ -1,10 +1,10 @@
 -- The credentials of a launch, step by step.
-use Rattle.std.proofs.Common.{◌≡◌, ℕ, zero, suc, Bool, true, false, cond, List, [], ◌∷◌, Option, Some, None, Result, Ok, Err, ◌⊎◌, inl, inr, refl, ap, ◌∙◌, sym, subst, arith, rules, eqb}
-use Rattle.std.specs.Prelude.{◌&&◌, ◌||◌, ◌==◌, not, nat_lt, ◌<◌}
-use Rattle.std.proofs.lemmas.Bool.{and_parts, or_left, or_right, or_cases, not-false, eqb-true}
+use Rattle.std.proofs.Common.{◌≡◌, ℕ, Bool, true, false, cond, List, Option, Some, None, Result, Ok, Err, refl, ap, ◌∙◌, sym, subst, arith, rules, eqb}
+use Rattle.std.specs.Prelude.{◌&&◌, ◌||◌, not, nat_lt}
+use Rattle.std.proofs.lemmas.Bool.{and_parts, not-false, eqb-true}
 use Rattle.std.proofs.lemmas.Bool.Decides.{nat_tests}
 use Rattle.cap_sets.specs.Sets.{has, none, all, single, union, cut, minus, within, IsWithin}
-use Rattle.cap_sets.proofs.Members.{has_union, has_cut, has_none, has_single, has_with, within_self, within_both, none_within, within_through, cut_within_left, cut_within_right, within_cut, union_within, within_union_left, within_union_right, minus_within, single_within, IsWithin-from_within}
+use Rattle.cap_sets.proofs.Members.{has_single, within_self, within_both, none_within, within_through, cut_within_left, cut_within_right, within_cut, union_within, within_union_left, within_union_right, minus_within, single_within, IsWithin-from_within}
 use Rattle.kern_creds.specs.declared.creds.Creds.{Creds}
 use Rattle.kern_creds.specs.declared.ids.Ids.{Ids}
 use Rattle.kern_creds.specs.declared.file.FileCreds.{FileCreds}
@@ -17,7 +17,7 @@ use Rattle.kern_creds.specs.Setgroups.{after_setgroups}
 use Rattle.kern_creds.specs.Capset.{after_capset, may_capset, with_sets}
 use Rattle.kern_creds.specs.Prctl.{after_drop_bounding, after_raise, after_set_keepcaps, after_set_no_new_privs}
 use Rattle.launcher.specs.Launches.{IsLaunchedCreds}
-use Rattle.kern_creds.specs.Exec.{is_privileged, is_set_id, owner_or, exec_ids, exec_uids, exec_ambient, exec_gains, exec_permitted, exec_effective, exec_done, is_effective, honours, runs_as_root, is_refused, after_exec}
+use Rattle.kern_creds.specs.Exec.{is_privileged, is_set_id, owner_or, exec_ids, exec_uids, exec_ambient, exec_gains, exec_permitted, exec_effective, exec_done, honours, runs_as_root, is_refused, after_exec}
 
 -- the three gids are one
 pub record AreOne (ids : Ids) : Type 0 where

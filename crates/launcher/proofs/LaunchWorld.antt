@@ -1,15 +1,13 @@
 -- A launch, part by part.
-use Rattle.std.proofs.Common.{◌≡◌, ℕ, zero, suc, Bool, true, false, cond, codes, List, [], ◌∷◌, ◌++◌, Option, Some, None, Result, Ok, Err, refl, ap, ◌∙◌, sym, subst, length, arith, eqb}
-use Rattle.std.specs.Prelude.{slice_get, not, map, filter, nat_le, ◌+◌, ◌<◌, ◌≤◌, ◌^◌, ◌%◌, ◌||◌, ◌&&◌}
-use Rattle.std.specs.List.{AllByRecursion, list_any}
-use Rattle.std.proofs.lemmas.Bool.{and_parts, not-true, not-false, eqb-true}
+use Rattle.std.proofs.Common.{◌≡◌, ℕ, Bool, true, false, cond, codes, List, [], ◌∷◌, ◌++◌, Ok, Err, refl, ap, ◌∙◌, sym, subst, length, arith, eqb}
+use Rattle.std.specs.Prelude.{not, map, filter, ◌<◌, ◌^◌, ◌%◌, ◌&&◌}
+use Rattle.std.specs.List.{AllByRecursion}
+use Rattle.std.proofs.lemmas.Bool.{eqb-true}
 use Rattle.std.proofs.lemmas.Bool.Decides.{nat_tests}
-use Rattle.abs_path.specs.Paths.{Path, is_root}
+use Rattle.abs_path.specs.Paths.{Path}
 use Rattle.bpf_code.specs.declared.machine.Insn.{Insn}
-use Rattle.bpf_code.specs.ProgramOf.{program_of}
 use Rattle.cap_sets.specs.Sets.{has, none, all, single, union, IsWithin}
-use Rattle.cap_sets.proofs.Members.{has_all, within_self, within_through, none_within, union_within, single_within, within_union_left, within_union_right, has_single}
-use Rattle.call_table.specs.Facts.{IsWhole}
+use Rattle.cap_sets.proofs.Members.{within_self, within_through, none_within, union_within, single_within, within_union_left, within_union_right, has_single}
 use Rattle.call_table.specs.Table as calls
 use Rattle.site_table.specs.Table.{Site, row_at}
 use Rattle.site_table.specs.declared.row.Row.{Row}
@@ -24,37 +22,30 @@ use Rattle.kern_creds.specs.Exec.{is_privileged, after_exec}
 use Rattle.kern_mounts.specs.Finds.{Found, row, empty_directory, nothing, finds}
 use Rattle.kern_mounts.specs.Table as mounts
 use Rattle.kern_mounts.specs.declared.step.Flags.{Flags}
-use Rattle.kern_mounts.specs.declared.step.What.TheVariants.{Host}
-use Rattle.kern_mounts.specs.declared.step.MountStep.{MountStep}
 use Rattle.kernel_calls.specs.declared.call.Call.{Call}
-use Rattle.kernel_calls.specs.declared.payload.Payload.{Payload}
 use Rattle.kernel_calls.specs.declared.payload.Payload.TheVariants.{Nothing, OnePath, Sets, Ids, Code}
 use Rattle.kernel_calls.specs.declared.rule.Rule.TheVariants as rule
 use Rattle.call_names.specs.declared.rule.CallRule.TheVariants as known
 use Rattle.kernel_calls.specs.Doing as d
-use Rattle.kernel_model.specs.Effects as f
-use Rattle.kernel_model.specs.Effects.{Effect, effect_of, creds_effect}
+use Rattle.kernel_model.specs.Effects.{Effect, creds_effect}
 use Rattle.kern_files.specs.Looking.{flags_at}
-use Rattle.kern_files.specs.Executing.{marks_of, program_answer, executed as executed_by, exec_answer}
-use Rattle.kern_files.specs.declared.program.Program.{Program}
-use Rattle.launcher.specs.Launch.{Wanted, LaunchStep, Launched, PrivilegedProgram, makes, first_call, prctl_step, capset_step, if_user, launch_step, launch_steps, launch_from, launch, mount_steps, with_unshare, is_privileged_row, group_steps, drop_steps, inherit_steps, user_steps, raise_steps, left_steps, privilege_steps, identity_steps, filter_steps, program_steps, call_steps, set_keepcaps, capbset_drop, set_no_new_privs, cap_ambient, ambient_raise, set_mode_filter}
-use Rattle.kernel_laws.specs.Launched.{Launch, launch_of}
+use Rattle.kern_files.specs.Executing.{marks_of, executed as executed_by, exec_answer}
+use Rattle.launcher.specs.Launch.{Wanted, LaunchStep, Launched, PrivilegedProgram, makes, first_call, prctl_step, capset_step, launch_step, launch_steps, launch_from, mount_steps, with_unshare, is_privileged_row, group_steps, drop_steps, inherit_steps, user_steps, raise_steps, left_steps, privilege_steps, identity_steps, filter_steps, program_steps, set_keepcaps, capbset_drop, set_no_new_privs, cap_ambient, ambient_raise, set_mode_filter}
+use Rattle.kernel_laws.specs.Launched.{launch_of}
 use Rattle.site_table.specs.Kinds.{is_exe}
 use Rattle.kern_mounts.specs.Split.{Table}
 use Rattle.kernel_laws.specs.Questions.{if_so, count_from}
 use Rattle.kernel_model.specs.Runs.{IsDone}
-use Rattle.kernel_model.specs.declared.reply.Reply.TheVariants as w
-use Rattle.kernel_model.specs.World.{World, start_world, host_of, caller_of, of_number, table_of}
-use Rattle.kernel_model.specs.declared.process.Process.{Process}
+use Rattle.kernel_model.specs.World.{World, start_world, of_number}
 use Rattle.kernel_model.specs.declared.reply.Reply.{Reply}
 use Rattle.kernel_model.specs.Step.{step, applied}
 use Rattle.launcher.specs.Launches.{HasLaunchCalls, AreRead, IsLaunchedCreds, Leaves, LaunchLeaves}
 use Rattle.mount_plan.specs.Host.{host_of as site_host}
 use Rattle.launcher.proofs.HostRoot.{BeginsAtHostRoot, begins_at_host}
-use Rattle.launcher.proofs.Leading.{Leads, Middle, launched_leads, leads_parts, leads_map, append_assoc, append_none, append_parts}
+use Rattle.launcher.proofs.Leading.{Leads, launched_leads, leads_parts, leads_map, append_assoc, append_none, append_parts}
 use Rattle.launcher.proofs.MountSteps.{plan_mounted}
 use Rattle.launcher.proofs.RaisedAll.{counted_small, filter_keeps, all_raised}
-use Rattle.launcher.proofs.Solo.{At, solo, only, weaker, makes_creds, makes_push, Pushed, makes_unshare, mounts_entry, does, creds_done, own_table}
+use Rattle.launcher.proofs.Solo.{At, solo, only, weaker, makes_creds, makes_push, does, creds_done, own_table}
 use Rattle.launcher.proofs.LaunchCreds.{Has, starts, set_groups, set_gids, drops, set_all, keeps_caps, set_uid, Raised, raises, set_ambient, IsReady, no_new_privs, ready_root, ready_user, executed}
 use Rattle.launcher.proofs.LaunchCalls.{launch_calls}
 use Rattle.linux_numbers.specs.Errnos.{eacces}
@@ -239,9 +230,14 @@ module _ (table : calls.Table) (site : Site) (calls' : HasLaunchCalls table.call
       let ready = user_ready plan wanted.uid wanted.ambient small (eqb wanted.uid 0) refl user.mid raise.mid left'.mid privs.mid done_set user.after raise.after left'.after in
       nothing_new [] plan wanted.no_new_privs wanted.uid wanted.ambient [] privs.mid last ready privs.after
 
-  launched_at : (wanted : Wanted) (plan : Table) (last : World) → BeginsAtHostRoot plan → wanted.uid < no_id → is_privileged_row (finds (row_at site.rows) plan wanted.program) ≡ false
-      → Leads (start_world table site) (launch_steps table.calls wanted plan) last → Filtered [] plan IsLaunchedCreds wanted.programs [] last
-  launched_at wanted plan last begins small unmarked l =
+  -- what the steps before the program leave, and the steps of the program
+  pub record BeforeProgram (wanted : Wanted) (plan : Table) (last : World) : Type 0 where
+    pub mid : World
+    pub filters : Filtered [] plan (IsReady wanted.uid wanted.ambient) wanted.programs [] mid
+    pub runs : Leads mid (program_steps table.calls wanted.program) last
+
+  pub before_program : (wanted : Wanted) (plan : Table) (last : World) → BeginsAtHostRoot plan → wanted.uid < no_id → Leads (start_world table site) (launch_steps table.calls wanted plan) last → BeforeProgram wanted plan last
+  before_program wanted plan last begins small l =
       let lines = table.calls in
       let mounting = with_unshare lines (mount_steps plan) in
       let joined : launch_steps lines wanted plan ≡ ((mounting ++ identity_steps lines wanted) ++ filter_steps lines wanted.programs) ++ program_steps lines wanted.program =
@@ -250,9 +246,14 @@ module _ (table : calls.Table) (site : Site) (calls' : HasLaunchCalls table.call
       let exec = leads_parts (start_world table site) ((mounting ++ identity_steps lines wanted) ++ filter_steps lines wanted.programs) (program_steps lines wanted.program) last l' in
       let push = leads_parts (start_world table site) (mounting ++ identity_steps lines wanted) (filter_steps lines wanted.programs) exec.mid exec.before in
       let ready = ready_at wanted plan push.mid begins small push.before in
-      let filters = filtered [] plan (IsReady wanted.uid wanted.ambient) wanted.programs [] push.mid exec.mid ready push.after in
-      let at = executed_here wanted.uid wanted.ambient wanted.program filters.codes' plan exec.mid last unmarked filters.at exec.after in
-      record { codes' = filters.codes'; read = filters.read; at = at }
+      record { mid = exec.mid; filters = filtered [] plan (IsReady wanted.uid wanted.ambient) wanted.programs [] push.mid exec.mid ready push.after; runs = exec.after }
+
+  launched_at : (wanted : Wanted) (plan : Table) (last : World) → BeginsAtHostRoot plan → wanted.uid < no_id → is_privileged_row (finds (row_at site.rows) plan wanted.program) ≡ false
+      → Leads (start_world table site) (launch_steps table.calls wanted plan) last → Filtered [] plan IsLaunchedCreds wanted.programs [] last
+  launched_at wanted plan last begins small unmarked l =
+      let before = before_program wanted plan last begins small l in
+      let filters = before.filters in
+      record { codes' = filters.codes'; read = filters.read; at = executed_here wanted.uid wanted.ambient wanted.program filters.codes' plan before.mid last unmarked filters.at before.runs }
 
 leaves : (table : calls.Table) (site : Site) (calls' : HasLaunchCalls table.calls) (wanted : Wanted) (plan : Table) (last : World) → Filtered table site calls' [] plan IsLaunchedCreds wanted.programs [] last → Leaves table site wanted plan last
 leaves table site calls' wanted plan last f =

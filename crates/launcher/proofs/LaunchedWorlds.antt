@@ -1,6 +1,6 @@
 -- A launch by the programs of settings leaves what the judge stands on.
-use Rattle.std.proofs.Common.{◌≡◌, ℕ, zero, suc, Bool, true, false, cond, List, [], ◌∷◌, ◌++◌, Option, Some, None, ◌⊎◌, inl, inr, refl, ap, ◌∙◌, sym, subst, arith}
-use Rattle.std.specs.Prelude.{◌==◌, ◌≤◌, ◌<◌, ◌^◌, find, reverse, option_and_then, unwrap_or, IfSome, is_some}
+use Rattle.std.proofs.Common.{◌≡◌, ℕ, Bool, true, false, cond, List, [], ◌∷◌, Option, Some, None, inl, inr, refl, ap, ◌∙◌, sym, subst, arith}
+use Rattle.std.specs.Prelude.{◌==◌, ◌≤◌, find, reverse, option_and_then, unwrap_or, IfSome}
 use mathlib.Core.List.{reverse_aux}
 use Rattle.std.specs.List.{AllByRecursion}
 use Rattle.std.specs.Option.{option_map_or}
@@ -9,9 +9,8 @@ use Rattle.bpf_code.specs.declared.machine.Insn.{Insn}
 use Rattle.bpf_code.specs.declared.machine.CallData.{CallData}
 use Rattle.bpf_code.specs.Meaning.{IsCallData}
 use Rattle.bpf_code.specs.Refusing.{IsPlain, ArePlain}
-use Rattle.bpf_code.specs.Stack.{answer_of, answers_of}
+use Rattle.bpf_code.specs.Stack.{answers_of}
 use Rattle.call_table.specs.declared.listed.CallLine.{CallLine}
-use Rattle.call_table.specs.Facts.{IsWhole}
 use Rattle.call_table.specs.Lookups.{numbered}
 use Rattle.call_table.specs.Table as calls
 use Rattle.call_rules.specs.Action.{word_of}
@@ -21,7 +20,7 @@ use Rattle.linux_numbers.specs.Limits.{max_errno}
 use Rattle.filter_rules.specs.Actions.{unless_refused}
 use Rattle.filter_rules.specs.Refusing.{IsRefusing, HasRefusal, HasRefusals, AreRefusing}
 use Rattle.std.proofs.lemmas.List.Elements.{recursion_from_All}
-use Rattle.filter_rules.specs.Calls.{call_action, rest_action, list_action, listed_by, last_mention, if_adds, listed_action, unlisted_action}
+use Rattle.filter_rules.specs.Calls.{call_action, rest_action, listed_by, last_mention, if_adds, listed_action, unlisted_action}
 use Rattle.filter_rules.specs.Covers.{covers}
 use Rattle.filter_rules.specs.declared.mentions.CallList.{CallList}
 use Rattle.filter_rules.specs.declared.mentions.Mention.{Mention}
@@ -32,15 +31,15 @@ use Rattle.filter_rules.specs.declared.names.FilterName.TheVariants.{Families, M
 use Rattle.filter_rules.specs.declared.settings.FilterSettings.{FilterSettings}
 use Rattle.filter_rules.specs.Wanted.{named_action, unnamed_action, wanted_action}
 use Rattle.kernel_laws.specs.FirstChoice.{Means}
-use Rattle.launcher.specs.Launch.{Wanted, Launched, launch}
-use Rattle.kernel_laws.specs.Launched.{Launch, IsLaunched, IsLaunchedWorld, launch_of, first_of, process_or}
+use Rattle.launcher.specs.Launch.{Wanted}
+use Rattle.kernel_laws.specs.Launched.{Launch, IsLaunched, first_of, process_or}
 use Rattle.kern_mounts.specs.Split.{Table}
 use Rattle.kernel_model.specs.World.{World, of_number}
 use Rattle.kernel_model.specs.declared.process.Process.{Process}
 use Rattle.kernel_laws.proofs.SettingsChoose.{settings_choose}
 use Rattle.launcher.specs.Launches.{AreRead, Leaves}
 use Rattle.launcher.specs.LaunchedWorlds.{IsMeant, LaunchedIsWorld}
-use Rattle.kern_mounts.specs.Launch.{CanBeMounted, BeginsAtRoot}
+use Rattle.kern_mounts.specs.Launch.{BeginsAtRoot}
 use Rattle.launcher.proofs.LaunchWorld.{launch_leaves}
 use Rattle.site_table.specs.Table.{Site}
 use Rattle.kern_mounts.specs.Table.{StartsAtRoot}

@@ -1,7 +1,6 @@
 -- How a launch ends does not rest on which programs the filters are.
-use Rattle.std.proofs.Common.{◌≡◌, ℕ, zero, suc, Bool, true, false, cond, codes, List, [], ◌∷◌, ◌++◌, Option, Some, None, ◌⊎◌, inl, inr, refl, ap, ◌∙◌, sym, subst, length, arith, eqb}
-use Rattle.std.specs.Prelude.{nat_le, ◌+◌, ◌<◌, ◌≤◌, ◌^◌, ◌||◌, not, map, All}
-use Rattle.std.specs.List.{AllByRecursion}
+use Rattle.std.proofs.Common.{◌≡◌, ℕ, suc, Bool, true, false, cond, codes, List, [], ◌∷◌, ◌++◌, Option, Some, None, ◌⊎◌, inl, inr, refl, ap, ◌∙◌, sym, subst, length, arith}
+use Rattle.std.specs.Prelude.{nat_le, ◌+◌, ◌<◌, ◌≤◌, ◌^◌, ◌||◌, not, All}
 use Rattle.std.specs.Option.{option_map_or}
 use Rattle.std.proofs.lemmas.Bool.Decides.{nat_tests}
 use Rattle.std.proofs.lemmas.List.Elements.{All-from_recursion}
@@ -24,32 +23,27 @@ use Rattle.site_table.specs.Table.{Site, row_at}
 use Rattle.kern_creds.specs.declared.creds.Creds.{Creds}
 use Rattle.kern_mounts.specs.Finds.{finds}
 use Rattle.kernel_calls.specs.declared.call.Call.{Call}
-use Rattle.kernel_calls.specs.declared.payload.Payload.{Payload}
 use Rattle.kernel_calls.specs.declared.payload.Payload.TheVariants.{OnePath, Code}
-use Rattle.kernel_calls.specs.declared.rule.Rule.TheVariants as rule
-use Rattle.call_names.specs.declared.rule.CallRule.TheVariants as known
 use Rattle.kernel_calls.specs.declared.rule.Rule.{Rule}
 use Rattle.kernel_calls.specs.Doing as d
 use Rattle.kernel_calls.specs.Doing.{Asked, Does, asked_of, asked_by}
 use Rattle.kernel_model.specs.Effects as f
 use Rattle.kernel_model.specs.Effects.{Effect, push_effect, seccomp_effect}
-use Rattle.launcher.specs.Launch.{Wanted, LaunchStep, Makes, Ending, Launched, StepRefused, StepKilled, PrivilegedProgram, makes, first_call, number_of, launch_step, launch_steps, launch_on, launch_from, launch, is_privileged_row, mount_steps, with_unshare, identity_steps, filter_steps, program_steps}
+use Rattle.launcher.specs.Launch.{LaunchStep, Ending, Launched, StepRefused, StepKilled, PrivilegedProgram, first_call, number_of, launch_step, launch_steps, launch_on, launch_from, is_privileged_row, mount_steps, with_unshare, identity_steps, filter_steps, program_steps}
 use Rattle.kern_mounts.specs.Split.{Table}
 use Rattle.kernel_model.specs.Runs.{IsDone}
 use Rattle.kernel_model.specs.declared.reply.Reply.TheVariants as w
-use Rattle.kernel_model.specs.World.{World, start_world, host_of, caller_of}
-use Rattle.kernel_model.specs.declared.process.Process.{Process}
+use Rattle.kernel_model.specs.World.{World, start_world}
 use Rattle.kernel_model.specs.declared.reply.Reply.{Reply}
-use Rattle.kernel_model.specs.Step.{step, applied, answered, decided, data_of}
-use Rattle.launcher.specs.Alike.{AnswerAlike, above, over}
+use Rattle.kernel_model.specs.Step.{step, applied, answered, decided}
+use Rattle.launcher.specs.Alike.{AnswerAlike, above}
 use Rattle.launcher.specs.Launches.{HasLaunchCalls, AreRead}
-use Rattle.launcher.specs.LaunchesAlike.{EndAlike, AreInstalled, LaunchesAlike}
-use Rattle.launcher.proofs.Solo.{At, solo, only}
-use Rattle.launcher.proofs.LaunchCreds.{IsReady}
+use Rattle.launcher.specs.LaunchesAlike.{EndAlike, LaunchesAlike}
+use Rattle.launcher.proofs.Solo.{solo, only}
 use Rattle.launcher.proofs.LaunchCalls.{launch_calls}
 use Rattle.launcher.proofs.Leading.{Leads, append_assoc, append_none, append_split}
 use Rattle.launcher.proofs.LaunchWorld.{ready_at}
-use Rattle.launcher.proofs.HostRoot.{BeginsAtHostRoot, begins_at_host}
+use Rattle.launcher.proofs.HostRoot.{begins_at_host}
 use Rattle.mount_plan.specs.Host.{host_of as site_host}
 use Rattle.launcher.proofs.Alike.{own_alike, own_step, lifted, step_above, same_answers, FullInOne}
 use Rattle.linux_numbers.specs.Errnos.{eacces, enomem}

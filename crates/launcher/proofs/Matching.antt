@@ -1,10 +1,9 @@
 -- Programs that match the filters of settings, one for each.
-use Rattle.std.proofs.Common.{◌≡◌, ℕ, List, [], ◌∷◌, refl, ap, ◌∙◌, sym, length, arith}
+use Rattle.std.proofs.Common.{List, [], ◌∷◌, ap, ◌∙◌, sym, length, arith}
 use Rattle.std.specs.Prelude.{◌≤◌, ◌+◌}
 use Rattle.std.specs.List.{AllByRecursion}
 use Rattle.std.proofs.lemmas.List.Sums.{sum_by-cons}
 use Rattle.bpf_code.specs.declared.machine.Insn.{Insn}
-use Rattle.bpf_code.specs.declared.machine.CallData.{CallData}
 use Rattle.bpf_code.specs.Stack.{room_of}
 use Rattle.bpf_code.proofs.Stacks.{answer_is}
 use Rattle.call_rules.specs.Action.{case_action, word_of}
@@ -16,7 +15,7 @@ use Rattle.filter_rules.specs.declared.installed.Filter.{Filter}
 use Rattle.filter_rules.specs.declared.settings.FilterSettings.{FilterSettings}
 use Rattle.kernel_laws.specs.FirstChoice.{Means}
 use Rattle.launcher.specs.Alike.{AnswerAlike}
-use Rattle.launcher.specs.Matching.{IsMatch, AreMatching, MatchingLaws}
+use Rattle.launcher.specs.Matching.{AreMatching, MatchingLaws}
 
 pub means : (settings : FilterSettings) (table : calls.Table) (filters : List Filter) (stack : List (List Insn))
     → AllByRecursion (HasWantedRules settings table) filters → AreMatching filters stack → AllByRecursion (Means settings table) stack

@@ -1,10 +1,8 @@
 -- The mount steps of a launch make the plan.
-use Rattle.std.proofs.Common.{◌≡◌, ℕ, Bool, true, false, cond, codes, List, [], ◌∷◌, ◌++◌, Option, Some, refl, ap, ◌∙◌, sym, subst}
+use Rattle.std.proofs.Common.{◌≡◌, Bool, true, false, cond, codes, List, [], ◌∷◌, ◌++◌, refl, ap, ◌∙◌, sym, subst}
 use Rattle.std.specs.Prelude.{map, ◌||◌}
-use Rattle.std.specs.List.{AllByRecursion}
 use Rattle.abs_path.specs.Paths.{Path, is_root}
 use Rattle.bpf_code.specs.declared.machine.Insn.{Insn}
-use Rattle.call_names.specs.declared.rule.CallRule.TheVariants as known
 use Rattle.call_table.specs.Table as calls
 use Rattle.site_table.specs.Table.{Site}
 use Rattle.kern_creds.specs.declared.creds.Creds.{Creds}
@@ -17,7 +15,7 @@ use Rattle.kernel_calls.specs.declared.payload.Payload.TheVariants.{Nothing}
 use Rattle.kernel_model.specs.MountStep.{with_step, with_first_flags}
 use Rattle.kernel_model.specs.World.{World}
 use Rattle.kernel_laws.specs.Questions.{if_so}
-use Rattle.launcher.specs.Launch.{LaunchStep, Mounts, makes, launch_step, mount_steps, with_unshare, has_flags, new_mounts}
+use Rattle.launcher.specs.Launch.{Mounts, makes, launch_step, mount_steps, with_unshare, has_flags, new_mounts}
 use Rattle.launcher.specs.Launches.{HasLaunchCalls}
 use Rattle.launcher.proofs.HostRoot.{AreBelowRoot, BeginsAtHostRoot}
 use Rattle.launcher.proofs.Leading.{Leads, append_assoc, append_none}

@@ -1,5 +1,5 @@
 -- The mounts of a launch, one after another.
-use Rattle.std.proofs.Common.{◌≡◌, ℕ, zero, suc, Bool, true, false, cond, codes, List, [], ◌∷◌, ◌++◌, Option, Some, None, Result, Ok, Err, ◌⊎◌, inl, inr, refl, ap, ◌∙◌, sym, subst, length, drop, get_or, drop-cons, add-one, ◌<◌, ◌≤◌, arith, eqb}
+use Rattle.std.proofs.Common.{◌≡◌, ℕ, zero, suc, Bool, true, false, cond, codes, List, [], ◌∷◌, ◌++◌, Option, Some, None, Ok, Err, refl, ap, ◌∙◌, sym, subst, length, drop, get_or, drop-cons, add-one, ◌<◌, ◌≤◌, arith, eqb}
 use Rattle.std.specs.Prelude.{map, slice_get, slice_set, ◌+◌, ◌-◌}
 use Rattle.std.proofs.lemmas.List.{drop_all, length-append}
 use Rattle.abs_path.specs.Paths.{is_root}
@@ -17,8 +17,8 @@ use Rattle.kernel_model.specs.MountStep.{CanStep, HasRoom, after_mount_step, ste
 use Rattle.kernel_model.specs.World.{World, living_of, of_number, put_number, table_of, table_or}
 use Rattle.launcher.specs.declared.error.LaunchError.{LaunchError}
 use Rattle.launcher.specs.declared.error.LaunchError.TheVariants as error
-use Rattle.launcher.specs.Ends.{Begins, Ends, StepsTo, IsStart, HasRoomBy, HasRoomFor, with_mounts}
-use Rattle.launcher.specs.Launch.{LaunchStep, Mounts, Ending, launch_step, launch_from, makes, mount_steps, with_unshare, new_mounts}
+use Rattle.launcher.specs.Ends.{Begins, StepsTo, IsStart, HasRoomBy, HasRoomFor, with_mounts}
+use Rattle.launcher.specs.Launch.{LaunchStep, Mounts, launch_from, makes, mount_steps, with_unshare, new_mounts}
 use Rattle.launcher.proofs.LaunchCalls.{launch_calls}
 use Rattle.launcher.proofs.CallsMade.{step_done, step_ends}
 use Rattle.launcher.proofs.Solo.{At, solo, makes_unshare, own_table}

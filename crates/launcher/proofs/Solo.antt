@@ -1,13 +1,12 @@
 -- A world with one process, and what a call of it that is done leaves.
-use Rattle.std.proofs.Common.{◌≡◌, ℕ, zero, suc, Bool, true, false, cond, codes, List, [], ◌∷◌, ◌++◌, Option, Some, None, Result, Ok, Err, refl, ap, ◌∙◌, sym, subst, length, arith, eqb}
-use Rattle.std.specs.Prelude.{slice_get, slice_set, nat_lt, nat_le, ◌-◌, ◌+◌, ◌||◌, not, map}
+use Rattle.std.proofs.Common.{◌≡◌, ℕ, zero, suc, Bool, true, false, cond, codes, List, [], ◌∷◌, ◌++◌, Option, Some, None, Result, Ok, Err, refl, ap, ◌∙◌, subst, length}
+use Rattle.std.specs.Prelude.{slice_get, slice_set, nat_lt, nat_le, ◌-◌, ◌+◌, ◌||◌, not}
 use Rattle.bpf_code.specs.declared.machine.Insn.{Insn}
 use Rattle.bpf_code.specs.declared.decision.Decision.{Decision}
 use Rattle.bpf_code.specs.declared.decision.Decision.TheVariants as decision
 use Rattle.bpf_code.specs.Stack.{decision_on, room_of}
 use Rattle.bpf_code.specs.ProgramOf.{program_of}
 use Rattle.cap_sets.specs.Sets.{has}
-use Rattle.call_table.specs.declared.listed.CallLine.{CallLine}
 use Rattle.call_table.specs.Table as calls
 use Rattle.site_table.specs.Table.{Site}
 use Rattle.kern_creds.specs.declared.creds.Creds.{Creds}
@@ -23,7 +22,7 @@ use Rattle.kernel_calls.specs.Doing as d
 use Rattle.kernel_calls.specs.Doing.{Doing, Asked, doing_by, asked_by, asked_if, asked_of}
 use Rattle.kernel_model.specs.Effects as f
 use Rattle.kernel_model.specs.Effects.{Effect, Host, Caller, effect_of, creds_effect, push_effect, seccomp_effect}
-use Rattle.launcher.specs.Launch.{LaunchStep, Makes, Mounts, number_of, first_call, makes, launch_step, new_mounts}
+use Rattle.launcher.specs.Launch.{LaunchStep, Mounts, number_of, first_call, makes, launch_step, new_mounts}
 use Rattle.kernel_model.specs.MountStep.{with_step}
 use Rattle.kern_mounts.specs.Split.{Table}
 use Rattle.kernel_model.specs.Runs.{IsDone}

@@ -4,7 +4,6 @@ use Rattle.std.specs.Prelude.{◌^◌}
 use Rattle.std.specs.List.{AllByRecursion}
 use Rattle.std.proofs.lemmas.List.Elements.{recursion_from_All}
 use Rattle.bpf_code.specs.declared.machine.Insn.{Insn}
-use Rattle.bpf_code.specs.ProgramOf.{program_of}
 use Rattle.call_table.specs.Facts.{IsWhole}
 use Rattle.call_table.specs.Table as calls
 use Rattle.dropin_merge.specs.declared.resolved.Resolved.{Resolved}

@@ -1,6 +1,6 @@
 -- What a launch asks of settings: each rule set can be made a program, all programs have room in one stack (seccomp(2)), and
 -- the ids are none that stands for no id (setresuid(2)).
-use Rattle.std.specs.Prelude.{ℕ, ◌<◌, ◌≤◌}
+use Rattle.std.specs.Prelude.{◌<◌, ◌≤◌}
 use Rattle.std.specs.List.{All}
 use Rattle.call_rules.specs.Sizes.{CanCompile}
 use Rattle.call_table.specs.Table.{Table}

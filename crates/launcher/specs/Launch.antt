@@ -1,6 +1,6 @@
 -- The launch of a service (systemd.exec(5), capabilities(7)): a list of steps, each a call of process 1 or a change of its
 -- mount table. The first that is not done ends it.
-use Rattle.std.specs.Prelude.{ℕ, ◌+◌, ◌==◌, ◌&&◌, ◌||◌, not, Bool, false, codes, List, [], ◌∷◌, ◌++◌, map, filter, Option, Some, None, if◌then◌else◌}
+use Rattle.std.specs.Prelude.{ℕ, ◌+◌, ◌==◌, ◌&&◌, ◌||◌, not, Bool, false, codes, List, [], ◌∷◌, ◌++◌, map, filter, if◌then◌else◌}
 use Rattle.std.specs.Option.{option_map_or}
 use Rattle.abs_path.specs.Paths.{Path}
 use Rattle.cap_sets.specs.Sets.{has, all}

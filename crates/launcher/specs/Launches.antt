@@ -1,6 +1,5 @@
 -- What a launch that ends well leaves.
-use Rattle.std.specs.Prelude.{◌≡◌, ℕ, ◌<◌, codes, true, false, List, [], ◌∷◌, length, Some}
-use Rattle.abs_path.specs.Paths.{Path}
+use Rattle.std.specs.Prelude.{◌≡◌, ℕ, ◌<◌, codes, true, List, [], ◌∷◌, length, Some}
 use Rattle.bpf_code.specs.declared.machine.Insn.{Insn}
 use Rattle.bpf_code.specs.ProgramOf.{program_of}
 use Rattle.call_names.specs.declared.rule.CallRule.TheVariants.{Unshare, Setgroups, Setresgid, Prctl, Capset, Setresuid, Seccomp, Execve}

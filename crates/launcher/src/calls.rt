@@ -1,6 +1,6 @@
 //! The calls of a launch: process 1 makes them, with the numbers of a table, and contracts see them as steps.
 
-ghost use Rattle.std.specs.Prelude.{◌≡◌, ◌∷◌, [], ◌++◌, map, IfOk, OnOk};
+ghost use Rattle.std.specs.Prelude.{◌≡◌, ◌∷◌, [], ◌++◌, map, OnOk};
 ghost use Rattle.kernel_laws.specs.Questions.{if_so};
 ghost use Rattle.launcher.specs.Launch.{Makes, number_of, first_call, makes, capset_step, prctl_step};
 

@@ -4,7 +4,7 @@ ghost use Rattle.std.specs.Prelude.{◌≡◌};
 ghost use Rattle.launcher.specs.declared.error.LaunchError.TheVariants.{Memory};
 
 use abs_path::AbsPath;
-use std::alloc::{AllocError, AllocFailed};
+use std::alloc::AllocError;
 use std::fmt::{self, Debug, Formatter, Write};
 use thiserror::Error;
 
@@ -25,12 +25,6 @@ pub enum LaunchError {
     Memory,
 }
 
-impl Debug for LaunchError {
-    fn fmt<W: Write>(&self, f: &mut Formatter<W>) -> fmt::Result {
-        write!(f, "{self}")
-    }
-}
-
 impl From<AllocError> for LaunchError {
     ghost from_gives = { λ _ e. e ≡ Memory };
 
@@ -39,10 +33,8 @@ impl From<AllocError> for LaunchError {
     }
 }
 
-impl<T: Drop> From<AllocFailed<T>> for LaunchError {
-    ghost from_gives = { λ _ e. e ≡ Memory };
-
-    fn from(_: AllocFailed<T>) -> Self {
-        LaunchError::Memory
+impl Debug for LaunchError {
+    fn fmt<W: Write>(&self, f: &mut Formatter<W>) -> fmt::Result {
+        write!(f, "{self}")
     }
 }

@@ -1,6 +1,6 @@
 //! The programs of filters, which contracts see as a list.
 
-ghost use Rattle.std.specs.Prelude.{◌≡◌, IfOk};
+ghost use Rattle.std.specs.Prelude.{IfOk};
 ghost use Rattle.std.specs.List.{All};
 ghost use Rattle.call_rules.specs.Sizes.{CanCompile};
 ghost use Rattle.launcher.specs.Answers.{AreProgramsOf, IsProgramOf};

@@ -1,6 +1,6 @@
 //! The launch of a service.
 
-ghost use Rattle.std.specs.Prelude.{◌≡◌, ◌+◌, ◌<◌, ◌≤◌, ◌^◌, ◌++◌, length, IfOk};
+ghost use Rattle.std.specs.Prelude.{◌+◌, ◌<◌, ◌≤◌, ◌^◌, ◌++◌, length, IfOk};
 ghost use Rattle.call_table.specs.Facts.{IsWhole};
 ghost use Rattle.kern_mounts.specs.Launch.{CanBeMounted};
 ghost use Rattle.mount_plan.specs.Host.{host_of};

@@ -1,10 +1,8 @@
 //! Whether a program has a set-id bit or capabilities, by what its path finds on a plan (execve(2), capabilities(7)).
 
-ghost use Rattle.std.specs.Prelude.{◌≡◌, ◌++◌, option_map, option_copied, true, if◌then◌else◌};
-ghost use Rattle.abs_path.specs.Paths.{parts_of};
-ghost use Rattle.abs_path.specs.Prefix.{IsRest, is_prefix, rest_of};
+ghost use Rattle.std.specs.Prelude.{◌≡◌, option_map, option_copied, true, if◌then◌else◌};
+ghost use Rattle.abs_path.specs.Prefix.{is_prefix};
 ghost use Rattle.site_table.specs.Table.{row_at};
-ghost use Rattle.kern_files.specs.Executing.{marks_of};
 ghost use Rattle.kern_creds.specs.Exec.{is_privileged};
 ghost use Rattle.kern_mounts.specs.Entry.{entry_of, leads_to};
 ghost use Rattle.kern_mounts.specs.Finds.{row, found_by, finds, row_or_nothing};

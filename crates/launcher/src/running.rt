@@ -1,6 +1,6 @@
 //! Calls of a launch, made in turn up to the first that is not done.
 
-ghost use Rattle.std.specs.Prelude.{◌≡◌, ◌+◌, ◌<◌, ◌^◌, map, length};
+ghost use Rattle.std.specs.Prelude.{◌+◌, ◌<◌, ◌^◌, map, length};
 ghost use Rattle.launcher.specs.Ends.{Ends, StepsTo, RepliesTo};
 ghost use Rattle.launcher.specs.Launch.{Makes, launch_from};
 

@@ -1,11 +1,11 @@
-use Rattle.std.proofs.Common.{◌≡◌, ◌≤◌, ◌∙◌, sym, ap, subst, refl, List, length, Ok, Err, false}
+use Rattle.std.proofs.Common.{◌≡◌, ◌≤◌, ◌∙◌, sym, subst, refl, List, length, Ok, Err, false}
 use Rattle.kern_mounts.specs.Finds.{finds}
 use Rattle.kernel_laws.specs.Launched.{IsLaunchedWorld}
 use Rattle.kernel_model.specs.World.{World}
 use Rattle.site_table.specs.Table.{row_at}
 use Rattle.launcher.specs.declared.launched.Launched.{Launched as Service}
 use Rattle.launcher.specs.Answers.{AreProgramsOf, EndsAs, LaunchesTo, LeavesService, given_bytes, wanted_of}
-use Rattle.launcher.specs.Launch.{LaunchStep, Launched, is_privileged_row}
+use Rattle.launcher.specs.Launch.{LaunchStep, is_privileged_row}
 use Rattle.launcher.proofs.Answered.{at_error, ends_refused, service_left, steps_end}
 use Rattle.launcher.proofs.Counted.{few_calls}
 use Rattle.launcher.proofs.UnitLaunched.{unit_launched}
@@ -34,8 +34,8 @@ returns-in_err-steps-clause-ends_as_its_steps_do c =
     at_error (EndsAs table site settings plan) c.from_residual-in_err-steps.result e c.from_residual-in_err-steps.ensures.1
     (ends_refused table site settings plan c.look_at.ensures.whole c.look_at.ensures.arch c.requires.plan c.requires.settings made are plain e after ends)
 
-pub returns-clause-leaves_one_process : goal.returns-clause-leaves_one_process
-returns-clause-leaves_one_process c =
+pub returns : goal.returns
+returns c =
     let table = c.args.calls.now in
     let site = c.args.site.now in
     let settings = c.args.settings.now in
@@ -47,20 +47,11 @@ returns-clause-leaves_one_process c =
     let ends = steps_end table site settings plan c.look_at.ensures.whole c.look_at.ensures.arch c.requires.plan c.requires.settings made are plain c.in_ok-list.list c.in_ok-world.world (Ok c.in_ok-steps.steps) after c.in_ok-world.ensures.starts c.in_ok-list.ensures c.in_ok-steps.ensures in
     let service : Service = record { world = after; program = c.in_ok-copy-2.field-0; filters = made; steps = c.in_ok-steps.steps } in
     let launched : LaunchesTo table site settings plan service = record { program = c.in_ok-copy-2.ensures.same; filters = are; ends = ends } in
-    subst (λ (world : World). LeavesService table site settings plan (record service { world = world })) (sym c.world.view_is)
-    (service_left table site settings plan c.look_at.ensures.whole c.look_at.ensures.arch c.requires.plan c.requires.settings service launched)
-
-pub returns-clause-is_a_launched_world : goal.returns-clause-is_a_launched_world
-returns-clause-is_a_launched_world c = λ unit are_settings.
-    let table = c.args.calls.now in
-    let site = c.args.site.now in
-    let settings = c.args.settings.now in
-    let plan = c.args.plan.now in
-    let made = c.in_ok-filters.filters in
-    let after : World = c.make_steps.new.world in
-    let are : AreProgramsOf settings.filters.items made = subst (λ filters. AreProgramsOf filters made) c.deref.ensures.value c.in_ok-filters.ensures in
-    let plain : is_privileged_row (finds (row_at site.rows) plan settings.program) ≡ false = sym c.is_privileged.ensures ∙ c.if-is_privileged.false in
-    let ends = steps_end table site settings plan c.look_at.ensures.whole c.look_at.ensures.arch c.requires.plan c.requires.settings made are plain c.in_ok-list.list c.in_ok-world.world (Ok c.in_ok-steps.steps) after c.in_ok-world.ensures.starts c.in_ok-list.ensures c.in_ok-steps.ensures in
-    let service : Service = record { world = after; program = c.in_ok-copy-2.field-0; filters = made; steps = c.in_ok-steps.steps } in
-    let launched : LaunchesTo table site settings plan service = record { program = c.in_ok-copy-2.ensures.same; filters = are; ends = ends } in
-    subst IsLaunchedWorld (sym c.world.view_is) (unit_launched unit table site settings plan service c.look_at.ensures.whole c.look_at.ensures.arch c.requires.plan c.requires.settings are_settings launched)
+    record {
+      ends_as_its_steps_do = subst (λ (world : World). LaunchesTo table site settings plan (record service { world = world })) (sym c.world.view_is) launched;
+      leaves_one_process =
+          subst (λ (world : World). LeavesService table site settings plan (record service { world = world })) (sym c.world.view_is)
+          (service_left table site settings plan c.look_at.ensures.whole c.look_at.ensures.arch c.requires.plan c.requires.settings service launched);
+      is_a_launched_world = λ unit are_settings.
+          subst IsLaunchedWorld (sym c.world.view_is) (unit_launched unit table site settings plan service c.look_at.ensures.whole c.look_at.ensures.arch c.requires.plan c.requires.settings are_settings launched);
+    }
