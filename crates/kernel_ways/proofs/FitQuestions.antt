@@ -11,6 +11,7 @@ use Rattle.site_table.specs.declared.accounts.Group.{Group}
 use Rattle.site_table.specs.Table.{Site, IsSite, IsRowOf, IsUser, IsGroup}
 use Rattle.kernel_calls.specs.Rules.{rule_of}
 use Rattle.site_table.specs.Kinds.{is_dir, is_exe}
+use Rattle.kernel_model.proofs.Lists.{each-append}
 use Rattle.kernel_laws.specs.Questions.{Question, ByPath, Call, Cap, Uid, Gid, ToWrite, ToExec, is_plain, if_so, of_row, of_rows, of_calls, of_families, count_from, placed, ascending, some_ids, joined, uids_of, gids_of, other_questions, questions}
 use Rattle.kernel_ways.specs.Laws.{IsFit, ListedAreFit}
 
@@ -38,10 +39,6 @@ module _ (table : calls.Table) (site : Site) (ids : IsSite site) where
   abbrev AllFit : List Question → Type 0
   AllFit list = AllByRecursion (IsFit site) list
 
-  both : (one other : List Question) → AllFit one → AllFit other → AllFit (one ++ other)
-  both [] other h g = g
-  both (q ∷ one) other h g = (h.0, both one other h.1 g)
-
   fit_if : (b : Bool) (q : Question) → (b ≡ true → IsFit site q) → AllFit (if_so b q)
   fit_if true q h = (h refl, tt)
   fit_if false q h = tt
@@ -58,11 +55,11 @@ module _ (table : calls.Table) (site : Site) (ids : IsSite site) where
       let count : length (front ++ row ∷ []) ≡ at + 1 = length-append front (row ∷ []) in
       let P : ℕ → Type 0 = λ n. AllFit (of_rows n rows) in
       let here : slice_get site.rows at ≡ Some row = ap (λ (l : List Row). slice_get l at) whole ∙ get_at front row rows in
-      both (of_row at row) (of_rows (at + 1) rows) (
+      each-append (IsFit site) (of_row at row) (of_rows (at + 1) rows) (
         tt,
         (
           tt,
-          both (if_so (not (is_dir row.kind)) (ByPath ToWrite at)) (if_so (is_exe row.kind) (ByPath ToExec at))
+          each-append (IsFit site) (if_so (not (is_dir row.kind)) (ByPath ToWrite at)) (if_so (is_exe row.kind) (ByPath ToExec at))
               (fit_if (not (is_dir row.kind)) (ByPath ToWrite at) (λ e own listed. let same : row ≡ own = cc in ap (λ (r : Row). is_dir r.kind) (sym same) ∙ not-true (is_dir row.kind) e))
               (fit_if (is_exe row.kind) (ByPath ToExec at) (λ e own listed. let same : row ≡ own = cc in ap (λ (r : Row). is_exe r.kind) (sym same) ∙ e)),
         ),
@@ -71,7 +68,7 @@ module _ (table : calls.Table) (site : Site) (ids : IsSite site) where
 
   calls_fit : (at : ℕ) (lines : List CallLine) → AllFit (of_calls at lines)
   calls_fit at [] = tt
-  calls_fit at (line ∷ lines) = both (if_so (is_plain (rule_of line)) (Call at)) (of_calls (at + 1) lines) (fit_if (is_plain (rule_of line)) (Call at) (λ e. tt)) (calls_fit (at + 1) lines)
+  calls_fit at (line ∷ lines) = each-append (IsFit site) (if_so (is_plain (rule_of line)) (Call at)) (of_calls (at + 1) lines) (fit_if (is_plain (rule_of line)) (Call at) (λ e. tt)) (calls_fit (at + 1) lines)
 
   families_fit : (at : ℕ) (lines : List CallLine) → AllFit (of_families at lines)
   families_fit at [] = tt
@@ -149,12 +146,12 @@ module _ (table : calls.Table) (site : Site) (ids : IsSite site) where
       let three : List Question = two ++ other_questions in
       let four : List Question = three ++ map Cap (count_from 0 41) in
       let five : List Question = four ++ map Uid (uids_of site) in
-      let h = both (of_rows 0 site.rows) (of_calls 0 table.calls) (rows_fit [] site.rows refl) (calls_fit 0 table.calls) in
-      let h = both one (of_families 0 table.families) h (families_fit 0 table.families) in
-      let h = both two other_questions h others_fit in
-      let h = both three (map Cap (count_from 0 41)) h (caps_fit (count_from 0 41)) in
-      let h = both four (map Uid (uids_of site)) h (uids_fit (uids_of site) uids_small) in
-      both five (map Gid (gids_of site)) h (gids_fit (gids_of site) gids_small)
+      let h = each-append (IsFit site) (of_rows 0 site.rows) (of_calls 0 table.calls) (rows_fit [] site.rows refl) (calls_fit 0 table.calls) in
+      let h = each-append (IsFit site) one (of_families 0 table.families) h (families_fit 0 table.families) in
+      let h = each-append (IsFit site) two other_questions h others_fit in
+      let h = each-append (IsFit site) three (map Cap (count_from 0 41)) h (caps_fit (count_from 0 41)) in
+      let h = each-append (IsFit site) four (map Uid (uids_of site)) h (uids_fit (uids_of site) uids_small) in
+      each-append (IsFit site) five (map Gid (gids_of site)) h (gids_fit (gids_of site) gids_small)
 
 pub listed_are_fit : ListedAreFit
 listed_are_fit table site ids = all_fit table site ids

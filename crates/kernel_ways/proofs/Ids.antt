@@ -103,6 +103,9 @@ module _ (launch : Launch) (l : IsLaunched launch) (o : Offers launch) where
   at_start : (uids gids : Bool) (P : Creds → Type 0) → P launch.creds → Taken uids gids P
   at_start uids gids P h = record { calls = []; creds = launch.creds; now = launch.table; way = here; has = h; no_uid = λ e. tt; no_gid = λ e. tt }
 
+  after_ran : (uids gids : Bool) (target : Row) (r : RanRow uids target) (P : Creds → Type 0) → P (exec_done r.creds (marks_of target) false) → Taken uids gids P
+  after_ran uids gids target r P h = record { calls = r.calls; creds = exec_done r.creds (marks_of target) false; now = r.now; way = r.way; has = h; no_uid = r.no_uid; no_gid = λ e. r.no_gid }
+
   -- the ids of the launch, and those of the rows that are run
   module _ (uids gids : Bool) (power : Power) (p : Powered uids power) (id : ℕ) where
     owned : launch.creds.no_new_privs ≡ false → list_any (owned_by launch power id) launch.site.rows ≡ true → Taken uids gids (λ creds. creds.uids.effective ≡ id)
@@ -110,15 +113,7 @@ module _ (launch : Launch) (l : IsLaunched launch) (o : Offers launch) where
         let x = any_listed (owned_by launch power id) launch.site.rows h in
         let both = and_parts (can_run launch power x.1) (is_owner id x.1.setuid) x.3 in
         let r = ran_row uids power p x.0 x.1 x.2 both.0 in
-        record {
-          calls = r.calls;
-          creds = exec_done r.creds (marks_of x.1) false;
-          now = r.now;
-          way = r.way;
-          has = gains.uid_after r.creds (marks_of x.1) (r.basis.mark ∙ free) ∙ owner_is id x.1.setuid r.creds.uids.effective both.1;
-          no_uid = r.no_uid;
-          no_gid = λ e. r.no_gid;
-        }
+        after_ran uids gids x.1 r (λ creds. creds.uids.effective ≡ id) (gains.uid_after r.creds (marks_of x.1) (r.basis.mark ∙ free) ∙ owner_is id x.1.setuid r.creds.uids.effective both.1)
 
     pub uid_without : (eqb id launch.creds.uids.effective || (not launch.creds.no_new_privs && list_any (owned_by launch power id) launch.site.rows)) ≡ true → Taken uids gids (λ creds. creds.uids.effective ≡ id)
     uid_without h = elim (or_cases (eqb id launch.creds.uids.effective) (not launch.creds.no_new_privs && list_any (owned_by launch power id) launch.site.rows) h) [
@@ -131,15 +126,7 @@ module _ (launch : Launch) (l : IsLaunched launch) (o : Offers launch) where
         let x = any_listed (grouped_by launch power id) launch.site.rows h in
         let both = and_parts (can_run launch power x.1) (is_owner id x.1.setgid) x.3 in
         let r = ran_row uids power p x.0 x.1 x.2 both.0 in
-        record {
-          calls = r.calls;
-          creds = exec_done r.creds (marks_of x.1) false;
-          now = r.now;
-          way = r.way;
-          has = inl (gains.gid_after r.creds (marks_of x.1) (r.basis.mark ∙ free) ∙ owner_is id x.1.setgid r.creds.gids.effective both.1);
-          no_uid = r.no_uid;
-          no_gid = λ e. r.no_gid;
-        }
+        after_ran uids gids x.1 r (HasGid id) (inl (gains.gid_after r.creds (marks_of x.1) (r.basis.mark ∙ free) ∙ owner_is id x.1.setgid r.creds.gids.effective both.1))
 
     own_gid : (eqb id launch.creds.gids.effective || list_any (λ group. eqb id group) launch.creds.groups) ≡ true → Taken uids gids (HasGid id)
     own_gid h = elim (or_cases (eqb id launch.creds.gids.effective) (list_any (λ group. eqb id group) launch.creds.groups) h) [

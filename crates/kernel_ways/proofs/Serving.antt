@@ -55,15 +55,15 @@ use Rattle.kernel_laws.specs.Reach.{fits, Nowise}
 use Rattle.kernel_laws.proofs.Filters.{has_rule, found_number, lets_through}
 use Rattle.kernel_laws.proofs.Reach.{leads}
 use Rattle.kernel_laws.proofs.ReachLaws.{reach_of_the_table}
-use Rattle.launcher.specs.Launch.{Wanted, LaunchStep, Launched, launch, PrivilegedProgram, number_of, first_call, launch_from, launch_steps, mount_steps, with_unshare, identity_steps, filter_steps, program_steps, is_privileged_row}
+use Rattle.launcher.specs.Launch.{Wanted, Launched, launch, PrivilegedProgram, number_of, first_call, launch_from, launch_steps, program_steps, is_privileged_row}
 use Rattle.launcher.specs.LaunchedWorlds.{IsMeant}
 use Rattle.launcher.specs.Launches.{HasLaunchCalls, AreRead}
 use Rattle.launcher.proofs.HostRoot.{BeginsAtHostRoot, begins_at_host}
 use Rattle.launcher.proofs.LaunchCalls.{launch_calls}
 use Rattle.launcher.proofs.LaunchCreds.{IsReady}
-use Rattle.launcher.proofs.LaunchWorld.{ready_at, filtered}
+use Rattle.launcher.proofs.LaunchWorld.{before_program}
 use Rattle.launcher.proofs.LaunchedWorlds.{launched_is_world}
-use Rattle.launcher.proofs.Leading.{Leads, launched_leads, leads_parts, append_parts}
+use Rattle.launcher.proofs.Leading.{Leads, launched_leads}
 use Rattle.launcher.proofs.Solo.{At, solo, only, does, own_table}
 use Rattle.mount_plan.specs.Host.{host_of as site_host}
 use Rattle.reach_paths.specs.Finding.{FindsRow}
@@ -182,16 +182,9 @@ module _ (table : calls.Table) (site : Site) where
 
     launches : (last : World) → BeginsAtHostRoot plan → wanted.uid < no_id → Leads (start_world table site) (launch_steps table.calls wanted plan) last → Launches last
     launches last begins small l =
-        let lines = table.calls in
-        let mounting = with_unshare lines (mount_steps plan) in
-        let joined : launch_steps lines wanted plan ≡ ((mounting ++ identity_steps lines wanted) ++ filter_steps lines wanted.programs) ++ program_steps lines wanted.program =
-        sym (append_parts mounting (identity_steps lines wanted) (filter_steps lines wanted.programs) (program_steps lines wanted.program)) in
-        let l' = subst (λ (steps : List LaunchStep). Leads (start_world table site) steps last) joined l in
-        let exec = leads_parts (start_world table site) ((mounting ++ identity_steps lines wanted) ++ filter_steps lines wanted.programs) (program_steps lines wanted.program) last l' in
-        let push = leads_parts (start_world table site) (mounting ++ identity_steps lines wanted) (filter_steps lines wanted.programs) exec.mid exec.before in
-        let ready = ready_at table site calls' wanted plan push.mid begins small push.before in
-        let filters = filtered table site calls' [] plan (IsReady wanted.uid wanted.ambient) wanted.programs [] push.mid exec.mid ready push.after in
-        record { stack = filters.codes'; read = filters.read; ends = ends calls' plan wanted.program (IsReady wanted.uid wanted.ambient) filters.codes' exec.mid last filters.at exec.after }
+        let before = before_program table site calls' wanted plan last begins small l in
+        let filters = before.filters in
+        record { stack = filters.codes'; read = filters.read; ends = ends calls' plan wanted.program (IsReady wanted.uid wanted.ambient) filters.codes' before.mid last filters.at before.runs }
 
 -- ---- numbers
 -- what is found by its number has what all lines have
