@@ -1,16 +1,17 @@
 //! The command `filter` and the name of a unit.
-ghost use Rattle.std.specs.Prelude.{◌≡◌, IfOk, IsErrOf, IsSome};
+ghost use Rattle.std.specs.Prelude.{IfOk, IsErrOf};
 ghost use Rattle.std.specs.List.{All};
 ghost use Rattle.call_rules.specs.Sizes.{CanCompile};
-ghost use Rattle.unit_names.specs.Cutting.{name_of};
 ghost use Rattle.command_answers.specs.Laws.{IsAdmitted, laws_over};
-ghost use Rattle.command_answers.specs.Stops.{HasReadCause, RefusesNothing};
+ghost use Rattle.command_answers.specs.Stops.{RefusesNothing};
+ghost use Rattle.unit_inputs.specs.ReadsFor.{ReadsFor};
 ghost use Rattle.filter_command.specs.Compiled.{AreCompiled};
 ghost use Rattle.filter_command.specs.Prints.{ending_of, filter_laws, filters_text};
 
 use crate::compiled::{Compiled, compile_all};
+use crate::lines::count_line;
 use crate::printing::print_filters;
-use command_answers::{Ending, Ready, Stop};
+use command_answers::{Ending, Ready, Stop, put_line};
 use filter_rules::Filter;
 use host_io::{Shelf, Sink, SinkError};
 use std::alloc::Global;
@@ -29,12 +30,14 @@ impl Ready for Filters {
 
     ghost ending = { ending_of };
 
-    fn ending(&self) -> Ending {
-        Ending::Done
+    fn print<K: Sink>(&mut self, alloc: Global, out: &mut K) -> Result<(), SinkError> {
+        let filters = self.programs.as_slice();
+        print_filters(alloc, filters, out)?;
+        put_line(out, count_line(alloc, filters.len()))
     }
 
-    fn print<K: Sink>(&mut self, alloc: Global, out: &mut K) -> Result<(), SinkError> {
-        print_filters(alloc, self.programs.as_slice(), out)
+    fn ending(&self) -> Ending {
+        Ending::Done
     }
 }
 
@@ -55,10 +58,7 @@ fn compiled(alloc: Global, filters: &[Filter]) -> Result<Filters, Stop>
 /// the settings, and compiles the filters.
 pub fn prepare<S: Shelf>(alloc: Global, shelf: &mut S, unit: &str) -> Result<Filters, Stop>
     ensures prepares { IsAdmitted (laws_over (S.told shelf.old) (filter_laws unit.now)) ending_of filters_text result }
-    ensures reads_for_a_name { IsErrOf result Stop.ReadFault → IsSome (name_of unit.now) }
-    ensures unread_without_a_name { (IsSome (name_of unit.now) → ⊥) → shelf.new ≡ shelf.old }
-    ensures map_stays { S.told shelf.new ≡ S.told shelf.old }
-    ensures fault_rose { HasReadCause (S.faults shelf.old) (S.faults shelf.new) result }
+    ensures reads_for_the_unit { ReadsFor S.told S.faults unit.now shelf.old shelf.new result }
 {
     let one = settle_unit(alloc, shelf, unit)?;
     compiled(alloc, one.settings.filters.as_slice())

@@ -1,10 +1,10 @@
 //! Compiled filters, printed line by line.
-ghost use Rattle.std.specs.Prelude.{◌≡◌, flat_map};
+ghost use Rattle.std.specs.Prelude.{flat_map};
 ghost use Rattle.command_answers.specs.Printing.{HasWriteCause, TakesText};
-ghost use Rattle.filter_command.specs.Lines.{filter_text, insn_line, text_of};
+ghost use Rattle.filter_command.specs.Lines.{filter_text, insn_line};
 
 use crate::compiled::Compiled;
-use crate::lines::{count_line, head_line, insn_line};
+use crate::lines::{head_line, insn_line};
 use bpf_code::Insn;
 use command_answers::put_line;
 use host_io::{Sink, SinkError};
@@ -30,8 +30,12 @@ fn print_filter<K: Sink>(alloc: Global, filter: &Compiled, out: &mut K) -> Resul
     print_insns(alloc, filter.program.insns(), out)
 }
 
-// Prints filters, one behind the other.
-fn print_each<K: Sink>(alloc: Global, filters: &[Compiled], out: &mut K) -> Result<(), SinkError>
+/// Prints filters, one behind the other: of each its name and length, and its instructions.
+pub fn print_filters<K: Sink>(
+    alloc: Global,
+    filters: &[Compiled],
+    out: &mut K,
+) -> Result<(), SinkError>
     ensures takes_the_text { TakesText (K.taken out.old) (K.taken out.new) (flat_map filter_text filters.now) result }
     ensures fault_rose { HasWriteCause (K.faults out.old) (K.faults out.new) result }
 {
@@ -39,17 +43,4 @@ fn print_each<K: Sink>(alloc: Global, filters: &[Compiled], out: &mut K) -> Resu
         print_filter(alloc, filter, out)?;
     }
     Ok(())
-}
-
-/// Prints all filters: of each its name and length, and its instructions; last how many filters there are.
-pub fn print_filters<K: Sink>(
-    alloc: Global,
-    filters: &[Compiled],
-    out: &mut K,
-) -> Result<(), SinkError>
-    ensures takes_the_text { TakesText (K.taken out.old) (K.taken out.new) (text_of filters.now) result }
-    ensures fault_rose { HasWriteCause (K.faults out.old) (K.faults out.new) result }
-{
-    print_each(alloc, filters, out)?;
-    put_line(out, count_line(alloc, filters.len()))
 }

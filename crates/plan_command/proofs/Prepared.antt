@@ -1,6 +1,6 @@
 -- What is ready, and the line of a refusal, are what the definitions admit.
-use Rattle.std.proofs.Common.{◌≡◌, ◌∙◌, ℕ, Option, Some, None, List, Result, Ok, Err, refl, sym, ap, subst}
-use Rattle.std.specs.Prelude.{IfSome, IsErrOf, IsTrue}
+use Rattle.std.proofs.Common.{◌≡◌, ◌∙◌, ℕ, Option, Some, None, List, Ok, Err, refl, sym, ap, subst}
+use Rattle.std.specs.Prelude.{IfSome, IsTrue}
 use Rattle.host_io.specs.Files.{Files}
 use Rattle.kern_mounts.specs.declared.step.MountStep.{MountStep}
 use Rattle.mount_plan.specs.Host.{host_of}
@@ -8,15 +8,14 @@ use Rattle.exec_settings.specs.Mounts.{unit_mentions}
 use Rattle.path_settings.specs.declared.mentions.Mention.{Mention}
 use Rattle.command_answers.specs.Endings.{is_answer}
 use Rattle.command_answers.specs.Laws.{AcceptsFiles, GoTogether, IsAdmitted, laws_over}
-use Rattle.command_answers.specs.Stops.{HasReadCause, Prepares, first_refusal}
+use Rattle.command_answers.specs.Stops.{Prepares, first_refusal}
 use Rattle.command_answers.specs.declared.ending.Ending.{Ending}
 use Rattle.command_answers.specs.declared.stop.Stop.{Stop}
-use Rattle.command_answers.specs.declared.stop.Stop.TheVariants as stop
 use Rattle.command_answers.proofs.FileCommands.{go_together, ready_is_admitted, stop_is_admitted}
-use Rattle.command_answers.proofs.Refusing.{quiet, stops_as, stops_before}
+use Rattle.command_answers.proofs.Refusing.{stops_as, stops_before}
 use Rattle.site_table.specs.Table.{Site}
 use Rattle.unit_inputs.specs.Inputs.{inputs_of, inputs_view}
-use Rattle.unit_settings.specs.Settled.{AreSettled, refusals_by, unit_refusals}
+use Rattle.unit_settings.specs.Settled.{refusals_by, unit_refusals}
 use Rattle.unit_settings.specs.declared.settling.SettledUnit.{SettledUnit}
 use Rattle.unit_settings.proofs.Steps.{refusals_with}
 use Rattle.plan_command.specs.declared.command.Mounts.{Mounts}
@@ -38,12 +37,6 @@ refused_before P (Some files) unit stop said = stops_before P P stop (unit_refus
 
 pub stops_before_paths : (P : SettledUnit → Type 0) (told : Option Files) (unit : List ℕ) (stop : Stop) → IfSome told (λ files. Prepares P (unit_refusals files unit) (Err stop)) → IsAdmitted (laws_over told (plan_laws unit)) ending_of mounts_text (Err stop)
 stops_before_paths P told unit stop said = stop_is_admitted (plan_laws unit) ending_of mounts_text P told stop (refused_before P told unit stop said)
-
--- a stop that was no fault has none
-pub quiet_stop : {T U : Type 0} (before now : ℕ) (why : Stop) → now ≡ before → (IsErrOf {T = T} (Err why) stop.ReadFault → ⊥) → HasReadCause {T = U} before now (Err why)
-quiet_stop before now (stop.Refused line) same reads = quiet before now (Err (stop.Refused line)) same (λ e. cc)
-quiet_stop before now stop.ReadFault same reads = absurd (reads refl)
-quiet_stop before now stop.Memory same reads = quiet before now (Err stop.Memory) same (λ e. cc)
 
 module _ (told : Option Files) (unit : List ℕ) (one : SettledUnit) (mentions : List Mention) (site : Site) where
   -- with the inputs the paths of the settings are those that the unit mentions

@@ -16,7 +16,7 @@ use Rattle.command_answers.specs.declared.ending.Ending.TheVariants.{Done, Above
 use Rattle.command_answers.specs.declared.stop.Stop.{Stop}
 use Rattle.command_answers.specs.declared.stop.Stop.TheVariants as stop
 use Rattle.command_answers.proofs.FileCommands.{go_together, ready_is_admitted, stop_is_admitted}
-use Rattle.command_answers.proofs.Refusing.{quiet, stops_as, stops_before}
+use Rattle.command_answers.proofs.Refusing.{stops_as, stops_before}
 use Rattle.unit_inputs.specs.Inputs.{inputs_of}
 use Rattle.unit_settings.specs.Settled.{refusals_by}
 use Rattle.unit_settings.proofs.Steps.{refusals_with}
@@ -42,12 +42,6 @@ module _ (told : Option Files) (unit path : List ℕ) (threshold : ℕ) (stored 
 one_of_two : (above : Bool) (score : Score) (threshold : ℕ) → nat_lt threshold score.exposure ≡ above → (ending_by score threshold ≡ Done) ⊎ (ending_by score threshold ≡ AboveThreshold)
 one_of_two true score threshold is = inr cc
 one_of_two false score threshold is = inl cc
-
--- a stop that was no fault has none
-pub quiet_stop : {T U : Type 0} (before now : ℕ) (why : Stop) → now ≡ before → (IsErrOf {T = T} (Err why) stop.ReadFault → ⊥) → HasReadCause {T = U} before now (Err why)
-quiet_stop before now (stop.Refused line) same reads = quiet before now (Err (stop.Refused line)) same (λ e. cc)
-quiet_stop before now stop.ReadFault same reads = absurd (reads refl)
-quiet_stop before now stop.Memory same reads = quiet before now (Err stop.Memory) same (λ e. cc)
 
 module _ (told : Option Files) (unit path : List ℕ) (threshold : ℕ) (stored : StoredTests) where
   -- something is refused before anything is weighed

@@ -1,7 +1,7 @@
 //! What `score` reads, and what it takes from that.
-ghost use Rattle.std.specs.Prelude.{◌≡◌, IfOk, IfSome, IsErrOf, IsSome};
-ghost use Rattle.unit_names.specs.Cutting.{name_of};
-ghost use Rattle.command_answers.specs.Stops.{HasReadCause, Prepares};
+ghost use Rattle.std.specs.Prelude.{IfOk, IfSome};
+ghost use Rattle.command_answers.specs.Stops.{Prepares};
+ghost use Rattle.unit_inputs.specs.ReadsFor.{ReadsFor};
 ghost use Rattle.score_command.specs.Prepared.{CanBeWeighed, IsPrepared};
 ghost use Rattle.score_command.specs.Refusals.{read_refusals};
 
@@ -30,12 +30,9 @@ pub fn read_all<S: Shelf>(
     unit: &str,
     policy: &str,
 ) -> Result<Prepared, Stop>
-    ensures prepares { IfSome (S.told shelf.old) (λ files. Prepares (IsPrepared files unit.now policy.now) (read_refusals files unit.now policy.now) result) }
     ensures can_be_weighed { IfOk result CanBeWeighed }
-    ensures reads_for_a_name { IsErrOf result Stop.ReadFault → IsSome (name_of unit.now) }
-    ensures unread_without_a_name { (IsSome (name_of unit.now) → ⊥) → shelf.new ≡ shelf.old }
-    ensures map_stays { S.told shelf.new ≡ S.told shelf.old }
-    ensures fault_rose { HasReadCause (S.faults shelf.old) (S.faults shelf.new) result }
+    ensures prepares { IfSome (S.told shelf.old) (λ files. Prepares (IsPrepared files unit.now policy.now) (read_refusals files unit.now policy.now) result) }
+    ensures reads_for_the_unit { ReadsFor S.told S.faults unit.now shelf.old shelf.new result }
 {
     let inputs = read_inputs(alloc, shelf, unit)?;
     let weights = read_policy(alloc, shelf, policy)?;

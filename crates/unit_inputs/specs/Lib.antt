@@ -3,3 +3,4 @@ pub mod UnitRefusals
 pub mod CallsRefusals
 pub mod SiteRefusals
 pub mod Inputs
+pub mod ReadsFor

@@ -1,7 +1,8 @@
 // The inputs of a command on a unit.
-ghost use Rattle.std.specs.Prelude.{◌≡◌, IfOk, IfSome, IsErrOf, IsSome, Some};
-ghost use Rattle.command_answers.specs.Stops.{HasReadCause, Prepares};
+ghost use Rattle.std.specs.Prelude.{◌≡◌, IfOk, IfSome, Some};
+ghost use Rattle.command_answers.specs.Stops.{Prepares};
 ghost use Rattle.unit_names.specs.Cutting.{name_of};
+ghost use Rattle.unit_inputs.specs.ReadsFor.{ReadsFor};
 ghost use Rattle.unit_inputs.specs.Inputs.{input_refusals, inputs_of, inputs_view};
 
 use crate::calls::read_table;
@@ -33,10 +34,7 @@ pub struct UnitInputs {
 pub fn read_inputs<S: Shelf>(alloc: Global, shelf: &mut S, unit: &str) -> Result<UnitInputs, Stop>
     ensures reads_by_the_files { IfSome (S.told shelf.old) (λ files. Prepares (λ inputs. inputs_of files unit.now ≡ Some (inputs_view inputs)) (input_refusals files unit.now) result) }
     ensures names_the_unit { IfOk result (λ inputs. name_of unit.now ≡ Some inputs.unit.value.name) }
-    ensures reads_for_a_name { IsErrOf result Stop.ReadFault → IsSome (name_of unit.now) }
-    ensures unread_without_a_name { (IsSome (name_of unit.now) → ⊥) → shelf.new ≡ shelf.old }
-    ensures map_stays { S.told shelf.new ≡ S.told shelf.old }
-    ensures fault_rose { HasReadCause (S.faults shelf.old) (S.faults shelf.new) result }
+    ensures reads_for_the_unit { ReadsFor S.told S.faults unit.now shelf.old shelf.new result }
 {
     let unit = read_unit(alloc, shelf, unit)?;
     let calls = read_table(alloc, shelf)?;

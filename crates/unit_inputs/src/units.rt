@@ -1,8 +1,9 @@
 // The unit, with the lines of its refusals.
-ghost use Rattle.std.specs.Prelude.{◌≡◌, IfOk, IfSome, IsErrOf, IsSome, Some};
+ghost use Rattle.std.specs.Prelude.{◌≡◌, IfOk, IfSome, Some};
 ghost use Rattle.command_answers.specs.Refusals.{refused_line};
 ghost use Rattle.command_answers.specs.Stops.{HasReadCause, IsAnswer};
 ghost use Rattle.unit_names.specs.Cutting.{name_of};
+ghost use Rattle.unit_inputs.specs.ReadsFor.{ReadsFor};
 ghost use Rattle.unit_inputs.specs.UnitRefusals.{HasNameOrTells, text_cause, unit_in, unit_line};
 
 use command_answers::{Stop, boxed, refuse, refused_line};
@@ -77,10 +78,7 @@ fn read_files<S: Shelf>(alloc: Global, shelf: &mut S, unit: &str) -> Result<Box<
 pub fn read_unit<S: Shelf>(alloc: Global, shelf: &mut S, unit: &str) -> Result<Box<Resolved>, Stop>
     ensures resolves_by_the_files { IfSome (S.told shelf.old) (λ files. IsAnswer (λ resolved. resolved.value) result (unit_in files unit.now)) }
     ensures names_the_unit { IfOk result (λ resolved. name_of unit.now ≡ Some resolved.value.name) }
-    ensures reads_for_a_name { IsErrOf result Stop.ReadFault → IsSome (name_of unit.now) }
-    ensures unread_without_a_name { (IsSome (name_of unit.now) → ⊥) → shelf.new ≡ shelf.old }
-    ensures map_stays { S.told shelf.new ≡ S.told shelf.old }
-    ensures fault_rose { HasReadCause (S.faults shelf.old) (S.faults shelf.new) result }
+    ensures reads_for_the_unit { ReadsFor S.told S.faults unit.now shelf.old shelf.new result }
 {
     check_name(alloc, unit)?;
     read_files(alloc, shelf, unit)

@@ -1,12 +1,11 @@
 -- From inputs to settings.
-use Rattle.std.proofs.Common.{◌≡◌, ℕ, ◌≤◌, Option, Some, None, List, ◌∷◌, ◌++◌, Result, Ok, Err, refl, sym, ap, ◌∙◌}
+use Rattle.std.proofs.Common.{◌≡◌, ℕ, Option, Some, None, List, ◌++◌, Result, Ok, Err, sym, ap, ◌∙◌}
 use Rattle.std.specs.Prelude.{IfSome}
 use Rattle.host_io.specs.Files.{Files}
 use Rattle.command_answers.specs.Stops.{Prepares, first_refusal}
 use Rattle.command_answers.specs.declared.stop.Stop.{Stop}
 use Rattle.command_answers.specs.declared.stop.Stop.TheVariants as stop
 use Rattle.command_answers.proofs.Refusing.{behind_none}
-use Rattle.exec_settings.specs.declared.service.Settings.{Settings}
 use Rattle.unit_inputs.specs.Inputs.{Inputs, input_refusals, inputs_of, inputs_view}
 use Rattle.unit_inputs.specs.declared.inputs.UnitInputs.{UnitInputs}
 use Rattle.unit_settings.specs.Settled.{AreSettled, refusals_by, refusals_of, unit_refusals}

@@ -1,8 +1,8 @@
 //! The inputs of a unit with its settings.
-ghost use Rattle.std.specs.Prelude.{◌≡◌, IfOk, IfSome, IsErrOf, IsSome, Some};
-ghost use Rattle.command_answers.specs.Stops.{HasReadCause, Prepares};
+ghost use Rattle.std.specs.Prelude.{◌≡◌, IfOk, IfSome, IsErrOf, Some};
+ghost use Rattle.command_answers.specs.Stops.{Prepares};
 ghost use Rattle.unit_inputs.specs.Inputs.{inputs_of, inputs_view};
-ghost use Rattle.unit_names.specs.Cutting.{name_of};
+ghost use Rattle.unit_inputs.specs.ReadsFor.{ReadsFor};
 ghost use Rattle.unit_settings.specs.Settled.{AreSettled, refusals_of, unit_refusals};
 
 use crate::refusals::settings_line;
@@ -50,10 +50,7 @@ pub fn settle(alloc: Global, unit: &str, inputs: UnitInputs) -> Result<SettledUn
 pub fn settle_unit<S: Shelf>(alloc: Global, shelf: &mut S, unit: &str) -> Result<SettledUnit, Stop>
     ensures settles_by_the_files { IfSome (S.told shelf.old) (λ files. Prepares (λ one. inputs_of files unit.now ≡ Some (inputs_view one.inputs)) (unit_refusals files unit.now) result) }
     ensures has_settings { IfOk result (λ one. AreSettled (inputs_view one.inputs) one.settings.value) }
-    ensures reads_for_a_name { IsErrOf result Stop.ReadFault → IsSome (name_of unit.now) }
-    ensures unread_without_a_name { (IsSome (name_of unit.now) → ⊥) → shelf.new ≡ shelf.old }
-    ensures map_stays { S.told shelf.new ≡ S.told shelf.old }
-    ensures fault_rose { HasReadCause (S.faults shelf.old) (S.faults shelf.new) result }
+    ensures reads_for_the_unit { ReadsFor S.told S.faults unit.now shelf.old shelf.new result }
 {
     let inputs = read_inputs(alloc, shelf, unit)?;
     settle(alloc, unit, inputs)

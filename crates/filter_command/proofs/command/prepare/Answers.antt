@@ -1,7 +1,7 @@
 use Rattle.std.proofs.Common.{ap, ◌∙◌}
 use Rattle.command_answers.specs.Laws.{IsAdmitted, laws_over}
 use Rattle.command_answers.proofs.FileCommands.{at_stop, stop_is_admitted}
-use Rattle.command_answers.proofs.Refusing.{quiet}
+use Rattle.unit_inputs.proofs.Reading.{read_then}
 use Rattle.unit_settings.specs.declared.settling.SettledUnit.{SettledUnit}
 use Rattle.filter_command.specs.Prints.{ending_of, filter_laws, filters_text}
 use Rattle.filter_command.proofs.Prepared.{prepared}
@@ -17,5 +17,5 @@ returns-clause-prepares g c =
     prepared (g.S.Shelf.told c.args.shelf.now) c.args.unit.now c.in_ok-one.one c.as_slice.result.now c.compiled.result (c.as_slice.ensures.value ∙ ap (λ settings. settings.filters.items) c.deref.ensures)
     c.in_ok-one.ensures.settles_by_the_files c.in_ok-one.ensures.has_settings c.compiled.ensures.compiles c.compiled.ensures.refuses_nothing
 
-pub returns-clause-fault_rose : goal.returns-clause-fault_rose
-returns-clause-fault_rose g c = quiet (g.S.Shelf.faults c.args.shelf.now) (g.S.Shelf.faults c.settle_unit.new.shelf) c.compiled.result c.in_ok-one.ensures.fault_rose.no_other_fault c.compiled.ensures.reads_nothing
+pub returns-clause-reads_for_the_unit : goal.returns-clause-reads_for_the_unit
+returns-clause-reads_for_the_unit g c = read_then g.S.Shelf.told g.S.Shelf.faults c.args.unit.now _ _ c.in_ok-one.one c.in_ok-one.ensures.reads_for_the_unit c.compiled.result c.compiled.ensures.reads_nothing

@@ -1,7 +1,7 @@
 use Rattle.std.proofs.Common.{arith, ◌∙◌}
 use Rattle.command_answers.proofs.Texts.{items_cut, items_more, text_at_error}
 use Rattle.filter_command.specs.Lines.{filter_text}
-use Rattle.filter_command.proofs.printing.print_each.Goals as goal
+use Rattle.filter_command.proofs.printing.print_filters.Goals as goal
 
 pub filters-preserved : goal.filters-preserved
 filters-preserved g c = record {

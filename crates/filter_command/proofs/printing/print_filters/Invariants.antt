@@ -2,7 +2,7 @@ use Rattle.std.proofs.Common.{◌≡◌, take}
 use Rattle.std.specs.Prelude.{flat_map}
 use Rattle.host_io.specs.Writing.{Grew}
 use Rattle.filter_command.specs.Lines.{filter_text}
-use Rattle.filter_command.proofs.printing.print_each.Given as goal
+use Rattle.filter_command.proofs.printing.print_filters.Given as goal
 
 abbrev pub invariant-filters : goal.invariant-filters
 invariant-filters g l = record {

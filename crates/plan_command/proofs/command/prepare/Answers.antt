@@ -1,9 +1,9 @@
 use Rattle.std.proofs.Common.{ap, ◌∙◌}
 use Rattle.command_answers.specs.Laws.{IsAdmitted, laws_over}
-use Rattle.command_answers.specs.Stops.{HasReadCause}
 use Rattle.command_answers.proofs.FileCommands.{at_stop}
 use Rattle.plan_command.specs.Prints.{ending_of, mounts_text, plan_laws}
-use Rattle.plan_command.proofs.Prepared.{quiet_stop, ready, stops_at_paths, stops_before_paths}
+use Rattle.unit_inputs.proofs.Reading.{read_then_stopped}
+use Rattle.plan_command.proofs.Prepared.{ready, stops_at_paths, stops_before_paths}
 use Rattle.plan_command.proofs.command.prepare.Goals as goal
 
 pub plan_mounts-requires : goal.plan_mounts-requires
@@ -26,10 +26,10 @@ returns-in_err-table-clause-prepares g c =
     c.in_ok-one.ensures.settles_by_the_files
     c.in_err-table.ensures.plan_or_first_refusal)
 
-pub returns-in_err-table-clause-fault_rose : goal.returns-in_err-table-clause-fault_rose
-returns-in_err-table-clause-fault_rose g c =
-    at_stop (HasReadCause (g.S.Shelf.faults c.args.shelf.now) (g.S.Shelf.faults c.settle_unit.new.shelf)) c.from_residual-in_err-table.result c.in_err-table.field-0.0 c.from_residual-in_err-table.ensures.1
-    (quiet_stop (g.S.Shelf.faults c.args.shelf.now) (g.S.Shelf.faults c.settle_unit.new.shelf) c.in_err-table.field-0.0 c.in_ok-one.ensures.fault_rose.no_other_fault c.in_err-table.ensures.reads_nothing)
+pub returns-in_err-table-clause-reads_for_the_unit : goal.returns-in_err-table-clause-reads_for_the_unit
+returns-in_err-table-clause-reads_for_the_unit g c =
+    read_then_stopped g.S.Shelf.told g.S.Shelf.faults c.args.unit.now _ _ c.in_ok-one.one c.in_ok-one.ensures.reads_for_the_unit
+    c.from_residual-in_err-table.result c.in_err-table.field-0.0 c.from_residual-in_err-table.ensures.1 c.in_err-table.ensures.reads_nothing
 
 pub returns-clause-prepares : goal.returns-clause-prepares
 returns-clause-prepares g c =

@@ -1,7 +1,7 @@
 use Rattle.std.proofs.Common.{arith, ◌∙◌}
 use Rattle.command_answers.proofs.Texts.{items_cut, items_more, text_at_error}
 use Rattle.plan_command.specs.Lines.{mount_line}
-use Rattle.plan_command.proofs.printing.print_each.Goals as goal
+use Rattle.plan_command.proofs.printing.print_mounts.Goals as goal
 
 pub steps-preserved : goal.steps-preserved
 steps-preserved g c = record {

@@ -2,7 +2,7 @@ use Rattle.std.proofs.Common.{◌≡◌, take}
 use Rattle.std.specs.Prelude.{flat_map}
 use Rattle.host_io.specs.Writing.{Grew}
 use Rattle.plan_command.specs.Lines.{mount_line}
-use Rattle.plan_command.proofs.printing.print_each.Given as goal
+use Rattle.plan_command.proofs.printing.print_mounts.Given as goal
 
 abbrev pub invariant-steps : goal.invariant-steps
 invariant-steps g l = record {

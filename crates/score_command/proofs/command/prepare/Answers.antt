@@ -1,10 +1,10 @@
 use Rattle.exposure_score.specs.StoredTests.{stored_by}
 use Rattle.command_answers.specs.Laws.{IsAdmitted, laws_over}
-use Rattle.command_answers.specs.Stops.{HasReadCause}
 use Rattle.command_answers.proofs.FileCommands.{at_stop}
 use Rattle.score_command.specs.Prints.{ending_of, score_laws, scored_text}
 use Rattle.score_command.specs.Weighed.{IsScoreOf}
-use Rattle.score_command.proofs.Prepared.{quiet_stop, ready, stops_at_weights, stops_before_weighing}
+use Rattle.unit_inputs.proofs.Reading.{read_then_stopped}
+use Rattle.score_command.proofs.Prepared.{ready, stops_at_weights, stops_before_weighing}
 use Rattle.score_command.proofs.command.prepare.Goals as goal
 
 pub returns-in_err-prepared-clause-prepares : goal.returns-in_err-prepared-clause-prepares
@@ -20,10 +20,10 @@ returns-in_err-score-clause-prepares g c =
     (stops_at_weights (g.S.Shelf.told c.args.shelf.now) c.args.unit.now c.args.policy.now c.args.threshold stored c.in_ok-prepared.prepared c.in_ok-known.known c.in_ok-known.ensures.known
     (IsScoreOf stored c.in_ok-known.known c.in_ok-prepared.prepared.policy) c.in_err-score.field-0.0 c.in_ok-prepared.ensures.prepares c.in_err-score.ensures.weighs)
 
-pub returns-in_err-score-clause-fault_rose : goal.returns-in_err-score-clause-fault_rose
-returns-in_err-score-clause-fault_rose g c =
-    at_stop (HasReadCause (g.S.Shelf.faults c.args.shelf.now) (g.S.Shelf.faults c.read_all.new.shelf)) c.from_residual-in_err-score.result c.in_err-score.field-0.0 c.from_residual-in_err-score.ensures.1
-    (quiet_stop (g.S.Shelf.faults c.args.shelf.now) (g.S.Shelf.faults c.read_all.new.shelf) c.in_err-score.field-0.0 c.in_ok-prepared.ensures.fault_rose.no_other_fault c.in_err-score.ensures.reads_nothing)
+pub returns-in_err-score-clause-reads_for_the_unit : goal.returns-in_err-score-clause-reads_for_the_unit
+returns-in_err-score-clause-reads_for_the_unit g c =
+    read_then_stopped g.S.Shelf.told g.S.Shelf.faults c.args.unit.now _ _ c.in_ok-prepared.prepared c.in_ok-prepared.ensures.reads_for_the_unit
+    c.from_residual-in_err-score.result c.in_err-score.field-0.0 c.from_residual-in_err-score.ensures.1 c.in_err-score.ensures.reads_nothing
 
 pub returns-clause-prepares : goal.returns-clause-prepares
 returns-clause-prepares g c =

@@ -1,0 +1,15 @@
+-- How the files of a unit are read, whatever is taken from them.
+use Rattle.std.specs.Prelude.{◌≡◌, ℕ, IsErrOf, IsSome, List, Option, Result}
+use Rattle.host_io.specs.Files.{Files}
+use Rattle.command_answers.specs.Stops.{HasReadCause}
+use Rattle.command_answers.specs.declared.stop.Stop.{Stop}
+use Rattle.command_answers.specs.declared.stop.Stop.TheVariants.{ReadFault}
+use Rattle.unit_names.specs.Cutting.{name_of}
+
+-- a read fails only for the name of a service, and without one the shelf is not read; the files stay what they were; and a
+-- fault comes where the shelf's count of them rose
+pub record ReadsFor {S T : Type 0} (told : S → Option Files) (faults : S → ℕ) (unit : List ℕ) (before now : S) (result : Result T Stop) : Type 0 where
+  pub reads_for_a_name : IsErrOf result ReadFault → IsSome (name_of unit)
+  pub unread_without_a_name : (IsSome (name_of unit) → ⊥) → now ≡ before
+  pub map_stays : told now ≡ told before
+  pub fault_rose : HasReadCause (faults before) (faults now) result
