@@ -18,14 +18,8 @@ fn longer<'a>(
     ensures { option_map shown result ≡ longer (option_map shown best.entry) (index, mention.now) }
 {
     match best {
-        None => Some((index, mention)),
-        Some((first, other)) => {
-            if other.path.tail_len() < mention.path.tail_len() {
-                Some((index, mention))
-            } else {
-                Some((first, other))
-            }
-        }
+        Some((_, other)) if other.path.tail_len() >= mention.path.tail_len() => best,
+        _ => Some((index, mention)),
     }
 }
 

@@ -1,7 +1,7 @@
 //! What a service sees at a path: three choices, each by the longest kept mention that leads there.
 
 ghost use Rattle.std.specs.Prelude.{◌≡◌, option_map};
-ghost use Rattle.view_map.specs.View.{leading_to, prevails, origin_of, is_read_only, is_no_exec, seen_at};
+ghost use Rattle.view_map.specs.View.{leading_to, prevails, origin_of, is_read_only, is_no_exec};
 ghost use Rattle.view_map.specs.Scan.{is_said, reaches_as_far, shown};
 
 use crate::longest::{longest, origin_at};
