@@ -1,5 +1,5 @@
 -- The text that is printed is that of the answers and of the folders.
-use Rattle.std.proofs.Common.{◌≡◌, ◌∙◌, ℕ, Bool, true, false, List, [], ◌∷◌, ◌++◌, ap, refl, sym, subst, append-nil}
+use Rattle.std.proofs.Common.{◌≡◌, ◌∙◌, ℕ, Bool, true, false, List, [], ◌∷◌, ◌++◌, Option, ap, refl, sym, subst, append-nil}
 use Rattle.std.specs.Prelude.{◌↔◌, flat_map, map, if◌then◌else◌}
 use Rattle.std.proofs.lemmas.List.Concat.{flat_map-append}
 use Rattle.site_table.specs.declared.row.Row.{Row}
@@ -16,11 +16,31 @@ use Rattle.judge.specs.declared.answer.Verdict.{Verdict}
 use Rattle.kernel_laws.specs.Bound.{is_open}
 use Rattle.judge.specs.declared.answer.Verdict.TheVariants as verdict
 use Rattle.report_text.specs.Answers.{blind_line, call_line, verdict_line}
+use Rattle.report_text.specs.Launches.{launched_line}
+use Rattle.report_text.specs.declared.launches.Launched.{Launched as Line}
+use Rattle.unit_launch.specs.Told.{told_of}
+use Rattle.host_io.specs.Writing.{Grew}
+use Rattle.host_io.specs.declared.writing.SinkError.{SinkError}
+use Rattle.command_answers.specs.Printing.{TakesText}
+use Rattle.command_answers.proofs.Texts.{text_as, text_then}
 use Rattle.judge_command.specs.Answers.{Denied, Open}
-use Rattle.judge_command.specs.Asked.{IsAsked, answer_text, folder_text, is_named, launch_in, world_in}
+use Rattle.judge_command.specs.Asked.{IsAsked, answer_text, asked_text, folder_text, is_named, launch_in, world_in}
 use Rattle.judge_command.specs.ByRule.{answer_of, answers_of, folders_of}
-use Rattle.judge_command.specs.Report.{answer_lines}
+use Rattle.judge_command.specs.Report.{answer_lines, count_line}
 use Rattle.judge_command.specs.declared.asking.Asked.{Asked}
+
+-- the parts of what is printed of a launched service: its launch, the answers, the folders that are blind, and the count
+abbrev pub launch_part : Asked → List ℕ
+launch_part asked = launched_line (told_of (world_in asked) asked.service.steps)
+
+abbrev pub answers_part : Asked → List ℕ
+answers_part asked = flat_map (answer_lines (world_in asked).calls (world_in asked).site) (answers_of (world_in asked) asked.service.program)
+
+abbrev pub folders_part : Asked → List ℕ
+folders_part asked = flat_map blind_line (folders_of (launch_in asked) (world_in asked).site.rows)
+
+abbrev pub count_part : Asked → List ℕ
+count_part asked = count_line (answers_of (world_in asked) asked.service.program)
 
 -- a question that is found denied is not open
 pub not_open : (found : Verdict) (b : Bool) → (found ≡ verdict.Open) ↔ (b ≡ true) → found ≡ verdict.Denied → b ≡ false
@@ -67,3 +87,17 @@ module _ (asked : Asked) where
       ap (λ rest. folder_text asked row ++ rest) (folders_text rows)
       ∙ ap (λ line. line ++ flat_map blind_line (folders_of (launch_in asked) rows)) (one_folder row (is_named asked row))
       ∙ sym (flat_map-append blind_line (if_so (is_named asked row) row.path) (folders_of (launch_in asked) rows))
+
+  -- each part as it is put
+  pub launch_told : (own : Line) (line : Result (Vec ℕ Global) AllocError) → own ≡ told_of (world_in asked) asked.service.steps → IfOk line (λ put. put.items ≡ launched_line own) → IfOk line (λ put. put.items ≡ launch_part asked)
+  launch_told own line same tells = subst (λ one. IfOk line (λ put. put.items ≡ launched_line one)) same tells
+
+  pub answers_put : (a b : Option (List ℕ)) (list : List Question) (put : Result (Unit {0}) SinkError) → IsAsked asked → list ≡ asked.questions.items → TakesText a b (flat_map (answer_text asked) list) put → TakesText a b (answers_part asked) put
+  answers_put a b list put is same takes = text_as a b (flat_map (answer_text asked) list) (answers_part asked) put (ap (flat_map (answer_text asked)) same ∙ answers_text is) takes
+
+  pub folders_put : (a b : Option (List ℕ)) (rows : List Row) (put : Result (Unit {0}) SinkError) → rows ≡ (world_in asked).site.rows → TakesText a b (flat_map (folder_text asked) rows) put → TakesText a b (folders_part asked) put
+  folders_put a b rows put same takes = text_as a b (flat_map (folder_text asked) rows) (folders_part asked) put (ap (flat_map (folder_text asked)) same ∙ folders_text (world_in asked).site.rows) takes
+
+  -- and what comes behind the launch
+  pub behind_launch : (a b c : Option (List ℕ)) (put : Result (Unit {0}) SinkError) → Grew a b (launch_part asked) → TakesText b c (answers_part asked ++ (folders_part asked ++ count_part asked)) put → TakesText a c (asked_text asked) put
+  behind_launch a b c put launched takes = text_then a b c (launch_part asked) (answers_part asked ++ (folders_part asked ++ count_part asked)) put launched takes

@@ -1,9 +1,7 @@
 //! The answers to questions, found and printed one by one.
-ghost use Rattle.std.specs.Prelude.{◌≡◌, ◌↔◌, true, Contains, OnOk, flat_map, map};
+ghost use Rattle.std.specs.Prelude.{◌≡◌, Contains, OnOk, flat_map, map};
 ghost use Rattle.command_answers.specs.Printing.{HasWriteCause, TakesText};
 ghost use Rattle.judge.specs.declared.answer.Verdict.{Verdict};
-ghost use Rattle.kernel_laws.specs.Bound.{is_open};
-ghost use Rattle.kernel_laws.specs.Launched.{launch_of};
 ghost use Rattle.kernel_laws.specs.Questions.{questions};
 ghost use Rattle.questions.specs.Meanings.{meant};
 ghost use Rattle.report_text.specs.Answers.{call_line};

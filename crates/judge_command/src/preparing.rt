@@ -1,8 +1,8 @@
 //! What `judge` reads, and what it takes from that.
-ghost use Rattle.std.specs.Prelude.{◌≡◌, IfOk, IfSome, IsErrOf, IsSome};
-ghost use Rattle.unit_names.specs.Cutting.{name_of};
-ghost use Rattle.command_answers.specs.Stops.{HasReadCause, Prepares};
+ghost use Rattle.std.specs.Prelude.{IfOk, IfSome};
+ghost use Rattle.command_answers.specs.Stops.{Prepares};
 ghost use Rattle.plan_command.specs.Prints.{plan_refusals};
+ghost use Rattle.unit_inputs.specs.ReadsFor.{ReadsFor};
 ghost use Rattle.judge_command.specs.Prepared.{CanBeStarted, IsPrepared};
 
 use command_answers::Stop;
@@ -26,10 +26,7 @@ pub struct Prepared {
 pub fn prepare<S: Shelf>(alloc: Global, shelf: &mut S, unit: &str) -> Result<Prepared, Stop>
     ensures prepares { IfSome (S.told shelf.old) (λ files. Prepares (IsPrepared files unit.now) (plan_refusals files unit.now) result) }
     ensures can_be_started { IfOk result CanBeStarted }
-    ensures reads_for_a_name { IsErrOf result Stop.ReadFault → IsSome (name_of unit.now) }
-    ensures unread_without_a_name { (IsSome (name_of unit.now) → ⊥) → shelf.new ≡ shelf.old }
-    ensures map_stays { S.told shelf.new ≡ S.told shelf.old }
-    ensures fault_rose { HasReadCause (S.faults shelf.old) (S.faults shelf.new) result }
+    ensures reads_for_the_unit { ReadsFor S.told S.faults unit.now shelf.old shelf.new result }
 {
     let one = settle_unit(alloc, shelf, unit)?;
     let plan = plan_mounts(alloc, unit, &one.settings.mentions, &one.inputs.site)?;
