@@ -1,8 +1,8 @@
 //! What `replay` reads, and what it takes from that.
-ghost use Rattle.std.specs.Prelude.{◌≡◌, All, IfOk, IfSome, IsErrOf, IsSome};
-ghost use Rattle.unit_names.specs.Cutting.{name_of};
-ghost use Rattle.command_answers.specs.Stops.{HasReadCause, Prepares};
+ghost use Rattle.std.specs.Prelude.{All, IfOk, IfSome};
+ghost use Rattle.command_answers.specs.Stops.{Prepares};
 ghost use Rattle.kernel_calls.specs.Calls.{IsCall};
+ghost use Rattle.unit_inputs.specs.ReadsFor.{ReadsFor};
 ghost use Rattle.replay_command.specs.Prepared.{CanBeStarted, IsPrepared, replay_refusals};
 
 use crate::script::read_script;
@@ -46,10 +46,7 @@ pub fn prepare<S: Shelf>(
 ) -> Result<Prepared, Stop>
     ensures prepares { IfSome (S.told shelf.old) (λ files. Prepares (IsPrepared files unit.now script.now) (replay_refusals files unit.now script.now) result) }
     ensures can_be_started { IfOk result CanBeStarted }
-    ensures reads_for_a_name { IsErrOf result Stop.ReadFault → IsSome (name_of unit.now) }
-    ensures unread_without_a_name { (IsSome (name_of unit.now) → ⊥) → shelf.new ≡ shelf.old }
-    ensures map_stays { S.told shelf.new ≡ S.told shelf.old }
-    ensures fault_rose { HasReadCause (S.faults shelf.old) (S.faults shelf.new) result }
+    ensures reads_for_the_unit { ReadsFor S.told S.faults unit.now shelf.old shelf.new result }
 {
     let inputs = read_inputs(alloc, shelf, unit)?;
     let made = read_script(alloc, shelf, script, &inputs.calls)?;

@@ -20,7 +20,7 @@ returns-in_err-plan-clause-prepares g c =
     (IsPlan (host_of c.deref-3.result.now) c.deref-2.result.now.mentions)
     c.in_err-plan.field-0.0
     c.in_ok-inputs.ensures.reads_by_the_files
-    (script_is (g.S.Shelf.told c.args.shelf.now) (g.S.Shelf.told c.read_inputs.new.shelf) c.args.script.now c.in_ok-inputs.inputs c.deref.result.now c.in_ok-made.made c.in_ok-inputs.ensures.map_stays c.deref.ensures c.in_ok-made.ensures.reads_the_script)
+    (script_is (g.S.Shelf.told c.args.shelf.now) (g.S.Shelf.told c.read_inputs.new.shelf) c.args.script.now c.in_ok-inputs.inputs c.deref.result.now c.in_ok-made.made c.in_ok-inputs.ensures.reads_for_the_unit.map_stays c.deref.ensures c.in_ok-made.ensures.reads_the_script)
     c.in_err-plan.ensures.plan_or_first_refusal)
 
 pub returns-clause-prepares : goal.returns-clause-prepares
@@ -32,7 +32,7 @@ returns-clause-prepares g c =
     c.in_ok-one.ensures.settles.0
     c.in_ok-plan.plan
     c.in_ok-inputs.ensures.reads_by_the_files
-    (script_is (g.S.Shelf.told c.args.shelf.now) (g.S.Shelf.told c.read_inputs.new.shelf) c.args.script.now c.in_ok-inputs.inputs c.deref.result.now c.in_ok-made.made c.in_ok-inputs.ensures.map_stays c.deref.ensures c.in_ok-made.ensures.reads_the_script)
+    (script_is (g.S.Shelf.told c.args.shelf.now) (g.S.Shelf.told c.read_inputs.new.shelf) c.args.script.now c.in_ok-inputs.inputs c.deref.result.now c.in_ok-made.made c.in_ok-inputs.ensures.reads_for_the_unit.map_stays c.deref.ensures c.in_ok-made.ensures.reads_the_script)
     c.in_ok-plan.ensures.plan_or_first_refusal
 
 pub returns-clause-can_be_started : goal.returns-clause-can_be_started

@@ -30,13 +30,13 @@ pub returns-in-Filter-clause-runs : goal.returns-in-Filter-clause-runs
 returns-in-Filter-clause-runs g c =
     rw c.in-Filter.is
     (ran (laws_over (g.S.Shelf.told c.args.shelf.now) (filter_laws c.in-Filter.unit.now)) (filter_together (g.S.Shelf.told c.args.shelf.now) c.in-Filter.unit.now) _ filter_ending filters_text c.prepare.result c.finish-in-Filter.result
-    c.prepare.ensures.prepares c.prepare.ensures.reads_for_a_name c.prepare.ensures.fault_rose c.finish-in-Filter.ensures.finishes)
+    c.prepare.ensures.prepares c.prepare.ensures.reads_for_the_unit.reads_for_a_name c.prepare.ensures.reads_for_the_unit.fault_rose c.finish-in-Filter.ensures.finishes)
 
 pub returns-in-Plan-clause-runs : goal.returns-in-Plan-clause-runs
 returns-in-Plan-clause-runs g c =
     rw c.in-Plan.is
     (ran (laws_over (g.S.Shelf.told c.args.shelf.now) (plan_laws c.in-Plan.unit.now)) (plan_together (g.S.Shelf.told c.args.shelf.now) c.in-Plan.unit.now) _ plan_ending mounts_text c.prepare-in-Plan.result c.finish-in-Plan.result
-    c.prepare-in-Plan.ensures.prepares c.prepare-in-Plan.ensures.reads_for_a_name c.prepare-in-Plan.ensures.fault_rose c.finish-in-Plan.ensures.finishes)
+    c.prepare-in-Plan.ensures.prepares c.prepare-in-Plan.ensures.reads_for_the_unit.reads_for_a_name c.prepare-in-Plan.ensures.reads_for_the_unit.fault_rose c.finish-in-Plan.ensures.finishes)
 
 pub returns-in-Judge-clause-runs : goal.returns-in-Judge-clause-runs
 returns-in-Judge-clause-runs g c = rw c.in-Judge.is c.answer.ensures.runs
@@ -49,7 +49,7 @@ returns-in-Score-clause-runs g c =
     rw c.in-Score.is
     (let stored = stored_by (λ test. test.id) (λ test. test.range) (λ test shown answer. (goal.Fn-dyn g).post (test.check.vtable, test.check.value) (shown, tt) answer) c.args.tests.now in
     ran (laws_over (g.S.Shelf.told c.args.shelf.now) (score_laws c.in-Score.unit.now c.in-Score.policy.now c.in-Score.threshold stored)) (score_together (g.S.Shelf.told c.args.shelf.now) c.in-Score.unit.now c.in-Score.policy.now c.in-Score.threshold stored) _ score_ending scored_text c.prepare-in-Score.result c.finish-in-Score.result
-    c.prepare-in-Score.ensures.prepares c.prepare-in-Score.ensures.reads_for_a_name c.prepare-in-Score.ensures.fault_rose c.finish-in-Score.ensures.finishes)
+    c.prepare-in-Score.ensures.prepares c.prepare-in-Score.ensures.reads_for_the_unit.reads_for_a_name c.prepare-in-Score.ensures.reads_for_the_unit.fault_rose c.finish-in-Score.ensures.finishes)
 
 pub returns-in-Sample-clause-runs : goal.returns-in-Sample-clause-runs
 returns-in-Sample-clause-runs g c =
