@@ -27,7 +27,7 @@ pub fn places_of<L: Named>(alloc: Global, lines: &[L]) -> Result<Places, AllocEr
     ensures { IfOk result (HasPlaces L.name_of lines.now) }
 {
     let mut places = BTreeMap::new(alloc);
-    'lines: for (place, line) in lines.iter().enumerate() {
+    for (place, line) in lines.iter().enumerate() {
         add_place(alloc, &mut places, line.name(), place)?;
     }
     Ok(places)

@@ -50,7 +50,7 @@ fn caps_by(default: CapSet, lines: &[Listed]) -> CapSet
     ensures { result ≡ caps_by default lines.now }
 {
     let mut set = default;
-    'lines: for one in lines {
+    for one in lines {
         set = with_listed(default, set, one);
     }
     set
@@ -60,7 +60,7 @@ fn caps_by(default: CapSet, lines: &[Listed]) -> CapSet
 fn note_names(notes: &mut Vec<FileNote>, lines: &[Listed]) -> Result<(), AllocError>
     ensures { OnOk result (notes.new.items ≡ notes.old.items ++ flat_map names_notes lines.now) }
 {
-    'lines: for one in lines {
+    for one in lines {
         note_words(notes, &one.value, one.line.words.list())?;
     }
     Ok(())

@@ -19,7 +19,7 @@ pub fn named_caps(words: &[Text]) -> CapSet
     ensures { result ≡ named_caps words.now }
 {
     let mut set = CapSet::empty();
-    'words: for word in words {
+    for word in words {
         if let Some(number) = cap_named(word.as_str()) {
             set = set.with(number);
         }
@@ -35,7 +35,7 @@ pub fn note_words(
 ) -> Result<(), AllocError>
     ensures { OnOk result (notes.new.items ≡ notes.old.items ++ flat_map (word_notes value.now) words.now) }
 {
-    'words: for word in words {
+    for word in words {
         if cap_named(word.as_str()).is_none() {
             note_value(notes, value, NoteCause::UnknownName)?;
         }

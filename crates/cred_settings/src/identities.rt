@@ -65,7 +65,7 @@ fn add_groups(
     ensures none_is_bad { OnOk result (find (names_no_group site.now) words.now ≡ None) }
     ensures refused { IfErr result (IsOfGroup (find (names_no_group site.now) words.now)) }
 {
-    'words: for word in words {
+    for word in words {
         match gid_meant(site, word.as_str()) {
             Some(gid) => groups.push(gid)?,
             None => return Err(no_such_group(alloc, word.as_str())),

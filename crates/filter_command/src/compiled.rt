@@ -33,7 +33,7 @@ pub fn compile_all(alloc: Global, filters: &[Filter]) -> Result<Vec<Compiled>, A
     ensures each_by_its_own_rules { IfOk result (λ made. AreCompiled filters.now made.items) }
 {
     let mut made = Vec::new(alloc);
-    'filters: for filter in filters {
+    for filter in filters {
         made.push(compile_one(alloc, filter)?)?;
     }
     Ok(made)

@@ -15,7 +15,7 @@ fn print_insns<K: Sink>(alloc: Global, insns: &[Insn], out: &mut K) -> Result<()
     ensures takes_the_text { TakesText (K.taken out.old) (K.taken out.new) (flat_map insn_line insns.now) result }
     ensures fault_rose { HasWriteCause (K.faults out.old) (K.faults out.new) result }
 {
-    'insns: for insn in insns {
+    for insn in insns {
         put_line(out, insn_line(alloc, insn))?;
     }
     Ok(())
@@ -39,7 +39,7 @@ pub fn print_filters<K: Sink>(
     ensures takes_the_text { TakesText (K.taken out.old) (K.taken out.new) (flat_map filter_text filters.now) result }
     ensures fault_rose { HasWriteCause (K.faults out.old) (K.faults out.new) result }
 {
-    'filters: for filter in filters {
+    for filter in filters {
         print_filter(alloc, filter, out)?;
     }
     Ok(())

@@ -40,7 +40,7 @@ impl KeyList for CallList {
         notes: &mut Vec<FileNote>,
     ) -> Result<Option<Self>, AllocError> {
         let mut mode = None;
-        'lines: for one in all {
+        for one in all {
             note_words::<Mention>(table, mode.unwrap_or(mode_of(&one.line)), one, notes)?;
             mode = next_mode(mode, one);
         }

@@ -119,7 +119,7 @@ impl KeyList for FamilyList {
         all: &[Listed],
         notes: &mut Vec<FileNote>,
     ) -> Result<Option<Self>, AllocError> {
-        'lines: for one in all {
+        for one in all {
             if !is_none_line(one) {
                 note_words::<FamilyMention>(table, mode_of(&one.line), one, notes)?;
             }

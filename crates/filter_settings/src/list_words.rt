@@ -57,7 +57,7 @@ fn add_line<M: ListMention>(
 {
     let adds = adds_to(mode, line);
     let words = line.words.list();
-    'words: for word in words {
+    for word in words {
         if let Some(mention) = M::read(alloc, table, mode, adds, word.as_str())? {
             mentions.push(mention)?;
         }
@@ -75,7 +75,7 @@ pub fn add_lines<M: ListMention>(
 ) -> Result<(), AllocError>
     ensures { OnOk result (mentions.new.items ≡ mentions.old.items ++ flat_map (λ one. filter_map (M.mention_of table.now mode (adds_to mode one.line)) one.line.words) lines.now) }
 {
-    'lines: for one in lines {
+    for one in lines {
         add_line(alloc, table, mode, &one.line, mentions)?;
     }
     Ok(())
@@ -92,7 +92,7 @@ pub fn note_words<M: ListMention>(
 {
     let adds = adds_to(mode, &one.line);
     let words = one.line.words.list();
-    'words: for word in words {
+    for word in words {
         M::note(table, mode, adds, &one.value, word.as_str(), notes)?;
     }
     Ok(())

@@ -107,7 +107,7 @@ fn namespaces_of(all: &[Listed]) -> NamespaceTypes
 {
     let mut types = ALL_PERMITTED;
     let mut has_plain = false;
-    'values: for one in all {
+    for one in all {
         types = next_types(has_plain, one, types);
         has_plain = next_plain(has_plain, one);
     }
@@ -123,7 +123,7 @@ fn is_type_name(word: &str) -> bool
 fn note_words(value: &Value, words: &[Text], notes: &mut Vec<FileNote>) -> Result<(), AllocError>
     ensures { OnOk result (notes.new.items ≡ notes.old.items ++ flat_map (word_notes value.now) words.now) }
 {
-    'words: for word in words {
+    for word in words {
         if !is_type_name(word.as_str()) {
             note_value(notes, value, NoteCause::Value)?;
         }
@@ -135,7 +135,7 @@ fn note_words(value: &Value, words: &[Text], notes: &mut Vec<FileNote>) -> Resul
 fn note_all(all: &[Listed], notes: &mut Vec<FileNote>) -> Result<(), AllocError>
     ensures { OnOk result (notes.new.items ≡ notes.old.items ++ namespaces_notes all.now) }
 {
-    'lines: for one in all {
+    for one in all {
         if switch_of(one).is_none() {
             note_words(&one.value, one.line.words.list(), notes)?;
         }

@@ -69,7 +69,7 @@ impl<T: Drop> ItemList<T> {
     {
         let ItemList { mut items } = self;
         let ItemList { items: others } = more;
-        'others: for item in others {
+        for item in others {
             items.push(item)?;
         }
         Ok(ItemList { items })
@@ -82,7 +82,7 @@ impl<T: Copy> ItemList<T> {
         ensures { IfOk result (λ copy. copy ≡ self.now) }
     {
         let mut items = Vec::new(alloc);
-        'items: for item in &self.items {
+        for item in &self.items {
             items.push(*item)?;
         }
         Ok(ItemList { items })

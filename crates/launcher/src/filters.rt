@@ -38,7 +38,7 @@ pub fn compile_all(alloc: Global, filters: &[Filter]) -> Result<FilterPrograms, 
     ensures { IfOk result (AreProgramsOf filters.now) }
 {
     let mut made = Vec::new(alloc);
-    'filters: for filter in filters {
+    for filter in filters {
         made.push(compile_one(alloc, filter)?)?;
     }
     Ok(FilterPrograms::new(made))

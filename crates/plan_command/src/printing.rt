@@ -18,7 +18,7 @@ pub fn print_mounts<K: Sink>(
     ensures takes_the_text { TakesText (K.taken out.old) (K.taken out.new) (flat_map mount_line steps.now) result }
     ensures fault_rose { HasWriteCause (K.faults out.old) (K.faults out.new) result }
 {
-    'steps: for step in steps {
+    for step in steps {
         put_line(out, mount_line(alloc, step))?;
     }
     Ok(())

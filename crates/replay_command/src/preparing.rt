@@ -31,7 +31,7 @@ pub struct Prepared {
 fn calls_fit(script: &[Call])
     ensures { All IsCall script.now }
 {
-    'script: for call in script {
+    for call in script {
         fits(call);
     }
 }

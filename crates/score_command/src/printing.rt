@@ -15,7 +15,7 @@ fn print_rows<K: Sink>(alloc: Global, rows: &[ScoreRow], out: &mut K) -> Result<
     ensures takes_the_text { TakesText (K.taken out.old) (K.taken out.new) (flat_map score_line rows.now) result }
     ensures fault_rose { HasWriteCause (K.faults out.old) (K.faults out.new) result }
 {
-    'rows: for row in rows {
+    for row in rows {
         put_line(out, score_line(alloc, row))?;
     }
     Ok(())

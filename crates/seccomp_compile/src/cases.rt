@@ -70,7 +70,7 @@ pub fn cases_tree(alloc: Global, cases: &[Case], rest: Action) -> Result<Tree, A
 {
     let mut tree = Tree::End(rest);
     let mut left = cases;
-    'cases: while let Some((case, others)) = left.split_last() {
+    while let Some((case, others)) = left.split_last() {
         tree = case_tree(alloc, case, tree)?;
         left = others;
     }

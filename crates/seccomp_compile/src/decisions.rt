@@ -50,7 +50,7 @@ fn numbers_tree(alloc: Global, calls: &[CallRule], rest: Action) -> Result<Tree,
 {
     let mut runs = Vec::new(alloc);
     let mut left = calls;
-    'calls: while let Some((call, others)) = left.split_last() {
+    while let Some((call, others)) = left.split_last() {
         let tree = call_tree(alloc, call)?;
         add_number(alloc, &mut runs, call.number, tree, rest)?;
         left = others;

@@ -32,7 +32,7 @@ fn end_near(code: &VecDeque<Insn>, action: Action) -> Option<usize>
     ensures { MatchOption result (NoneStands action code.now.items) (StandsAt action code.now.items) }
 {
     let mut skip = 0;
-    'insns: while skip < code.len() && skip < NEAR {
+    while skip < code.len() && skip < NEAR {
         if is_answer(code[skip], action) {
             return Some(skip);
         }

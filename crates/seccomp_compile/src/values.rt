@@ -109,7 +109,7 @@ fn values_in_turn(alloc: Global, cases: &[Case], rest: Action) -> Result<Tree, A
 {
     let mut tree = Tree::End(rest);
     let mut left = cases;
-    'cases: while let Some((case, others)) = left.split_last() {
+    while let Some((case, others)) = left.split_last() {
         tree = Tree::ends_where(alloc, Comparison::Equal, value_of(case), case.action, tree)?;
         left = others;
     }
@@ -124,7 +124,7 @@ fn values_by_tree(alloc: Global, cases: &[Case], rest: Action) -> Result<Tree, A
     let values = values_of(alloc, cases)?;
     let mut runs = Vec::new(alloc);
     let mut left = values.as_slice();
-    'values: while let Some((value, others)) = left.split_last() {
+    while let Some((value, others)) = left.split_last() {
         let action = action_of_value(cases, *value, rest);
         add_number(alloc, &mut runs, *value, Tree::End(action), rest)?;
         left = others;

@@ -46,7 +46,7 @@ pub fn caps_of(values: &[Value]) -> CapSet
     ensures { result ≡ caps_of (map view values.now) }
 {
     let mut set = CapSet::empty();
-    'values: for value in values {
+    for value in values {
         if let Some(number) = as_cap(value) {
             set = set.with(number);
         }

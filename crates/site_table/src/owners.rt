@@ -93,7 +93,7 @@ fn read_owners(alloc: Global, kind: OwnerKind, owners: &[Value]) -> Result<Vec<U
 {
     let mut names = Seen::new(alloc);
     let mut read = Vec::new(alloc);
-    'owners: for (at, value) in owners.iter().enumerate() {
+    for (at, value) in owners.iter().enumerate() {
         let owner = read_owner(alloc, kind, at as u64 + 1, &mut names, value)?;
         read.push(owner)?;
     }

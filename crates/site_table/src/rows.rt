@@ -38,7 +38,7 @@ fn listed_folders(alloc: Global, rows: &[Value]) -> Result<Seen, AllocError>
         → has_text folders text ≡ has_folder (map view rows.now) text) }
 {
     let mut folders = Seen::new(alloc);
-    'rows: for row in rows {
+    for row in rows {
         add_folder(alloc, &mut folders, row)?;
     }
     Ok(folders)
@@ -96,7 +96,7 @@ fn rows_behind_folders(alloc: Global, rows: &[Value]) -> Result<Option<OrderedRo
 {
     let mut ordered = OrderedRows::new(Vec::new(alloc));
     let mut hint = 0;
-    'rows: for value in rows {
+    for value in rows {
         match place_behind(alloc, &mut ordered, hint, value)? {
             Some(folder) => hint = folder,
             None => return Ok(None),
@@ -112,7 +112,7 @@ fn all_rows(alloc: Global, rows: &[Value]) -> Result<OrderedRows, SiteError>
 {
     let folders = listed_folders(alloc, rows)?;
     let mut ordered = OrderedRows::new(Vec::new(alloc));
-    'rows: for (at, value) in rows.iter().enumerate() {
+    for (at, value) in rows.iter().enumerate() {
         let number = at as u64 + 1;
         let row = read_row(alloc, number, value)?;
         place(number, &folders, &mut ordered, row)?;

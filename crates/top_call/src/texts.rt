@@ -82,7 +82,7 @@ fn print_lines<K: Sink>(lines: &[&str], out: &mut K) -> Result<(), SinkError>
     ensures takes_the_text { TakesText (K.taken out.old) (K.taken out.new) (flat_map (λ line. line.now) lines.now) result }
     ensures fault_rose { HasWriteCause (K.faults out.old) (K.faults out.new) result }
 {
-    'lines: for line in lines {
+    for line in lines {
         put_piece(out, line.as_bytes())?;
     }
     Ok(())

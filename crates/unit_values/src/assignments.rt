@@ -21,7 +21,7 @@ fn split_first_of_service(assignments: &[Assignment]) -> Option<(&Assignment, &[
     ensures { MatchOption result (filter is_of_service assignments.now ≡ []) (λ found. filter is_of_service assignments.now ≡ found.0.now ∷ filter is_of_service found.1.now) }
 {
     let mut left = assignments;
-    'left: while let Some((first, more)) = left.split_first() {
+    while let Some((first, more)) = left.split_first() {
         if is_of_service(first) {
             return Some((first, more));
         }
@@ -54,7 +54,7 @@ impl<'a> Iterator for ServiceAssignments<'a> {
     ghost remaining = { item_count assignments_left };
 
     fn next(&mut self) -> Option<(Place, &'a Assignment)> {
-        'files: loop {
+        loop {
             if let Some((assignment, left)) = split_first_of_service(self.left) {
                 self.left = left;
                 let place = Place {

@@ -59,7 +59,7 @@ pub fn last_of_key<T: KeyValue>(
     let mut last = default;
     let mut notes = Vec::new(alloc);
     let mut unread = Vec::new(alloc);
-    'assignments: for (place, assignment) in service_assignments(unit) {
+    for (place, assignment) in service_assignments(unit) {
         let value = given_value(alloc, &unit.name, key, place, assignment, &mut notes)?;
         last = next_read(last, value, &mut unread)?;
     }
@@ -89,7 +89,7 @@ pub fn last_text_of_key(alloc: Global, unit: &Resolved, key: &str) -> Result<Sai
 {
     let mut last = Text::new(alloc, "")?;
     let mut notes = Vec::new(alloc);
-    'assignments: for (place, assignment) in service_assignments(unit) {
+    for (place, assignment) in service_assignments(unit) {
         let value = given_value(alloc, &unit.name, key, place, assignment, &mut notes)?;
         last = next_text(last, value);
     }

@@ -45,7 +45,7 @@ fn texts(alloc: Global, words: Vec<String>) -> Result<Vec<Text>, AllocError>
     ensures { IfOk result (λ texts. texts.items ≡ map string_bytes words.items) }
 {
     let mut texts = Vec::new(alloc);
-    'words: for word in words {
+    for word in words {
         texts.push(Text::from(word))?;
     }
     Ok(texts)

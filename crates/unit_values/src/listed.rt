@@ -79,7 +79,7 @@ pub fn lines_of_key(
     let mut all = Vec::new(alloc);
     let mut notes = Vec::new(alloc);
     let mut unread = Vec::new(alloc);
-    'assignments: for (place, assignment) in service_assignments(unit) {
+    for (place, assignment) in service_assignments(unit) {
         let value = given_value(alloc, &unit.name, key, place, assignment, &mut notes)?;
         add_listed(alloc, value, &mut all, &mut unread)?;
     }

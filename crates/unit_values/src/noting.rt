@@ -29,7 +29,7 @@ pub fn note_causes(
 ) -> Result<(), AllocError>
     ensures { OnOk result (notes.new.items ≡ notes.old.items ++ notes_at value.now causes.now) }
 {
-    'causes: for cause in causes {
+    for cause in causes {
         note_value(notes, value, *cause)?;
     }
     Ok(())

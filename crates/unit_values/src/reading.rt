@@ -78,7 +78,7 @@ pub fn values_of_key(
 {
     let mut values = Vec::new(alloc);
     let mut notes = Vec::new(alloc);
-    'assignments: for (place, assignment) in service_assignments(unit) {
+    for (place, assignment) in service_assignments(unit) {
         let value = given_value(alloc, &unit.name, key, place, assignment, &mut notes)?;
         add_given(&mut values, value)?;
     }

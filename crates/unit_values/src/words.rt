@@ -49,7 +49,7 @@ pub fn words_of_key(alloc: Global, unit: &Resolved, key: &str) -> Result<Said<Wo
     let mut words = Words::empty(alloc);
     let mut notes = Vec::new(alloc);
     let mut unread = Vec::new(alloc);
-    'assignments: for (place, assignment) in service_assignments(unit) {
+    for (place, assignment) in service_assignments(unit) {
         let value = given_value(alloc, &unit.name, key, place, assignment, &mut notes)?;
         words = next_words(alloc, words, value, &mut unread)?;
     }

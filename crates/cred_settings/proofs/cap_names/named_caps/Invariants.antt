@@ -5,7 +5,7 @@ use Rattle.cap_sets.specs.Sets.{none, union, single}
 use Rattle.cred_settings.specs.CapNames.{cap_named}
 use Rattle.cred_settings.proofs.cap_names.named_caps.Given as goal
 
-abbrev pub invariant-words : goal.invariant-words
-invariant-words l =
+abbrev pub invariant-loop-word : goal.invariant-loop-word
+invariant-loop-word l =
     fold (λ set number. union set (single number)) l.set (filter_map cap_named (drop l.word-index l.words))
     ≡ fold (λ set number. union set (single number)) none (filter_map cap_named l.words)

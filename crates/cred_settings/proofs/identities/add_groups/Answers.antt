@@ -13,21 +13,21 @@ returns-in-None-clause-refused c =
     let words = c.args.words.now in
     let word = c.word-item.result in
     let found =
-    first_found (names_no_group site) words c.words.word-index word c.words-test.true c.word-item.is c.words.invariant.none_is_bad
+    first_found (names_no_group site) words c.loop-word.word-index word c.loop-word-test.true c.word-item.is c.loop-word.invariant.none_is_bad
     (names_none site word (c.in-None.ensures ∙ ap (gid_meant site) c.as_str.ensures)) in
     subst (λ bad. IsOfGroup bad c.no_such_group.result) (ap Some c.as_str-in-None.ensures ∙ sym found) c.no_such_group.ensures
 
-pub words-preserved : goal.words-preserved
-words-preserved c =
+pub loop-word-preserved : goal.loop-word-preserved
+loop-word-preserved c =
     let site = c.args.site.now in
     let words = c.args.words.now in
     let word = c.word-item.result in
     let named = c.in-Some.ensures ∙ ap (gid_meant site) c.as_str.ensures in
     record {
       added =
-          added_by_some (gid_meant site) words c.words.word-index word c.args.groups.now _ _ c.words-test.true c.word-item.is c.words.invariant.added
-          (c.in_ok-push-in-Some.ensures.longer ∙ ap (λ o. c.words.groups ++ cons_option o []) named);
+          added_by_some (gid_meant site) words c.loop-word.word-index word c.args.groups.now _ _ c.loop-word-test.true c.word-item.is c.loop-word.invariant.added
+          (c.in_ok-push-in-Some.ensures.longer ∙ ap (λ o. c.loop-word.groups ++ cons_option o []) named);
       none_is_bad =
-          none_more (names_no_group site) words c.words.word-index word c.words-test.true c.word-item.is c.words.invariant.none_is_bad
+          none_more (names_no_group site) words c.loop-word.word-index word c.loop-word-test.true c.word-item.is c.loop-word.invariant.none_is_bad
           (names_one site word c.in-Some.gid named);
     }

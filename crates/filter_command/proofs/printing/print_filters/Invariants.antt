@@ -4,8 +4,8 @@ use Rattle.host_io.specs.Writing.{Grew}
 use Rattle.filter_command.specs.Lines.{filter_text}
 use Rattle.filter_command.proofs.printing.print_filters.Given as goal
 
-abbrev pub invariant-filters : goal.invariant-filters
-invariant-filters g l = record {
+abbrev pub invariant-loop-filter : goal.invariant-loop-filter
+invariant-loop-filter g l = record {
   taken : Grew (g.K.Sink.taken l.fn.out) (g.K.Sink.taken l.out) (flat_map filter_text (take l.filter-index l.filters));
   same : g.K.Sink.faults l.out ≡ g.K.Sink.faults l.fn.out;
 }

@@ -4,8 +4,8 @@ use Rattle.host_io.specs.Writing.{Grew}
 use Rattle.filter_command.specs.Lines.{insn_line}
 use Rattle.filter_command.proofs.printing.print_insns.Given as goal
 
-abbrev pub invariant-insns : goal.invariant-insns
-invariant-insns g l = record {
+abbrev pub invariant-loop-insn : goal.invariant-loop-insn
+invariant-loop-insn g l = record {
   taken : Grew (g.K.Sink.taken l.fn.out) (g.K.Sink.taken l.out) (flat_map insn_line (take l.insn-index l.insns));
   same : g.K.Sink.faults l.out ≡ g.K.Sink.faults l.fn.out;
 }

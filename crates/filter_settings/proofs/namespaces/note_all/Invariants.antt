@@ -2,7 +2,7 @@ use Rattle.std.proofs.Common.{◌≡◌, ◌++◌, drop}
 use Rattle.filter_settings.specs.Namespaces.{namespaces_notes}
 use Rattle.filter_settings.proofs.namespaces.note_all.Given as goal
 
-abbrev pub invariant-lines : goal.invariant-lines
-invariant-lines l =
+abbrev pub invariant-loop-one : goal.invariant-loop-one
+invariant-loop-one l =
     l.notes.items ++ namespaces_notes (drop l.one-index l.all)
     ≡ l.fn.notes.items ++ namespaces_notes l.all

@@ -1,5 +1,5 @@
 use Rattle.std.proofs.Common.{◌≡◌, take}
 use Rattle.item_list.proofs.ItemList.copy.Given as goal
 
-abbrev pub invariant-items : goal.invariant-items
-invariant-items g l = l.items.items ≡ take l.item-index l.item-items
+abbrev pub invariant-loop-item : goal.invariant-loop-item
+invariant-loop-item g l = l.items.items ≡ take l.item-index l.item-items

@@ -4,8 +4,8 @@ use Rattle.host_io.specs.Writing.{Grew}
 use Rattle.plan_command.specs.Lines.{mount_line}
 use Rattle.plan_command.proofs.printing.print_mounts.Given as goal
 
-abbrev pub invariant-steps : goal.invariant-steps
-invariant-steps g l = record {
+abbrev pub invariant-loop-step : goal.invariant-loop-step
+invariant-loop-step g l = record {
   taken : Grew (g.K.Sink.taken l.fn.out) (g.K.Sink.taken l.out) (flat_map mount_line (take l.step-index l.steps));
   same : g.K.Sink.faults l.out ≡ g.K.Sink.faults l.fn.out;
 }

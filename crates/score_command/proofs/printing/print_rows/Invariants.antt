@@ -4,8 +4,8 @@ use Rattle.host_io.specs.Writing.{Grew}
 use Rattle.report_text.specs.Scores.{score_line}
 use Rattle.score_command.proofs.printing.print_rows.Given as goal
 
-abbrev pub invariant-rows : goal.invariant-rows
-invariant-rows g l = record {
+abbrev pub invariant-loop-row : goal.invariant-loop-row
+invariant-loop-row g l = record {
   taken : Grew (g.K.Sink.taken l.fn.out) (g.K.Sink.taken l.out) (flat_map score_line (take l.row-index l.rows));
   same : g.K.Sink.faults l.out ≡ g.K.Sink.faults l.fn.out;
 }

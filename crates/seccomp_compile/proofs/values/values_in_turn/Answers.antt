@@ -5,9 +5,9 @@ use Rattle.seccomp_compile.specs.Rules.{values_onto}
 use Rattle.seccomp_compile.proofs.CaseTrees.{values_last}
 use Rattle.seccomp_compile.proofs.values.values_in_turn.Goals as goal
 
-pub cases-preserved : goal.cases-preserved
-cases-preserved c =
-    ap (values_onto c.in-Some.others.now) (c.in_ok-tree.ensures ∙ ap (λ value. splits Equal value (decision_of c.cases.tree) (ends c.in-Some.case.now.action)) c.value_of.ensures)
-    ∙ sym (values_last c.in-Some.others.now c.in-Some.case.now (decision_of c.cases.tree))
-    ∙ ap (λ cases. values_onto cases (decision_of c.cases.tree)) (sym c.in-Some.ensures.cases.0)
-    ∙ c.cases.invariant
+pub loop-case-preserved : goal.loop-case-preserved
+loop-case-preserved c =
+    ap (values_onto c.in-Some.others.now) (c.in_ok-tree.ensures ∙ ap (λ value. splits Equal value (decision_of c.loop-case.tree) (ends c.in-Some.case.now.action)) c.value_of.ensures)
+    ∙ sym (values_last c.in-Some.others.now c.in-Some.case.now (decision_of c.loop-case.tree))
+    ∙ ap (λ cases. values_onto cases (decision_of c.loop-case.tree)) (sym c.in-Some.ensures.cases.0)
+    ∙ c.loop-case.invariant

@@ -4,5 +4,5 @@ use Rattle.site_table.specs.Owners.{is_wrong, refusal_of, user_of}
 use Rattle.site_table.proofs.OwnersRead.{OwnersRead}
 use Rattle.site_table.proofs.owners.read_owners.Given as goal
 
-abbrev pub invariant-owners : goal.invariant-owners
-invariant-owners l = OwnersRead (is_wrong l.fn.kind) (refusal_of l.fn.kind) user_of (map view l.owners) l.at l.names l.read.items
+abbrev pub invariant-loop-at : goal.invariant-loop-at
+invariant-loop-at l = OwnersRead (is_wrong l.fn.kind) (refusal_of l.fn.kind) user_of (map view l.owners) l.at l.names l.read.items

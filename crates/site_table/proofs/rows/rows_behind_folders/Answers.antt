@@ -8,16 +8,16 @@ use Rattle.site_table.proofs.Faults.{stands_at}
 use Rattle.site_table.proofs.RowsRead.{rows_none, rows_all}
 use Rattle.site_table.proofs.rows.rows_behind_folders.Goals as goal
 
-pub rows-init : goal.rows-init
-rows-init c =
+pub loop-value-init : goal.loop-value-init
+loop-value-init c =
     let empty = c.new-ordered.ensures ∙ c.new.ensures.items in
     behind_none (map view c.args.rows.now) c.new-ordered.result empty (rows_none (map view c.args.rows.now) c.new-ordered.result empty)
 
-pub rows-preserved : goal.rows-preserved
-rows-preserved c =
-    behind_more (map view c.args.rows.now) c.rows.value-index c.rows.ordered (view c.value-item.result) c.place_behind.new.ordered c.rows.invariant
-    (stands_at c.args.rows.now c.rows.value-index c.value-item.result c.rows-test.true c.value-item.is)
-    (subst (λ (found : Option ℕ). IfSome found (λ at. PlacesBehind c.rows.ordered (view c.value-item.result) c.place_behind.new.ordered)) c.in-Some.is c.in_ok-folder.ensures)
+pub loop-value-preserved : goal.loop-value-preserved
+loop-value-preserved c =
+    behind_more (map view c.args.rows.now) c.loop-value.value-index c.loop-value.ordered (view c.value-item.result) c.place_behind.new.ordered c.loop-value.invariant
+    (stands_at c.args.rows.now c.loop-value.value-index c.value-item.result c.loop-value-test.true c.value-item.is)
+    (subst (λ (found : Option ℕ). IfSome found (λ at. PlacesBehind c.loop-value.ordered (view c.value-item.result) c.place_behind.new.ordered)) c.in-Some.is c.in_ok-folder.ensures)
 
 pub returns : goal.returns
-returns c = rows_all (map view c.args.rows.now) c.rows.value-index c.rows.ordered c.rows.invariant.placed (omega (arith, length-map c.args.rows.now view))
+returns c = rows_all (map view c.args.rows.now) c.loop-value.value-index c.loop-value.ordered c.loop-value.invariant.placed (omega (arith, length-map c.args.rows.now view))

@@ -3,8 +3,8 @@ use Rattle.std.specs.Prelude.{flat_map}
 use Rattle.host_io.specs.Writing.{Grew}
 use Rattle.top_call.proofs.texts.print_lines.Given as goal
 
-abbrev pub invariant-lines : goal.invariant-lines
-invariant-lines g l = record {
+abbrev pub invariant-loop-line : goal.invariant-loop-line
+invariant-loop-line g l = record {
   taken : Grew (g.K.Sink.taken l.fn.out) (g.K.Sink.taken l.out) (flat_map (λ line. line.now) (take l.line-index l.lines));
   same : g.K.Sink.faults l.out ≡ g.K.Sink.faults l.fn.out;
 }

@@ -5,8 +5,8 @@ use Rattle.unit_values.specs.Values.{given_by, note_of, values_of, notes_of}
 use Rattle.unit_values.specs.Lasting.{last_read, last_text}
 use Rattle.unit_values.proofs.lasting.last_text_of_key.Given as goal
 
-abbrev pub invariant-assignments : goal.invariant-assignments
-invariant-assignments l = record {
+abbrev pub invariant-loop-place : goal.invariant-loop-place
+invariant-loop-place l = record {
   means : last_text (values_of l.unit l.key) ≡ last_read Some l.last (filter_map (given_by l.unit.name l.key) (assignments_left l.place-iterator));
   notes : notes_of l.unit l.key ≡ l.notes.items ++ filter_map (note_of l.unit.name l.key) (assignments_left l.place-iterator);
 }

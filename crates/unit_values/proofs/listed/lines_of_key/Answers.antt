@@ -7,14 +7,14 @@ use Rattle.unit_values.proofs.Found.{found_more}
 use Rattle.unit_values.proofs.Folding.{adds_more, unread_parts, some_parts}
 use Rattle.unit_values.proofs.listed.lines_of_key.Goals as goal
 
-pub assignments-preserved : goal.assignments-preserved
-assignments-preserved c =
+pub loop-place-preserved : goal.loop-place-preserved
+loop-place-preserved c =
     record {
       means =
           adds_more (filter_map listed) (some_parts listed) (given_by c.args.unit.now.name c.args.key.now) _ _ (c.in-Some.place, c.in-Some.assignment.now) _ _ _ _ c.in-Some.ensures.steps c.in_ok-value.ensures.given
-          c.assignments.invariant.means c.in_ok-add_listed.ensures.means;
-      notes = found_more (note_of c.args.unit.now.name c.args.key.now) _ _ (c.in-Some.place, c.in-Some.assignment.now) _ _ _ c.in-Some.ensures.steps c.assignments.invariant.notes c.in_ok-value.ensures.noted;
+          c.loop-place.invariant.means c.in_ok-add_listed.ensures.means;
+      notes = found_more (note_of c.args.unit.now.name c.args.key.now) _ _ (c.in-Some.place, c.in-Some.assignment.now) _ _ _ c.in-Some.ensures.steps c.loop-place.invariant.notes c.in_ok-value.ensures.noted;
       unread =
           adds_more (unread_notes listed_line) (unread_parts listed_line) (given_by c.args.unit.now.name c.args.key.now) _ _ (c.in-Some.place, c.in-Some.assignment.now) _ _ _ _ c.in-Some.ensures.steps c.in_ok-value.ensures.given
-          c.assignments.invariant.unread c.in_ok-add_listed.ensures.noted;
+          c.loop-place.invariant.unread c.in_ok-add_listed.ensures.noted;
     }

@@ -4,10 +4,10 @@ use Rattle.unit_values.specs.Values.{given_by, note_of}
 use Rattle.unit_values.proofs.Found.{found_more}
 use Rattle.unit_values.proofs.reading.values_of_key.Goals as goal
 
-pub assignments-preserved : goal.assignments-preserved
-assignments-preserved c = record {
+pub loop-place-preserved : goal.loop-place-preserved
+loop-place-preserved c = record {
   values =
-      found_more (given_by c.args.unit.now.name c.args.key.now) _ _ (c.in-Some.place, c.in-Some.assignment.now) _ _ _ c.in-Some.ensures.steps c.assignments.invariant.values
-      (c.in_ok-add_given.ensures ∙ ap (λ o. c.assignments.values.items ++ cons_option o []) c.in_ok-value.ensures.given);
-  notes = found_more (note_of c.args.unit.now.name c.args.key.now) _ _ (c.in-Some.place, c.in-Some.assignment.now) _ _ _ c.in-Some.ensures.steps c.assignments.invariant.notes c.in_ok-value.ensures.noted;
+      found_more (given_by c.args.unit.now.name c.args.key.now) _ _ (c.in-Some.place, c.in-Some.assignment.now) _ _ _ c.in-Some.ensures.steps c.loop-place.invariant.values
+      (c.in_ok-add_given.ensures ∙ ap (λ o. c.loop-place.values.items ++ cons_option o []) c.in_ok-value.ensures.given);
+  notes = found_more (note_of c.args.unit.now.name c.args.key.now) _ _ (c.in-Some.place, c.in-Some.assignment.now) _ _ _ c.in-Some.ensures.steps c.loop-place.invariant.notes c.in_ok-value.ensures.noted;
 }

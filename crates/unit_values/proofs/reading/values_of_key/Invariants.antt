@@ -5,8 +5,8 @@ use Rattle.unit_values.specs.Walk.{assignments_left}
 use Rattle.unit_values.specs.Values.{given_by, note_of}
 use Rattle.unit_values.proofs.reading.values_of_key.Given as goal
 
-abbrev pub invariant-assignments : goal.invariant-assignments
-invariant-assignments l = record {
+abbrev pub invariant-loop-place : goal.invariant-loop-place
+invariant-loop-place l = record {
   values : filter_map (given_by l.unit.name l.key) (service_assignments l.unit) ≡ l.values.items ++ filter_map (given_by l.unit.name l.key) (assignments_left l.place-iterator);
   notes : filter_map (note_of l.unit.name l.key) (service_assignments l.unit) ≡ l.notes.items ++ filter_map (note_of l.unit.name l.key) (assignments_left l.place-iterator);
 }

@@ -2,7 +2,7 @@ use Rattle.std.proofs.Common.{◌≡◌, ◌++◌, drop}
 use Rattle.filter_settings.specs.FamilyLists.{family_notes}
 use Rattle.filter_settings.proofs.family_lists.FamilyListKeyList.read.Given as goal
 
-abbrev pub invariant-lines : goal.invariant-lines
-invariant-lines l =
+abbrev pub invariant-loop-one : goal.invariant-loop-one
+invariant-loop-one l =
     l.notes.items ++ family_notes l.table (drop l.one-index l.all)
     ≡ l.fn.notes.items ++ family_notes l.table l.all
