@@ -28,14 +28,17 @@ known_calls =
     (codes "faccessat2", Modelled See) ∷
     (codes "open", Modelled (Open Second)) ∷
     (codes "openat", Modelled (Open Third)) ∷
+    (codes "openat2", Absent) ∷
     (codes "creat", Modelled Create) ∷
     (codes "truncate", Modelled Truncate) ∷
     (codes "execve", Modelled Execve) ∷
+    (codes "execveat", Absent) ∷
     (codes "chmod", Modelled (SetMode Second)) ∷
     (codes "fchmod", Modelled (SetMode Second)) ∷
     (codes "mkdir", Modelled (SetMode Second)) ∷
     (codes "mknod", Modelled (SetMode Second)) ∷
     (codes "fchmodat", Modelled (SetMode Third)) ∷
+    (codes "fchmodat2", Absent) ∷
     (codes "mkdirat", Modelled (SetMode Third)) ∷
     (codes "mknodat", Modelled (SetMode Third)) ∷
     (codes "mmap", Modelled Map) ∷
@@ -43,28 +46,21 @@ known_calls =
     (codes "pkey_mprotect", Modelled Protect) ∷
     (codes "shmat", Modelled Attach) ∷
     (codes "sched_setscheduler", Modelled Schedule) ∷
+    (codes "sched_setattr", Absent) ∷
     (codes "personality", Modelled Personality) ∷
     (codes "socket", Modelled Socket) ∷
     (codes "setns", Modelled Enter) ∷
+    (codes "chroot", Absent) ∷
+    (codes "pivot_root", Absent) ∷
     (codes "fork", Modelled Fork) ∷
     (codes "vfork", Modelled Fork) ∷
     (codes "clone", Modelled Clone) ∷
+    (codes "clone3", Absent) ∷
     (codes "unshare", Modelled Unshare) ∷
     (codes "exit", Modelled Exit) ∷
     (codes "exit_group", Modelled Exit) ∷
     (codes "mount", Modelled Mount) ∷
     (codes "umount2", Modelled Umount) ∷
-    (codes "setuid", Modelled Setuid) ∷
-    (codes "setgid", Modelled Setgid) ∷
-    (codes "setresuid", Modelled Setresuid) ∷
-    (codes "setresgid", Modelled Setresgid) ∷
-    (codes "setgroups", Modelled Setgroups) ∷
-    (codes "capset", Modelled Capset) ∷
-    (codes "prctl", Modelled Prctl) ∷
-    (codes "seccomp", Modelled Seccomp) ∷
-    (codes "clone3", Absent) ∷
-    (codes "execveat", Absent) ∷
-    (codes "openat2", Absent) ∷
     (codes "fsopen", Absent) ∷
     (codes "fsconfig", Absent) ∷
     (codes "fsmount", Absent) ∷
@@ -72,14 +68,18 @@ known_calls =
     (codes "open_tree", Absent) ∷
     (codes "move_mount", Absent) ∷
     (codes "mount_setattr", Absent) ∷
-    (codes "sched_setattr", Absent) ∷
+    (codes "setuid", Modelled Setuid) ∷
+    (codes "setgid", Modelled Setgid) ∷
     (codes "setreuid", Absent) ∷
     (codes "setregid", Absent) ∷
+    (codes "setresuid", Modelled Setresuid) ∷
+    (codes "setresgid", Modelled Setresgid) ∷
     (codes "setfsuid", Absent) ∷
     (codes "setfsgid", Absent) ∷
-    (codes "pivot_root", Absent) ∷
-    (codes "chroot", Absent) ∷
-    (codes "fchmodat2", Absent) ∷ []
+    (codes "setgroups", Modelled Setgroups) ∷
+    (codes "capset", Modelled Capset) ∷
+    (codes "prctl", Modelled Prctl) ∷
+    (codes "seccomp", Modelled Seccomp) ∷ []
 
 -- what is known of a name, or nothing
 unfoldable pub known_call : List ℕ → Option KnownCall
