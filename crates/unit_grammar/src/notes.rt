@@ -4,6 +4,7 @@
 ghost use Rattle.std.specs.Prelude.{◌≡◌};
 ghost use Rattle.unit_grammar.specs.Causes.{cause_text};
 
+use NoteCause::{NoEquals, NoSection, Specifier, Unjudged, UnknownName, Value};
 use item_list::ItemList;
 use std::alloc::{AllocError, Global};
 
@@ -24,28 +25,28 @@ pub enum NoteCause {
     UnknownName,
 }
 
-impl NoteCause {
-    /// The word that is printed for the cause.
-    pub fn text(self) -> &'static str
-        ensures printed_word { result.now ≡ cause_text self }
-    {
-        match self {
-            NoteCause::NoSection => "no-section",
-            NoteCause::NoEquals => "no-equals",
-            NoteCause::Value => "value",
-            NoteCause::Unjudged => "unjudged",
-            NoteCause::Specifier => "specifier",
-            NoteCause::UnknownName => "unknown-name",
-        }
-    }
-}
-
 /// A note on a line of a file.
 #[derive(Clone, Copy)]
 pub struct Note {
     /// The number of the line, from 1; of a joined line, that of its first.
     pub line: u64,
     pub cause: NoteCause,
+}
+
+impl NoteCause {
+    /// The word that is printed for the cause.
+    pub fn text(self) -> &'static str
+        ensures printed_word { result.now ≡ cause_text self }
+    {
+        match self {
+            NoSection => "no-section",
+            NoEquals => "no-equals",
+            Value => "value",
+            Unjudged => "unjudged",
+            Specifier => "specifier",
+            UnknownName => "unknown-name",
+        }
+    }
 }
 
 /// Notes, which contracts see as a list.
