@@ -240,8 +240,8 @@ read_is text tail short clean rooted level e = subst IsTail (sym e) (is_tail (pa
 pub read_parts : (text tail : List ℕ) → list_any (λ byte. byte == 0) text ≡ false → list_any climbs (pieces_of text) ≡ false → tail ≡ tail_of (parts_of text) → parts_of tail ≡ parts_of text
 read_parts text tail clean level e = ap parts_of e ∙ parts-tail (parts_of text) (reads_normal text clean level)
 
-pub too_long : (text rest : List ℕ) (path : Path) → IsTail text → IsRest rest → parts_of text ≡ path → 512 < length text + length rest → 512 < length (tail_of (path ++ parts_of rest))
-too_long text rest path h g e long = subst (λ (p : Path). 512 < length (tail_of (p ++ parts_of rest))) e (rw joined_text (omega (arith, length-append text rest)))
+pub joined_length : (text rest : List ℕ) (path : Path) → IsTail text → IsRest rest → parts_of text ≡ path → length (tail_of (path ++ parts_of rest)) ≡ length text + length rest
+joined_length text rest path h g e = subst (λ (p : Path). length (tail_of (p ++ parts_of rest)) ≡ length text + length rest) e (ap length (joined_text text rest h g) ∙ length-append text rest)
 
 pub tail_short : (bytes : List ℕ) → IsTail bytes → length (tail_of (parts_of bytes)) ≤ 512
 tail_short bytes h = omega (arith, ap length h.whole, h.short)

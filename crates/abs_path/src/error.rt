@@ -1,8 +1,7 @@
 //! Why a text is no path, or two are none together.
 
 ghost use Rattle.std.specs.Prelude.{◌≡◌};
-ghost use Rattle.abs_path.specs.declared.error.PathError.TheVariants.{Memory as no_memory_for_path};
-ghost use Rattle.abs_path.specs.declared.error.JoinError.TheVariants.{Memory as no_memory_for_both};
+ghost use Rattle.abs_path.specs.declared.error.PathError.TheVariants.{Memory};
 
 use std::alloc::AllocError;
 use thiserror::Error;
@@ -28,7 +27,7 @@ pub enum PathError {
 }
 
 impl From<AllocError> for PathError {
-    ghost from_gives = { λ _ e. e ≡ no_memory_for_path };
+    ghost from_gives = { λ _ e. e ≡ Memory };
 
     fn from(_: AllocError) -> Self {
         PathError::Memory
@@ -44,12 +43,4 @@ pub enum JoinError {
     /// There was no memory for the path.
     #[error("out of memory")]
     Memory,
-}
-
-impl From<AllocError> for JoinError {
-    ghost from_gives = { λ _ e. e ≡ no_memory_for_both };
-
-    fn from(_: AllocError) -> Self {
-        JoinError::Memory
-    }
 }

@@ -34,7 +34,7 @@ pub fn run(program: &Program, input: &CallData) -> u32
 {
     let mut regs = Regs::new();
     let mut code = program.insns();
-    'steps: while let Some((insn, rest)) = code.split_first() {
+    while let Some((insn, rest)) = code.split_first() {
         match step(*insn, rest.len(), &mut regs, input) {
             Effect::End(answer) => return answer,
             Effect::Skip(skip) => code = &rest[skip as usize..],

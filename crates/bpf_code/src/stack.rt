@@ -10,7 +10,7 @@ use crate::interpreter::run;
 use crate::machine::CallData;
 use crate::program::Program;
 use linux_numbers::limits::MAX_INSNS_PER_PATH;
-use std::alloc::{AllocError, AllocFailed, Global};
+use std::alloc::{AllocError, Global};
 use std::marker::Model;
 use thiserror::Error;
 
@@ -23,16 +23,6 @@ pub enum PushError {
     /// Memory ran out.
     #[error("out of memory")]
     Memory,
-}
-
-impl<T: Drop> From<AllocFailed<T>> for PushError {
-    ghost from_gives = { λ _ e. e ≡ Memory };
-
-    ghost use Rattle.bpf_code.specs.declared.stack.PushError.TheVariants.{Memory};
-
-    fn from(_error: AllocFailed<T>) -> Self {
-        PushError::Memory
-    }
 }
 
 // What a program takes beside its instructions.
@@ -126,8 +116,7 @@ impl Stack {
         if room(&self.programs) + program.insns().len() > MAX_INSNS_PER_PATH {
             return Err(PushError::TooLong);
         }
-        self.programs.push(program)?;
-        Ok(())
+        self.programs.push(program).or(Err(PushError::Memory))
     }
 
     /// What the programs decide about a call: all of them answer, and the least action decides, the newest of

@@ -87,7 +87,7 @@ fn first_marked(insns: &[Insn], marks: &mut [Words]) -> Option<usize>
     ensures { MatchOption result (NoUnstored insns.now) (IsFirstUnstored insns.now) }
 {
     join(marks, 0, ALL);
-    'places: for (at, insn) in insns.iter().enumerate() {
+    for (at, insn) in insns.iter().enumerate() {
         let words = marks[at];
         if loads(*insn, words) {
             return Some(at);

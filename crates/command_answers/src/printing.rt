@@ -18,6 +18,8 @@ pub fn put_line<K: Sink>(out: &mut K, line: Result<Vec<u8>, AllocError>) -> Resu
     ensures takes_the_line { (text : List ℕ) → IfOk line (λ line. line.items ≡ text) → TakesText (K.taken out.old) (K.taken out.new) text result }
     ensures fault_rose { HasWriteCause (K.faults out.old) (K.faults out.new) result }
 {
-    let line = line?;
-    put_piece(out, line.as_slice())
+    match line {
+        Ok(line) => put_piece(out, line.as_slice()),
+        Err(_) => Err(SinkError::Memory),
+    }
 }

@@ -23,7 +23,7 @@ fn fact_of<'a>(facts: &'a Facts, id: &str) -> Option<&'a Fact>
 fn stored_of<'a>(tests: &'a [CustomTest], id: &str) -> Option<&'a CustomTest>
     ensures { option_copied result ≡ find (λ test. bytes_eq test.id id.now) tests.now }
 {
-    'tests: for test in tests {
+    for test in tests {
         if test.id() == id {
             return Some(test);
         }

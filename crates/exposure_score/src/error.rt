@@ -1,9 +1,5 @@
 //! Why there is no score.
 
-ghost use Rattle.std.specs.Prelude.{◌≡◌};
-ghost use Rattle.exposure_score.specs.declared.error.ScoreError.TheVariants.{Memory};
-
-use std::alloc::AllocError;
 use thiserror::Error;
 
 /// Why there is no score.
@@ -15,12 +11,4 @@ pub enum ScoreError {
     /// There is no memory left.
     #[error("out of memory")]
     Memory,
-}
-
-impl From<AllocError> for ScoreError {
-    ghost from_gives = { λ _ e. e ≡ Memory };
-
-    fn from(_: AllocError) -> Self {
-        ScoreError::Memory
-    }
 }

@@ -65,7 +65,7 @@ fn score_rows(
     ensures { IfOk result (λ rows. AllZip (IsRow (λ one. one.id) (λ one. Gives (Check.post one.check) one.range facts.now) facts.now.tests tests.now) policy.now rows.items) }
 {
     let mut rows = Vec::new(alloc);
-    'policy: for test in policy {
+    for test in policy {
         rows.push(score_row(alloc, test, facts, tests)?)?;
     }
     Ok(rows)
@@ -90,7 +90,9 @@ pub fn score(
     ensures no_weight { IfErr result (λ error. error ≡ NoWeight
         → counted_weight (λ one. one.id) facts.now.tests tests.now policy.now ≡ 0) }
 {
-    let rows = score_rows(alloc, policy.list(), facts, tests)?;
+    let Ok(rows) = score_rows(alloc, policy.list(), facts, tests) else {
+        return Err(ScoreError::Memory);
+    };
     let weights = sum_of_weights(&rows);
     if weights == 0 {
         return Err(ScoreError::NoWeight);

@@ -1,6 +1,7 @@
 pub mod Causes
 pub mod Files
 pub mod Reading
+pub mod Turns
 pub mod Writing
 pub mod MemoryFiles
 pub mod MemoryOutput

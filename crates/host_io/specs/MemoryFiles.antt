@@ -1,16 +1,13 @@
--- A shelf in memory: what it tells, and which of its calls fail.
-use Rattle.std.specs.Prelude.{Vec, String, string_bytes, ℕ, ◌≡◌, List, ◌==◌, cond, Bool, true, false, IsTrue, Option, Some, None, IfSome, refl}
-use Rattle.std.specs.List.{list_any}
+-- A shelf in memory, and what it tells.
+use Rattle.std.specs.Prelude.{Vec, String, string_bytes, ℕ, ◌≡◌, List, cond, Bool, true, false, IsTrue, Option, Some, None, IfSome, refl}
 use Rattle.std.specs.declared.alloc.Global.{Global}
-use Rattle.host_io.specs.Causes.{next_of}
 use Rattle.host_io.specs.Files.{Files, is_file_map}
+use Rattle.host_io.specs.Turns.{TurnCounts}
 
--- its files, the numbers of the calls that fail, how many calls were made and how many failed
+-- its files, and its calls so far
 pub record MemFiles : Type 0 where
   pub files : Files
-  pub failing : List ℕ
-  pub calls : ℕ
-  pub faults : ℕ
+  pub turns : TurnCounts
 
 abbrev pub file_of : (String Global × Vec ℕ Global) → (List ℕ × List ℕ)
 file_of file = (string_bytes file.0, file.1.items)
@@ -25,11 +22,3 @@ told_by files false e = tt
 
 pub told_files-is_file_map : (files : Files) → IfSome (told_files files) (λ f. IsTrue (is_file_map f))
 told_files-is_file_map files = told_by files (is_file_map files) refl
-
--- the next call has one of the numbers that fail
-abbrev pub fails_now : MemFiles → Bool
-fails_now shelf = list_any (λ number. number == next_of shelf.calls) shelf.failing
-
--- one more call was made, and it is a fault where it fails
-abbrev pub after_call : MemFiles → MemFiles
-after_call shelf = record shelf { calls = next_of shelf.calls; faults = cond (fails_now shelf) (next_of shelf.faults) shelf.faults }

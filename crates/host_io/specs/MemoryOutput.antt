@@ -1,20 +1,9 @@
--- A sink in memory: which of its puts fail.
-use Rattle.std.specs.Prelude.{ℕ, List, ◌==◌, cond, Bool}
-use Rattle.std.specs.List.{list_any}
-use Rattle.host_io.specs.Causes.{next_of}
+-- A sink in memory.
+use Rattle.std.specs.Prelude.{ℕ, List}
+use Rattle.host_io.specs.Turns.{TurnCounts}
 
--- how much it takes at once, the numbers of the puts that fail, what it took, how many puts were made and how many failed
+-- how much it takes at once, what it took, and its puts so far
 pub record MemTaken : Type 0 where
   pub limit : ℕ
-  pub failing : List ℕ
   pub bytes : List ℕ
-  pub puts : ℕ
-  pub faults : ℕ
-
--- the next put has one of the numbers that fail
-abbrev pub fails_now : MemTaken → Bool
-fails_now sink = list_any (λ number. number == next_of sink.puts) sink.failing
-
--- one more put was made, and it is a fault where it fails
-abbrev pub after_put : MemTaken → MemTaken
-after_put sink = record sink { puts = next_of sink.puts; faults = cond (fails_now sink) (next_of sink.faults) sink.faults }
+  pub turns : TurnCounts

@@ -12,6 +12,7 @@ mod memory_files;
 mod memory_output;
 mod reading;
 mod real;
+mod turns;
 mod writing;
 
 pub use memory_files::{MemShelf, are_files};

@@ -1,15 +1,17 @@
 //! A shelf in memory, whose calls of given numbers fail.
 //!
 //! It tells its map. Its calls of `read` and `list` are numbered together from 1.
-ghost use Rattle.std.specs.Prelude.{◌≡◌, ◌≤◌, ◌↔◌, map, IfOk, IsTrue, IsFalse, IsErrOf, vec_len, string_bytes};
+ghost use Rattle.std.specs.Prelude.{◌≡◌, ◌≤◌, ◌↔◌, map, IfOk, IsTrue, IsErrOf, vec_len, string_bytes};
 ghost use Rattle.std.specs.Option.{option_map};
 ghost use Rattle.host_io.specs.declared.reading.ShelfError.TheVariants.{Failed};
-ghost use Rattle.host_io.specs.Causes.{Rose, StaysUnless};
+ghost use Rattle.host_io.specs.Causes.{StaysUnless};
 ghost use Rattle.host_io.specs.Files.{is_file_map, is_new_path, behind, bytes_at, name_in, names_in};
-ghost use Rattle.host_io.specs.MemoryFiles.{file_of, told_files, fails_now, after_call};
+ghost use Rattle.host_io.specs.MemoryFiles.{file_of, told_files};
 ghost use Rattle.host_io.specs.Reading.{Reads, Lists, HasCause};
+ghost use Rattle.host_io.specs.Turns.{fails_now, after_turn};
 
 use crate::reading::{Shelf, ShelfError};
+use crate::turns::Turns;
 use std::alloc::{AllocError, Global};
 use std::marker::Model;
 
@@ -17,9 +19,7 @@ use std::marker::Model;
 #[derive(Drop)]
 pub struct MemShelf {
     files: Vec<(String, Vec<u8>)>,
-    failing: Vec<u64>,
-    calls: u64,
-    faults: u64,
+    turns: Turns,
 }
 
 impl Model for MemShelf {
@@ -29,7 +29,7 @@ impl Model for MemShelf {
 
     ghost Value = { MemFiles };
 
-    ghost view = { λ s. record { files = map file_of s.files.items; failing = s.failing.items; calls = s.calls; faults = s.faults } };
+    ghost view = { λ s. record { files = map file_of s.files.items; turns = s.turns } };
 
     ghost invariant = { λ s. IsTrue (is_file_map (map file_of s.files.items)) };
 }
@@ -55,30 +55,12 @@ impl MemShelf {
     /// A shelf with these files, whose calls with the numbers in `failing` fail. `are_files` tests the condition.
     pub fn new(files: Vec<(String, Vec<u8>)>, failing: Vec<u64>) -> Self
         requires { IsTrue (is_file_map (map file_of files.items)) }
-        ensures starts { result ≡ record { files = map file_of files.items; failing = failing.items; calls = 0; faults = 0 } }
+        ensures starts { result ≡ record { files = map file_of files.items; turns = record { failing = failing.items; made = 0; faults = 0 } } }
     {
         MemShelf {
             files,
-            failing,
-            calls: 0,
-            faults: 0,
+            turns: Turns::new(failing),
         }
-    }
-
-    // Counts a call, and says whether it fails.
-    fn counts_call(&mut self) -> bool
-        ensures fails { result ≡ fails_now self.old }
-        ensures counts { self.new ≡ after_call self.old }
-        ensures later { self.old.faults ≤ self.new.faults }
-        ensures rose { IsTrue result → Rose self.old.faults self.new.faults }
-        ensures stays { IsFalse result → self.new.faults ≡ self.old.faults }
-    {
-        self.calls = self.calls.saturating_add(1);
-        let fails = self.failing.contains(&self.calls);
-        if fails {
-            self.faults = self.faults.saturating_add(1);
-        }
-        fails
     }
 }
 
@@ -135,7 +117,7 @@ impl Shelf for MemShelf {
 
     ghost told = { λ shelf. told_files shelf.files };
 
-    ghost faults = { λ shelf. shelf.faults };
+    ghost faults = { λ shelf. shelf.turns.faults };
 
     ghost tells_a_map = { λ shelf. told_files-is_file_map shelf.files };
 
@@ -143,18 +125,18 @@ impl Shelf for MemShelf {
         ensures answers_by_the_map { Reads (told_files self.old.files) path.now limit result }
         ensures within_limit { IfOk result (λ bytes. vec_len bytes ≤ limit) }
         ensures map_stays { told_files self.new.files ≡ told_files self.old.files }
-        ensures fault_rose { HasCause self.old.faults self.new.faults result }
-        ensures no_other_fault { StaysUnless Failed self.old.faults self.new.faults result }
-        ensures fails_as_told { IsErrOf result Failed ↔ IsTrue (fails_now self.old) }
-        ensures counts_the_call { self.new ≡ after_call self.old }
+        ensures fault_rose { HasCause self.old.turns.faults self.new.turns.faults result }
+        ensures no_other_fault { StaysUnless Failed self.old.turns.faults self.new.turns.faults result }
+        ensures fails_as_told { IsErrOf result Failed ↔ IsTrue (fails_now self.old.turns) }
+        ensures counts_the_call { self.new ≡ record self.old { turns = after_turn self.old.turns } }
     {
-        if self.counts_call() {
+        if self.turns.next_fails() {
             return Err(ShelfError::Failed);
         }
         match find_file(&self.files, path) {
             None => Err(ShelfError::Missing),
             Some(bytes) if bytes.len() as u64 > limit => Err(ShelfError::TooLarge),
-            Some(bytes) => Ok(bytes.to_vec(alloc)?),
+            Some(bytes) => bytes.to_vec(alloc).or(Err(ShelfError::Memory)),
         }
     }
 
@@ -162,15 +144,17 @@ impl Shelf for MemShelf {
         ensures answers_by_the_map { Lists (told_files self.old.files) dir.now result }
         ensures within_limit { IfOk result (λ names. vec_len names ≤ 4096) }
         ensures map_stays { told_files self.new.files ≡ told_files self.old.files }
-        ensures fault_rose { HasCause self.old.faults self.new.faults result }
-        ensures no_other_fault { StaysUnless Failed self.old.faults self.new.faults result }
-        ensures fails_as_told { IsErrOf result Failed ↔ IsTrue (fails_now self.old) }
-        ensures counts_the_call { self.new ≡ after_call self.old }
+        ensures fault_rose { HasCause self.old.turns.faults self.new.turns.faults result }
+        ensures no_other_fault { StaysUnless Failed self.old.turns.faults self.new.turns.faults result }
+        ensures fails_as_told { IsErrOf result Failed ↔ IsTrue (fails_now self.old.turns) }
+        ensures counts_the_call { self.new ≡ record self.old { turns = after_turn self.old.turns } }
     {
-        if self.counts_call() {
+        if self.turns.next_fails() {
             return Err(ShelfError::Failed);
         }
-        let names = names_of(alloc, &self.files, dir)?;
+        let Ok(names) = names_of(alloc, &self.files, dir) else {
+            return Err(ShelfError::Memory);
+        };
         if names.is_empty() {
             return Err(ShelfError::Missing);
         }

@@ -2,12 +2,12 @@
 //!
 //! The meanings of a shelf are a count of faults and, where it tells it, a map from paths to bytes.
 ghost use Rattle.std.specs.Prelude.{◌≡◌, ℕ, ◌≤◌, Option, IfOk, IfSome, IsTrue, vec_len};
-ghost use Rattle.host_io.specs.declared.reading.ShelfError.TheVariants.{Failed, Memory};
+ghost use Rattle.host_io.specs.declared.reading.ShelfError.TheVariants.{Failed};
 ghost use Rattle.host_io.specs.Causes.{StaysUnless};
 ghost use Rattle.host_io.specs.Files.{Files, is_file_map};
 ghost use Rattle.host_io.specs.Reading.{Reads, Lists, HasCause};
 
-use std::alloc::{AllocError, Global};
+use std::alloc::Global;
 use thiserror::Error;
 
 /// Why a file or a folder was not read.
@@ -25,14 +25,6 @@ pub enum ShelfError {
     /// Memory ran out.
     #[error("out of memory")]
     Memory,
-}
-
-impl From<AllocError> for ShelfError {
-    ghost from_gives = { λ _ e. e ≡ Memory };
-
-    fn from(_: AllocError) -> Self {
-        ShelfError::Memory
-    }
 }
 
 /// Where files are read. Paths are relative: none begins with a slash.

@@ -2,11 +2,10 @@
 //!
 //! The meanings of a sink are a count of faults and, where it tells them, the bytes taken so far.
 ghost use Rattle.std.specs.Prelude.{◌≡◌, ℕ, List, Option};
-ghost use Rattle.host_io.specs.declared.writing.SinkError.TheVariants.{Failed, Memory};
+ghost use Rattle.host_io.specs.declared.writing.SinkError.TheVariants.{Failed};
 ghost use Rattle.host_io.specs.Causes.{StaysUnless};
 ghost use Rattle.host_io.specs.Writing.{Takes, TakesWhole, HasCause};
 
-use std::alloc::AllocError;
 use thiserror::Error;
 
 /// Why bytes were not taken.
@@ -18,14 +17,6 @@ pub enum SinkError {
     /// Memory ran out.
     #[error("out of memory")]
     Memory,
-}
-
-impl From<AllocError> for SinkError {
-    ghost from_gives = { λ _ e. e ≡ Memory };
-
-    fn from(_: AllocError) -> Self {
-        SinkError::Memory
-    }
 }
 
 /// Where bytes are written.
@@ -56,7 +47,7 @@ pub fn write_whole<K: Sink>(out: &mut K, piece: &[u8]) -> Result<(), SinkError>
     ensures no_other_fault { StaysUnless Failed (K.faults out.old) (K.faults out.new) result }
 {
     let mut at = 0;
-    'turns: while at < piece.len() {
+    while at < piece.len() {
         at += out.put(&piece[at..])?;
     }
     Ok(())

@@ -29,7 +29,7 @@ fn print_calls<K: Sink>(
     ensures takes_the_text { TakesText (K.taken out.old) (K.taken out.new) (flat_map (call_line table.now.calls) list.now) result }
     ensures fault_rose { HasWriteCause (K.faults out.old) (K.faults out.new) result }
 {
-    'calls: for call in list {
+    for call in list {
         put_line(out, call_line(alloc, call, table))?;
     }
     Ok(())
@@ -55,7 +55,9 @@ fn print_answer<K: Sink>(
     match found {
         Verdict::Denied => put_line(out, line),
         Verdict::Open => {
-            let list = calls(alloc, &asked.service, &asked.ceiling, question)?;
+            let Ok(list) = calls(alloc, &asked.service, &asked.ceiling, question) else {
+                return Err(SinkError::Memory);
+            };
             put_line(out, line)?;
             print_calls(alloc, list.as_slice(), table, out)
         }
@@ -78,7 +80,7 @@ pub fn print_answers<K: Sink>(
     ensures fault_rose { HasWriteCause (K.faults out.old) (K.faults out.new) result }
 {
     *denied = 0;
-    'questions: for question in list {
+    for question in list {
         let found = verdict(&asked.service, &asked.ceiling, question);
         print_answer(alloc, asked, question, found, out)?;
         *denied += denied_once(found);

@@ -22,7 +22,7 @@ pub fn count_denied(asked: &Asked<'_>) -> usize
 {
     let list = asked.questions.as_slice();
     let mut denied = 0;
-    'questions: for question in list {
+    for question in list {
         denied += denied_once(verdict(&asked.service, &asked.ceiling, question));
     }
     denied

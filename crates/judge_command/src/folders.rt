@@ -54,7 +54,7 @@ pub fn print_folders<K: Sink>(
     ensures takes_the_text { TakesText (K.taken out.old) (K.taken out.new) (flat_map (folder_text asked.now) rows.now) result }
     ensures fault_rose { HasWriteCause (K.faults out.old) (K.faults out.new) result }
 {
-    'rows: for row in rows {
+    for row in rows {
         print_folder(alloc, asked, row, out)?;
     }
     Ok(())

@@ -30,7 +30,7 @@ fn print_notes<K: Sink>(
     ensures takes_the_text { TakesText (K.taken out.old) (K.taken out.new) (flat_map (note_line unit.now.files) notes.now) result }
     ensures fault_rose { HasWriteCause (K.faults out.old) (K.faults out.new) result }
 {
-    'notes: for note in notes {
+    for note in notes {
         put_line(out, note_line(alloc, unit, note))?;
     }
     Ok(())

@@ -101,7 +101,10 @@ impl Creds {
         if ids.len() > NGROUPS_MAX {
             return Err(CredError::Errno(EINVAL));
         }
-        self.groups = self.groups.with(ids)?;
+        let Ok(groups) = self.groups.with(ids) else {
+            return Err(CredError::Memory);
+        };
+        self.groups = groups;
         Ok(())
     }
 }

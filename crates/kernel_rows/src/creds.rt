@@ -61,12 +61,17 @@ fn outcome(alloc: Global, creds: &mut Creds, calls: &str) -> Result<String, Allo
 }
 
 fn make(alloc: Global, creds: &mut Creds, call: &str) -> Result<(), CredError> {
-    let words: Vec<&str> = call.split(' ').collect(alloc)?;
+    let words: Result<Vec<&str>, AllocError> = call.split(' ').collect(alloc);
+    let words = words.or(Err(CredError::Memory))?;
     match words.as_slice() {
-        ["setgroups", ids @ ..] => creds.setgroups(ids_of(alloc, ids)?.as_slice()),
-        ["many", count] => creds.setgroups(many(alloc, number(count))?.as_slice()),
+        ["setgroups", ids @ ..] => set_groups(creds, ids_of(alloc, ids)),
+        ["many", count] => set_groups(creds, many(alloc, number(count))),
         other => or_errno(make_small(creds, other)),
     }
+}
+
+fn set_groups(creds: &mut Creds, ids: Result<Vec<u32>, AllocError>) -> Result<(), CredError> {
+    creds.setgroups(ids.or(Err(CredError::Memory))?.as_slice())
 }
 
 fn or_errno(answer: Result<(), u32>) -> Result<(), CredError> {

@@ -9,6 +9,11 @@ use crate::folders::read_folder;
 use crate::lists::read_path;
 use crate::mentions::{Kind, Mention};
 use crate::temporary::read_temporary;
+use PathKey::{
+    BindPaths, BindReadOnlyPaths, CacheDirectory, ExecPaths, InaccessiblePaths, LogsDirectory,
+    NoExecPaths, ReadOnlyPaths, ReadWritePaths, RuntimeDirectory, StateDirectory,
+    TemporaryFileSystem,
+};
 use std::alloc::{AllocError, Global};
 
 /// A key of `[Service]` whose value is a list of paths, binds, empty file systems or folders (systemd.exec(5)).
@@ -58,21 +63,21 @@ impl PathKey {
 
     /// The key as it is written.
     pub fn name(self) -> &'static str
-        ensures { result.now ≡ name_of self }
+        ensures as_written { result.now ≡ name_of self }
     {
         match self {
-            PathKey::ReadWritePaths => "ReadWritePaths",
-            PathKey::ReadOnlyPaths => "ReadOnlyPaths",
-            PathKey::InaccessiblePaths => "InaccessiblePaths",
-            PathKey::ExecPaths => "ExecPaths",
-            PathKey::NoExecPaths => "NoExecPaths",
-            PathKey::BindPaths => "BindPaths",
-            PathKey::BindReadOnlyPaths => "BindReadOnlyPaths",
-            PathKey::TemporaryFileSystem => "TemporaryFileSystem",
-            PathKey::StateDirectory => "StateDirectory",
-            PathKey::RuntimeDirectory => "RuntimeDirectory",
-            PathKey::CacheDirectory => "CacheDirectory",
-            PathKey::LogsDirectory => "LogsDirectory",
+            ReadWritePaths => "ReadWritePaths",
+            ReadOnlyPaths => "ReadOnlyPaths",
+            InaccessiblePaths => "InaccessiblePaths",
+            ExecPaths => "ExecPaths",
+            NoExecPaths => "NoExecPaths",
+            BindPaths => "BindPaths",
+            BindReadOnlyPaths => "BindReadOnlyPaths",
+            TemporaryFileSystem => "TemporaryFileSystem",
+            StateDirectory => "StateDirectory",
+            RuntimeDirectory => "RuntimeDirectory",
+            CacheDirectory => "CacheDirectory",
+            LogsDirectory => "LogsDirectory",
         }
     }
 
@@ -82,10 +87,7 @@ impl PathKey {
     {
         matches!(
             self,
-            PathKey::StateDirectory
-                | PathKey::RuntimeDirectory
-                | PathKey::CacheDirectory
-                | PathKey::LogsDirectory
+            StateDirectory | RuntimeDirectory | CacheDirectory | LogsDirectory
         )
     }
 }
@@ -95,17 +97,17 @@ pub fn read_mention(alloc: Global, key: PathKey, word: &str) -> Result<Option<Me
     ensures mention_or_none { IfOk result (λ mention. mention ≡ mention_of key word.now) }
 {
     match key {
-        PathKey::ReadWritePaths => read_path(alloc, Kind::Rw, word),
-        PathKey::ReadOnlyPaths => read_path(alloc, Kind::Ro, word),
-        PathKey::InaccessiblePaths => read_path(alloc, Kind::Hide, word),
-        PathKey::ExecPaths => read_path(alloc, Kind::Exec, word),
-        PathKey::NoExecPaths => read_path(alloc, Kind::NoExec, word),
-        PathKey::BindPaths => read_bind(alloc, false, word),
-        PathKey::BindReadOnlyPaths => read_bind(alloc, true, word),
-        PathKey::TemporaryFileSystem => read_temporary(alloc, word),
-        PathKey::StateDirectory => read_folder(alloc, "/var/lib", word),
-        PathKey::RuntimeDirectory => read_folder(alloc, "/run", word),
-        PathKey::CacheDirectory => read_folder(alloc, "/var/cache", word),
-        PathKey::LogsDirectory => read_folder(alloc, "/var/log", word),
+        ReadWritePaths => read_path(alloc, Kind::Rw, word),
+        ReadOnlyPaths => read_path(alloc, Kind::Ro, word),
+        InaccessiblePaths => read_path(alloc, Kind::Hide, word),
+        ExecPaths => read_path(alloc, Kind::Exec, word),
+        NoExecPaths => read_path(alloc, Kind::NoExec, word),
+        BindPaths => read_bind(alloc, false, word),
+        BindReadOnlyPaths => read_bind(alloc, true, word),
+        TemporaryFileSystem => read_temporary(alloc, word),
+        StateDirectory => read_folder(alloc, "/var/lib", word),
+        RuntimeDirectory => read_folder(alloc, "/run", word),
+        CacheDirectory => read_folder(alloc, "/var/cache", word),
+        LogsDirectory => read_folder(alloc, "/var/log", word),
     }
 }

@@ -188,7 +188,6 @@ impl Mentions {
         }
         know_path(&mention.path);
         know_source(&mention.kind);
-        self.items.push(mention)?;
-        Ok(())
+        self.items.push(mention).or(Err(MentionError::Memory))
     }
 }

@@ -1,10 +1,6 @@
 //! Why a policy is refused.
 
-ghost use Rattle.std.specs.Prelude.{◌≡◌};
-ghost use Rattle.policy_file.specs.declared.error.PolicyError.TheVariants.{Memory};
-
 use crate::identifier::TestId;
-use std::alloc::AllocError;
 use thiserror::Error;
 
 /// Why a policy is refused; of several reasons, the first in this order.
@@ -23,12 +19,4 @@ pub enum PolicyError {
     /// There is no memory left.
     #[error("out of memory")]
     Memory,
-}
-
-impl From<AllocError> for PolicyError {
-    ghost from_gives = { λ _ e. e ≡ Memory };
-
-    fn from(_: AllocError) -> Self {
-        PolicyError::Memory
-    }
 }

@@ -55,12 +55,9 @@ fn numbers_of(said: &Value) -> Option<(u32, u32)>
 pub fn read_test(alloc: Global, id: &str, said: &Value) -> Result<PolicyTest, PolicyError>
     ensures { SaysTest id.now (view said.now) result }
 {
-    let Some((weight, range)) = numbers_of(said) else {
-        return Err(PolicyError::Field(TestId::new(alloc, id)?));
-    };
-    Ok(PolicyTest {
-        id: TestId::new(alloc, id)?,
-        weight,
-        range,
-    })
+    let id = TestId::new(alloc, id).or(Err(PolicyError::Memory))?;
+    match numbers_of(said) {
+        Some((weight, range)) => Ok(PolicyTest { id, weight, range }),
+        None => Err(PolicyError::Field(id)),
+    }
 }

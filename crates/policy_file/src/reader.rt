@@ -11,7 +11,7 @@ use crate::error::PolicyError;
 use crate::member::read_test;
 use crate::policy::{Policy, PolicyTest};
 use serde_json::{Map, Value};
-use std::alloc::{AllocError, Global};
+use std::alloc::Global;
 
 /// The most tests that a policy may have.
 const MOST_TESTS: usize = 512;
@@ -21,9 +21,9 @@ fn read_tests(alloc: Global, members: &Map<String, Value>) -> Result<Vec<PolicyT
     ensures { SaysTests (members_of (members_view members.now.entries)) result }
 {
     let mut tests = Vec::new(alloc);
-    'members: for (id, said) in members.iter() {
+    for (id, said) in members.iter() {
         let test = read_test(alloc, id.as_str(), said)?;
-        tests.push(test).map_err(AllocError::from)?;
+        tests.push(test).or(Err(PolicyError::Memory))?;
     }
     Ok(tests)
 }

@@ -27,7 +27,9 @@ fn make_call<K: Sink>(
     ensures fault_rose { HasWriteCause (K.faults out.old) (K.faults out.new) result }
     ensures makes_it { Makes world.old call.now (K.taken out.old) (K.taken out.new) result world.new }
 {
-    let reply = world.step(alloc, call)?;
+    let Ok(reply) = world.step(alloc, call) else {
+        return Err(SinkError::Memory);
+    };
     put_line(out, call_line(alloc, call, reply, calls))
 }
 
@@ -43,7 +45,7 @@ fn make_calls<K: Sink>(
     ensures fault_rose { HasWriteCause (K.faults out.old) (K.faults out.new) result }
     ensures performs { Performs calls.now.calls world.old script.now (K.taken out.old) (K.taken out.new) result world.new }
 {
-    'script: for call in script {
+    for call in script {
         make_call(alloc, world, call, calls, out)?;
     }
     Ok(())

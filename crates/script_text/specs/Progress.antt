@@ -9,8 +9,8 @@ use Rattle.script_text.specs.Scripts.{most_calls, fault_of, calls_of}
 use Rattle.script_text.specs.declared.payloads.TakenPayload.{TakenPayload}
 use Rattle.script_text.specs.declared.error.ScriptCause.{ScriptCause}
 use Rattle.script_text.specs.declared.error.ScriptCause.TheVariants as cause
-use Rattle.script_text.specs.declared.error.LineFault.{LineFault}
-use Rattle.script_text.specs.declared.error.LineFault.TheVariants.{Faulty, NoMemory}
+use Rattle.script_text.specs.declared.line_fault.LineFault.{LineFault}
+use Rattle.script_text.specs.declared.line_fault.LineFault.TheVariants.{Faulty, NoMemory}
 use Rattle.script_text.specs.declared.error.ScriptError.{ScriptError}
 use Rattle.script_text.specs.declared.error.ScriptError.TheVariants.{NotText, Line as AtLine, TooMany, Memory}
 

@@ -5,7 +5,8 @@ ghost use Rattle.script_text.specs.Numbers.{pid_of, numbers_of, six_words};
 ghost use Rattle.script_text.specs.Progress.{ReadsList};
 ghost use Rattle.script_text.specs.declared.error.ScriptCause.TheVariants.{Number as NumberCause};
 
-use crate::error::{LineFault, ScriptCause};
+use crate::error::ScriptCause;
+use crate::line_fault::LineFault;
 use std::alloc::Global;
 use text_forms::{read_decimal, read_u64};
 

@@ -2,10 +2,8 @@
 
 ghost use Rattle.std.specs.Prelude.{◌≡◌};
 ghost use Rattle.script_text.specs.Causes.{cause_text};
-ghost use Rattle.script_text.specs.declared.error.ScriptError.TheVariants.{Memory};
-ghost use Rattle.script_text.specs.declared.error.LineFault.TheVariants.{NoMemory};
 
-use std::alloc::{AllocError, AllocFailed};
+use ScriptCause::{Name, Number, Payload, Pid, Words};
 use thiserror::Error;
 
 /// What is wrong with a line; of several, the first in this order.
@@ -21,21 +19,6 @@ pub enum ScriptCause {
     Number,
     /// There is no NAME, or there are more than six numbers.
     Words,
-}
-
-impl ScriptCause {
-    /// The word that is printed for the cause.
-    pub fn text(self) -> &'static str
-        ensures printed_word { result.now ≡ cause_text self }
-    {
-        match self {
-            ScriptCause::Pid => "pid",
-            ScriptCause::Name => "name",
-            ScriptCause::Payload => "payload",
-            ScriptCause::Number => "number",
-            ScriptCause::Words => "words",
-        }
-    }
 }
 
 /// Why a script is refused.
@@ -55,35 +38,17 @@ pub enum ScriptError {
     Memory,
 }
 
-impl From<AllocError> for ScriptError {
-    ghost from_gives = { λ _ e. e ≡ Memory };
-
-    fn from(_: AllocError) -> Self {
-        ScriptError::Memory
-    }
-}
-
-/// Why a line gives no call.
-#[derive(Clone, Copy)]
-pub(crate) enum LineFault {
-    /// The first thing that is wrong with it.
-    Faulty(ScriptCause),
-    /// There is no memory left.
-    NoMemory,
-}
-
-impl From<AllocError> for LineFault {
-    ghost from_gives = { λ _ e. e ≡ NoMemory };
-
-    fn from(_: AllocError) -> Self {
-        LineFault::NoMemory
-    }
-}
-
-impl<T: Drop> From<AllocFailed<T>> for LineFault {
-    ghost from_gives = { λ _ e. e ≡ NoMemory };
-
-    fn from(_: AllocFailed<T>) -> Self {
-        LineFault::NoMemory
+impl ScriptCause {
+    /// The word that is printed for the cause.
+    pub fn text(self) -> &'static str
+        ensures printed_word { result.now ≡ cause_text self }
+    {
+        match self {
+            Pid => "pid",
+            Name => "name",
+            Payload => "payload",
+            Number => "number",
+            Words => "words",
+        }
     }
 }

@@ -12,6 +12,7 @@ mod escapes;
 mod held;
 pub mod laws;
 mod line;
+mod line_fault;
 mod names;
 mod payloads;
 mod printing;

@@ -8,7 +8,8 @@ ghost use Rattle.script_text.specs.Views.{view_named};
 ghost use Rattle.line_text.specs.Views.{line_view};
 
 use crate::arguments::{read_numbers, read_pid, six_words};
-use crate::error::{LineFault, ScriptCause};
+use crate::error::ScriptCause;
+use crate::line_fault::LineFault;
 use crate::names::{NamedCall, find_call};
 use crate::payloads::take_payload;
 use call_table::CallTable;

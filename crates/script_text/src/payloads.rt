@@ -9,8 +9,9 @@ ghost use Rattle.script_text.specs.Payloads.{path_of, set_of, ids_of, is_code, c
 ghost use Rattle.script_text.specs.Progress.{ReadsAs, ReadsList, TakesPayload};
 ghost use Rattle.script_text.specs.declared.error.ScriptCause.TheVariants.{Payload as PayloadCause};
 
-use crate::error::{LineFault, ScriptCause};
+use crate::error::ScriptCause;
 use crate::escapes::read_text;
+use crate::line_fault::LineFault;
 use crate::names::read_number;
 use abs_path::{AbsPath, PathError};
 use call_names::PayloadForm;

@@ -59,7 +59,7 @@ fn push_path(out: &mut Vec<u8>, path: &AbsPath) -> Result<(), AllocError>
 fn push_others(out: &mut Vec<u8>, ids: &[u32]) -> Result<(), AllocError>
     ensures { OnOk result (out.new.items ≡ out.old.items ++ each_number (codes ",") ids.now) }
 {
-    'ids: for id in ids {
+    for id in ids {
         out.extend_from_slice(b",")?;
         push_u64(out, u64::from(*id))?;
     }
@@ -164,7 +164,7 @@ fn without_last_zeros(args: &[u64]) -> &[u64]
 fn push_numbers(out: &mut Vec<u8>, numbers: &[u64]) -> Result<(), AllocError>
     ensures { OnOk result (out.new.items ≡ out.old.items ++ each_number (codes " ") numbers.now) }
 {
-    'numbers: for number in numbers {
+    for number in numbers {
         push_number(out, *number)?;
     }
     Ok(())

@@ -9,12 +9,13 @@ ghost use Rattle.script_text.specs.Scripts.{line_call, script_of, script_of_line
 ghost use Rattle.script_text.specs.declared.error.ScriptError.TheVariants.{Memory};
 
 use crate::Script;
-use crate::error::{LineFault, ScriptError};
+use crate::error::ScriptError;
 use crate::line::read_line;
+use crate::line_fault::LineFault;
 use call_table::CallTable;
 use kernel_calls::Call;
 use line_text::{Line, read_lines, read_text};
-use std::alloc::{AllocError, Global};
+use std::alloc::Global;
 
 /// How many calls a script has at most.
 const MOST_CALLS: usize = 16384;
@@ -37,8 +38,7 @@ fn add(made: &mut Vec<Call>, call: Call) -> Result<(), ScriptError>
     if made.len() >= MOST_CALLS {
         return Err(ScriptError::TooMany);
     }
-    made.push(call).map_err(AllocError::from)?;
-    Ok(())
+    made.push(call).or(Err(ScriptError::Memory))
 }
 
 // the calls of the lines that count
@@ -59,7 +59,9 @@ fn read_bytes(alloc: Global, calls: &CallTable, bytes: &[u8]) -> Result<Script, 
     let Some(text) = read_text(bytes) else {
         return Err(ScriptError::NotText);
     };
-    let lines = read_lines(alloc, text)?;
+    let Ok(lines) = read_lines(alloc, text) else {
+        return Err(ScriptError::Memory);
+    };
     read_calls(alloc, calls, lines.as_slice())
 }
 

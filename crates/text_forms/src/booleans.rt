@@ -32,7 +32,7 @@ fn is_same_word(word: &str, text: &str) -> bool
 fn is_one_of(words: &[&str], text: &str) -> bool
     ensures { result ≡ is_one_of (map (λ word. word.now) words.now) text.now }
 {
-    'words: for word in words {
+    for word in words {
         if is_same_word(word, text) {
             return true;
         }

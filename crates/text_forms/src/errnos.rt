@@ -13,7 +13,7 @@ use linux_numbers::limits::MAX_ERRNO;
 fn number_beside(rows: &[(&str, u32)], name: &str) -> Option<u32>
     ensures { result ≡ number_beside (map (λ row. (row.0.now, row.1)) rows.now) name.now }
 {
-    'rows: for row in rows {
+    for row in rows {
         if row.0 == name {
             return Some(row.1);
         }

@@ -1,9 +1,5 @@
 //! Why a text is no list of words.
 
-ghost use Rattle.std.specs.Prelude.{◌≡◌};
-ghost use Rattle.text_forms.specs.declared.error.WordsError.TheVariants.{Memory};
-
-use std::alloc::AllocError;
 use thiserror::Error;
 
 /// Why a text is no list of words. Of several faults the one listed first is told.
@@ -21,12 +17,4 @@ pub enum WordsError {
     /// There was no memory for the words.
     #[error("out of memory")]
     Memory,
-}
-
-impl From<AllocError> for WordsError {
-    ghost from_gives = { λ _ e. e ≡ Memory };
-
-    fn from(_: AllocError) -> Self {
-        WordsError::Memory
-    }
 }

@@ -55,7 +55,7 @@ fn push_bytes(out: &mut Vec<u8>, bytes: &[u8]) -> Result<(), AllocError>
     ensures keeps_the_front { take (length out.old.items) out.new.items ≡ out.old.items }
 {
     let mut left = bytes;
-    'runs: while let Some((plain, coded, rest)) = split_at_coded(left) {
+    while let Some((plain, coded, rest)) = split_at_coded(left) {
         out.extend_from_slice(plain)?;
         push_coded(out, coded)?;
         left = rest;

@@ -98,8 +98,10 @@ impl SoFar {
         if self.opened.is_some() {
             return Err(WordsError::Quote);
         }
-        self.end_word()?;
-        self.whole.ok_or(WordsError::NotText)
+        match self.end_word() {
+            Ok(()) => self.whole.ok_or(WordsError::NotText),
+            Err(_) => Err(WordsError::Memory),
+        }
     }
 }
 
@@ -116,7 +118,7 @@ pub fn words(alloc: Global, text: &str) -> Result<Vec<String>, WordsError>
     let mut left = text.as_bytes();
     while !left.is_empty() {
         let (symbol, rest) = first_symbol(left).ok_or(WordsError::Escape)?;
-        so_far.pass(alloc, symbol)?;
+        so_far.pass(alloc, symbol).or(Err(WordsError::Memory))?;
         left = rest;
     }
     so_far.words()

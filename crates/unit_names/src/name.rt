@@ -6,7 +6,7 @@ ghost use Rattle.std.specs.Option.{option_copied, option_map};
 ghost use Rattle.std.specs.String.{string_bytes};
 ghost use Rattle.unit_names.specs.Names.{Name, Names, text_of, stem_of, template_of, is_unit_name};
 ghost use Rattle.unit_names.specs.Cutting.{name_of, borrowed_name};
-ghost use Rattle.unit_names.specs.declared.name.NameError.TheVariants.{BadName, Memory};
+ghost use Rattle.unit_names.specs.declared.name.NameError.TheVariants.{BadName};
 
 use crate::cutting::{Parts, SUFFIX, name_parts};
 use std::alloc::{AllocError, Global};
@@ -44,14 +44,6 @@ pub enum NameError {
     Memory,
 }
 
-impl From<AllocError> for NameError {
-    ghost from_gives = { λ _ e. e ≡ Memory };
-
-    fn from(_: AllocError) -> Self {
-        NameError::Memory
-    }
-}
-
 impl UnitName {
     /// Reads a name: `BadName` exactly where the text is none.
     ///
@@ -65,7 +57,7 @@ impl UnitName {
         ensures reading_is_spelling { (name : Name) → (name_of text.now ≡ Some name) ↔ Names text.now name }
     {
         match name_parts(text) {
-            Some(parts) => Ok(UnitName::with_parts(alloc, text, parts)?),
+            Some(parts) => UnitName::with_parts(alloc, text, parts).or(Err(NameError::Memory)),
             None => Err(NameError::BadName),
         }
     }

@@ -168,7 +168,9 @@ impl<'a> Shelf for Fickle<'a> {
 
     fn read(&mut self, alloc: Global, path: &str, limit: u64) -> Result<Vec<u8>, ShelfError> {
         if path == self.path && limit >= 14 {
-            Ok(b"[Service]\nA=1\n".to_vec(alloc)?)
+            b"[Service]\nA=1\n"
+                .to_vec(alloc)
+                .or(Err(ShelfError::Memory))
         } else {
             Err(ShelfError::Missing)
         }
@@ -176,8 +178,8 @@ impl<'a> Shelf for Fickle<'a> {
 
     fn list(&mut self, alloc: Global, _: &str) -> Result<Vec<String>, ShelfError> {
         let mut names = Vec::new(alloc);
-        let gone = String::from_str(alloc, "gone.conf")?;
-        names.push(gone).map_err(AllocError::from)?;
+        let gone = String::from_str(alloc, "gone.conf").or(Err(ShelfError::Memory))?;
+        names.push(gone).or(Err(ShelfError::Memory))?;
         Ok(names)
     }
 }

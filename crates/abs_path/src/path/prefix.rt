@@ -76,6 +76,15 @@ impl AbsPath {
         if self.tail.len() + rest.len() > LONGEST {
             return Err(JoinError::TooLong);
         }
+        self.with_rest(alloc, rest).or(Err(JoinError::Memory))
+    }
+
+    // The path with a rest behind it, where there is room for both.
+    fn with_rest(&self, alloc: Global, rest: &str) -> Result<AbsPath, AllocError>
+        requires is_rest { IsRest rest.now }
+        requires short { length (tail_of (self.now ++ parts_of rest.now)) ≤ 512 }
+        ensures { IfOk result (λ path. path ≡ self.now ++ parts_of rest.now) }
+    {
         let tail = joined(alloc, self.tail.as_str(), rest)?;
         Ok(AbsPath { tail })
     }
@@ -93,11 +102,7 @@ impl AbsPath {
     {
         match front.rest(self) {
             None => unreachable!(),
-            Some(rest) => match onto.join(alloc, rest) {
-                Ok(path) => Ok(path),
-                Err(JoinError::Memory) => Err(AllocError),
-                Err(JoinError::TooLong) => unreachable!(),
-            },
+            Some(rest) => onto.with_rest(alloc, rest),
         }
     }
 }

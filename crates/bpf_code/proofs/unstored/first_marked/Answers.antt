@@ -4,29 +4,29 @@ use Rattle.bpf_code.proofs.FirstFaults.{read_fine_at}
 use Rattle.bpf_code.proofs.Paths.{not_true, marked_start, marked_more, marked_first, marked_none}
 use Rattle.bpf_code.proofs.unstored.first_marked.Goals as goal
 
-pub places-init : goal.places-init
-places-init c = rw (c.join.ensures, c.requires.unmarked) (marked_start c.args.insns.now)
+pub loop-at-init : goal.loop-at-init
+loop-at-init c = rw (c.join.ensures, c.requires.unmarked) (marked_start c.args.insns.now)
 
 pub loads-requires : goal.loads-requires
-loads-requires c = (_, read_fine_at c.args.insns.now c.places.at _ c.requires.fine c.places-test.true)
+loads-requires c = (_, read_fine_at c.args.insns.now c.loop-at.at _ c.requires.fine c.loop-at-test.true)
 
 pub returns-then-loads : goal.returns-then-loads
 returns-then-loads c =
-    marked_first c.args.insns.now c.places.at _ c.places.marks _ c.places.invariant c.places-test.true
-    (slice_get-get_or c.args.insns.now c.places.at _ c.places-test.true)
-    (read_fine_at c.args.insns.now c.places.at _ c.requires.fine c.places-test.true)
+    marked_first c.args.insns.now c.loop-at.at _ c.loop-at.marks _ c.loop-at.invariant c.loop-at-test.true
+    (slice_get-get_or c.args.insns.now c.loop-at.at _ c.loop-at-test.true)
+    (read_fine_at c.args.insns.now c.loop-at.at _ c.requires.fine c.loop-at-test.true)
     (c.if-loads.ensures.0 refl)
 
 pub left_unstored-requires : goal.left_unstored-requires
-left_unstored-requires c = (_, read_fine_at c.args.insns.now c.places.at _ c.requires.fine c.places-test.true)
+left_unstored-requires c = (_, read_fine_at c.args.insns.now c.loop-at.at _ c.requires.fine c.loop-at-test.true)
 
-pub places-preserved : goal.places-preserved
-places-preserved c =
+pub loop-at-preserved : goal.loop-at-preserved
+loop-at-preserved c =
     rw (c.pass_on.ensures, c.left_unstored.ensures)
-    (marked_more c.args.insns.now c.places.at _ c.places.marks _ c.places.invariant c.places-test.true
-    (slice_get-get_or c.args.insns.now c.places.at _ c.places-test.true)
-    (read_fine_at c.args.insns.now c.places.at _ c.requires.fine c.places-test.true)
+    (marked_more c.args.insns.now c.loop-at.at _ c.loop-at.marks _ c.loop-at.invariant c.loop-at-test.true
+    (slice_get-get_or c.args.insns.now c.loop-at.at _ c.loop-at-test.true)
+    (read_fine_at c.args.insns.now c.loop-at.at _ c.requires.fine c.loop-at-test.true)
     (λ h. not_true (c.if-loads.ensures.1 h)))
 
 pub returns : goal.returns
-returns c = marked_none c.args.insns.now c.places.at c.places.marks c.places-test.false c.places.invariant
+returns c = marked_none c.args.insns.now c.loop-at.at c.loop-at.marks c.loop-at-test.false c.loop-at.invariant

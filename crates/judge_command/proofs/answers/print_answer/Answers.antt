@@ -24,10 +24,8 @@ returns-in-Denied-clause-takes_the_text g c =
     text_as _ _ _ (answer_text asked question) c.put_line.result (denied_text asked question (not_open c.args.found (is_open (launch_in asked) (meant question)) c.requires.found c.in-Denied.is))
     (c.put_line.ensures.takes_the_line line (own_line asked question c.args.found Denied c.call_table-table.result.now c.site_table.result.now c.verdict_line-line.result c.call_table-table.ensures.told c.site_table.ensures.told c.in-Denied.is c.verdict_line-line.ensures.tells_the_verdict))
 
-pub returns-in_err-list-in-Open-clause-takes_the_text : goal.returns-in_err-list-in-Open-clause-takes_the_text
-returns-in_err-list-in-Open-clause-takes_the_text g c =
-    text_at_error _ _ _ Memory c.from_residual.result c.from_residual.ensures.0
-    (nothing_taken (g.K.Sink.taken c.args.out.now) (answer_text c.args.asked.now c.args.question.now) Memory)
+pub returns-in_default-clause-takes_the_text : goal.returns-in_default-clause-takes_the_text
+returns-in_default-clause-takes_the_text g c = nothing_taken (g.K.Sink.taken c.args.out.now) (answer_text c.args.asked.now c.args.question.now) Memory
 
 pub returns-in_err-put_line-in-Open-clause-takes_the_text : goal.returns-in_err-put_line-in-Open-clause-takes_the_text
 returns-in_err-put_line-in-Open-clause-takes_the_text g c =
@@ -35,7 +33,7 @@ returns-in_err-put_line-in-Open-clause-takes_the_text g c =
     let question = c.args.question.now in
     let line = verdict_line (world_in asked).calls (world_in asked).site (meant question) Open in
     let list = flat_map (call_line (world_in asked).calls.calls) (calls_for (launch_in asked) asked.service.program (meant question)) in
-    text_at_error _ _ _ c.in_err-put_line-in-Open.field-0.0 c.from_residual-in_err-put_line-in-Open.result c.from_residual-in_err-put_line-in-Open.ensures.0
+    text_at_error _ _ _ c.in_err-put_line-in-Open.field-0.0 c.from_residual.result c.from_residual.ensures.0
     (text_as _ _ _ (answer_text asked question) (Err c.in_err-put_line-in-Open.field-0.0) (open_text asked question (c.requires.found.0 c.in-Open.is))
     (text_cut _ _ line list c.in_err-put_line-in-Open.field-0.0
     (c.in_err-put_line-in-Open.ensures.takes_the_line line (own_line asked question c.args.found Open c.call_table-table.result.now c.site_table.result.now c.verdict_line-line.result c.call_table-table.ensures.told c.site_table.ensures.told c.in-Open.is c.verdict_line-line.ensures.tells_the_verdict))))
@@ -50,5 +48,5 @@ returns-in_ok-put_line-in-Open-clause-takes_the_text g c =
     (text_then _ _ _ line list c.print_calls.result
     (c.in_ok-put_line-in-Open.ensures.takes_the_line line (own_line asked question c.args.found Open c.call_table-table.result.now c.site_table.result.now c.verdict_line-line.result c.call_table-table.ensures.told c.site_table.ensures.told c.in-Open.is c.verdict_line-line.ensures.tells_the_verdict))
     (text_as (g.K.Sink.taken c.put_line-in-Open.new.out) (g.K.Sink.taken c.print_calls.new.out) (flat_map (call_line c.call_table-table.result.now.calls) c.as_slice.result.now) list c.print_calls.result
-    (ap (λ table. flat_map (call_line table.calls) c.as_slice.result.now) c.call_table-table.ensures.told ∙ ap (flat_map (call_line (world_in asked).calls.calls)) (c.as_slice.ensures.value ∙ c.in_ok-list-in-Open.ensures.the_choice))
+    (ap (λ table. flat_map (call_line table.calls) c.as_slice.result.now) c.call_table-table.ensures.told ∙ ap (flat_map (call_line (world_in asked).calls.calls)) (c.as_slice.ensures.value ∙ c.in-Ok.ensures.the_choice))
     c.print_calls.ensures.takes_the_text))

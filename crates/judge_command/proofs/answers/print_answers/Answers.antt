@@ -9,29 +9,29 @@ pub verdict-found-requires : goal.verdict-found-requires
 verdict-found-requires g c = record {
   launched = c.requires.asked.served.launched;
   its_own_ceiling = c.requires.asked.ceiling;
-  asked = is_listed c.args.asked.now c.args.list.now c.questions.question-index c.questions-test.true c.requires.all;
+  asked = is_listed c.args.asked.now c.args.list.now c.loop-question.question-index c.loop-question-test.true c.requires.all;
 }
 
 pub print_answer-requires : goal.print_answer-requires
 print_answer-requires g c = record {
   asked = c.requires.asked;
-  listed = is_listed c.args.asked.now c.args.list.now c.questions.question-index c.questions-test.true c.requires.all;
+  listed = is_listed c.args.asked.now c.args.list.now c.loop-question.question-index c.loop-question-test.true c.requires.all;
   found = c.verdict-found.ensures.by_the_rule;
 }
 
-pub questions-preserved : goal.questions-preserved
-questions-preserved g c =
+pub loop-question-preserved : goal.loop-question-preserved
+loop-question-preserved g c =
     let once = at_most_one c.verdict-found.result in
     record {
-      taken = items_more (answer_text c.args.asked.now) c.args.list.now c.questions.question-index some_question (get_or c.args.list.now c.questions.question-index some_question) _ _ _ c.questions-test.true refl c.questions.invariant.taken c.in_ok-print_answer.ensures.takes_the_text;
+      taken = items_more (answer_text c.args.asked.now) c.args.list.now c.loop-question.question-index some_question (get_or c.args.list.now c.loop-question.question-index some_question) _ _ _ c.loop-question-test.true refl c.loop-question.invariant.taken c.in_ok-print_answer.ensures.takes_the_text;
       counted =
-          ap₂ (λ before more. before + more) c.questions.invariant.counted c.denied_once.ensures
-          ∙ one_more c.args.asked.now c.args.list.now c.questions.question-index some_question (get_or c.args.list.now c.questions.question-index some_question) c.verdict-found.result c.questions-test.true refl c.verdict-found.ensures.by_the_rule;
-      few = omega (arith, once, c.denied_once.ensures, c.questions.invariant.few);
-      same = c.in_ok-print_answer.ensures.fault_rose.no_other_fault ∙ c.questions.invariant.same;
+          ap₂ (λ before more. before + more) c.loop-question.invariant.counted c.denied_once.ensures
+          ∙ one_more c.args.asked.now c.args.list.now c.loop-question.question-index some_question (get_or c.args.list.now c.loop-question.question-index some_question) c.verdict-found.result c.loop-question-test.true refl c.verdict-found.ensures.by_the_rule;
+      few = omega (arith, once, c.denied_once.ensures, c.loop-question.invariant.few);
+      same = c.in_ok-print_answer.ensures.fault_rose.no_other_fault ∙ c.loop-question.invariant.same;
     }
 
 pub returns-in_err-print_answer-clause-takes_the_text : goal.returns-in_err-print_answer-clause-takes_the_text
 returns-in_err-print_answer-clause-takes_the_text g c =
     text_at_error _ _ _ c.in_err-print_answer.field-0.0 c.from_residual.result c.from_residual.ensures.0
-    (items_cut (answer_text c.args.asked.now) c.args.list.now c.questions.question-index some_question (get_or c.args.list.now c.questions.question-index some_question) _ _ _ c.in_err-print_answer.field-0.0 c.questions-test.true refl c.questions.invariant.taken c.in_err-print_answer.ensures.takes_the_text)
+    (items_cut (answer_text c.args.asked.now) c.args.list.now c.loop-question.question-index some_question (get_or c.args.list.now c.loop-question.question-index some_question) _ _ _ c.in_err-print_answer.field-0.0 c.loop-question-test.true refl c.loop-question.invariant.taken c.in_err-print_answer.ensures.takes_the_text)

@@ -4,8 +4,8 @@ use Rattle.host_io.specs.Writing.{Grew}
 use Rattle.judge_command.specs.Asked.{answer_text, denied_among}
 use Rattle.judge_command.proofs.answers.print_answers.Given as goal
 
-abbrev pub invariant-questions : goal.invariant-questions
-invariant-questions g l = record {
+abbrev pub invariant-loop-question : goal.invariant-loop-question
+invariant-loop-question g l = record {
   taken : Grew (g.K.Sink.taken l.fn.out) (g.K.Sink.taken l.out) (flat_map (answer_text l.asked) (take l.question-index l.list));
   counted : l.denied ≡ denied_among l.asked (take l.question-index l.list);
   few : l.denied ≤ l.question-index;

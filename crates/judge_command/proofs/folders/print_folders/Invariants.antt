@@ -4,8 +4,8 @@ use Rattle.host_io.specs.Writing.{Grew}
 use Rattle.judge_command.specs.Asked.{folder_text}
 use Rattle.judge_command.proofs.folders.print_folders.Given as goal
 
-abbrev pub invariant-rows : goal.invariant-rows
-invariant-rows g l = record {
+abbrev pub invariant-loop-row : goal.invariant-loop-row
+invariant-loop-row g l = record {
   taken : Grew (g.K.Sink.taken l.fn.out) (g.K.Sink.taken l.out) (flat_map (folder_text l.asked) (take l.row-index l.rows));
   same : g.K.Sink.faults l.out ≡ g.K.Sink.faults l.fn.out;
 }

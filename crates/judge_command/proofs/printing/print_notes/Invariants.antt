@@ -4,8 +4,8 @@ use Rattle.host_io.specs.Writing.{Grew}
 use Rattle.report_text.specs.Notes.{note_line}
 use Rattle.judge_command.proofs.printing.print_notes.Given as goal
 
-abbrev pub invariant-notes : goal.invariant-notes
-invariant-notes g l = record {
+abbrev pub invariant-loop-note : goal.invariant-loop-note
+invariant-loop-note g l = record {
   taken : Grew (g.K.Sink.taken l.fn.out) (g.K.Sink.taken l.out) (flat_map (note_line l.unit.files) (take l.note-index l.notes));
   same : g.K.Sink.faults l.out ≡ g.K.Sink.faults l.fn.out;
 }

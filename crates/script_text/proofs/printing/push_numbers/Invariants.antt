@@ -3,5 +3,5 @@ use Rattle.std.specs.Prelude.{codes}
 use Rattle.script_text.specs.Printed.{each_number}
 use Rattle.script_text.proofs.printing.push_numbers.Given as goal
 
-abbrev pub invariant-numbers : goal.invariant-numbers
-invariant-numbers l = l.out.items ≡ l.initial.out.items ++ each_number (codes " ") (take l.number-index l.numbers)
+abbrev pub invariant-loop-number : goal.invariant-loop-number
+invariant-loop-number l = l.out.items ≡ l.initial.out.items ++ each_number (codes " ") (take l.number-index l.numbers)

@@ -3,5 +3,5 @@ use Rattle.std.specs.Prelude.{codes}
 use Rattle.script_text.specs.Printed.{each_number}
 use Rattle.script_text.proofs.printing.push_others.Given as goal
 
-abbrev pub invariant-ids : goal.invariant-ids
-invariant-ids l = l.out.items ≡ l.initial.out.items ++ each_number (codes ",") (take l.id-index l.ids)
+abbrev pub invariant-loop-id : goal.invariant-loop-id
+invariant-loop-id l = l.out.items ≡ l.initial.out.items ++ each_number (codes ",") (take l.id-index l.ids)

@@ -8,4 +8,4 @@ returns-in_default c = no_text c.args.calls.now.calls c.args.bytes.now c.in_defa
 
 pub returns : goal.returns
 returns c =
-    of_text c.args.calls.now.calls c.args.bytes.now c.in-Some.text.now (map line_view c.as_slice.result.now) c.read_calls.result c.in-Some.ensures.text (ap (map line_view) c.as_slice.ensures.value ∙ c.in_ok-lines.ensures.counted) c.read_calls.ensures
+    of_text c.args.calls.now.calls c.args.bytes.now c.in-Some.text.now (map line_view c.as_slice.result.now) c.read_calls.result c.in-Some.ensures.text (ap (map line_view) c.as_slice.ensures.value ∙ c.in-Ok.ensures.counted) c.read_calls.ensures

@@ -6,11 +6,8 @@ use Rattle.unit_names.proofs.name.UnitName.read.Goals as goal
 pub with_parts-requires : goal.with_parts-requires
 with_parts-requires c = (reading c.args.text.now (borrowed_name c.in-Some.parts)).0 (sym c.in-Some.ensures)
 
-pub returns-in_ok-with_parts-in-Some-clause-reading_is_spelling : goal.returns-in_ok-with_parts-in-Some-clause-reading_is_spelling
-returns-in_ok-with_parts-in-Some-clause-reading_is_spelling c = reading c.args.text.now
-
-pub returns-in_err-with_parts-in-Some-clause-reading_is_spelling : goal.returns-in_err-with_parts-in-Some-clause-reading_is_spelling
-returns-in_err-with_parts-in-Some-clause-reading_is_spelling c = reading c.args.text.now
+pub returns-in-Some-clause-reading_is_spelling : goal.returns-in-Some-clause-reading_is_spelling
+returns-in-Some-clause-reading_is_spelling c = reading c.args.text.now
 
 pub returns-in-None-clause-reading_is_spelling : goal.returns-in-None-clause-reading_is_spelling
 returns-in-None-clause-reading_is_spelling c = reading c.args.text.now
