@@ -43,10 +43,10 @@ use Rattle.cred_settings.specs.FurtherGroups.{further_words}
 use Rattle.cred_settings.specs.Identities.{identity_from, identity_notes, identity_of}
 use Rattle.cred_settings.specs.NewPrivileges.{is_in_effect}
 use Rattle.cred_settings.specs.Users.{superuser}
-use Rattle.mount_settings.specs.declared.home.HomeProtection.TheVariants as home
+use Rattle.mount_settings.specs.declared.protections.HomeProtection.TheVariants as home
 use Rattle.mount_settings.specs.declared.protections.Protections.{Protections}
 use Rattle.mount_settings.specs.declared.protections.Switches.{Switches}
-use Rattle.mount_settings.specs.declared.system.SystemProtection.TheVariants as system
+use Rattle.mount_settings.specs.declared.protections.SystemProtection.TheVariants as system
 use Rattle.mount_settings.specs.Assigned.{assigned_by, given_to}
 use Rattle.mount_settings.specs.Home.{home_value}
 use Rattle.mount_settings.specs.Implied.{implied}

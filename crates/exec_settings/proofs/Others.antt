@@ -29,8 +29,8 @@ use Rattle.cred_settings.specs.Groups.{group_word}
 use Rattle.cred_settings.specs.Identities.{identity_from, identity_notes, identity_of}
 use Rattle.cred_settings.specs.NewPrivileges.{is_in_effect}
 use Rattle.cred_settings.specs.Users.{user_word}
-use Rattle.mount_settings.specs.declared.home.HomeProtection.TheVariants as home
-use Rattle.mount_settings.specs.declared.system.SystemProtection.TheVariants as system
+use Rattle.mount_settings.specs.declared.protections.HomeProtection.TheVariants as home
+use Rattle.mount_settings.specs.declared.protections.SystemProtection.TheVariants as system
 use Rattle.mount_settings.specs.Assigned.{assigned_by}
 use Rattle.mount_settings.specs.Home.{home_value}
 use Rattle.mount_settings.specs.Notes.{notes_by, written_notes}

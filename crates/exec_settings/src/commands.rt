@@ -152,7 +152,7 @@ fn note_if_unread(alloc: Global, value: &Value, notes: &mut Vec<FileNote>) -> Re
 fn note_unread(alloc: Global, values: &[Value], notes: &mut Vec<FileNote>) -> Result<(), AllocError>
     ensures { OnOk result (notes.new.items ≡ notes.old.items ++ filter_map unread_note values.now) }
 {
-    'values: for value in values {
+    for value in values {
         note_if_unread(alloc, value, notes)?;
     }
     Ok(())
@@ -182,7 +182,7 @@ fn note_later(alloc: Global, values: &[Value], notes: &mut Vec<FileNote>) -> Res
     ensures { OnOk result (notes.new.items ≡ notes.old.items ++ noted later_causes values.now) }
 {
     let mut seen = false;
-    'values: for value in values {
+    for value in values {
         seen = note_if_later(alloc, seen, value, notes)?;
     }
     Ok(())

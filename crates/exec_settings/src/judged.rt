@@ -46,7 +46,7 @@ fn note_if_unjudged(
 pub fn note_unjudged(unit: &Resolved, notes: &mut Vec<FileNote>) -> Result<(), AllocError>
     ensures notes_each { OnOk result (notes.new.items ≡ notes.old.items ++ unjudged_notes unit.now) }
 {
-    'assignments: for (place, assignment) in service_assignments(unit) {
+    for (place, assignment) in service_assignments(unit) {
         note_if_unjudged(place, assignment, notes)?;
     }
     Ok(())

@@ -35,7 +35,7 @@ fn is_asked(unit: &Resolved, key: &str) -> bool
     ensures { result ≡ is_asked unit.now key.now }
 {
     let mut asked = false;
-    'assignments: for (_place, assignment) in service_assignments(unit) {
+    for (_place, assignment) in service_assignments(unit) {
         asked = asked_behind(asked, key, assignment);
     }
     asked
@@ -78,7 +78,7 @@ fn first_outside(
     requires of_the_unit { paths.now ≡ unit_written unit.now }
     ensures { option_map (λ name. name.now) result ≡ option_map (λ row. row.0) (find (is_outside unit.now command.now) (map (λ row. (row.0.now, row.1)) rows.now)) }
 {
-    'rows: for row in rows {
+    for row in rows {
         if is_outside(unit, paths, command, row.0, row.1) {
             return Some(row.0);
         }

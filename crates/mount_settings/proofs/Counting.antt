@@ -6,10 +6,10 @@ use Rattle.path_settings.specs.declared.keys.PathKey.TheVariants.{ReadWritePaths
 use Rattle.path_settings.specs.declared.mentions.Mention.{Mention}
 use Rattle.site_table.specs.Table.{Site}
 use Rattle.mount_settings.specs.declared.written.WrittenPath.{WrittenPath}
-use Rattle.mount_settings.specs.declared.system.SystemProtection.{SystemProtection}
-use Rattle.mount_settings.specs.declared.system.SystemProtection.TheVariants.{No, Yes, Full, Strict}
-use Rattle.mount_settings.specs.declared.home.HomeProtection.{HomeProtection}
-use Rattle.mount_settings.specs.declared.home.HomeProtection.TheVariants.{No as HomeNo, Yes as HomeYes, ReadOnly as HomeReadOnly, Tmpfs}
+use Rattle.mount_settings.specs.declared.protections.SystemProtection.{SystemProtection}
+use Rattle.mount_settings.specs.declared.protections.SystemProtection.TheVariants.{No, Yes, Full, Strict}
+use Rattle.mount_settings.specs.declared.protections.HomeProtection.{HomeProtection}
+use Rattle.mount_settings.specs.declared.protections.HomeProtection.TheVariants.{No as HomeNo, Yes as HomeYes, ReadOnly as HomeReadOnly, Tmpfs}
 use Rattle.mount_settings.specs.declared.protections.Protections.{Protections}
 use Rattle.mount_settings.specs.declared.protections.Switches.{Switches}
 use Rattle.mount_settings.specs.Written.{of_key}

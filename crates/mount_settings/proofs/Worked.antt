@@ -4,8 +4,8 @@ use Rattle.abs_path.specs.Paths.{Path}
 use Rattle.path_settings.specs.declared.mentions.Kind.{Kind}
 use Rattle.path_settings.specs.declared.mentions.Kind.TheVariants.{Ro, Rw, NoExec, Hide, Tmp, Bind}
 use Rattle.path_settings.specs.declared.mentions.Mention.{Mention}
-use Rattle.mount_settings.specs.declared.system.SystemProtection.TheVariants.{Yes, Full, Strict}
-use Rattle.mount_settings.specs.declared.home.HomeProtection.TheVariants.{Yes as HomeYes, ReadOnly as HomeReadOnly, Tmpfs}
+use Rattle.mount_settings.specs.declared.protections.SystemProtection.TheVariants.{Yes, Full, Strict}
+use Rattle.mount_settings.specs.declared.protections.HomeProtection.TheVariants.{Yes as HomeYes, ReadOnly as HomeReadOnly, Tmpfs}
 use Rattle.mount_settings.specs.Table.{by_system, by_home, by_tmp, by_devices, by_tunables, by_modules, by_logs, by_control_groups}
 
 abbrev said : List Mention → List (Path × Kind)

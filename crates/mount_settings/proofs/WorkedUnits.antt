@@ -7,8 +7,8 @@ use Rattle.text_forms.specs.Words.{words_of, words_in, text_only, closed_only, m
 use Rattle.abs_path.specs.Paths.{Path}
 use Rattle.path_settings.specs.declared.keys.PathKey.{PathKey}
 use Rattle.path_settings.specs.declared.keys.PathKey.TheVariants.{ReadWritePaths, ReadOnlyPaths}
-use Rattle.mount_settings.specs.declared.system.SystemProtection.TheVariants.{Yes, Strict}
-use Rattle.mount_settings.specs.declared.home.HomeProtection.TheVariants.{Tmpfs}
+use Rattle.mount_settings.specs.declared.protections.SystemProtection.TheVariants.{Yes, Strict}
+use Rattle.mount_settings.specs.declared.protections.HomeProtection.TheVariants.{Tmpfs}
 use Rattle.mount_settings.specs.declared.written.WrittenPath.{WrittenPath}
 use Rattle.mount_settings.specs.System.{system_value}
 use Rattle.mount_settings.specs.Home.{home_value}

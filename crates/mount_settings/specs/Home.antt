@@ -3,8 +3,8 @@ use Rattle.std.specs.Prelude.{ℕ, codes, List, [], ◌∷◌, Option}
 use Rattle.dropin_merge.specs.declared.resolved.Resolved.{Resolved}
 use Rattle.unit_values.specs.declared.value.FileNote.{FileNote}
 use Rattle.unit_values.specs.Lasting.{unit_last, unit_last_notes}
-use Rattle.mount_settings.specs.declared.home.HomeProtection.{HomeProtection}
-use Rattle.mount_settings.specs.declared.home.HomeProtection.TheVariants.{No, Yes, ReadOnly, Tmpfs}
+use Rattle.mount_settings.specs.declared.protections.HomeProtection.{HomeProtection}
+use Rattle.mount_settings.specs.declared.protections.HomeProtection.TheVariants.{No, Yes, ReadOnly, Tmpfs}
 use Rattle.mount_settings.specs.Choices.{choice}
 
 -- a boolean, `read-only` or `tmpfs`; an empty value is the default, which is no

@@ -3,9 +3,9 @@ use Rattle.std.specs.Prelude.{Bool, true, false, codes, List, ◌++◌}
 use Rattle.dropin_merge.specs.declared.resolved.Resolved.{Resolved}
 use Rattle.unit_values.specs.declared.value.FileNote.{FileNote}
 use Rattle.unit_values.specs.Flags.{unit_flag, unit_flag_notes}
-use Rattle.mount_settings.specs.declared.system.SystemProtection.TheVariants.{Strict}
-use Rattle.mount_settings.specs.declared.home.HomeProtection.{HomeProtection}
-use Rattle.mount_settings.specs.declared.home.HomeProtection.TheVariants.{No, Yes, ReadOnly, Tmpfs}
+use Rattle.mount_settings.specs.declared.protections.SystemProtection.TheVariants.{Strict}
+use Rattle.mount_settings.specs.declared.protections.HomeProtection.{HomeProtection}
+use Rattle.mount_settings.specs.declared.protections.HomeProtection.TheVariants.{No, Yes, ReadOnly, Tmpfs}
 use Rattle.mount_settings.specs.declared.protections.Protections.{Protections}
 use Rattle.mount_settings.specs.System.{unit_system, unit_system_notes}
 use Rattle.mount_settings.specs.Home.{unit_home, unit_home_notes}

@@ -3,8 +3,8 @@ use Rattle.std.specs.Prelude.{ℕ, codes, List, [], ◌∷◌, Option}
 use Rattle.dropin_merge.specs.declared.resolved.Resolved.{Resolved}
 use Rattle.unit_values.specs.declared.value.FileNote.{FileNote}
 use Rattle.unit_values.specs.Lasting.{unit_last, unit_last_notes}
-use Rattle.mount_settings.specs.declared.system.SystemProtection.{SystemProtection}
-use Rattle.mount_settings.specs.declared.system.SystemProtection.TheVariants.{No, Yes, Full, Strict}
+use Rattle.mount_settings.specs.declared.protections.SystemProtection.{SystemProtection}
+use Rattle.mount_settings.specs.declared.protections.SystemProtection.TheVariants.{No, Yes, Full, Strict}
 use Rattle.mount_settings.specs.Choices.{choice}
 
 -- a boolean, `full` or `strict`; an empty value is the default, which is no

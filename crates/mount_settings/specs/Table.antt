@@ -1,11 +1,11 @@
 -- The paths that each protection speaks of (systemd.exec(5), Sandboxing), in the order of the manual's table.
-use Rattle.std.specs.Prelude.{ℕ, Bool, true, false, if◌then◌else◌, codes, List, [], ◌∷◌, ◌++◌, map}
+use Rattle.std.specs.Prelude.{ℕ, Bool, true, false, if◌then◌else◌, codes, List, [], ◌∷◌, ◌++◌, map, Option, Some, None}
 use denote.Ref.{Bor}
 use Rattle.path_settings.specs.declared.mentions.Mention.{Mention}
-use Rattle.mount_settings.specs.declared.system.SystemProtection.{SystemProtection}
-use Rattle.mount_settings.specs.declared.system.SystemProtection.TheVariants.{No, Yes, Full, Strict}
-use Rattle.mount_settings.specs.declared.home.HomeProtection.{HomeProtection}
-use Rattle.mount_settings.specs.declared.home.HomeProtection.TheVariants.{No as HomeNo, Yes as HomeYes, ReadOnly as HomeReadOnly, Tmpfs}
+use Rattle.mount_settings.specs.declared.protections.SystemProtection.{SystemProtection}
+use Rattle.mount_settings.specs.declared.protections.SystemProtection.TheVariants.{No, Yes, Full, Strict}
+use Rattle.mount_settings.specs.declared.protections.HomeProtection.{HomeProtection}
+use Rattle.mount_settings.specs.declared.protections.HomeProtection.TheVariants.{No as HomeNo, Yes as HomeYes, ReadOnly as HomeReadOnly, Tmpfs}
 use Rattle.mount_settings.specs.declared.effects.Effect.{Effect}
 use Rattle.mount_settings.specs.declared.effects.Effect.TheVariants.{ReadOnly, Writable, NotExecutable, Hidden, Empty, Shown}
 use Rattle.mount_settings.specs.Effects.{brings}
@@ -21,11 +21,18 @@ abbrev pub homes : List (List ℕ)
 homes = codes "/home" ∷ codes "/root" ∷ codes "/run/user" ∷ []
 
 -- ProtectHome=: the homes are hidden, read-only, or empty and read-only
+abbrev pub home_effect : HomeProtection → Option Effect
+home_effect HomeNo = None
+home_effect HomeYes = Some Hidden
+home_effect HomeReadOnly = Some ReadOnly
+home_effect Tmpfs = Some (Empty true)
+
+abbrev pub at_homes : Option Effect → List Mention
+at_homes None = []
+at_homes (Some effect) = brings effect homes
+
 abbrev pub by_home : HomeProtection → List Mention
-by_home HomeNo = []
-by_home HomeYes = brings Hidden homes
-by_home HomeReadOnly = brings ReadOnly homes
-by_home Tmpfs = brings (Empty true) homes
+by_home home = at_homes (home_effect home)
 
 -- what an effect at paths brings, where it is on
 abbrev pub when : Bool → Effect → List (List ℕ) → List Mention

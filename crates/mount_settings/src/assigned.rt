@@ -50,7 +50,7 @@ pub fn written_paths(alloc: Global, unit: &Resolved) -> Result<Said<WrittenPaths
 {
     let mut paths = Vec::new(alloc);
     let mut notes = Vec::new(alloc);
-    'assignments: for (place, assignment) in service_assignments(unit) {
+    for (place, assignment) in service_assignments(unit) {
         add_assigned(alloc, &unit.name, place, assignment, &mut paths, &mut notes)?;
     }
     Ok(Said {

@@ -1,14 +1,18 @@
-//! Values that are a boolean or a word of a short list (systemd.exec(5)).
+//! Values that are a boolean or a word of a short list: those of ProtectSystem= and of ProtectHome= (systemd.exec(5)).
 ghost use Rattle.std.specs.Prelude.{◌≡◌, map};
 ghost use Rattle.mount_settings.specs.Choices.{beside, choice};
+ghost use Rattle.mount_settings.specs.Home.{home_value};
+ghost use Rattle.mount_settings.specs.System.{system_value};
 
+use crate::protections::{HomeProtection, SystemProtection};
 use text_forms::read_bool;
+use unit_values::KeyValue;
 
 // What stands beside the first row of this word.
 fn beside<T: Copy>(rows: &[(&str, T)], text: &str) -> Option<T>
     ensures { result ≡ beside (map (λ row. (row.0.now, row.1)) rows.now) text.now }
 {
-    'rows: for row in rows {
+    for row in rows {
         if row.0 == text {
             return Some(row.1);
         }
@@ -27,5 +31,31 @@ pub(crate) fn read_choice<T: Copy>(text: &str, off: T, on: T, rows: &[(&str, T)]
         Some(true) => Some(on),
         Some(false) => Some(off),
         None => beside(rows, text),
+    }
+}
+
+/// A boolean, `full` or `strict`; an empty text is `no`.
+impl KeyValue for SystemProtection {
+    ghost reads = { system_value };
+
+    fn read(text: &str) -> Option<SystemProtection> {
+        let words = [
+            ("full", SystemProtection::Full),
+            ("strict", SystemProtection::Strict),
+        ];
+        read_choice(text, SystemProtection::No, SystemProtection::Yes, &words)
+    }
+}
+
+/// A boolean, `read-only` or `tmpfs`; an empty text is `no`.
+impl KeyValue for HomeProtection {
+    ghost reads = { home_value };
+
+    fn read(text: &str) -> Option<HomeProtection> {
+        let words = [
+            ("read-only", HomeProtection::ReadOnly),
+            ("tmpfs", HomeProtection::Tmpfs),
+        ];
+        read_choice(text, HomeProtection::No, HomeProtection::Yes, &words)
     }
 }

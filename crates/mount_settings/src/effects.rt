@@ -77,7 +77,7 @@ pub(crate) fn bring(
 ) -> Result<(), AllocError>
     ensures { OnOk result (mentions.new.items ≡ mentions.old.items ++ filter (stands site.now) (brings effect (map (λ text. text.now) texts.now))) }
 {
-    'texts: for text in texts {
+    for text in texts {
         bring_one(alloc, site, effect, text, mentions)?;
     }
     Ok(())

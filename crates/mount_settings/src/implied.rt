@@ -22,7 +22,7 @@ fn bring_folders(
 ) -> Result<(), AllocError>
     ensures { OnOk result (mentions.new.items ≡ mentions.old.items ++ filter (stands site.now) (of_key key paths.now)) }
 {
-    'paths: for path in paths {
+    for path in paths {
         if is_key(path.key, key) && has_row(site, &path.mention.path) {
             mentions.push(path.mention.copy(alloc)?)?;
         }

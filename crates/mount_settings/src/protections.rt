@@ -2,12 +2,36 @@
 ghost use Rattle.std.specs.Prelude.{◌≡◌, IfOk};
 ghost use Rattle.mount_settings.specs.Protections.{unit_protections, protection_notes, raised, in_effect};
 
-use crate::home::HomeProtection;
-use crate::system::SystemProtection;
 use crate::tmp::PrivateTmp;
 use dropin_merge::Resolved;
 use std::alloc::{AllocError, Global};
 use unit_values::{Said, flag_of_key, last_of_key};
+
+/// How much of the system is read-only for a service.
+#[derive(Clone, Copy)]
+pub enum SystemProtection {
+    /// Nothing.
+    No,
+    /// `/usr`, `/boot` and `/efi`.
+    Yes,
+    /// `/etc` too.
+    Full,
+    /// All but `/dev`, `/proc` and `/sys`.
+    Strict,
+}
+
+/// What a service sees of the homes of users: of `/home`, `/root` and `/run/user`.
+#[derive(Clone, Copy)]
+pub enum HomeProtection {
+    /// All.
+    No,
+    /// Nothing.
+    Yes,
+    /// All, to be read only.
+    ReadOnly,
+    /// Empty folders, to be read only.
+    Tmpfs,
+}
 
 /// What the keys come to that protect the file system and nothing else.
 #[derive(Clone, Copy)]

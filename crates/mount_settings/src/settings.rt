@@ -33,7 +33,7 @@ fn written_mentions(alloc: Global, paths: &[WrittenPath]) -> Result<Vec<Mention>
     ensures { IfOk result (λ mentions. mentions.items ≡ as_written paths.now) }
 {
     let mut mentions = Vec::new(alloc);
-    'paths: for path in paths {
+    for path in paths {
         if !path.key.is_implied() {
             mentions.push(path.mention.copy(alloc)?)?;
         }
@@ -63,7 +63,7 @@ fn listed(alloc: Global, mentions: Vec<Mention>) -> Result<Mentions, AllocError>
     ensures { IfOk result (λ list. list ≡ mentions.items) }
 {
     let mut list = Mentions::new(alloc);
-    'mentions: for mention in mentions {
+    for mention in mentions {
         match list.add(mention) {
             Ok(()) => {}
             Err(MentionError::Memory) => return Err(AllocError),

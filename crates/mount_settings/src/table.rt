@@ -1,13 +1,11 @@
 //! The paths that each protection speaks of (systemd.exec(5), Sandboxing).
 ghost use Rattle.std.specs.Prelude.{◌≡◌, ◌++◌, filter, flat_map, OnOk};
 ghost use Rattle.mount_settings.specs.Effects.{stands};
-ghost use Rattle.mount_settings.specs.Table.{by_system, by_home, by_group};
+ghost use Rattle.mount_settings.specs.Table.{by_system, home_effect, by_home, by_group};
 ghost use Rattle.mount_settings.specs.Implied.{joined, by_files, by_kernel};
 
 use crate::effects::{Effect, bring};
-use crate::home::HomeProtection;
-use crate::protections::{Protections, Switches};
-use crate::system::SystemProtection;
+use crate::protections::{HomeProtection, Protections, Switches, SystemProtection};
 use path_settings::Mention;
 use site_table::SiteTable;
 use std::alloc::{AllocError, Global};
@@ -76,6 +74,18 @@ fn bring_system(
     }
 }
 
+// What ProtectHome= does at the homes.
+fn home_effect(home: HomeProtection) -> Option<Effect>
+    ensures { result ≡ home_effect home }
+{
+    match home {
+        HomeProtection::No => None,
+        HomeProtection::Yes => Some(Effect::Hidden),
+        HomeProtection::ReadOnly => Some(Effect::ReadOnly),
+        HomeProtection::Tmpfs => Some(BARE),
+    }
+}
+
 // ProtectHome=
 fn bring_home(
     alloc: Global,
@@ -85,11 +95,9 @@ fn bring_home(
 ) -> Result<(), AllocError>
     ensures { OnOk result (mentions.new.items ≡ mentions.old.items ++ filter (stands site.now) (by_home home)) }
 {
-    match home {
-        HomeProtection::No => Ok(()),
-        HomeProtection::Yes => bring(alloc, site, Effect::Hidden, HOMES, mentions),
-        HomeProtection::ReadOnly => bring(alloc, site, Effect::ReadOnly, HOMES, mentions),
-        HomeProtection::Tmpfs => bring(alloc, site, BARE, HOMES, mentions),
+    match home_effect(home) {
+        Some(effect) => bring(alloc, site, effect, HOMES, mentions),
+        None => Ok(()),
     }
 }
 
@@ -102,7 +110,7 @@ fn bring_groups(
 ) -> Result<(), AllocError>
     ensures { OnOk result (mentions.new.items ≡ mentions.old.items ++ filter (stands site.now) (flat_map by_group groups.now)) }
 {
-    'groups: for group in groups {
+    for group in groups {
         if group.0 {
             bring(alloc, site, group.1, group.2, mentions)?;
         }

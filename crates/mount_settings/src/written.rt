@@ -76,7 +76,7 @@ fn add_words(
     ensures added { OnOk result (paths.new.items ≡ paths.old.items ++ paths_in key words.now) }
     ensures noted { OnOk result (notes.new.items ≡ notes.old.items ++ flat_map (word_notes key value.now) words.now) }
 {
-    'words: for word in words {
+    for word in words {
         add_word(alloc, key, word.as_str(), value, paths, notes)?;
     }
     Ok(())

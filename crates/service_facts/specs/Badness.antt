@@ -1,10 +1,10 @@
 -- How bad a service is by what one test looks at.
 use Rattle.std.specs.Prelude.{ℕ, ◌==◌, not, cond, Bool}
 use Rattle.cap_sets.specs.Sets.{none}
-use Rattle.mount_settings.specs.declared.system.SystemProtection.{SystemProtection}
-use Rattle.mount_settings.specs.declared.system.SystemProtection.TheVariants as system
-use Rattle.mount_settings.specs.declared.home.HomeProtection.{HomeProtection}
-use Rattle.mount_settings.specs.declared.home.HomeProtection.TheVariants as home
+use Rattle.mount_settings.specs.declared.protections.SystemProtection.{SystemProtection}
+use Rattle.mount_settings.specs.declared.protections.SystemProtection.TheVariants as system
+use Rattle.mount_settings.specs.declared.protections.HomeProtection.{HomeProtection}
+use Rattle.mount_settings.specs.declared.protections.HomeProtection.TheVariants as home
 use Rattle.service_facts.specs.declared.sandbox.Sandbox.{Sandbox}
 use Rattle.service_facts.specs.declared.lines.Protection.{Protection}
 use Rattle.service_facts.specs.declared.lines.Protection.TheVariants.{PrivateDevices, PrivateTmp, ProtectClock, ProtectControlGroups, ProtectHostname, ProtectKernelLogs, ProtectKernelModules, ProtectKernelTunables, LockPersonality, MemoryDenyWriteExecute, RestrictRealtime, RestrictSuidSgid}

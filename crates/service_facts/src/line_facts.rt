@@ -39,7 +39,7 @@ impl Teller<'_> {
     fn push_caps(&self, facts: &mut Vec<Fact>) -> Result<(), AllocError>
         ensures { OnOk result (told facts.new.items ≡ told facts.old.items ++ map (behind self.now.front.now) (ends self.now.sandbox.now self.now.calls.now Matter.EachCapability)) }
     {
-        'telling: for cap in 0..41u8 {
+        for cap in 0..41u8 {
             let badness = one_if(self.sandbox.bounding.contains(cap));
             self.push_fact(CapSet::name(cap), badness, facts)?;
         }
@@ -50,7 +50,7 @@ impl Teller<'_> {
     fn push_types(&self, facts: &mut Vec<Fact>) -> Result<(), AllocError>
         ensures { OnOk result (told facts.new.items ≡ told facts.old.items ++ map (behind self.now.front.now) (ends self.now.sandbox.now self.now.calls.now Matter.EachNamespaceType)) }
     {
-        'telling: for kind in all_types() {
+        for kind in all_types() {
             let badness = one_if(self.sandbox.filters.namespaces.permits(*kind));
             self.push_fact(kind.name(), badness, facts)?;
         }
@@ -61,7 +61,7 @@ impl Teller<'_> {
     fn push_families(&self, facts: &mut Vec<Fact>) -> Result<(), AllocError>
         ensures { OnOk result (told facts.new.items ≡ told facts.old.items ++ map (behind self.now.front.now) (ends self.now.sandbox.now self.now.calls.now Matter.EachFamily)) }
     {
-        'telling: for family in self.calls.families() {
+        for family in self.calls.families() {
             let badness = one_if(permits_family(&self.sandbox.filters.families, family.number));
             self.push_fact(family.name.as_str(), badness, facts)?;
         }
@@ -72,7 +72,7 @@ impl Teller<'_> {
     fn push_groups(&self, facts: &mut Vec<Fact>) -> Result<(), AllocError>
         ensures { OnOk result (told facts.new.items ≡ told facts.old.items ++ map (behind self.now.front.now) (ends self.now.sandbox.now self.now.calls.now Matter.EachGroup)) }
     {
-        'telling: for group in self.calls.groups() {
+        for group in self.calls.groups() {
             let badness = one_if(lets_through(self.calls, &self.sandbox.filters, group));
             self.push_fact(group.name.as_str(), badness, facts)?;
         }

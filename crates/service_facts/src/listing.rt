@@ -25,7 +25,7 @@ fn all_facts(alloc: Global, sandbox: &Sandbox, calls: &CallTable) -> Result<Vec<
     ensures { IfOk result (λ facts. told facts.items ≡ told_by_lines sandbox.now calls.now) }
 {
     let mut facts = Vec::new(alloc);
-    'lines: for line in table() {
+    for line in table() {
         push_line(alloc, sandbox, calls, line, &mut facts)?;
     }
     Ok(facts)

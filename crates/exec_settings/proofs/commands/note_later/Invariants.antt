@@ -4,7 +4,7 @@ use Rattle.unit_values.specs.Notes.{noted}
 use Rattle.exec_settings.specs.Commands.{is_command, later_causes}
 use Rattle.exec_settings.proofs.commands.note_later.Given as goal
 
-abbrev pub invariant-values : goal.invariant-values
-invariant-values l =
+abbrev pub invariant-loop-value : goal.invariant-loop-value
+invariant-loop-value l =
     (l.seen ≡ list_any is_command (take l.value-index l.values))
     × (l.notes.items ≡ l.fn.notes.items ++ noted later_causes (take l.value-index l.values))

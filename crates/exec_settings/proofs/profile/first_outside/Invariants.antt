@@ -3,7 +3,7 @@ use Rattle.std.specs.Prelude.{find}
 use Rattle.exec_settings.specs.Profile.{is_outside}
 use Rattle.exec_settings.proofs.profile.first_outside.Given as goal
 
-abbrev pub invariant-rows : goal.invariant-rows
-invariant-rows l =
+abbrev pub invariant-loop-row : goal.invariant-loop-row
+invariant-loop-row l =
     find (is_outside l.unit l.command) (map (λ row. (row.0.now, row.1)) (drop l.row-index l.rows))
     ≡ find (is_outside l.unit l.command) (map (λ row. (row.0.now, row.1)) l.rows)

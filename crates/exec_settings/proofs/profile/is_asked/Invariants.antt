@@ -7,7 +7,7 @@ use Rattle.unit_values.specs.Walk.{assignments_left}
 use Rattle.exec_settings.specs.Profile.{asked_by}
 use Rattle.exec_settings.proofs.profile.is_asked.Given as goal
 
-abbrev pub invariant-assignments : goal.invariant-assignments
-invariant-assignments l =
+abbrev pub invariant-loop-place : goal.invariant-loop-place
+invariant-loop-place l =
     unwrap_or (last_of (filter_map (λ one. asked_by l.key one.1) (assignments_left l._place-iterator))) l.asked
     ≡ unwrap_or (last_of (filter_map (λ one. asked_by l.key one.1) (service_assignments l.unit))) false

@@ -10,22 +10,22 @@ use Rattle.mount_settings.proofs.Passing.{after_more, written_is}
 use Rattle.mount_settings.proofs.AsKeys.{written_are_read}
 use Rattle.mount_settings.proofs.assigned.written_paths.Goals as goal
 
-pub assignments-preserved : goal.assignments-preserved
-assignments-preserved c = record {
-  means = after_more (assigned_by c.args.unit.now.name) _ _ (c.in-Some.place, c.in-Some.assignment.now) _ _ _ c.in-Some.ensures.steps c.assignments.invariant.means c.in_ok-add_assigned.ensures.means;
-  noted = added_more (notes_by c.args.unit.now.name) _ _ (c.in-Some.place, c.in-Some.assignment.now) _ _ _ c.in-Some.ensures.steps c.assignments.invariant.noted c.in_ok-add_assigned.ensures.noted;
+pub loop-place-preserved : goal.loop-place-preserved
+loop-place-preserved c = record {
+  means = after_more (assigned_by c.args.unit.now.name) _ _ (c.in-Some.place, c.in-Some.assignment.now) _ _ _ c.in-Some.ensures.steps c.loop-place.invariant.means c.in_ok-add_assigned.ensures.means;
+  noted = added_more (notes_by c.args.unit.now.name) _ _ (c.in-Some.place, c.in-Some.assignment.now) _ _ _ c.in-Some.ensures.steps c.loop-place.invariant.noted c.in_ok-add_assigned.ensures.noted;
 }
 
 pub new-requires : goal.new-requires
 new-requires c =
     let values = assigned_of c.args.unit.now in
-    let all : c.assignments.paths.items ≡ written values =
-    sym (c.assignments.invariant.means ∙ ap (λ ones. after c.assignments.paths.items (filter_map (assigned_by c.args.unit.now.name) ones)) c.in-None.ensures.steps.0) ∙ written_is values in
+    let all : c.loop-place.paths.items ≡ written values =
+    sym (c.loop-place.invariant.means ∙ ap (λ ones. after c.loop-place.paths.items (filter_map (assigned_by c.args.unit.now.name) ones)) c.in-None.ensures.steps.0) ∙ written_is values in
     subst AreRead (sym all) (written_are_read values)
 
 pub returns-clause-in_order_of_assignments : goal.returns-clause-in_order_of_assignments
 unfolding unit_written
 returns-clause-in_order_of_assignments c =
     c.new.ensures
-    ∙ sym (c.assignments.invariant.means ∙ ap (λ ones. after c.assignments.paths.items (filter_map (assigned_by c.args.unit.now.name) ones)) c.in-None.ensures.steps.0)
+    ∙ sym (c.loop-place.invariant.means ∙ ap (λ ones. after c.loop-place.paths.items (filter_map (assigned_by c.args.unit.now.name) ones)) c.in-None.ensures.steps.0)
     ∙ written_is (assigned_of c.args.unit.now)

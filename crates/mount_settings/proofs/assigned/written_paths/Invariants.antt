@@ -8,8 +8,8 @@ use Rattle.mount_settings.specs.Notes.{notes_by}
 use Rattle.mount_settings.specs.Steps.{after}
 use Rattle.mount_settings.proofs.assigned.written_paths.Given as goal
 
-abbrev pub invariant-assignments : goal.invariant-assignments
-invariant-assignments l = record {
+abbrev pub invariant-loop-place : goal.invariant-loop-place
+invariant-loop-place l = record {
   means : after [] (assigned_of l.unit) ≡ after l.paths.items (filter_map (assigned_by l.unit.name) (assignments_left l.place-iterator));
   noted : flat_map (notes_by l.unit.name) (service_assignments l.unit) ≡ l.notes.items ++ flat_map (notes_by l.unit.name) (assignments_left l.place-iterator);
 }

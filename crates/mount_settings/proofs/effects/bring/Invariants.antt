@@ -3,5 +3,5 @@ use Rattle.std.specs.Prelude.{filter}
 use Rattle.mount_settings.specs.Effects.{brings, stands}
 use Rattle.mount_settings.proofs.effects.bring.Given as goal
 
-abbrev pub invariant-texts : goal.invariant-texts
-invariant-texts l = l.mentions.items ≡ l.fn.mentions.items ++ filter (stands l.site) (brings l.effect (map (λ text. text.now) (take l.text-index l.texts)))
+abbrev pub invariant-loop-text : goal.invariant-loop-text
+invariant-loop-text l = l.mentions.items ≡ l.fn.mentions.items ++ filter (stands l.site) (brings l.effect (map (λ text. text.now) (take l.text-index l.texts)))

@@ -4,5 +4,5 @@ use Rattle.mount_settings.specs.Written.{of_key}
 use Rattle.mount_settings.specs.Effects.{stands}
 use Rattle.mount_settings.proofs.implied.bring_folders.Given as goal
 
-abbrev pub invariant-paths : goal.invariant-paths
-invariant-paths l = l.mentions.items ≡ l.fn.mentions.items ++ filter (stands l.site) (of_key l.key (take l.path-index l.paths))
+abbrev pub invariant-loop-path : goal.invariant-loop-path
+invariant-loop-path l = l.mentions.items ≡ l.fn.mentions.items ++ filter (stands l.site) (of_key l.key (take l.path-index l.paths))

@@ -4,5 +4,5 @@ use Rattle.mount_settings.specs.Effects.{stands}
 use Rattle.mount_settings.specs.Table.{by_group}
 use Rattle.mount_settings.proofs.table.bring_groups.Given as goal
 
-abbrev pub invariant-groups : goal.invariant-groups
-invariant-groups l = l.mentions.items ≡ l.fn.mentions.items ++ filter (stands l.site) (flat_map by_group (take l.group-index l.groups))
+abbrev pub invariant-loop-group : goal.invariant-loop-group
+invariant-loop-group l = l.mentions.items ≡ l.fn.mentions.items ++ filter (stands l.site) (flat_map by_group (take l.group-index l.groups))

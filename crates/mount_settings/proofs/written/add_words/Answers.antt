@@ -5,19 +5,19 @@ use Rattle.mount_settings.specs.Written.{path_in}
 use Rattle.mount_settings.specs.Notes.{word_notes}
 use Rattle.mount_settings.proofs.written.add_words.Goals as goal
 
-pub words-preserved : goal.words-preserved
-words-preserved c =
-    let i = c.words.word-index in
+pub loop-word-preserved : goal.loop-word-preserved
+loop-word-preserved c =
+    let i = c.loop-word.word-index in
     let words = c.args.words.now in
     let word = c.word-item.result in
-    let below = c.words-test.true in
+    let below = c.loop-word-test.true in
     let key = c.args.key in
     let value = c.args.value.now in
     record {
       added =
-          added_by_some (path_in key) words i word c.args.paths.now.items _ _ below c.word-item.is c.words.invariant.added
-          (c.in_ok-add_word.ensures.added ∙ ap (λ w. c.words.paths.items ++ cons_option (path_in key w) []) c.as_str.ensures);
+          added_by_some (path_in key) words i word c.args.paths.now.items _ _ below c.word-item.is c.loop-word.invariant.added
+          (c.in_ok-add_word.ensures.added ∙ ap (λ w. c.loop-word.paths.items ++ cons_option (path_in key w) []) c.as_str.ensures);
       noted =
-          added_by_all (word_notes key value) words i word c.args.notes.now.items _ _ below c.word-item.is c.words.invariant.noted
-          (c.in_ok-add_word.ensures.noted ∙ ap (λ w. c.words.notes.items ++ word_notes key value w) c.as_str.ensures);
+          added_by_all (word_notes key value) words i word c.args.notes.now.items _ _ below c.word-item.is c.loop-word.invariant.noted
+          (c.in_ok-add_word.ensures.noted ∙ ap (λ w. c.loop-word.notes.items ++ word_notes key value w) c.as_str.ensures);
     }

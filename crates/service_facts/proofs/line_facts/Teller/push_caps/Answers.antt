@@ -6,15 +6,15 @@ use Rattle.service_facts.specs.Facts.{told, behind}
 use Rattle.service_facts.proofs.Telling.{one_more_number, all_numbers}
 use Rattle.service_facts.proofs.line_facts.Teller.push_caps.Goals as goal
 
-pub telling-preserved : goal.telling-preserved
-telling-preserved c =
-    one_more_number (told c.args.facts.now.items) c.args.self.now.front.now (λ number. (name_of number, one_if (has c.args.self.now.sandbox.now.bounding number))) c.telling.cap
-    (told c.telling.facts.items) (told c.push_fact.new.facts.items) c.telling.invariant
+pub loop-cap-preserved : goal.loop-cap-preserved
+loop-cap-preserved c =
+    one_more_number (told c.args.facts.now.items) c.args.self.now.front.now (λ number. (name_of number, one_if (has c.args.self.now.sandbox.now.bounding number))) c.loop-cap.cap
+    (told c.loop-cap.facts.items) (told c.push_fact.new.facts.items) c.loop-cap.invariant
     (c.in_ok-push_fact.ensures
-    ∙ (ap (λ name. told c.telling.facts.items ++ behind c.args.self.now.front.now (name, c.one_if-badness.result) ∷ []) c.name.ensures
-    ∙ ap (λ badness. told c.telling.facts.items ++ behind c.args.self.now.front.now (name_of c.telling.cap, badness) ∷ []) (c.one_if-badness.ensures ∙ ap one_if c.contains.ensures.has)))
+    ∙ (ap (λ name. told c.loop-cap.facts.items ++ behind c.args.self.now.front.now (name, c.one_if-badness.result) ∷ []) c.name.ensures
+    ∙ ap (λ badness. told c.loop-cap.facts.items ++ behind c.args.self.now.front.now (name_of c.loop-cap.cap, badness) ∷ []) (c.one_if-badness.ensures ∙ ap one_if c.contains.ensures.has)))
 
 pub returns : goal.returns
 returns c =
-    all_numbers (told c.args.facts.now.items) c.args.self.now.front.now (λ number. (name_of number, one_if (has c.args.self.now.sandbox.now.bounding number))) c.telling.cap 41
-    (told c.telling.facts.items) (omega arith) c.telling.invariant
+    all_numbers (told c.args.facts.now.items) c.args.self.now.front.now (λ number. (name_of number, one_if (has c.args.self.now.sandbox.now.bounding number))) c.loop-cap.cap 41
+    (told c.loop-cap.facts.items) (omega arith) c.loop-cap.invariant
