@@ -9,7 +9,9 @@ use Rattle.kernel_laws.specs.Bound.{is_owner, can_run, owned_by, grouped_by, pow
 use Rattle.kernel_laws.specs.Launched.{Launch}
 use Rattle.kernel_laws.specs.Questions.{some_ids}
 use Rattle.kernel_laws.specs.Reach.{Power}
-use Rattle.ceilings.specs.Owners.{owner_at, group_at, owners_at, groups_at, uids_at, gids_at}
+use Rattle.ceilings.specs.declared.ids.IdKind.{IdKind}
+use Rattle.ceilings.specs.declared.ids.IdKind.TheVariants.{User, Group}
+use Rattle.ceilings.specs.Owners.{set_id, given_at, given_ids, uids_at, gids_at}
 use Rattle.kernel_ways.specs.Spared.{power_using, uids_of, gids_of}
 
 abbrev pub has_id : ℕ → List ℕ → Bool
@@ -25,17 +27,11 @@ given_first id true (Some owner) others = ap (λ b. b || has_id id (some_ids oth
 given_first id false owner others = refl
 
 module _ (launch : Launch) (power : Power) (id : ℕ) where
-  owners_given : (rows : List Row) → has_id id (owners_at launch power rows) ≡ list_any (owned_by launch power id) rows
-  owners_given [] = refl
-  owners_given (row ∷ rows) =
-      given_first id (can_run launch power row) row.setuid (map (owner_at launch power) rows)
-      ∙ ap (λ b. owned_by launch power id row || b) (owners_given rows)
-
-  groups_given : (rows : List Row) → has_id id (groups_at launch power rows) ≡ list_any (grouped_by launch power id) rows
-  groups_given [] = refl
-  groups_given (row ∷ rows) =
-      given_first id (can_run launch power row) row.setgid (map (group_at launch power) rows)
-      ∙ ap (λ b. grouped_by launch power id row || b) (groups_given rows)
+  rows_given : (kind : IdKind) (rows : List Row) → has_id id (given_ids kind launch power rows) ≡ list_any (λ row. can_run launch power row && is_owner id (set_id kind row)) rows
+  rows_given kind [] = refl
+  rows_given kind (row ∷ rows) =
+      given_first id (can_run launch power row) (set_id kind row) (map (given_at kind launch power) rows)
+      ∙ ap (λ b. (can_run launch power row && is_owner id (set_id kind row)) || b) (rows_given kind rows)
 
 unless : (id : ℕ) (b : Bool) (ids : List ℕ) → has_id id (cond b [] ids) ≡ (not b && has_id id ids)
 unless id true ids = refl
@@ -45,14 +41,14 @@ unless id false ids = refl
 pub uids_given : (launch : Launch) (power : Power) (id : ℕ) → power ≡ power_using launch false → has_id id (uids_at launch power) ≡ uids_of launch id
 uids_given launch power id e =
     ap (λ b. eqb id launch.creds.uids.effective || b)
-    (unless id launch.creds.no_new_privs (owners_at launch power launch.site.rows)
-    ∙ ap (λ b. not launch.creds.no_new_privs && b) (owners_given launch power id launch.site.rows))
+    (unless id launch.creds.no_new_privs (given_ids User launch power launch.site.rows)
+    ∙ ap (λ b. not launch.creds.no_new_privs && b) (rows_given launch power id User launch.site.rows))
     ∙ ap (λ (p : Power). eqb id launch.creds.uids.effective || (not launch.creds.no_new_privs && list_any (owned_by launch p id) launch.site.rows)) e
 
 pub gids_given : (launch : Launch) (power : Power) (id : ℕ) → power ≡ power_of launch → has_id id (gids_at launch power) ≡ gids_of launch id
 gids_given launch power id e =
-    list_any-append (λ own. eqb id own) (launch.creds.gids.effective ∷ launch.creds.groups) (cond launch.creds.no_new_privs [] (groups_at launch power launch.site.rows))
+    list_any-append (λ own. eqb id own) (launch.creds.gids.effective ∷ launch.creds.groups) (cond launch.creds.no_new_privs [] (given_ids Group launch power launch.site.rows))
     ∙ ap (λ b. has_id id (launch.creds.gids.effective ∷ launch.creds.groups) || b)
-    (unless id launch.creds.no_new_privs (groups_at launch power launch.site.rows)
-    ∙ ap (λ b. not launch.creds.no_new_privs && b) (groups_given launch power id launch.site.rows))
+    (unless id launch.creds.no_new_privs (given_ids Group launch power launch.site.rows)
+    ∙ ap (λ b. not launch.creds.no_new_privs && b) (rows_given launch power id Group launch.site.rows))
     ∙ ap (λ (p : Power). has_id id (launch.creds.gids.effective ∷ launch.creds.groups) || (not launch.creds.no_new_privs && list_any (grouped_by launch p id) launch.site.rows)) e
