@@ -7,6 +7,8 @@ use Rattle.cap_sets.specs.Sets.{has}
 use Rattle.call_table.specs.Table as calls
 use Rattle.site_table.specs.Table.{Site, row_at}
 use Rattle.kern_creds.specs.declared.creds.Creds.{Creds}
+use Rattle.kern_mounts.specs.Mounts.{steps_of}
+use Rattle.kern_mounts.proofs.Plain.{steps_plain}
 use Rattle.kern_mounts.specs.Finds.{finds}
 use Rattle.kern_mounts.specs.Split.{Table}
 use Rattle.kern_mounts.specs.declared.step.MountStep.{MountStep}
@@ -56,6 +58,7 @@ NoPath (pay.OnePath path) = ⊥
 NoPath (pay.TwoPaths source target) = ⊥
 NoPath (pay.Sets p e i) = Unit {0}
 NoPath (pay.Ids ids) = Unit {0}
+NoPath (pay.Family family) = Unit {0}
 NoPath (pay.Code bytes) = Unit {0}
 
 abbrev NamesNone : LaunchStep → Type 0
@@ -77,6 +80,7 @@ module _ (site other : Site) where
   none_same (pay.TwoPaths source target) table none = absurd none
   none_same (pay.Sets p e i) table none = tt
   none_same (pay.Ids ids) table none = tt
+  none_same (pay.Family family) table none = tt
   none_same (pay.Code bytes) table none = tt
 
   mounted_there : (world : World) (entry : MountStep) (o : Option Process) → stepped_by (with_site other world) entry o ≡ with_site other (stepped_by world entry o)
@@ -87,19 +91,19 @@ module _ (site other : Site) where
   mounted_site world entry None = refl
   mounted_site world entry (Some process) = refl
 
-  step_there : (world : World) (step : LaunchStep) → world.site ≡ site → NamesNone step → launch_step (with_site other world) step ≡ sited site other (launch_step world step)
-  step_there world (Makes call) at none = step_sited site other world call at (λ process lives. none_same call.payload (table_of world process.namespace) none)
-  step_there world (Mounts entry) at none = ap (λ (v : World). (w.Done 0, v)) (mounted_there world entry (living_of world 1))
+  step_there : (world : World) (step : LaunchStep) → world.site ≡ site → other.user_namespaces ≡ site.user_namespaces → NamesNone step → launch_step (with_site other world) step ≡ sited site other (launch_step world step)
+  step_there world (Makes call) at spaces none = step_sited site other world call at spaces (λ process lives. none_same call.payload (table_of world process.namespace) none)
+  step_there world (Mounts entry) at spaces none = ap (λ (v : World). (w.Done 0, v)) (mounted_there world entry (living_of world 1))
 
   site_there : (world : World) (step : LaunchStep) → (launch_step world step).1.site ≡ world.site
   site_there world (Makes call) = site_kept world call
   site_there world (Mounts entry) = mounted_site world entry (living_of world 1)
 
-  leads_there : (world last : World) (steps : List LaunchStep) → world.site ≡ site → AllByRecursion NamesNone steps → Leads world steps last → Leads (with_site other world) steps (with_site other last) × (last.site ≡ site)
-  leads_there world last [] at none l = (ap (with_site other) l, ap (λ (v : World). v.site) (sym l) ∙ at)
-  leads_there world last (step ∷ steps) at none l =
-      let there = step_there world step at none.0 in
-      let more = leads_there (launch_step world step).1 last steps (site_there world step ∙ at) none.1 l.1 in
+  leads_there : (world last : World) (steps : List LaunchStep) → world.site ≡ site → other.user_namespaces ≡ site.user_namespaces → AllByRecursion NamesNone steps → Leads world steps last → Leads (with_site other world) steps (with_site other last) × (last.site ≡ site)
+  leads_there world last [] at spaces none l = (ap (with_site other) l, ap (λ (v : World). v.site) (sym l) ∙ at)
+  leads_there world last (step ∷ steps) at spaces none l =
+      let there = step_there world step at spaces none.0 in
+      let more = leads_there (launch_step world step).1 last steps (site_there world step ∙ at) spaces none.1 l.1 in
       ((subst (λ (out : Reply × World). IsDone out.0) (sym there) l.0, subst (λ (out : Reply × World). Leads out.1 steps (with_site other last)) (sym there) more.0), more.1)
 
 -- ---- the steps before the program
@@ -141,10 +145,10 @@ living_solo : (lines : calls.Table) (site : Site) (Q : Creds → Type 0) (stack 
 living_solo lines site Q stack plan world at process lives =
     let own : Some _ ≡ Some process = sym (ap (λ (v : World). living_of v 1) at.is) ∙ lives in
     let number : process.namespace ≡ at.namespace = by process own in
-    ap (table_of world) number ∙ ap (λ (v : World). table_of v at.namespace) at.is ∙ ap table_or at.own
+    ap (table_of world) number ∙ ap (λ (v : World). table_of v at.namespace) at.is ∙ ap (λ o. steps_of (table_or o)) at.own ∙ steps_plain plan
   where
-    by : (process : Process) → ◌≡◌ {A = Option Process} (Some (record { creds = at.creds; stack = stack; namespace = at.namespace; alive = true })) (Some process) → process.namespace ≡ at.namespace
-    by process e = let same : record { creds = at.creds; stack = stack; namespace = at.namespace; alive = true } ≡ process = cc in ap (λ (p : Process). p.namespace) (sym same)
+    by : (process : Process) → ◌≡◌ {A = Option Process} (Some (record { creds = at.creds; stack = stack; namespace = at.namespace; user = 1; alive = true })) (Some process) → process.namespace ≡ at.namespace
+    by process e = let same : record { creds = at.creds; stack = stack; namespace = at.namespace; user = 1; alive = true } ≡ process = cc in ap (λ (p : Process). p.namespace) (sym same)
 
 abbrev before_filters : calls.Table → Wanted → Table → List LaunchStep
 before_filters lines wanted plan = with_unshare lines.calls (mount_steps plan) ++ identity_steps lines.calls wanted
@@ -159,9 +163,9 @@ launch_is_blind folder lines site other wanted plan last steps whole can small f
     same : FindsSame site other plan wanted.program
     same =
         let l : Leaves lines site wanted plan last = (launch_leaves lines site wanted plan last steps whole can small e).0 in
-        let process : Process = record { creds = l.creds; stack = l.stack; namespace = l.namespace; alive = true } in
+        let process : Process = record { creds = l.creds; stack = l.stack; namespace = l.namespace; user = 1; alive = true } in
         let lives : living_of last 1 ≡ Some process = ap (λ (ps : List Process). if_alive (of_number ps 1)) l.alone in
-        let table : table_of last l.namespace ≡ plan = ap table_or l.own in
+        let table : table_of last l.namespace ≡ plan = ap (λ o. steps_of (table_or o)) l.own ∙ steps_plain plan in
         subst (λ (t : Table). FindsSame site other t wanted.program) table (finds_same folder site other agree (table_of last l.namespace) wanted.program (not_shown folder site other agree last 1 process wanted.program lives fit (blind [] tt)))
 
     joined : launch_steps lines.calls wanted plan ≡ before_program lines wanted plan ++ program_steps lines.calls wanted.program
@@ -179,8 +183,8 @@ launch_is_blind folder lines site other wanted plan last steps whole can small f
         let ready = ready_at lines site calls' wanted plan filters.mid (begins_at_host (host_of site) plan can) small filters.before in
         let pushed = filtered lines site calls' [] plan (IsReady wanted.uid wanted.ambient) wanted.programs [] filters.mid parts.mid ready filters.after in
         let none = all_appended NamesNone (before_filters lines wanted plan) (filter_steps lines.calls wanted.programs) (all_appended NamesNone (with_unshare lines.calls (mount_steps plan)) (identity_steps lines.calls wanted) (none_plan lines plan) (none_identity lines wanted)) (none_filters lines wanted.programs) in
-        let there = leads_there site other (start_world lines site) parts.mid (before_program lines wanted plan) refl none parts.before in
-        let stepped = step_sited site other parts.mid (first_call lines.calls (codes "execve") (0 ∷ 0 ∷ 0 ∷ 0 ∷ 0 ∷ 0 ∷ []) (pay.OnePath wanted.program)) there.1
+        let there = leads_there site other (start_world lines site) parts.mid (before_program lines wanted plan) refl agree.spaces none parts.before in
+        let stepped = step_sited site other parts.mid (first_call lines.calls (codes "execve") (0 ∷ 0 ∷ 0 ∷ 0 ∷ 0 ∷ 0 ∷ []) (pay.OnePath wanted.program)) there.1 agree.spaces
         (λ process lives. subst (λ (t : Table). FindsSame site other t wanted.program) (sym (living_solo lines site (IsReady wanted.uid wanted.ambient) pushed.codes' plan parts.mid pushed.at process lives)) same) in
         let exec : Leads (with_site other parts.mid) (program_steps lines.calls wanted.program) (with_site other last) =
         (subst (λ (out : Reply × World). IsDone out.0) (sym stepped) parts.after.0, ap (λ (out : Reply × World). out.1) stepped ∙ ap (with_site other) parts.after.1) in

@@ -1,11 +1,11 @@
 -- What a world asks its site for: what the paths of calls find.
-use Rattle.std.proofs.Common.{◌≡◌, ◌∙◌, ℕ, Bool, true, false, cond, List, [], ◌∷◌, ◌++◌, Option, Some, None, Result, Ok, Err, refl, ap, sym, subst, length}
+use Rattle.std.proofs.Common.{◌≡◌, ◌∙◌, ℕ, Bool, true, false, cond, List, [], ◌∷◌, ◌++◌, Option, Some, None, Result, Ok, Err, refl, ap, sym, subst, length, eqb}
 use Rattle.std.specs.Prelude.{nat_lt, not, ◌+◌, option_and_then}
+use Rattle.call_table.specs.Table.{calls_in}
 use Rattle.abs_path.specs.Paths.{Path, is_root}
 use Rattle.abs_path.specs.Prefix.{is_below, rest_of}
 use Rattle.bpf_code.specs.declared.decision.Decision.{Decision}
 use Rattle.bpf_code.specs.declared.decision.Decision.TheVariants as decision
-use Rattle.bpf_code.specs.Stack.{decision_on}
 use Rattle.call_names.specs.Known.{place_of}
 use Rattle.call_names.specs.declared.rule.CallRule.{CallRule}
 use Rattle.call_names.specs.declared.rule.CallRule.TheVariants as known
@@ -14,19 +14,20 @@ use Rattle.site_table.specs.declared.row.Row.{Row}
 use Rattle.site_table.specs.Table.{Site, row_at}
 use Rattle.kern_mounts.specs.Entry.{entry_of}
 use Rattle.kern_mounts.specs.Finds.{Found, finds, found_at, found_by, row_or_nothing, host_place, host_place_by}
-use Rattle.kern_mounts.specs.Push.{after_push}
-use Rattle.kern_mounts.specs.Remount.{after_remount}
+use Rattle.kern_mounts.specs.Mounts.{Mounts, steps_of}
+use Rattle.kern_mounts.specs.MountsPush.{mounts_after_push}
+use Rattle.kern_mounts.specs.MountsRemount.{mounts_after_remount}
 use Rattle.kern_mounts.specs.Split.{Table}
 use Rattle.kern_mounts.specs.declared.step.What.{What}
 use Rattle.kern_mounts.specs.declared.step.What.TheVariants.{Host, Empty, Hidden}
 use Rattle.kern_mounts.specs.declared.step.MountStep.{MountStep}
 use Rattle.kern_files.specs.Bits.{has_some, has_all}
-use Rattle.kern_files.specs.Executing.{exec_answer}
+use Rattle.kern_files.specs.Executing.{exec_answer_in}
 use Rattle.kern_files.specs.Looking.{flags_at, see_answer, write_answer, open_answer}
-use Rattle.kern_files.specs.MountCall.{ms_bind, ms_rec, ms_remount, ms_remount_bind, after_mount, mount_onto, bind_found, target_kind, or_found, hidden_at, kind_found, flags_of, has_other_kind}
+use Rattle.kern_files.specs.MountCall.{ms_bind, ms_rec, ms_remount, ms_remount_bind, target_kind, or_found, hidden_at, kind_found, flags_of, has_other_kind}
 use Rattle.kernel_calls.specs.Calls.{FitsPayload, IsPath}
 use Rattle.kernel_calls.specs.Doing as d
-use Rattle.kernel_calls.specs.Doing.{Doing, doing_by, known_doing, asked_if, asked_by, asked_of, bare, by_path, by_paths, by_sets, by_ids, by_code}
+use Rattle.kernel_calls.specs.Doing.{Doing, doing_by, known_doing, asked_if, asked_by, asked_of, bare, by_path, by_paths, by_sets, by_ids, by_family, by_code}
 use Rattle.kernel_calls.specs.Rules.{rule_at}
 use Rattle.kernel_calls.specs.Words.{low_word}
 use Rattle.kernel_calls.specs.declared.call.Call.{Call}
@@ -35,10 +36,11 @@ use Rattle.kernel_calls.specs.declared.payload.Payload.TheVariants as pay
 use Rattle.kernel_calls.specs.declared.rule.Rule.{Rule}
 use Rattle.kernel_calls.specs.declared.rule.Rule.TheVariants as rule
 use Rattle.kernel_model.specs.Effects as f
-use Rattle.kernel_model.specs.Effects.{Effect, effect_of, looks, creds_effect, table_effect, with_admin}
+use Rattle.kernel_model.specs.Effects.{Effect, effect_of, looks, creds_effect, table_effect, with_admin, with_own}
 use Rattle.kernel_model.specs.Runs.{run, replies}
-use Rattle.kernel_model.specs.Step.{most_processes, most_namespaces, step, step_by, decided, answered, applied, child_of, data_of}
-use Rattle.kernel_model.specs.World.{World, living_of, table_of, with_process, with_copy, with_child, moved_to, host_of, caller_of}
+use Rattle.kernel_model.specs.Step.{most_processes, most_namespaces, step, step_by, decided, answered, applied, child_of, child_in, moved_in, has_user_left, decision_of}
+use Rattle.kernel_model.specs.World.{World, living_of, mounts_of, table_of, with_process, with_copy, with_child, moved_to, host_of, caller_of, with_user, entered_by, owner_of, is_newer}
+use Rattle.kern_files.specs.MountsCall.{mounts_after_mount, mounts_onto, mounts_bind_found}
 use Rattle.kernel_model.specs.declared.process.Process.{Process}
 use Rattle.kernel_model.specs.declared.reply.Reply.{Reply}
 use Rattle.kernel_model.specs.declared.reply.Reply.TheVariants as w
@@ -60,34 +62,51 @@ module _ (site other : Site) where
   PayloadSame table (pay.TwoPaths source target) = FindsSame table source × FindsSame table target
   PayloadSame table (pay.Sets p e i) = Unit {0}
   PayloadSame table (pay.Ids ids) = Unit {0}
+  PayloadSame table (pay.Family family) = Unit {0}
   PayloadSame table (pay.Code bytes) = Unit {0}
 
-  mount_same : (table : Table) (source target : Path) (flags : ℕ) → FindsSame table source → FindsSame table target → after_mount (row_at other.rows) table source target flags ≡ after_mount (row_at site.rows) table source target flags
-  mount_same table source target flags same same' =
-      ap (λ (r : Result Table ℕ). cond (has_other_kind flags) (Err einval) (cond (has_all ms_remount_bind flags) (after_remount table target (flags_of flags)) (cond (has_some ms_remount flags) (Err einval) (cond (is_root target) (Err ebusy) r))))
-      (ap (λ (found : Found Row). mount_onto (row_at other.rows) table source target flags (or_found (hidden_at target (entry_of table target)) (kind_found found))) same' ∙ onto (target_kind (row_at site.rows) table target))
+  mount_same : (mounts : Mounts) (source target : Path) (flags : ℕ) → FindsSame (steps_of mounts) source → FindsSame (steps_of mounts) target → mounts_after_mount (row_at other.rows) mounts source target flags ≡ mounts_after_mount (row_at site.rows) mounts source target flags
+  mount_same mounts source target flags same same' =
+      ap (λ (r : Result Mounts ℕ). cond (has_other_kind flags) (Err einval) (cond (has_all ms_remount_bind flags) (mounts_after_remount mounts target (flags_of flags)) (cond (has_some ms_remount flags) (Err einval) (cond (is_root target) (Err ebusy) r))))
+      (ap (λ (found : Found Row). mounts_onto (row_at other.rows) mounts source target flags (or_found (hidden_at target (entry_of (steps_of mounts) target)) (kind_found found))) same' ∙ onto (target_kind (row_at site.rows) (steps_of mounts) target))
     where
-      onto : (r : Result Bool ℕ) → mount_onto (row_at other.rows) table source target flags r ≡ mount_onto (row_at site.rows) table source target flags r
+      onto : (r : Result Bool ℕ) → mounts_onto (row_at other.rows) mounts source target flags r ≡ mounts_onto (row_at site.rows) mounts source target flags r
       onto (Err errno) = refl
       onto (Ok directory) =
-          ap (λ (found : Found Row). cond (has_some ms_bind flags) (bind_found table source target (has_some ms_rec flags) directory (kind_found found)) (cond (not directory) (Err enotdir) (after_push table (record { place = target; what = Empty; flags = flags_of flags })))) same
+          ap (λ (found : Found Row). cond (has_some ms_bind flags) (mounts_bind_found mounts source target (has_some ms_rec flags) directory (kind_found found)) (cond (not directory) (Err enotdir) (mounts_after_push mounts (record { place = target; what = Empty; flags = flags_of flags })))) same
 
   -- ---- a step
   abbrev pub sited : Reply × World → Reply × World
   sited out = (out.0, with_site other out.1)
 
-  module _ (world : World) (at_site : world.site ≡ site) (pid : ℕ) (process : Process) where
+  module _ (world : World) (at_site : world.site ≡ site) (spaces : other.user_namespaces ≡ site.user_namespaces) (pid : ℕ) (process : Process) where
     abbrev table : Table
     table = table_of world process.namespace
 
-    born : (own : Bool) → child_of (with_site other world) process own ≡ sited (child_of world process own)
-    born false = refl
-    born true = by (nat_lt (length world.tables) most_namespaces)
+    -- as many user namespaces may be made
+    left_same : has_user_left (with_site other world) ≡ has_user_left world
+    left_same = ap (λ n. nat_lt world.users n) (spaces ∙ ap (λ (s : Site). s.user_namespaces) (sym at_site))
+
+    born_in : (old now : World) (child : Process) (own : Bool) → child_in (with_site other old) (with_site other now) child own ≡ sited (child_in old now child own)
+    born_in old now child false = refl
+    born_in old now child true = by (nat_lt (length now.tables) most_namespaces)
       where
-        by : (b : Bool) → cond {A = Reply × World} b (w.Done (length world.processes + 1), with_site other (with_child (with_copy world process.namespace) (moved_to process (length world.tables)))) (w.Refused enospc, with_site other world)
-            ≡ sited (cond {A = Reply × World} b (w.Done (length world.processes + 1), with_child (with_copy world process.namespace) (moved_to process (length world.tables))) (w.Refused enospc, world))
+        by : (b : Bool) → cond {A = Reply × World} b (w.Done (length now.processes + 1), with_site other (with_child (with_copy now child.namespace child.user) (moved_to child (length now.tables)))) (w.Refused enospc, with_site other old)
+            ≡ sited (cond {A = Reply × World} b (w.Done (length now.processes + 1), with_child (with_copy now child.namespace child.user) (moved_to child (length now.tables))) (w.Refused enospc, old))
         by true = refl
         by false = refl
+
+    moved_sited : (old now : World) (own' : Process) (own : Bool) → moved_in (with_site other old) (with_site other now) pid own' own ≡ sited (moved_in old now pid own' own)
+    moved_sited old now own' false = refl
+    moved_sited old now own' true = by (nat_lt (length now.tables) most_namespaces)
+      where
+        by : (b : Bool) → cond {A = Reply × World} b (w.Done 0, with_site other (with_process (with_copy now own'.namespace own'.user) pid (moved_to own' (length now.tables)))) (w.Refused enospc, with_site other old)
+            ≡ sited (cond {A = Reply × World} b (w.Done 0, with_process (with_copy now own'.namespace own'.user) pid (moved_to own' (length now.tables))) (w.Refused enospc, old))
+        by true = refl
+        by false = refl
+
+    born : (own : Bool) → child_of (with_site other world) process own ≡ sited (child_of world process own)
+    born own = born_in world world process own
 
     applied_sited : (effect : Effect) → applied (with_site other world) pid process effect ≡ sited (applied world pid process effect)
     applied_sited (f.Refuse errno) = refl
@@ -101,10 +120,23 @@ module _ (site other : Site) where
         by : (b : Bool) → cond {A = Reply × World} b (sited (child_of world process own)) (w.Refused eagain, with_site other world) ≡ sited (cond {A = Reply × World} b (child_of world process own) (w.Refused eagain, world))
         by true = refl
         by false = refl
-    applied_sited f.OwnTable = by (nat_lt (length world.tables) most_namespaces)
+    applied_sited f.OwnTable = moved_sited world world process true
+    applied_sited (f.UserChild own) =
+        ap (λ (b : Bool). cond {A = Reply × World} b (cond {A = Reply × World} (nat_lt (length world.processes) most_processes) (child_in (with_site other world) (with_site other (with_user world)) (entered_by process world.users) own) (w.Refused eagain, with_site other world)) (w.Refused enospc, with_site other world)) left_same
+        ∙ ap (λ (out : Reply × World). cond {A = Reply × World} (has_user_left world) (cond {A = Reply × World} (nat_lt (length world.processes) most_processes) out (w.Refused eagain, with_site other world)) (w.Refused enospc, with_site other world)) (born_in world (with_user world) (entered_by process world.users) own)
+        ∙ by (has_user_left world) (nat_lt (length world.processes) most_processes)
       where
-        by : (b : Bool) → cond {A = Reply × World} b (w.Done 0, with_site other (with_process (with_copy world process.namespace) pid (moved_to process (length world.tables)))) (w.Refused enospc, with_site other world)
-            ≡ sited (cond {A = Reply × World} b (w.Done 0, with_process (with_copy world process.namespace) pid (moved_to process (length world.tables))) (w.Refused enospc, world))
+        by : (a b : Bool) → cond {A = Reply × World} a (cond {A = Reply × World} b (sited (child_in world (with_user world) (entered_by process world.users) own)) (w.Refused eagain, with_site other world)) (w.Refused enospc, with_site other world)
+            ≡ sited (cond {A = Reply × World} a (cond {A = Reply × World} b (child_in world (with_user world) (entered_by process world.users) own) (w.Refused eagain, world)) (w.Refused enospc, world))
+        by true true = refl
+        by true false = refl
+        by false b = refl
+    applied_sited (f.OwnUser own) =
+        ap (λ (b : Bool). cond {A = Reply × World} b (moved_in (with_site other world) (with_site other (with_user world)) pid (entered_by process world.users) own) (w.Refused enospc, with_site other world)) left_same
+        ∙ ap (λ (out : Reply × World). cond {A = Reply × World} (has_user_left world) out (w.Refused enospc, with_site other world)) (moved_sited world (with_user world) (entered_by process world.users) own) ∙ by (has_user_left world)
+      where
+        by : (a : Bool) → cond {A = Reply × World} a (sited (moved_in world (with_user world) pid (entered_by process world.users) own)) (w.Refused enospc, with_site other world)
+            ≡ sited (cond {A = Reply × World} a (moved_in world (with_user world) pid (entered_by process world.users) own) (w.Refused enospc, world))
         by true = refl
         by false = refl
     applied_sited f.End = refl
@@ -125,6 +157,7 @@ module _ (site other : Site) where
     bare_goes doing same (pay.TwoPaths source target) = refl
     bare_goes doing same (pay.Sets p e i) = refl
     bare_goes doing same (pay.Ids ids) = refl
+    bare_goes doing same (pay.Family family) = refl
     bare_goes doing same (pay.Code bytes) = refl
 
     path_goes : (doing : Path → Doing) → ((path : Path) → FindsSame table path → Same (doing path)) → (payload : Payload) → PayloadSame table payload → Goes (by_path doing payload)
@@ -133,6 +166,7 @@ module _ (site other : Site) where
     path_goes doing same (pay.TwoPaths source target) found = refl
     path_goes doing same (pay.Sets p e i) found = refl
     path_goes doing same (pay.Ids ids) found = refl
+    path_goes doing same (pay.Family family) found = refl
     path_goes doing same (pay.Code bytes) found = refl
 
     paths_goes : (doing : Path → Path → Doing) → ((source target : Path) → FindsSame table source → FindsSame table target → Same (doing source target)) → (payload : Payload) → PayloadSame table payload → Goes (by_paths doing payload)
@@ -141,6 +175,7 @@ module _ (site other : Site) where
     paths_goes doing same (pay.TwoPaths source target) found = doing_goes (doing source target) (same source target found.0 found.1)
     paths_goes doing same (pay.Sets p e i) found = refl
     paths_goes doing same (pay.Ids ids) found = refl
+    paths_goes doing same (pay.Family family) found = refl
     paths_goes doing same (pay.Code bytes) found = refl
 
     sets_goes : (payload : Payload) → Goes (by_sets d.Capset payload)
@@ -149,6 +184,7 @@ module _ (site other : Site) where
     sets_goes (pay.TwoPaths source target) = refl
     sets_goes (pay.Sets p e i) = doing_goes (d.Capset p e i) refl
     sets_goes (pay.Ids ids) = refl
+    sets_goes (pay.Family family) = refl
     sets_goes (pay.Code bytes) = refl
 
     ids_goes : (payload : Payload) → Goes (by_ids d.Setgroups payload)
@@ -157,7 +193,17 @@ module _ (site other : Site) where
     ids_goes (pay.TwoPaths source target) = refl
     ids_goes (pay.Sets p e i) = refl
     ids_goes (pay.Ids ids) = doing_goes (d.Setgroups ids) refl
+    ids_goes (pay.Family family) = refl
     ids_goes (pay.Code bytes) = refl
+
+    family_goes : (operation : ℕ) (payload : Payload) → Goes (by_family (d.Socketcall operation) payload)
+    family_goes operation pay.Nothing = refl
+    family_goes operation (pay.OnePath path) = refl
+    family_goes operation (pay.TwoPaths source target) = refl
+    family_goes operation (pay.Sets p e i) = refl
+    family_goes operation (pay.Ids ids) = refl
+    family_goes operation (pay.Family family) = doing_goes (d.Socketcall operation family) refl
+    family_goes operation (pay.Code bytes) = refl
 
     code_goes : (operation flags : ℕ) (payload : Payload) → Goes (by_code (d.Seccomp operation flags) payload)
     code_goes operation flags pay.Nothing = refl
@@ -165,6 +211,7 @@ module _ (site other : Site) where
     code_goes operation flags (pay.TwoPaths source target) = refl
     code_goes operation flags (pay.Sets p e i) = refl
     code_goes operation flags (pay.Ids ids) = refl
+    code_goes operation flags (pay.Family family) = refl
     code_goes operation flags (pay.Code bytes) = doing_goes (d.Seccomp operation flags bytes) refl
 
     here : (path : Path) → FindsSame table path → finds (row_at other.rows) table path ≡ finds (row_at world.site.rows) table path
@@ -172,14 +219,14 @@ module _ (site other : Site) where
 
     mount_here : (flags : ℕ) (source target : Path) → FindsSame table source → FindsSame table target → Same (d.Mount source target flags)
     mount_here flags source target s t =
-        ap (λ (r : Result Table ℕ). with_admin process.creds (table_effect r)) (mount_same table source target flags s t ∙ ap (λ (own : Site). after_mount (row_at own.rows) table source target flags) (sym at_site))
+        ap (λ (r : Result Mounts ℕ). with_own (eqb (owner_of world process.namespace) process.user) (with_admin process.creds (table_effect r))) (mount_same (mounts_of world process.namespace) source target flags s t ∙ ap (λ (own : Site). mounts_after_mount (row_at own.rows) (mounts_of world process.namespace) source target flags) (sym at_site))
 
     known_goes : (own : CallRule) (args : List ℕ) (payload : Payload) → PayloadSame table payload → Goes (known_doing own args payload)
     known_goes known.See args payload same = path_goes d.See (λ path s. ap (λ found. looks (see_answer 0 found)) (here path s)) payload same
     known_goes (known.Open at) args payload same = path_goes (d.Open (low_word args (place_of at))) (λ path s. ap (λ found. looks (open_answer (low_word args (place_of at)) (flags_at table path) found)) (here path s)) payload same
     known_goes known.Create args payload same = path_goes d.Create (λ path s. ap (λ found. looks (write_answer 3 (flags_at table path) found)) (here path s)) payload same
     known_goes known.Truncate args payload same = path_goes d.Truncate (λ path s. ap (λ found. looks (write_answer 0 (flags_at table path) found)) (here path s)) payload same
-    known_goes known.Execve args payload same = path_goes d.Execve (λ path s. ap (λ found. creds_effect (exec_answer process.creds (flags_at table path) found)) (here path s)) payload same
+    known_goes known.Execve args payload same = path_goes d.Execve (λ path s. ap (λ found. creds_effect (exec_answer_in (is_newer process) process.creds (flags_at table path) found)) (here path s)) payload same
     known_goes (known.SetMode at) args payload same = bare_goes _ refl payload
     known_goes known.Map args payload same = bare_goes _ refl payload
     known_goes known.Protect args payload same = bare_goes _ refl payload
@@ -187,6 +234,7 @@ module _ (site other : Site) where
     known_goes known.Schedule args payload same = bare_goes _ refl payload
     known_goes known.Personality args payload same = bare_goes _ refl payload
     known_goes known.Socket args payload same = bare_goes _ refl payload
+    known_goes known.Socketcall args payload same = family_goes _ payload
     known_goes known.Enter args payload same = bare_goes _ refl payload
     known_goes known.Fork args payload same = bare_goes _ refl payload
     known_goes known.Clone args payload same = bare_goes _ refl payload
@@ -213,17 +261,17 @@ module _ (site other : Site) where
 
     decided_goes : (call : Call) → call.pid ≡ pid → PayloadSame table call.payload → (c : Decision) → decided (with_site other world) call process c ≡ sited (decided world call process c)
     decided_goes call own same decision.Pass =
-        ap (λ n. answered (with_site other world) n process (asked_of world.calls.calls call)) own ∙ asked_goes call (rule_at world.calls.calls call.nr) same ∙ ap (λ n. sited (answered world n process (asked_of world.calls.calls call))) (sym own)
+        ap (λ n. answered (with_site other world) n process (asked_of world.calls call)) own ∙ asked_goes call (rule_at (calls_in world.calls call.abi) call.nr) same ∙ ap (λ n. sited (answered world n process (asked_of world.calls call))) (sym own)
     decided_goes call own same (decision.Errno errno) = refl
     decided_goes call own same decision.Kill = refl
 
-  pub step_sited : (world : World) (call : Call) → world.site ≡ site → ((process : Process) → living_of world call.pid ≡ Some process → PayloadSame (table_of world process.namespace) call.payload)
+  pub step_sited : (world : World) (call : Call) → world.site ≡ site → other.user_namespaces ≡ site.user_namespaces → ((process : Process) → living_of world call.pid ≡ Some process → PayloadSame (table_of world process.namespace) call.payload)
       → step (with_site other world) call ≡ sited (step world call)
-  step_sited world call at_site same = by (living_of world call.pid) refl
+  step_sited world call at_site spaces same = by (living_of world call.pid) refl
     where
       by : (o : Option Process) → living_of world call.pid ≡ o → step_by (with_site other world) call o ≡ sited (step_by world call o)
       by None is = refl
-      by (Some process) is = decided_goes world at_site call.pid process call refl (same process is) (decision_on process.stack (data_of world call))
+      by (Some process) is = decided_goes world at_site spaces call.pid process call refl (same process is) (decision_of world call process)
 
 -- ---- runs
 module _ (folder : Path) (site other : Site) (agree : AgreeOutside folder site other) where
@@ -257,6 +305,7 @@ module _ (folder : Path) (site other : Site) (agree : AgreeOutside folder site o
       (finds_same (table_of world process.namespace) source (not_shown world pid process source lives fit.0 blind), finds_same (table_of world process.namespace) target (not_shown world pid process target lives fit.1 blind))
   payload_same world pid process lives blind (pay.Sets p e i) fit = tt
   payload_same world pid process lives blind (pay.Ids ids) fit = tt
+  payload_same world pid process lives blind (pay.Family family) fit = tt
   payload_same world pid process lives blind (pay.Code bytes) fit = tt
 
 -- the site of a world stays
@@ -267,7 +316,7 @@ pub replies_are_blind : RepliesAreBlind
 replies_are_blind folder other world [] agree blind fit = record { replies = refl; runs = refl }
 replies_are_blind folder other world (call ∷ calls) agree blind fit =
     let now : Exposes folder world → ⊥ = blind [] tt in
-    let stepped = step_sited world.site other world call refl (λ process lives. payload_same folder world.site other agree world call.pid process lives now call.payload fit.0.payload) in
+    let stepped = step_sited world.site other world call refl agree.spaces (λ process lives. payload_same folder world.site other agree world call.pid process lives now call.payload fit.0.payload) in
     let next : World = (step world call).1 in
     let more = replies_are_blind folder other next calls (subst (λ (s : Site). AgreeOutside folder s other) (sym (site_kept world call)) agree) (λ list fits. blind (call ∷ list) (fit.0, fits)) fit.1 in
     record {

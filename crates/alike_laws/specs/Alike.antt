@@ -13,6 +13,7 @@ use Rattle.kernel_calls.specs.declared.call.Call.{Call}
 use Rattle.kernel_model.specs.Runs.{replies}
 use Rattle.kernel_laws.specs.Blind.{IsFolder}
 use Rattle.kernel_laws.specs.Denied.{IsBlind}
+use Rattle.launcher.specs.Alike.{HasWordArchs}
 use Rattle.launcher.specs.Answers.{LaunchesTo}
 use Rattle.launcher.specs.declared.launched.Launched.{Launched}
 use Rattle.mount_plan.specs.Answers.{Plans}
@@ -26,7 +27,7 @@ use Rattle.alike_laws.specs.Worlds.{with_site}
 -- kept, their plan, and its launch with one program for each filter
 pub record IsServiceOf (unit : Resolved) (table : calls.Table) (site : Site) (made : Settings) (plan : Table) (service : Launched) : Type 0 where
   pub whole : IsWhole table
-  pub arch : table.arch < 2 ^ 32
+  pub arch : HasWordArchs table
   pub is_site : IsSite site
   pub settings : AreSettings unit table site made
   pub mentions : AreKept made.mentions

@@ -15,9 +15,10 @@ use Rattle.view_map.specs.Resting.{AreSameSources}
 abbrev pub rows_outside : Path → List Row → List Row
 rows_outside folder rows = filter (λ row. not (is_below row.path folder)) rows
 
--- the same ids and accounts, and the same rows but below the folder
+-- the same ids and accounts, as many user namespaces, and the same rows but below the folder
 pub record AgreeOutside (folder : Path) (site other : Site) : Type 0 where
   pub dynamic_uid : other.dynamic_uid ≡ site.dynamic_uid
+  pub spaces : other.user_namespaces ≡ site.user_namespaces
   pub users : other.users ≡ site.users
   pub groups : other.groups ≡ site.groups
   pub rows : rows_outside folder other.rows ≡ rows_outside folder site.rows

@@ -3,13 +3,13 @@ use Rattle.std.specs.Prelude.{ℕ, Bool, List, [], ◌∷◌, codes, Option, is_
 use Rattle.std.specs.Map.{lookup}
 use Rattle.std.specs.Str.{bytes_eq}
 use Rattle.call_names.specs.declared.payload.PayloadForm.{PayloadForm}
-use Rattle.call_names.specs.declared.payload.PayloadForm.TheVariants.{Nothing, OnePath, TwoPaths, Sets, Ids, Program}
+use Rattle.call_names.specs.declared.payload.PayloadForm.TheVariants.{Nothing, OnePath, TwoPaths, Sets, Ids, Family, Program}
 use Rattle.call_names.specs.declared.known.KnownCall.{KnownCall}
 use Rattle.call_names.specs.declared.known.KnownCall.TheVariants.{Modelled, Absent}
 use Rattle.call_names.specs.declared.rule.Argument.{Argument}
 use Rattle.call_names.specs.declared.rule.Argument.TheVariants.{Second, Third}
 use Rattle.call_names.specs.declared.rule.CallRule.{CallRule}
-use Rattle.call_names.specs.declared.rule.CallRule.TheVariants.{See, Open, Create, Truncate, Execve, SetMode, Map, Protect, Attach, Schedule, Personality, Socket, Enter, Fork, Clone, Unshare, Exit, Mount, Umount, Setuid, Setgid, Setresuid, Setresgid, Setgroups, Capset, Prctl, Seccomp}
+use Rattle.call_names.specs.declared.rule.CallRule.TheVariants.{See, Open, Create, Truncate, Execve, SetMode, Map, Protect, Attach, Schedule, Personality, Socket, Socketcall, Enter, Fork, Clone, Unshare, Exit, Mount, Umount, Setuid, Setgid, Setresuid, Setresgid, Setgroups, Capset, Prctl, Seccomp}
 
 -- arguments are counted from 0
 abbrev pub place_of : Argument → ℕ
@@ -49,6 +49,7 @@ known_calls =
     (codes "sched_setattr", Absent) ∷
     (codes "personality", Modelled Personality) ∷
     (codes "socket", Modelled Socket) ∷
+    (codes "socketcall", Modelled Socketcall) ∷
     (codes "setns", Modelled Enter) ∷
     (codes "chroot", Absent) ∷
     (codes "pivot_root", Absent) ∷
@@ -100,6 +101,7 @@ form_of Umount = OnePath
 form_of Mount = TwoPaths
 form_of Capset = Sets
 form_of Setgroups = Ids
+form_of Socketcall = Family
 form_of Seccomp = Program
 form_of (SetMode mode) = Nothing
 form_of Map = Nothing

@@ -49,6 +49,7 @@ const KNOWN_CALLS: &[(&str, KnownCall)] = &[
     ("sched_setattr", Absent),
     ("personality", Modelled(CallRule::Personality)),
     ("socket", Modelled(CallRule::Socket)),
+    ("socketcall", Modelled(CallRule::Socketcall)),
     ("setns", Modelled(CallRule::Enter)),
     ("chroot", Absent),
     ("pivot_root", Absent),

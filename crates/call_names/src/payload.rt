@@ -18,6 +18,8 @@ pub enum PayloadForm {
     Sets,
     /// A list of ids.
     Ids,
+    /// The family of a socket, the first of the words that socketcall(2) points to.
+    Family,
     /// The bytes of a program, seccomp(2).
     Program,
 }
@@ -36,6 +38,7 @@ pub fn form_of(rule: CallRule) -> PayloadForm
         CallRule::Mount => PayloadForm::TwoPaths,
         CallRule::Capset => PayloadForm::Sets,
         CallRule::Setgroups => PayloadForm::Ids,
+        CallRule::Socketcall => PayloadForm::Family,
         CallRule::Seccomp => PayloadForm::Program,
         CallRule::SetMode(_)
         | CallRule::Map

@@ -52,6 +52,9 @@ pub enum CallRule {
     Personality,
     /// socket(2). Asked: which families have sockets.
     Socket,
+    /// socketcall(2), whose operation 1 is socket(2) with the family that it points to. Asked: which families have
+    /// sockets.
+    Socketcall,
     /// setns(2), which is refused.
     Enter,
     /// fork(2) and vfork(2) copy the process.

@@ -29,9 +29,9 @@ case_holds input case = list_all (test_holds input) case.tests
 abbrev pub call_action : CallData → CallRule → Action
 call_action input call = option_map_or (λ case. case.action) (find (case_holds input) call.cases) call.rest
 
--- another architecture ends the process; else the rule of the call's number decides, and without one the rest of the set
+-- another architecture has an action of its own; else the rule of the call's number decides, and without one the rest of the set
 abbrev pub case_action : RuleSet → CallData → Action
 case_action rules input =
     if input.arch == rules.arch
     then option_map_or (call_action input) (find (λ call. call.number == input.nr) rules.calls) rules.rest
-    else KillProcess
+    else rules.other

@@ -41,14 +41,14 @@ fn action_of(call: &CallRule, input: &CallData) -> Action
     }
 }
 
-/// The action of the rules on a call: for another architecture than theirs the process is ended; else the
+/// The action of the rules on a call: for another architecture than theirs the action for it; else the
 /// first case of the call's rule whose tests all hold decides, else that rule's rest, and for a number
 /// without a rule the rest of the set.
 pub fn action(rules: &RuleSet, input: &CallData) -> Action
     ensures decides_by_case { result ≡ case_action rules.now input.now }
 {
     if input.arch != rules.arch {
-        return Action::KillProcess;
+        return rules.other;
     }
     match rule_of(rules.calls.list(), input.nr) {
         Some(call) => action_of(call, input),

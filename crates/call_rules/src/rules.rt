@@ -81,11 +81,12 @@ pub fn are_ascending(calls: &[CallRule]) -> bool
     true
 }
 
-/// The rules of a filter: its architecture (an AUDIT_ARCH number), the rules of some calls, and the action
-/// on every other number.
+/// The rules of a filter: its architecture (an AUDIT_ARCH number), the rules of some calls, the action on
+/// every other number, and the action for every other architecture.
 #[derive(Drop)]
 pub struct RuleSet {
     pub arch: u32,
     pub calls: CallRules,
     pub rest: Action,
+    pub other: Action,
 }

@@ -82,6 +82,6 @@ all_below n (call ∷ calls) test = by (test (n, call)) (all_below (n + 1) calls
 
 pub has_members : (calls : List CallLine) (groups : List GroupLine) (words : List (List ℕ)) (name : List ℕ) → HasMembers (length calls) (record { name = name; members = members_of calls groups words })
 has_members calls groups words name = record {
-  below = λ k d lt. let small = all_below 0 calls (is_member groups words) k d lt in omega arith;
-  ascending = IsStrictlyIncreasing-from_sorted (members_of calls groups words) (in_order 0 calls (is_member groups words));
+  below = λ k d lt. let small = all_below 0 calls (is_member calls groups words) k d lt in omega arith;
+  ascending = IsStrictlyIncreasing-from_sorted (members_of calls groups words) (in_order 0 calls (is_member calls groups words));
 }

@@ -1,4 +1,5 @@
 pub mod Adding
+pub mod Among
 pub mod Answered
 pub mod Befores
 pub mod Bytes
@@ -12,6 +13,6 @@ pub mod Meant
 pub mod Numbering
 pub mod Onces
 pub mod Places
-mod Placing
 pub mod Standing
 pub mod Steps
+pub mod Versions

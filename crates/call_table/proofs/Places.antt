@@ -1,11 +1,13 @@
 -- The first place of a list that passes a test.
-use Rattle.std.proofs.Common.{subst, ◌≡◌, ℕ, zero, suc, ◌<◌, ◌≤◌, Bool, true, false, cond, ltb, List, [], ◌∷◌, ◌++◌, length, get_or, Some, None, ◌⊎◌, ⊎_elim, inl, inr, refl, ap, ◌∙◌, arith, length-append}
+use Rattle.std.proofs.Common.{subst, ◌≡◌, ℕ, zero, suc, ◌+◌, ◌-◌, ◌<◌, ◌≤◌, Bool, true, false, cond, ltb, List, [], ◌∷◌, ◌++◌, length, get_or, Some, None, ◌⊎◌, ⊎_elim, inl, inr, refl, ap, ◌∙◌, arith, length-append}
 use Rattle.std.specs.Prelude.{◌||◌, find, slice_get}
+use Rattle.call_table.specs.declared.listed.CallLine.{CallLine}
 use Rattle.std.specs.List.{position, position_or_len, list_any, All}
+use Rattle.std.proofs.lemmas.Bool.{cases_lt}
 use Rattle.std.proofs.lemmas.Bool.Decides.{nat_tests}
-use Rattle.std.proofs.lemmas.List.{get_or_append_left, get_or_push}
+use Rattle.std.proofs.lemmas.List.{get_or_append_left, get_or-append_right, get_or_push}
 use Rattle.std.proofs.lemmas.List.Sums.{position_or_len_is, fails_before_first}
-use Rattle.std.proofs.lemmas.List.Folds.{list_any_none}
+use Rattle.std.proofs.lemmas.List.Folds.{list_any_none, list_any-append}
 use Rattle.std.proofs.lemmas.List.Quantifiers.{position-Some}
 
 pub place_found : {X : Type 0} (p : X → Bool) (xs : List X) (i : ℕ) (d : X) → i < length xs → ((k : ℕ) → k < i → p (get_or xs k d) ≡ false) → p (get_or xs i d) ≡ true → position p xs ≡ Some i
@@ -77,6 +79,27 @@ place_at_end p xs y none here =
     let long = length-append xs (y ∷ []) in
     place_found p (xs ++ y ∷ []) (length xs) y (omega (arith, long)) (λ k h. ap p (get_or_append_left xs (y ∷ []) y k h) ∙ fails p xs k y none h) (ap p (get_or_push xs y y (length xs) refl) ∙ here)
 
+-- a place further on, where none is before
+pub place_behind : {X : Type 0} (p : X → Bool) (xs ys : List X) (j : ℕ) (d : X) → position p xs ≡ None → position p ys ≡ Some j → position p (xs ++ ys) ≡ Some (length xs + j)
+place_behind p xs ys j d none e =
+    let at = position-Some p ys j d e in
+    let long = length-append xs ys in
+    let lt : j < length ys = at.0 in
+    let absent = any_nowhere p xs none in
+    place_found p (xs ++ ys) (length xs + j) d (omega (arith, long))
+    (λ k h. ⊎_elim
+    (λ (low : k < length xs). ap p (get_or_append_left xs ys d k low) ∙ fails p xs k d absent low)
+    (λ (high : length xs ≤ k). ap p (behind k high) ∙ at.2 (k - length xs) (omega arith))
+    (cases_lt k (length xs)))
+    (ap p (behind (length xs + j) (omega arith) ∙ ap (λ n. get_or ys n d) (omega arith)) ∙ at.1)
+  where
+    behind : (k : ℕ) → length xs ≤ k → get_or (xs ++ ys) k d ≡ get_or ys (k - length xs) d
+    behind k le = get_or-append_right xs ys (length xs) k d refl le
+
+pub place_nowhere_more : {X : Type 0} (p : X → Bool) (xs ys : List X) → position p xs ≡ None → position p ys ≡ None → position p (xs ++ ys) ≡ None
+place_nowhere_more p xs ys none further =
+    nowhere_any p (xs ++ ys) (list_any-append p xs ys ∙ ap (λ b. b || list_any p ys) (any_nowhere p xs none) ∙ any_nowhere p ys further)
+
 -- an element of a longer list
 pub get_push_cases : {X : Type 0} (xs : List X) (y z : X) (i : ℕ) → slice_get (xs ++ y ∷ []) i ≡ Some z → (slice_get xs i ≡ Some z) ⊎ ((i ≡ length xs) × (y ≡ z))
 get_push_cases [] y z zero e = inr (refl, cc)
@@ -108,3 +131,6 @@ found_holds P p (y ∷ xs) x all e = by (p y) (found_holds P p xs x (λ k d lt. 
     by : (b : Bool) → (find p xs ≡ Some x → P x) → cond b (Some y) (find p xs) ≡ Some x → P x
     by true later e = let same : y ≡ x = cc in subst P same (all 0 y (omega arith))
     by false later e = later e
+
+pub some_line : CallLine
+some_line = record { name = []; number = 0; cap = None; abi = 0 }

@@ -6,11 +6,10 @@ use Rattle.std.specs.Option.{option_map_or}
 use Rattle.std.proofs.lemmas.Bool.{eqb-true}
 use Rattle.std.proofs.lemmas.Bool.Decides.{nat_tests}
 use Rattle.std.proofs.lemmas.List.Folds.{Any-from_list_any, list_any-from_Any}
-use Rattle.std.proofs.lemmas.Slice.Eq.{bytes_eq-Decides}
 use Rattle.call_table.specs.declared.listed.CallLine.{CallLine}
 use Rattle.call_table.specs.declared.listed.GroupLine.{GroupLine}
 use Rattle.call_table.specs.Names.{behind_at}
-use Rattle.call_table.specs.Lookups.{group_named}
+use Rattle.call_table.specs.Lookups.{place_named, group_named}
 use Rattle.call_table.specs.Members.{has_member, stands_for, stands_for_by, is_member, members_of}
 use Rattle.call_table.specs.Meaning.{NamesCall, NamesGroup, StandsFor, IsGroup}
 use Rattle.call_table.proofs.Grouping.{has_members}
@@ -90,23 +89,30 @@ member_passes position group h = list_any-from_Any (λ member. member == positio
     same : (n : ℕ) → n == n ≡ true
     same n = grind (arith, nat_tests)
 
-stands_from : (groups : List GroupLine) (word : List ℕ) (position : ℕ) (call : CallLine) → stands_for groups word (position, call) ≡ true → StandsFor groups word position call
-stands_from groups word position call = by (behind_at word) refl
+first_from : (o : Option ℕ) (position : ℕ) → option_map_or (λ place. place == position) o false ≡ true → o ≡ Some position
+first_from None position h = cc
+first_from (Some place) position h = ap Some (eqb-true place position h)
+
+same : (n : ℕ) → n == n ≡ true
+same n = grind (arith, nat_tests)
+
+stands_from : (calls : List CallLine) (groups : List GroupLine) (word : List ℕ) (position : ℕ) (call : CallLine) → stands_for calls groups word (position, call) ≡ true → StandsFor calls groups word position
+stands_from calls groups word position call = by (behind_at word) refl
   where
-    found : (name : List ℕ) → behind_at word ≡ Some name → (o : Option GroupLine) → group_named name groups ≡ o → option_map_or (has_member position) o false ≡ true → StandsFor groups word position call
+    found : (name : List ℕ) → behind_at word ≡ Some name → (o : Option GroupLine) → group_named name groups ≡ o → option_map_or (has_member position) o false ≡ true → StandsFor calls groups word position
     found name e None g h = cc
     found name e (Some group) g h = inr (record { name = name; group = group; behind = e; found = g; member = member_test position group h })
 
-    by : (o : Option (List ℕ)) → behind_at word ≡ o → stands_for_by groups word (position, call) o ≡ true → StandsFor groups word position call
-    by None e h = inl (record { plain = e; same = (bytes_eq-Decides word call.name).0 h })
+    by : (o : Option (List ℕ)) → behind_at word ≡ o → stands_for_by calls groups word (position, call) o ≡ true → StandsFor calls groups word position
+    by None e h = inl (record { plain = e; first = first_from (place_named word calls) position h })
     by (Some name) e h = found name e (group_named name groups) refl h
 
-stands_passes : (groups : List GroupLine) (word : List ℕ) (position : ℕ) (call : CallLine) → StandsFor groups word position call → stands_for groups word (position, call) ≡ true
-stands_passes groups word position call h =
+stands_passes : (calls : List CallLine) (groups : List GroupLine) (word : List ℕ) (position : ℕ) (call : CallLine) → StandsFor calls groups word position → stands_for calls groups word (position, call) ≡ true
+stands_passes calls groups word position call h =
     ⊎_elim
-    (λ (names : NamesCall word call). ap (stands_for_by groups word (position, call)) names.plain ∙ (bytes_eq-Decides word call.name).1 names.same)
+    (λ (names : NamesCall calls word position). ap (stands_for_by calls groups word (position, call)) names.plain ∙ ap (λ (o : Option ℕ). option_map_or (λ place. place == position) o false) names.first ∙ same position)
     (λ (names : NamesGroup groups word position).
-    ap (stands_for_by groups word (position, call)) names.behind ∙ ap (λ (o : Option GroupLine). option_map_or (has_member position) o false) names.found ∙ member_passes position names.group names.member)
+    ap (stands_for_by calls groups word (position, call)) names.behind ∙ ap (λ (o : Option GroupLine). option_map_or (has_member position) o false) names.found ∙ member_passes position names.group names.member)
     h
 
 pub is_group : (calls : List CallLine) (groups : List GroupLine) (name : List ℕ) (words : List (List ℕ)) → IsGroup calls groups name words (record { name = name; members = members_of calls groups words })
@@ -115,13 +121,13 @@ is_group calls groups name words = record {
   ascending = (has_members calls groups words name).ascending;
   members = λ position. (
     λ h.
-        let picked = picked_from 0 calls (is_member groups words) position h in
+        let picked = picked_from 0 calls (is_member calls groups words) position h in
         let at : picked.place ≡ position = omega (arith, picked.at) in
-        let some = Any-from_list_any (λ word. stands_for groups word (position, picked.call)) words picked.passes in
-        (picked.call, some.1, subst (λ p. slice_get calls p ≡ Some picked.call) at picked.there, (some.0, some.2, some.3), stands_from groups some.1 position picked.call some.4),
+        let some = Any-from_list_any (λ word. stands_for calls groups word (position, picked.call)) words picked.passes in
+        (picked.call, some.1, subst (λ p. slice_get calls p ≡ Some picked.call) at picked.there, (some.0, some.2, some.3), stands_from calls groups some.1 position picked.call some.4),
     λ call word there is stands.
         let at : 0 + position ≡ position = omega arith in
-        let passes : is_member groups words (position, call) ≡ true = list_any-from_Any (λ w. stands_for groups w (position, call)) words (is.0, word, is.1, is.2, stands_passes groups word position call stands) in
-        subst (Contains (members_of calls groups words)) at (picked_in 0 calls (is_member groups words) position call there (ap (λ m. is_member groups words (m, call)) at ∙ passes)),
+        let passes : is_member calls groups words (position, call) ≡ true = list_any-from_Any (λ w. stands_for calls groups w (position, call)) words (is.0, word, is.1, is.2, stands_passes calls groups word position call stands) in
+        subst (Contains (members_of calls groups words)) at (picked_in 0 calls (is_member calls groups words) position call there (ap (λ m. is_member calls groups words (m, call)) at ∙ passes)),
   );
 }

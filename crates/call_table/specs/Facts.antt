@@ -1,15 +1,13 @@
 -- What every table meets.
-use Rattle.std.specs.Prelude.{◌≡◌, ℕ, ◌<◌, ◌≤◌, None, Some, List, length, slice_get, String}
-use Rattle.std.specs.declared.alloc.Global.{Global}
+use Rattle.std.specs.Prelude.{◌≡◌, ℕ, ◌==◌, ◌<◌, ◌≤◌, false, None, Some, List, length, slice_get, IfSome}
+use Rattle.std.specs.Str.{bytes_eq}
 use Rattle.std.specs.List.{All}
 use Rattle.std.specs.List.Sorted.{IsStrictlyIncreasing}
-use Rattle.std.specs.BTreeMap.{BTreeMap}
-use Rattle.call_table.specs.Lookups.{AreOnce, IsInRange, group_named}
+use Rattle.call_table.specs.Lookups.{AreOnce, IsInRange, named, group_named}
 use Rattle.call_table.specs.Faults.{most_calls, most_families, most_groups}
 use Rattle.call_table.specs.Reading.{missing_call}
 use Rattle.call_table.specs.ByNumber.{AscendsByNumber}
-use Rattle.call_table.specs.Places.{HasPlaces}
-use Rattle.call_table.specs.Table.{Table}
+use Rattle.call_table.specs.Table.{Abi, Table, second_calls, every_call}
 use Rattle.call_table.specs.declared.listed.CallLine.{CallLine}
 use Rattle.call_table.specs.declared.listed.GroupLine.{GroupLine}
 use Rattle.call_table.specs.declared.by_number.Numbered.{Numbered}
@@ -30,22 +28,39 @@ pub record AreLines (most : ℕ) (lines : List CallLine) : Type 0 where
   pub in_range : All IsInRange lines
   pub few : length lines ≤ most
 
+-- a call that both ABIs have asks for the same capability in both
+abbrev pub HasCapAmong : List CallLine → CallLine → Type 0
+HasCapAmong others line = IfSome (named line.name others) (λ other. other.cap ≡ line.cap)
+
+-- all are of the ABI of this position
+abbrev pub AreOf : ℕ → List CallLine → Type 0
+AreOf place lines = All (λ line. line.abi ≡ place) lines
+
+-- a second ABI beside the native one
+pub record IsSecond (table : Table) (second : Abi) : Type 0 where
+  pub calls : AreLines most_calls second.calls
+  pub own : AreOf 1 second.calls
+  pub other_name : bytes_eq second.name table.name ≡ false
+  pub other_arch : second.arch == table.arch ≡ false
+  pub same_caps : All (HasCapAmong table.calls) second.calls
+
 -- a table of some lines
 pub record IsTable (table : Table) : Type 0 where
   pub calls : AreLines most_calls table.calls
+  pub native : AreOf 0 table.calls
+  pub no_abi : AreOf 0 table.families
   pub families : AreLines most_families table.families
-  pub groups : AreGroups (length table.calls) table.groups
+  pub groups : AreGroups (length (every_call table)) table.groups
   pub few_groups : length table.groups ≤ most_groups
+  pub second : IfSome table.second (IsSecond table)
 
 -- a table that was read has the calls of every launch too
 pub record IsWhole (table : Table) : Type 0 where
   pub sound : IsTable table
   pub launches : missing_call table.calls ≡ None
 
--- such a table, kept with the order of its calls by number, and with the places of names
-pub record IsKept (table : Table) (order : List Numbered) (calls families groups : BTreeMap (String Global) ℕ) : Type 0 where
+-- such a table, kept with the order of its calls by number
+pub record IsKept (table : Table) (order second_order : List Numbered) : Type 0 where
   pub whole : IsWhole table
   pub by_number : AscendsByNumber table.calls order
-  pub call_places : HasPlaces (λ (call : CallLine). call.name) table.calls calls
-  pub family_places : HasPlaces (λ (family : CallLine). family.name) table.families families
-  pub group_places : HasPlaces (λ (group : GroupLine). group.name) table.groups groups
+  pub second_by_number : AscendsByNumber (second_calls table.second) second_order

@@ -1,13 +1,14 @@
--- What may be wrong with a line behind the abi line, by the table of the lines before it.
-use Rattle.std.specs.Prelude.{ℕ, ◌&&◌, ◌||◌, not, nat_le, Bool, false, is_some, is_none, Option, Some, None, List, [], ◌∷◌, length, find}
+-- What may be wrong with a line behind the first abi line, by the table of the lines before it.
+use Rattle.std.specs.Prelude.{ℕ, ◌==◌, ◌&&◌, ◌||◌, not, nat_le, Bool, true, false, is_some, is_none, Option, Some, None, option_and_then, List, [], ◌∷◌, length, find, codes}
 use Rattle.std.specs.List.{list_any, list_all}
 use Rattle.std.specs.Option.{option_map, option_map_or}
+use Rattle.std.specs.Str.{bytes_eq}
 use Rattle.call_table.specs.Kinds.{Entry, Kind, abi, call, family, group, malformed}
-use Rattle.call_table.specs.Numbers.{number_of, cap_of}
+use Rattle.call_table.specs.Numbers.{arch_of, number_of, cap_of}
 use Rattle.call_names.specs.Known.{is_known as is_known_call}
-use Rattle.call_table.specs.Lookups.{has_name, has_number}
+use Rattle.call_table.specs.Lookups.{has_name, has_number, named}
 use Rattle.call_table.specs.Members.{has_group, is_known}
-use Rattle.call_table.specs.Table.{Table}
+use Rattle.call_table.specs.Table.{Abi, Table, every_call}
 use Rattle.call_table.specs.declared.listed.CallLine.{CallLine}
 use Rattle.call_table.specs.declared.listed.GroupLine.{GroupLine}
 use Rattle.call_table.specs.declared.causes.CallsCause.{CallsCause}
@@ -31,16 +32,26 @@ abbrev pub is_bad_cap : Option (List ℕ) → Bool
 is_bad_cap None = false
 is_bad_cap (Some word) = is_none (cap_of word)
 
+abbrev pub is_same_cap : Option ℕ → Option ℕ → Bool
+is_same_cap None None = true
+is_same_cap None (Some other) = false
+is_same_cap (Some number) None = false
+is_same_cap (Some number) (Some other) = number == other
+
+-- another ABI has a call of this name, and gives it another capability
+abbrev pub has_other_cap : List CallLine → List ℕ → Option ℕ → Bool
+has_other_cap others name cap' = option_map_or (λ line. not (is_same_cap line.cap cap')) (named name others) false
+
 -- an earlier line has the name, or the number
 abbrev pub is_listed : List CallLine → Entry → Bool
 is_listed lines entry = list_any (has_name entry.name) lines || option_map_or (λ number. list_any (has_number number) lines) (number_of entry.digits) false
 
--- a call or a family, behind others of the kind
-unfoldable pub entry_fault : List CallLine → ℕ → Bool → Entry → Option CallsCause
-entry_fault lines most without_cap entry =
+-- a call or a family, behind others of the kind; another ABI gives a call of the name the same capability
+unfoldable pub entry_fault : List CallLine → List CallLine → ℕ → Bool → Entry → Option CallsCause
+entry_fault others lines most without_cap entry =
     first_of
     ((is_none (number_of entry.digits), Number) ∷
-    (is_bad_cap entry.cap_word, Cap) ∷
+    (is_bad_cap entry.cap_word || has_other_cap others entry.name (option_and_then cap_of entry.cap_word), Cap) ∷
     (without_cap && is_some entry.cap_word, Modelled) ∷ (is_listed lines entry, Duplicate) ∷ (nat_le most (length lines), TooMany) ∷ [])
 
 -- a group, behind some calls and other groups
@@ -50,11 +61,24 @@ group_fault calls groups name members =
     ((list_any (has_group name) groups, Duplicate) ∷
     (not (list_all (is_known calls groups) members), Member) ∷ (nat_le most_groups (length groups), TooMany) ∷ [])
 
--- the cause of a line, behind those that gave the table; a second abi line is one of `words`; a call that the kernel
--- models by a rule of its own, or lacks, takes no capability
-abbrev pub cause_of : Table → Kind → Option CallsCause
-cause_of table (abi digits) = Some Words
-cause_of table (call entry) = entry_fault table.calls most_calls (is_known_call entry.name) entry
-cause_of table (family entry) = entry_fault table.families most_families false entry
-cause_of table (group name members) = group_fault table.calls table.groups name members
-cause_of table malformed = Some Words
+-- a call belongs to the last ABI before it
+abbrev pub call_fault : Option Abi → List CallLine → Entry → Option CallsCause
+call_fault None calls entry = entry_fault [] calls most_calls (is_known_call entry.name) entry
+call_fault (Some second) calls entry = entry_fault calls second.calls most_calls (is_known_call entry.name) entry
+
+-- a further abi line: there is at most one, only where two ABIs are announced, and its name is no `native`
+unfoldable pub abi_fault : Bool → Table → List ℕ → List ℕ → Option CallsCause
+abi_fault two table name digits =
+    first_of
+    ((not two || (is_some table.second || bytes_eq name (codes "native")), Words) ∷
+    (is_none (arch_of digits), Number) ∷
+    (bytes_eq name table.name || option_map_or (λ arch. arch == table.arch) (arch_of digits) false, Duplicate) ∷ [])
+
+-- the cause of a line, behind those that gave the table; a call that the kernel models by a rule of its own, or lacks,
+-- takes no capability
+abbrev pub cause_of : Bool → Table → Kind → Option CallsCause
+cause_of two table (abi name digits) = abi_fault two table name digits
+cause_of two table (call entry) = call_fault table.second table.calls entry
+cause_of two table (family entry) = entry_fault [] table.families most_families false entry
+cause_of two table (group name members) = group_fault (every_call table) table.groups name members
+cause_of two table malformed = Some Words

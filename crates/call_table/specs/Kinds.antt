@@ -15,7 +15,7 @@ pub record Entry : Type 0 where
 
 -- what a line is
 pub data Kind : Type 0 where
-  abi : (digits : List ℕ) → Kind
+  abi : (name digits : List ℕ) → Kind
   call : (entry : Entry) → Kind
   family : (entry : Entry) → Kind
   group : (name : List ℕ) (members : List (List ℕ)) → Kind
@@ -23,7 +23,7 @@ pub data Kind : Type 0 where
 
 -- `abi NAME ARCH`
 abbrev pub abi_line : List (List ℕ) → Kind
-abi_line (name ∷ digits ∷ []) = abi digits
+abi_line (name ∷ digits ∷ []) = abi name digits
 abi_line words = malformed
 
 abbrev pub named_entry : List ℕ → List ℕ → Option (List ℕ) → Option Entry
@@ -67,7 +67,7 @@ abbrev pub seen_entry : ReadEntry → Entry
 seen_entry entry = record { name = entry.name.now; digits = entry.digits.now; cap_word = option_map (λ word. word.now) entry.cap_word }
 
 abbrev pub seen : Read → Kind
-seen (read.Abi digits) = abi digits.now
+seen (read.Abi name digits) = abi name.now digits.now
 seen (read.Call entry) = call (seen_entry entry)
 seen (read.Family entry) = family (seen_entry entry)
 seen (read.Group name members) = group name.now (map (λ word. word.now) members.now)

@@ -10,7 +10,6 @@ pub mod Meaning
 pub mod Members
 pub mod Names
 pub mod Numbers
-pub mod Places
 pub mod Progress
 pub mod Reading
 pub mod Table

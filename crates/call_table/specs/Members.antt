@@ -4,7 +4,7 @@ use Rattle.std.specs.List.{list_any, list_all, enumerate_from}
 use Rattle.std.specs.Option.{option_map_or}
 use Rattle.std.specs.Str.{bytes_eq}
 use Rattle.call_table.specs.Names.{behind_at}
-use Rattle.call_table.specs.Lookups.{has_name, group_named}
+use Rattle.call_table.specs.Lookups.{has_name, place_named, group_named}
 use Rattle.call_table.specs.declared.listed.CallLine.{CallLine}
 use Rattle.call_table.specs.declared.listed.GroupLine.{GroupLine}
 
@@ -12,21 +12,25 @@ use Rattle.call_table.specs.declared.listed.GroupLine.{GroupLine}
 abbrev pub has_member : ℕ → GroupLine → Bool
 has_member position group = list_any (λ member. member == position) group.members
 
-abbrev pub stands_for_by : List GroupLine → List ℕ → ℕ × CallLine → Option (List ℕ) → Bool
-stands_for_by groups word call None = has_name word call.1
-stands_for_by groups word call (Some name) = option_map_or (has_member call.0) (group_named name groups) false
+-- the call at this position is the first of its name
+abbrev pub is_first : List CallLine → List ℕ → ℕ → Bool
+is_first calls name position = option_map_or (λ place. place == position) (place_named name calls) false
 
--- `@NAME` stands for the members of the group of that name, any other word for the call of that name
-abbrev pub stands_for : List GroupLine → List ℕ → ℕ × CallLine → Bool
-stands_for groups word call = stands_for_by groups word call (behind_at word)
+abbrev pub stands_for_by : List CallLine → List GroupLine → List ℕ → ℕ × CallLine → Option (List ℕ) → Bool
+stands_for_by calls groups word call None = is_first calls word call.0
+stands_for_by calls groups word call (Some name) = option_map_or (has_member call.0) (group_named name groups) false
+
+-- `@NAME` stands for the members of the group of that name, any other word for the first call of that name
+abbrev pub stands_for : List CallLine → List GroupLine → List ℕ → ℕ × CallLine → Bool
+stands_for calls groups word call = stands_for_by calls groups word call (behind_at word)
 
 -- some word stands for the call
-abbrev pub is_member : List GroupLine → List (List ℕ) → ℕ × CallLine → Bool
-is_member groups words call = list_any (λ word. stands_for groups word call) words
+abbrev pub is_member : List CallLine → List GroupLine → List (List ℕ) → ℕ × CallLine → Bool
+is_member calls groups words call = list_any (λ word. stands_for calls groups word call) words
 
 -- members are positions in calls, from 0, ascending, each once: those that some word stands for
 abbrev pub members_of : List CallLine → List GroupLine → List (List ℕ) → List ℕ
-members_of calls groups words = map (λ call. call.0) (filter (is_member groups words) (enumerate_from 0 calls))
+members_of calls groups words = map (λ call. call.0) (filter (is_member calls groups words) (enumerate_from 0 calls))
 
 abbrev pub has_group : List ℕ → GroupLine → Bool
 has_group name group = bytes_eq name group.name

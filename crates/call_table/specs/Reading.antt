@@ -1,7 +1,8 @@
 -- The table of calls.txt, or the first refusal: by cases on each line and the lines before it.
-use Rattle.std.specs.Prelude.{ℕ, not, Bool, cond, Option, Some, None, option_and_then, Result, Ok, Err, List, [], ◌∷◌, ◌++◌, codes, slice_get, find}
+use Rattle.std.specs.Prelude.{ℕ, ◌&&◌, not, Bool, true, false, cond, Option, Some, None, option_and_then, unwrap_or, Result, Ok, Err, List, [], ◌∷◌, ◌++◌, codes, slice_get, find}
 use Rattle.std.specs.List.{filter_map, list_any, cons_option}
-use Rattle.std.specs.Option.{option_map}
+use Rattle.std.specs.Option.{option_map, option_or}
+use Rattle.std.specs.Str.{bytes_eq}
 use Rattle.call_table.specs.Before.{with_before}
 use Rattle.line_text.specs.Lines.{Line, is_text, lines_of, words_of}
 use Rattle.call_table.specs.Kinds.{Entry, Kind, abi, call, family, group, malformed, kind_of}
@@ -9,7 +10,7 @@ use Rattle.call_table.specs.Numbers.{arch_of, number_of, cap_of}
 use Rattle.call_table.specs.Lookups.{has_name}
 use Rattle.call_table.specs.Members.{members_of}
 use Rattle.call_table.specs.Faults.{cause_of}
-use Rattle.call_table.specs.Table.{Table}
+use Rattle.call_table.specs.Table.{Abi, Table, second_calls}
 use Rattle.call_table.specs.declared.listed.CallLine.{CallLine}
 use Rattle.call_table.specs.declared.listed.GroupLine.{GroupLine}
 use Rattle.call_table.specs.declared.causes.CallsCause.{CallsCause}
@@ -20,41 +21,70 @@ use Rattle.call_table.specs.declared.causes.CallsError.TheVariants.{NotText, Lin
 unfoldable pub line_kind : Line → Kind
 line_kind line = kind_of (words_of line.text)
 
--- the line of a table that an entry gives, where its number can be read
-abbrev pub listed_as : Entry → Option CallLine
-listed_as entry = option_map (λ number. record { name = entry.name; number = number; cap = option_and_then cap_of entry.cap_word }) (number_of entry.digits)
+-- the line of a table that an entry gives, where its number can be read: of an ABI, from 0, which is 0 for a family
+abbrev pub listed_as : ℕ → Entry → Option CallLine
+listed_as place entry = option_map (λ number. record { name = entry.name; number = number; cap = option_and_then cap_of entry.cap_word; abi = place }) (number_of entry.digits)
 
-abbrev pub call_of : Kind → Option CallLine
-call_of (abi digits) = None
-call_of (call entry) = listed_as entry
-call_of (family entry) = None
-call_of (group name members) = None
-call_of malformed = None
+abbrev pub call_of : ℕ → Kind → Option CallLine
+call_of place (abi name digits) = None
+call_of place (call entry) = listed_as place entry
+call_of place (family entry) = None
+call_of place (group name members) = None
+call_of place malformed = None
 
 abbrev pub family_of : Kind → Option CallLine
-family_of (abi digits) = None
+family_of (abi name digits) = None
 family_of (call entry) = None
-family_of (family entry) = listed_as entry
+family_of (family entry) = listed_as 0 entry
 family_of (group name members) = None
 family_of malformed = None
 
 abbrev pub group_of : List CallLine → List GroupLine → Kind → Option GroupLine
-group_of calls groups (abi digits) = None
+group_of calls groups (abi name digits) = None
 group_of calls groups (call entry) = None
 group_of calls groups (family entry) = None
 group_of calls groups (group name members) = Some (record { name = name; members = members_of calls groups members })
 group_of calls groups malformed = None
 
--- the calls of some lines, and the families
-abbrev pub calls_of : List Line → List CallLine
-calls_of lines = filter_map (λ line. call_of (line_kind line)) lines
+-- the calls of some lines, for the ABI of a position, and the families
+abbrev pub calls_of : ℕ → List Line → List CallLine
+calls_of place lines = filter_map (λ line. call_of place (line_kind line)) lines
 
 abbrev pub families_of : List Line → List CallLine
 families_of lines = filter_map (λ line. family_of (line_kind line)) lines
 
+abbrev pub is_abi : Kind → Bool
+is_abi (abi name digits) = true
+is_abi (call entry) = false
+is_abi (family entry) = false
+is_abi (group name members) = false
+is_abi malformed = false
+
+-- the lines of the native ABI: those before a further abi line
+abbrev pub native_lines : List Line → List Line
+native_lines [] = []
+native_lines (line ∷ lines) = cond (is_abi (line_kind line)) [] (line ∷ native_lines lines)
+
+-- the ABI that a line opens, where it is an abi line, with the calls of the lines behind it; an ill-formed ARCH is a fault
+abbrev pub opened_by : Kind → List Line → Option Abi
+opened_by (abi name digits) lines = Some (record { name = name; arch = unwrap_or (arch_of digits) 0; calls = calls_of 1 lines })
+opened_by (call entry) lines = None
+opened_by (family entry) lines = None
+opened_by (group name members) lines = None
+opened_by malformed lines = None
+
+-- the second ABI of some lines behind the first abi line: that of the first abi line among them
+abbrev pub second_of : List Line → Option Abi
+second_of [] = None
+second_of (line ∷ lines) = option_or (opened_by (line_kind line) lines) (second_of lines)
+
+-- all calls of the lines behind the first abi line
+abbrev pub every_call_of : List Line → List CallLine
+every_call_of lines = calls_of 0 (native_lines lines) ++ second_calls (second_of lines)
+
 -- one more line behind some groups: the members of a group are calls and groups of the lines before it
 abbrev pub with_group : List GroupLine → List Line × Line → List GroupLine
-with_group groups place = groups ++ cons_option (group_of (calls_of place.0) groups (line_kind place.1)) []
+with_group groups place = groups ++ cons_option (group_of (every_call_of place.0) groups (line_kind place.1)) []
 
 abbrev pub groups_behind : List GroupLine → List (List Line × Line) → List GroupLine
 groups_behind groups [] = groups
@@ -64,26 +94,38 @@ groups_behind groups (place ∷ places) = groups_behind (with_group groups place
 abbrev pub groups_of : List Line → List GroupLine
 groups_of lines = groups_behind [] (with_before [] lines)
 
--- the table of an architecture and the lines behind the abi line
-abbrev pub table_behind : ℕ → List Line → Table
-table_behind arch lines = record { arch = arch; calls = calls_of lines; families = families_of lines; groups = groups_of lines }
+-- the name and the architecture of an abi line
+pub record Head : Type 0 where
+  pub name : List ℕ
+  pub arch : ℕ
+
+-- the table of the first abi line and the lines behind it
+abbrev pub table_behind : Head → List Line → Table
+table_behind head lines = record {
+  name = head.name;
+  arch = head.arch;
+  calls = calls_of 0 (native_lines lines);
+  families = families_of lines;
+  groups = groups_of lines;
+  second = second_of lines;
+}
 
 abbrev pub at_line : ℕ → CallsCause → CallsError
 at_line number cause = AtLine number cause
 
--- the fault of a line by those before it
-abbrev pub fault_at : ℕ → List Line × Line → Option CallsError
-fault_at arch place = option_map (at_line place.1.number) (cause_of (table_behind arch place.0) (line_kind place.1))
+-- the fault of a line by those before it, where two ABIs are announced or one is
+abbrev pub fault_at : Bool → Head → List Line × Line → Option CallsError
+fault_at two head place = option_map (at_line place.1.number) (cause_of two (table_behind head place.0) (line_kind place.1))
 
--- the first fault of the lines behind the abi line
-abbrev pub fault_of : ℕ → List Line → Option CallsError
-fault_of arch lines = slice_get (filter_map (fault_at arch) (with_before [] lines)) 0
+-- the first fault of the lines behind the first abi line
+abbrev pub fault_of : Bool → Head → List Line → Option CallsError
+fault_of two head lines = slice_get (filter_map (fault_at two head) (with_before [] lines)) 0
 
 -- the calls that every launch makes
 abbrev pub launch_calls : List (List ℕ)
 launch_calls = codes "capset" ∷ codes "execve" ∷ codes "prctl" ∷ codes "seccomp" ∷ codes "setgroups" ∷ codes "setresgid" ∷ codes "setresuid" ∷ codes "unshare" ∷ []
 
--- no call has the name
+-- no call of the native ABI has the name
 abbrev pub lacks : List CallLine → List ℕ → Bool
 lacks calls name = not (list_any (has_name name) calls)
 
@@ -99,32 +141,51 @@ abbrev pub unless_fault : Option CallsError → Table → Result Table CallsErro
 unless_fault None table = unless_missing (missing_call table.calls) table
 unless_fault (Some fault) table = Err fault
 
--- the lines behind the abi line: the first fault, else the first missing call, else the table
-abbrev pub table_of_rest : ℕ → List Line → Result Table CallsError
-table_of_rest arch lines = unless_fault (fault_of arch lines) (table_behind arch lines)
+-- the lines behind the first abi line: the first fault, else the first missing call, else the table
+abbrev pub table_of_rest : Bool → Head → List Line → Result Table CallsError
+table_of_rest two head lines = unless_fault (fault_of two head lines) (table_behind head lines)
 
-abbrev pub with_arch : Line → List Line → Option ℕ → Result Table CallsError
-with_arch line lines None = Err (AtLine line.number Number)
-with_arch line lines (Some arch) = table_of_rest arch lines
+abbrev pub with_arch : Bool → Line → List Line → List ℕ → Option ℕ → Result Table CallsError
+with_arch two line lines name None = Err (AtLine line.number Number)
+with_arch two line lines name (Some arch) = table_of_rest two (record { name = name; arch = arch }) lines
 
--- the digits of ARCH on an abi line
-abbrev pub abi_digits : Kind → Option (List ℕ)
-abi_digits (abi digits) = Some digits
-abi_digits (call entry) = None
-abi_digits (family entry) = None
-abi_digits (group name members) = None
-abi_digits malformed = None
+-- the first line is an abi line
+abbrev pub with_abi : Bool → Line → List Line → Kind → Result Table CallsError
+with_abi two line lines (abi name digits) = with_arch two line lines name (arch_of digits)
+with_abi two line lines (call entry) = Err (AtLine line.number Words)
+with_abi two line lines (family entry) = Err (AtLine line.number Words)
+with_abi two line lines (group name members) = Err (AtLine line.number Words)
+with_abi two line lines malformed = Err (AtLine line.number Words)
 
--- the first line is the abi line
-abbrev pub with_abi : Line → List Line → Option (List ℕ) → Result Table CallsError
-with_abi line lines None = Err (AtLine line.number Words)
-with_abi line lines (Some digits) = with_arch line lines (arch_of digits)
+abbrev pub table_from : Bool → List Line → Result Table CallsError
+table_from two [] = Err NoAbi
+table_from two (line ∷ lines) = with_abi two line lines (line_kind line)
 
--- what the lines give that are not passed over
+-- `version 2`
+abbrev pub is_version_by : List (List ℕ) → Bool
+is_version_by (word ∷ number ∷ []) = bytes_eq word (codes "version") && bytes_eq number (codes "2")
+is_version_by words = false
+
+unfoldable pub is_version : Line → Bool
+is_version line = is_version_by (words_of line.text)
+
+-- what the lines give that are not passed over: two ABIs are announced by a first line `version 2`
 abbrev pub table_of_lines : List Line → Result Table CallsError
 table_of_lines [] = Err NoAbi
-table_of_lines (line ∷ lines) = with_abi line lines (abi_digits (line_kind line))
+table_of_lines (line ∷ lines) = cond (is_version line) (table_from true lines) (table_from false (line ∷ lines))
 
 -- what calls.txt gives: it is text, or refused as none before anything else
 unfoldable pub table_of : List ℕ → Result Table CallsError
 table_of bytes = cond (is_text bytes) (table_of_lines (lines_of bytes)) (Err NotText)
+
+-- a text of the first version: its first line that counts, if any, is no `version 2`
+abbrev pub begins_alone : List Line → Bool
+begins_alone [] = true
+begins_alone (line ∷ lines) = not (is_version line)
+
+abbrev pub is_first_version : List ℕ → Bool
+is_first_version bytes = begins_alone (lines_of bytes)
+
+-- the same text behind a line `version 2`
+abbrev pub with_version : List ℕ → List ℕ
+with_version bytes = codes "version 2\n" ++ bytes

@@ -11,19 +11,22 @@ use thiserror::Error;
 #[derive(Clone, Copy, Debug, PartialEq, Eq)]
 pub enum CallsCause {
     /// An unknown first word, a wrong count of words, an ill-formed name, or an `abi` line that is
-    /// missing at the front or stands elsewhere.
+    /// missing at the front or stands elsewhere: a second one without a line `version 2` or of the name
+    /// `native`, and a third one.
     Words,
     /// An ill-formed NUMBER or ARCH.
     Number,
-    /// CAP is no name of a capability.
+    /// CAP is no name of a capability, or another than the other ABI gives a call of the name, as one
+    /// beside none.
     Cap,
     /// A CAP for a call that takes none.
     Modelled,
-    /// The name or the number of an earlier line of the kind.
+    /// The name or the number of an earlier line of the kind, for a call of its ABI; the name or the ARCH
+    /// of the first `abi` line.
     Duplicate,
     /// A member that no earlier line names.
     Member,
-    /// More than 512 calls, 128 families or 128 groups.
+    /// More than 512 calls of an ABI, 128 families or 128 groups.
     TooMany,
 }
 
@@ -53,10 +56,10 @@ pub enum CallsError {
     /// The first faulty line, from 1, and its cause.
     #[error("line {0}: {1:?}")]
     Line(u64, CallsCause),
-    /// No line is there that is not passed over.
+    /// No line is there that is not passed over, but at most a first `version 2`.
     #[error("no abi line")]
     NoAbi,
-    /// The first call that every launch makes and the table lacks.
+    /// The first call that every launch makes and the native ABI lacks.
     #[error("no call {0}")]
     NoCall(Name),
     /// There is no memory left.

@@ -17,8 +17,8 @@ pub struct Entry<'a> {
 /// What a line is.
 #[derive(Clone, Copy)]
 pub enum Kind<'a, 'b> {
-    /// `abi NAME ARCH`, with the digits of ARCH.
-    Abi(&'a str),
+    /// `abi NAME ARCH`, with the name and the digits of ARCH.
+    Abi(&'a str, &'a str),
     /// `call NAME NUMBER [CAP]`
     Call(Entry<'a>),
     /// `family NAME NUMBER [CAP]`
@@ -33,7 +33,7 @@ fn abi_line<'a, 'b>(words: &'b [&'a str]) -> Kind<'a, 'b>
     ensures { seen result ≡ abi_line (map (λ word. word.now) words.now) }
 {
     match words {
-        [_, digits] => Kind::Abi(*digits),
+        [name, digits] => Kind::Abi(*name, *digits),
         _ => Kind::Malformed,
     }
 }

@@ -1,19 +1,7 @@
 // The lines of a table: a call or a family, and a group of calls.
-ghost use Rattle.std.specs.Prelude.{◌≡◌};
-
 use crate::names::Name;
 use item_list::ItemList;
-
-/// A line that has a name.
-pub trait Named {
-    ghost use Rattle.std.specs.Prelude.{ℕ, List};
-
-    ghost name_of: { Self → List ℕ };
-
-    /// The text of the name.
-    fn name(&self) -> &str
-        ensures { result.now ≡ name_of self.now };
-}
+use name_table::{NameTable, Named};
 
 /// A call or a family of sockets.
 #[derive(Drop)]
@@ -23,6 +11,8 @@ pub struct CallLine {
     pub number: u32,
     /// The capability that every use asks for, by its number (capabilities(7)).
     pub cap: Option<u8>,
+    /// The position of the ABI that a call belongs to, from 0; 0 for a family.
+    pub abi: u8,
 }
 
 impl Named for CallLine {
@@ -32,6 +22,9 @@ impl Named for CallLine {
         self.name.as_str()
     }
 }
+
+/// Calls of an ABI, or families, in the order of the file and by name; contracts see them as a list.
+pub type CallLines = NameTable<CallLine>;
 
 /// Members of a group, which contracts see as a list of positions in the table's calls, from 0.
 pub type Members = ItemList<usize>;
@@ -52,3 +45,6 @@ impl Named for GroupLine {
         self.name.as_str()
     }
 }
+
+/// Groups in the order of the file and by name; contracts see them as a list.
+pub type GroupLines = NameTable<GroupLine>;

@@ -1,17 +1,10 @@
-// Lines by name and by number: a list has at most 512, and is gone through.
-ghost use Rattle.std.specs.Prelude.{◌≡◌, option_copied};
+// Lines by number, of which a list has at most 512 and is gone through, and calls by name where there may be two ABIs.
+ghost use Rattle.std.specs.Prelude.{◌≡◌, ◌<◌, ◌+◌, ◌^◌, ◌++◌, length, option_copied};
 ghost use Rattle.std.specs.List.{list_any};
-ghost use Rattle.std.specs.Str.{bytes_eq};
-ghost use Rattle.call_table.specs.Lookups.{has_number, numbered, place_named, group_named};
+ghost use Rattle.call_table.specs.Lookups.{has_number, named, numbered, place_named};
+ghost use Rattle.call_table.specs.Views.{lines_seen};
 
-use crate::listed::{CallLine, GroupLine, Named};
-
-/// Whether a line has this name.
-pub fn has_name<L: Named>(lines: &[L], name: &str) -> bool
-    ensures { result ≡ list_any (λ line. bytes_eq name.now (L.name_of line)) lines.now }
-{
-    lines.iter().any(|line| name == line.name())
-}
+use crate::listed::{CallLine, CallLines};
 
 /// Whether a line has this number.
 pub fn has_number(lines: &[CallLine], number: u32) -> bool
@@ -27,16 +20,37 @@ pub fn numbered(lines: &[CallLine], number: u32) -> Option<&CallLine>
     lines.iter().find(|line| line.number == number)
 }
 
-/// The position of the line of this name, from 0.
-pub fn place_named(lines: &[CallLine], name: &str) -> Option<usize>
-    ensures { result ≡ place_named name.now lines.now }
+/// The calls of an ABI, where there is one.
+pub fn lines_of(calls: Option<&CallLines>) -> &[CallLine]
+    ensures { result.now ≡ lines_seen calls.entry }
 {
-    lines.iter().position(|line| name == line.name.as_str())
+    match calls {
+        Some(calls) => calls.lines(),
+        None => &[],
+    }
 }
 
-/// The group of this name.
-pub fn group_named<'a>(groups: &'a [GroupLine], name: &str) -> Option<&'a GroupLine>
-    ensures { option_copied result ≡ group_named name.now groups.now }
+/// The call of this name in an ABI, where there is one.
+pub fn named<'l>(calls: Option<&'l CallLines>, name: &str) -> Option<&'l CallLine>
+    ensures { option_copied result ≡ named name.now (lines_seen calls.entry) }
 {
-    groups.iter().find(|group| name == group.name.as_str())
+    calls?.get(name)
+}
+
+// The position of the call of this name in an ABI, from 0, where there is one.
+fn place_in(calls: Option<&CallLines>, name: &str) -> Option<usize>
+    ensures { result ≡ place_named name.now (lines_seen calls.entry) }
+{
+    calls?.place(name)
+}
+
+/// The position of the first call of this name, from 0, where the calls of another ABI stand behind these.
+pub fn place_among(calls: &CallLines, more: Option<&CallLines>, name: &str) -> Option<usize>
+    requires { length calls.now + length (lines_seen more) < 2 ^ 63 }
+    ensures { result ≡ place_named name.now (calls.now ++ lines_seen more.entry) }
+{
+    match calls.place(name) {
+        Some(place) => Some(place),
+        None => Some(calls.lines().len() + place_in(more, name)?),
+    }
 }

@@ -1,13 +1,14 @@
 // Which calls the words of a group stand for.
-ghost use Rattle.std.specs.Prelude.{◌≡◌, ◌==◌, ◌<◌, ◌||◌, ℕ, IsTrue, true, false, map, filter, length, slice_index_or, IfOk};
+ghost use Rattle.std.specs.Prelude.{◌≡◌, ◌==◌, ◌<◌, ◌≤◌, ◌||◌, ◌++◌, ℕ, IsTrue, true, false, map, filter, length, slice_index_or, IfOk};
 ghost use Rattle.std.specs.List.{list_any, list_all, All, enumerate_from};
 ghost use Rattle.call_table.specs.Members.{stands_for, is_member, is_known, FindsMembers};
 ghost use Rattle.call_table.specs.Facts.{AreGroups};
-ghost use Rattle.call_table.specs.Lookups.{AreOnce};
+ghost use Rattle.call_table.specs.Faults.{most_calls};
 ghost use Rattle.call_table.specs.Marks.{Marks};
+ghost use Rattle.call_table.specs.Views.{lines_seen};
 
-use crate::listed::{CallLine, GroupLine, Members};
-use crate::lookups::{group_named, place_named};
+use crate::listed::{CallLines, GroupLines, Members};
+use crate::lookups::{lines_of, place_among};
 use crate::names::behind_at;
 use std::alloc::{AllocError, Global};
 
@@ -23,22 +24,27 @@ fn mark_all(marks: &mut [bool], positions: &[usize])
 }
 
 // Marks the calls that a word stands for, or answers false where it names nothing.
-fn mark_word(marks: &mut [bool], calls: &[CallLine], groups: &[GroupLine], word: &str) -> bool
-    requires as_many { length marks.old ≡ length calls.now }
-    requires once { AreOnce calls.now }
-    requires groups { AreGroups (length calls.now) groups.now }
-    ensures known { result ≡ is_known calls.now groups.now word.now }
-    ensures marks { IsTrue result → Marks calls.now (λ call. stands_for groups.now word.now call) marks.old marks.new }
+fn mark_word(
+    marks: &mut [bool],
+    calls: &CallLines,
+    more: Option<&CallLines>,
+    groups: &GroupLines,
+    word: &str,
+) -> bool
+    requires as_many { length marks.old ≡ length (calls.now ++ lines_seen more) }
+    requires groups { AreGroups (length (calls.now ++ lines_seen more)) groups.now }
+    ensures known { result ≡ is_known (calls.now ++ lines_seen more.entry) groups.now word.now }
+    ensures marks { IsTrue result → let every = calls.now ++ lines_seen more.entry in Marks every (λ call. stands_for every groups.now word.now call) marks.old marks.new }
 {
     match behind_at(word) {
-        Some(name) => match group_named(groups, name) {
+        Some(name) => match groups.get(name) {
             Some(group) => {
                 mark_all(marks, group.members.list());
                 true
             }
             None => false,
         },
-        None => match place_named(calls, word) {
+        None => match place_among(calls, more, word) {
             Some(position) => {
                 marks[position] = true;
                 true
@@ -49,15 +55,20 @@ fn mark_word(marks: &mut [bool], calls: &[CallLine], groups: &[GroupLine], word:
 }
 
 // Marks the calls that the words stand for, or answers false where one names nothing.
-fn mark_words(marks: &mut [bool], calls: &[CallLine], groups: &[GroupLine], words: &[&str]) -> bool
-    requires as_many { length marks.old ≡ length calls.now }
-    requires once { AreOnce calls.now }
-    requires groups { AreGroups (length calls.now) groups.now }
-    ensures known { result ≡ list_all (λ word. is_known calls.now groups.now word.now) words.now }
-    ensures marks { IsTrue result → Marks calls.now (is_member groups.now (map (λ word. word.now) words.now)) marks.old marks.new }
+fn mark_words(
+    marks: &mut [bool],
+    calls: &CallLines,
+    more: Option<&CallLines>,
+    groups: &GroupLines,
+    words: &[&str],
+) -> bool
+    requires as_many { length marks.old ≡ length (calls.now ++ lines_seen more) }
+    requires groups { AreGroups (length (calls.now ++ lines_seen more)) groups.now }
+    ensures known { result ≡ list_all (λ word. is_known (calls.now ++ lines_seen more.entry) groups.now word.now) words.now }
+    ensures marks { IsTrue result → let every = calls.now ++ lines_seen more.entry in Marks every (is_member every groups.now (map (λ word. word.now) words.now)) marks.old marks.new }
 {
     for word in words {
-        if !mark_word(marks, calls, groups, word) {
+        if !mark_word(marks, calls, more, groups, word) {
             return false;
         }
     }
@@ -81,34 +92,37 @@ fn marked(alloc: Global, marks: &[bool]) -> Result<Vec<usize>, AllocError>
 fn members_among(
     alloc: Global,
     marks: &mut [bool],
-    calls: &[CallLine],
-    groups: &[GroupLine],
+    calls: &CallLines,
+    more: Option<&CallLines>,
+    groups: &GroupLines,
     words: &[&str],
 ) -> Result<Option<Members>, AllocError>
-    requires as_many { length marks.old ≡ length calls.now }
-    requires once { AreOnce calls.now }
+    requires as_many { length marks.old ≡ length (calls.now ++ lines_seen more) }
     requires unmarked { (at : ℕ) → slice_index_or marks.old at false ≡ false }
-    requires groups { AreGroups (length calls.now) groups.now }
-    ensures { IfOk result (FindsMembers calls.now groups.now (map (λ word. word.now) words.now)) }
+    requires groups { AreGroups (length (calls.now ++ lines_seen more)) groups.now }
+    ensures { IfOk result (FindsMembers (calls.now ++ lines_seen more.entry) groups.now (map (λ word. word.now) words.now)) }
 {
-    if mark_words(marks, calls, groups, words) {
+    if mark_words(marks, calls, more, groups, words) {
         Ok(Some(Members::new(marked(alloc, marks)?)))
     } else {
         Ok(None)
     }
 }
 
-/// The calls that the words stand for, or `None` where a word names neither an earlier call nor an earlier group.
+/// The calls that the words stand for, or `None` where a word names neither an earlier call nor an earlier group; the
+/// calls are those of the native ABI and more behind them.
 pub fn find_members(
     alloc: Global,
-    calls: &[CallLine],
-    groups: &[GroupLine],
+    calls: &CallLines,
+    more: Option<&CallLines>,
+    groups: &GroupLines,
     words: &[&str],
 ) -> Result<Option<Members>, AllocError>
-    requires once { AreOnce calls.now }
-    requires groups { AreGroups (length calls.now) groups.now }
-    ensures { IfOk result (FindsMembers calls.now groups.now (map (λ word. word.now) words.now)) }
+    requires few { length calls.now ≤ most_calls }
+    requires few_more { length (lines_seen more) ≤ most_calls }
+    requires groups { AreGroups (length (calls.now ++ lines_seen more)) groups.now }
+    ensures { IfOk result (FindsMembers (calls.now ++ lines_seen more.entry) groups.now (map (λ word. word.now) words.now)) }
 {
-    let mut marks = vec![in alloc; false; calls.len()]?;
-    members_among(alloc, &mut marks, calls, groups, words)
+    let mut marks = vec![in alloc; false; calls.lines().len() + lines_of(more).len()]?;
+    members_among(alloc, &mut marks, calls, more, groups, words)
 }

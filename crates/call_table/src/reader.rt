@@ -1,55 +1,81 @@
 // The table, line by line.
 //
 // The lines come from `line_text`, what each is from `kinds`; `lists` judges a line by those before it.
-ghost use Rattle.std.specs.Prelude.{◌≡◌, ◌≢◌, map, IfOk, IfErr, Ok, Err};
+ghost use Rattle.std.specs.Prelude.{◌≡◌, ◌≢◌, true, map, IfOk, IfErr, Ok, Err};
 ghost use Rattle.call_table.specs.declared.causes.CallsError.TheVariants.{Memory};
-ghost use Rattle.std.specs.Option.{option_map};
 ghost use Rattle.line_text.specs.Views.{line_view};
 ghost use Rattle.call_table.specs.Kinds.{kind_of};
 ghost use Rattle.call_table.specs.Table.{Table};
-ghost use Rattle.call_table.specs.Reading.{abi_digits, table_of_lines, table_of};
+ghost use Rattle.call_table.specs.Reading.{is_version_by, is_version, is_first_version, with_version, table_from, table_of_lines, table_of};
 ghost use Rattle.call_table.specs.Progress.{IsUnlessMemory, ReadsRest, Opens};
 ghost use Rattle.call_table.specs.Meaning.{ReadsTable};
 
 use crate::causes::{CallsCause, CallsError};
 use crate::kinds::{Kind, kind_of_words};
 use crate::lists::Lists;
+use crate::names::Name;
 use crate::numbers::read_arch;
 use crate::table::CallTable;
 use line_text::{Line, read_lines, read_text, words};
-use std::alloc::Global;
+use std::alloc::{AllocError, Global};
 
-// The digits of ARCH, where the words are those of an abi line.
-fn abi_digits<'a>(words: &[&'a str]) -> Option<&'a str>
-    ensures { option_map (λ digits. digits.now) result ≡ abi_digits (kind_of (map (λ word. word.now) words.now)) }
-{
-    match kind_of_words(words) {
-        Kind::Abi(digits) => Some(digits),
-        _ => None,
-    }
-}
-
-// The architecture of the abi line, which is the first.
+// The name and the architecture of the first abi line.
 #[tactic(auto, unfolding(crate::specs::Reading::line_kind))]
-fn read_abi(alloc: Global, line: &Line) -> Result<u32, CallsError>
+fn read_abi(alloc: Global, line: &Line) -> Result<(Name, u32), CallsError>
     ensures { Opens (line_view line.now) result }
 {
     let words = words(alloc, line.text)?;
-    let Some(digits) = abi_digits(words.as_slice()) else {
+    let Kind::Abi(name, digits) = kind_of_words(words.as_slice()) else {
         return Err(CallsError::Line(line.number, CallsCause::Words));
     };
-    read_arch(digits).ok_or(CallsError::Line(line.number, CallsCause::Number))
+    let Some(arch) = read_arch(digits) else {
+        return Err(CallsError::Line(line.number, CallsCause::Number));
+    };
+    Ok((Name::new(alloc, name)?, arch))
 }
 
-// The lines behind the abi line.
-fn read_rest(alloc: Global, arch: u32, lines: &[Line]) -> Result<Lists, CallsError>
-    ensures { ReadsRest arch (map line_view lines.now) result }
+// The lines behind the first abi line.
+fn read_rest(
+    alloc: Global,
+    two: bool,
+    name: Name,
+    arch: u32,
+    lines: &[Line],
+) -> Result<Lists, CallsError>
+    ensures { ReadsRest two (record { name = name; arch = arch }) (map line_view lines.now) result }
 {
-    let mut lists = Lists::new(alloc, arch);
+    let mut lists = Lists::new(alloc, name, arch);
     for line in lines {
-        lists.take(alloc, line)?;
+        lists.take(alloc, two, line)?;
     }
     Ok(lists)
+}
+
+// The first abi line and the lines behind it.
+fn read_from(alloc: Global, two: bool, lines: &[Line]) -> Result<CallTable, CallsError>
+    ensures { IsUnlessMemory result (table_from two (map line_view lines.now)) }
+{
+    let (first, rest) = lines.split_first().ok_or(CallsError::NoAbi)?;
+    let (name, arch) = read_abi(alloc, first)?;
+    CallTable::of(alloc, read_rest(alloc, two, name, arch, rest)?)
+}
+
+fn are_version(words: &[&str]) -> bool
+    ensures { result ≡ is_version_by (map (λ word. word.now) words.now) }
+{
+    match words {
+        [word, number] => *word == "version" && *number == "2",
+        _ => false,
+    }
+}
+
+// Whether the line announces two ABIs.
+#[tactic(auto, unfolding(crate::specs::Reading::is_version))]
+fn is_version(alloc: Global, line: &Line) -> Result<bool, AllocError>
+    ensures { IfOk result (λ found. found ≡ is_version (line_view line.now)) }
+{
+    let words = words(alloc, line.text)?;
+    Ok(are_version(words.as_slice()))
 }
 
 // The lines that are not passed over.
@@ -57,8 +83,10 @@ fn read_table(alloc: Global, lines: &[Line]) -> Result<CallTable, CallsError>
     ensures { IsUnlessMemory result (table_of_lines (map line_view lines.now)) }
 {
     let (first, rest) = lines.split_first().ok_or(CallsError::NoAbi)?;
-    let arch = read_abi(alloc, first)?;
-    CallTable::of(alloc, read_rest(alloc, arch, rest)?)
+    if is_version(alloc, first)? {
+        return read_from(alloc, true, rest);
+    }
+    read_from(alloc, false, lines)
 }
 
 // What the bytes give.
@@ -76,16 +104,21 @@ fn read_bytes(alloc: Global, bytes: &[u8]) -> Result<CallTable, CallsError>
 /// Reads the table of system calls that the bytes of calls.txt give.
 ///
 /// The file is cut at LF; empty lines and lines that begin with `#` are passed over, and words stand
-/// between spaces. The first line is `abi NAME ARCH`, ARCH eight hex digits in lower case. Behind it
-/// stand `call NAME NUMBER [CAP]`, `family NAME NUMBER [CAP]` and `group @NAME MEMBER ..`, in any
-/// order; NUMBER is decimal and below 2^32, CAP the name of a capability (capabilities(7)). A member
-/// is the name of a call, or `@` and the name of a group, of an earlier line. Calls that the kernel
-/// models by a rule of their own, and calls that it lacks, have no CAP.
+/// between spaces. The first line is `abi NAME ARCH`, ARCH eight hex digits in lower case, which is the
+/// native ABI. Behind it stand `call NAME NUMBER [CAP]`, `family NAME NUMBER [CAP]` and
+/// `group @NAME MEMBER ..`, in any order; NUMBER is decimal and below 2^32, CAP the name of a capability
+/// (capabilities(7)). A member is the name of a call, or `@` and the name of a group, of an earlier line.
+/// Calls that the kernel models by a rule of their own, and calls that it lacks, have no CAP.
+///
+/// Where a line `version 2` stands before all that, one further `abi` line may follow, of another name
+/// and another ARCH, and no `native`. A call belongs to the last ABI before it. Its name and its number
+/// are given once in that ABI, with the CAP that a call of its name has in the other. A member stands
+/// for the calls of its name in both.
 ///
 /// `NotText` comes first, where the bytes are not UTF-8 or have a NUL. Then `Line` of the first
 /// faulty line, with the first of its causes in the order of `CallsCause`; then `NoAbi`, where no line
-/// counts at all, and `NoCall` with the first of the calls capset, execve, prctl, seccomp, setgroups,
-/// setresgid, setresuid and unshare that is missing.
+/// is left for the first `abi`, and `NoCall` with the first of the calls capset, execve, prctl, seccomp,
+/// setgroups, setresgid, setresuid and unshare that the native ABI lacks.
 pub fn read_calls(alloc: Global, bytes: &[u8]) -> Result<CallTable, CallsError>
     ensures reads_the_table { IfOk result (λ table. table_of bytes.now ≡ Ok table) }
     ensures first_refusal { IfErr result (λ error. error ≢ Memory → table_of bytes.now ≡ Err error) }
@@ -94,3 +127,9 @@ pub fn read_calls(alloc: Global, bytes: &[u8]) -> Result<CallTable, CallsError>
 {
     read_bytes(alloc, bytes)
 }
+
+/// The law that a text of the first version, which has no line `version 2` at its front, stays what it is behind one: where
+/// it is accepted, so is the longer text, with the same table.
+pub fn same_reading(_bytes: &[u8])
+    ensures same_table { (table : Table) → is_first_version _bytes.now ≡ true → table_of _bytes.now ≡ Ok table → table_of (with_version _bytes.now) ≡ Ok table }
+{}

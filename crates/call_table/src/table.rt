@@ -1,34 +1,33 @@
 // The table of system calls, as contracts and callers see it.
-ghost use Rattle.std.specs.Prelude.{◌≡◌, ◌≤◌, None, map, find, length, option_and_then};
+ghost use Rattle.std.specs.Prelude.{◌≡◌, ◌<◌, ◌≤◌, None, map, find, length, option_and_then};
 ghost use Rattle.std.specs.Option.{option_map, option_copied};
 ghost use Rattle.call_table.specs.Lookups.{named, numbered, place_named, group_named};
 ghost use Rattle.call_table.specs.ByNumber.{AscendsByNumber};
-ghost use Rattle.call_table.specs.Facts.{AreLines, AreGroups, IsTable};
+ghost use Rattle.call_table.specs.Facts.{AreLines, AreOf, AreGroups, IsTable, IsWhole};
 ghost use Rattle.call_table.specs.Faults.{most_calls, most_families, most_groups};
 ghost use Rattle.call_table.specs.Progress.{IsUnlessMemory};
 ghost use Rattle.call_table.specs.Reading.{launch_calls, lacks, missing_call, unless_missing};
-ghost use Rattle.call_table.specs.Views.{made};
+ghost use Rattle.call_table.specs.Views.{made, lines_seen};
+ghost use Rattle.call_table.specs.Table.{every_call, abis, abi_at, arch_of, calls_in};
 
 use crate::by_number::{Numbered, by_number};
 use crate::causes::CallsError;
-use crate::listed::{CallLine, GroupLine};
-use crate::lists::Lists;
-use crate::lookups::{has_name, numbered};
-use crate::name_places::{Places, line_at, places_of};
+use crate::listed::{CallLine, CallLines, GroupLine};
+use crate::lists::{Lists, second_calls};
+use crate::lookups::{lines_of, named, numbered, place_among};
 use crate::names::Name;
 use std::alloc::Global;
 use std::marker::Model;
 
-/// The system calls of an architecture, groups of them, and families of sockets.
+/// The system calls of one ABI or two, groups of them, and families of sockets.
 ///
-/// Contracts see a table as its architecture and the lists of its calls, families and groups.
+/// Contracts see a table as the name and the architecture of the native ABI, the lists of its calls, of the families and of the groups,
+/// and a second ABI where there is one.
 #[derive(Drop)]
 pub struct CallTable {
     lists: Lists,
     by_number: Vec<Numbered>,
-    call_places: Places,
-    family_places: Places,
-    group_places: Places,
+    second_by_number: Vec<Numbered>,
 }
 
 impl Model for CallTable {
@@ -40,7 +39,7 @@ impl Model for CallTable {
 
     ghost view = { λ table. made table.lists };
 
-    ghost invariant = { λ table. IsKept (made table.lists) table.by_number.items table.call_places table.family_places table.group_places };
+    ghost invariant = { λ table. IsKept (made table.lists) table.by_number.items table.second_by_number.items };
 }
 
 // The calls that every launch makes.
@@ -60,11 +59,11 @@ fn launch_calls() -> &'static [&'static str]
 }
 
 // The first of these names that is not among the calls.
-fn first_missing(calls: &[CallLine], names: &[&'static str]) -> Option<&'static str>
+fn first_missing(calls: &CallLines, names: &[&'static str]) -> Option<&'static str>
     ensures { option_map (λ name. name.now) result ≡ find (lacks calls.now) (map (λ name. name.now) names.now) }
 {
     for name in names {
-        if !has_name(calls, name) {
+        if !calls.has(*name) {
             return Some(*name);
         }
     }
@@ -73,7 +72,7 @@ fn first_missing(calls: &[CallLine], names: &[&'static str]) -> Option<&'static 
 
 // The first call of every launch that is not among these.
 #[tactic(auto, unfolding(crate::specs::Reading::missing_call))]
-fn missing_call(calls: &[CallLine]) -> Option<&'static str>
+fn missing_call(calls: &CallLines) -> Option<&'static str>
     ensures { option_map (λ name. name.now) result ≡ missing_call calls.now }
 {
     first_missing(calls, launch_calls())
@@ -83,21 +82,17 @@ impl CallTable {
     // The table of these lists, where they have the calls of every launch.
     pub(crate) fn of(alloc: Global, lists: Lists) -> Result<CallTable, CallsError>
         requires { IsTable (made lists) }
-        ensures { IsUnlessMemory result (unless_missing (missing_call lists.calls.items) (made lists)) }
+        ensures { IsUnlessMemory result (unless_missing (missing_call lists.calls) (made lists)) }
     {
         if let Some(name) = missing_call(&lists.calls) {
             return Err(CallsError::NoCall(Name::new(alloc, name)?));
         }
-        let by_number = by_number(alloc, &lists.calls)?;
-        let call_places = places_of(alloc, &lists.calls)?;
-        let family_places = places_of(alloc, &lists.families)?;
-        let group_places = places_of(alloc, &lists.groups)?;
+        let by_number_order = by_number(alloc, lists.calls.lines())?;
+        let second_by_number = by_number(alloc, lines_of(second_calls(&lists.second)))?;
         Ok(CallTable {
             lists,
-            by_number,
-            call_places,
-            family_places,
-            group_places,
+            by_number: by_number_order,
+            second_by_number,
         })
     }
 
@@ -112,44 +107,133 @@ impl CallTable {
     pub fn number(&self, name: &str) -> Option<u32>
         ensures by_name { result ≡ option_map (λ call. call.number) (named name.now self.now.calls) }
     {
-        Some(line_at(&self.lists.calls, &self.call_places, name)?.number)
+        Some(self.lists.calls.get(name)?.number)
     }
 
-    /// The position of the call of this name in `calls`, from 0.
+    /// The position of the first call of this name among all calls, from 0: those of the native ABI come first.
     pub fn position(&self, name: &str) -> Option<usize>
-        ensures by_name { result ≡ place_named name.now self.now.calls }
+        ensures by_name { result ≡ place_named name.now (every_call self.now) }
     {
-        self.call_places.get(name).copied()
+        place_among(&self.lists.calls, second_calls(&self.lists.second), name)
+    }
+
+    /// How many ABIs there are: 1 or 2.
+    pub fn abis(&self) -> u8
+        ensures counts { result ≡ length (abis self.now) }
+        ensures whole { IsWhole self.now }
+    {
+        match &self.lists.second {
+            Some(_) => 2,
+            None => 1,
+        }
+    }
+
+    /// The name of the ABI at this position, from 0.
+    pub fn abi_name(&self, abi: u8) -> Option<&str>
+        ensures by_position { option_map (λ name. name.now) result ≡ option_map (λ abi. abi.name) (abi_at self.now abi) }
+    {
+        match abi {
+            0 => Some(self.lists.name.as_str()),
+            1 => match &self.lists.second {
+                Some(second) => Some(second.name.as_str()),
+                None => None,
+            },
+            _ => None,
+        }
+    }
+
+    /// The architecture of the ABI at this position, from 0.
+    pub fn arch_of(&self, abi: u8) -> u32
+        requires { abi < length (abis self.now) }
+        ensures by_position { result ≡ arch_of self.now abi }
+    {
+        match &self.lists.second {
+            Some(second) if abi == 1 => second.arch,
+            _ => self.lists.arch,
+        }
+    }
+
+    // The calls of the ABI at this position, from 0, where there is one.
+    fn lines_in(&self, abi: u8) -> Option<&CallLines>
+        ensures lists { lines_seen result ≡ calls_in self.now abi }
+        ensures names_and_numbers_once { AreLines most_calls (calls_in self.now abi) }
+        ensures of_the_abi { AreOf abi (calls_in self.now abi) }
+    {
+        match abi {
+            0 => Some(&self.lists.calls),
+            1 => second_calls(&self.lists.second),
+            _ => None,
+        }
+    }
+
+    /// The calls of the ABI at this position, from 0, in the order of the file, at most 512; none where there is no such ABI.
+    pub fn calls_in(&self, abi: u8) -> &[CallLine]
+        ensures lists { result.now ≡ calls_in self.now abi }
+        ensures names_and_numbers_once { AreLines most_calls (calls_in self.now abi) }
+        ensures of_the_abi { AreOf abi (calls_in self.now abi) }
+    {
+        lines_of(self.lines_in(abi))
+    }
+
+    /// The numbers of the calls of an ABI with their positions in `calls_in`, ascending by number.
+    pub fn by_number_in(&self, abi: u8) -> &[Numbered]
+        ensures ascends { AscendsByNumber (calls_in self.now abi) result.now }
+    {
+        match abi {
+            0 => &self.by_number,
+            1 => &self.second_by_number,
+            _ => &[],
+        }
+    }
+
+    /// The number that the ABI at this position gives the call of this name.
+    pub fn number_in(&self, abi: u8, name: &str) -> Option<u32>
+        ensures by_name { result ≡ option_map (λ call. call.number) (named name.now (calls_in self.now abi)) }
+    {
+        Some(named(self.lines_in(abi), name)?.number)
+    }
+
+    /// The name of the call to which the ABI at this position gives this number.
+    pub fn name_in(&self, abi: u8, number: u32) -> Option<&str>
+        ensures by_number { option_map (λ name. name.now) result ≡ option_map (λ call. call.name) (numbered number (calls_in self.now abi)) }
+    {
+        Some(numbered(self.calls_in(abi), number)?.name.as_str())
+    }
+
+    /// The capability of the call to which the ABI at this position gives this number, where it gives it one.
+    pub fn cap_in(&self, abi: u8, number: u32) -> Option<u8>
+        ensures by_number { result ≡ option_and_then (λ call. call.cap) (numbered number (calls_in self.now abi)) }
+    {
+        numbered(self.calls_in(abi), number)?.cap
     }
 
     /// The name of the call of this number.
     pub fn name(&self, number: u32) -> Option<&str>
         ensures by_number { option_map (λ name. name.now) result ≡ option_map (λ call. call.name) (numbered number self.now.calls) }
     {
-        Some(numbered(&self.lists.calls, number)?.name.as_str())
+        Some(numbered(self.lists.calls.lines(), number)?.name.as_str())
     }
 
     /// The capability of the call of this number, where the table has the call and gives it one.
     pub fn cap(&self, number: u32) -> Option<u8>
         ensures by_number { result ≡ option_and_then (λ call. call.cap) (numbered number self.now.calls) }
     {
-        numbered(&self.lists.calls, number)?.cap
+        numbered(self.lists.calls.lines(), number)?.cap
     }
 
     /// The members of the group of this name, which is written without its `@`: positions in
-    /// `calls`, from 0, ascending, each once.
+    /// all calls, from 0, ascending, each once, and each the first of its name.
     pub fn members(&self, group: &str) -> Option<&[usize]>
         ensures by_name { option_copied result ≡ option_map (λ group. group.members) (group_named group.now self.now.groups) }
     {
-        let group = line_at(&self.lists.groups, &self.group_places, group)?;
-        Some(group.members.list())
+        Some(self.lists.groups.get(group)?.members.list())
     }
 
     /// The number of the family of this name (socket(2)).
     pub fn family(&self, name: &str) -> Option<u32>
         ensures by_name { result ≡ option_map (λ family. family.number) (named name.now self.now.families) }
     {
-        Some(line_at(&self.lists.families, &self.family_places, name)?.number)
+        Some(self.lists.families.get(name)?.number)
     }
 
     /// The calls in the order of the file, at most 512.
@@ -158,7 +242,7 @@ impl CallTable {
         ensures names_and_numbers_once { AreLines most_calls self.now.calls }
         ensures launch_calls_are_there { missing_call self.now.calls ≡ None }
     {
-        &self.lists.calls
+        self.lists.calls.lines()
     }
 
     /// The numbers of the calls with their positions in `calls`, ascending by number.
@@ -173,15 +257,15 @@ impl CallTable {
         ensures lists { result.now ≡ self.now.families }
         ensures names_and_numbers_once { AreLines most_families self.now.families }
     {
-        &self.lists.families
+        self.lists.families.lines()
     }
 
     /// The groups in the order of the file, at most 128.
     pub fn groups(&self) -> &[GroupLine]
         ensures lists { result.now ≡ self.now.groups }
-        ensures names_once_and_members_ascend { AreGroups (length self.now.calls) self.now.groups }
+        ensures names_once_and_members_ascend { AreGroups (length (every_call self.now)) self.now.groups }
         ensures few { length self.now.groups ≤ most_groups }
     {
-        &self.lists.groups
+        self.lists.groups.lines()
     }
 }

@@ -3,3 +3,4 @@ pub mod Growing
 pub mod Spares
 pub mod Given
 pub mod Bounded
+pub mod AllCalls

@@ -1,6 +1,7 @@
 //! The one process of a launched world, and its mount table.
 
 ghost use Rattle.std.specs.Prelude.{◌≡◌};
+ghost use Rattle.kern_mounts.specs.Mounts.{steps_of};
 ghost use Rattle.kernel_laws.specs.Launched.{IsLaunchedWorld, first_of, launch_of};
 
 use kern_mounts::MountTable;
@@ -20,7 +21,7 @@ pub fn launched_process<'a>(world: &'a World<'_>) -> &'a Process
 /// The mount table of that process, mount_namespaces(7).
 pub fn launched_table<'a>(world: &'a World<'_>) -> &'a MountTable
     requires { IsLaunchedWorld world.now }
-    ensures its_own { result.now ≡ (launch_of world.now).table }
+    ensures its_own { steps_of result.now ≡ (launch_of world.now).table }
 {
     match world.table(launched_process(world).namespace) {
         Some(table) => table,

@@ -17,7 +17,7 @@ pub enum CallKind {
     ForPath(Wish),
     /// Nothing but the call itself, which no rule of the kernel names.
     PlainCall,
-    /// A socket of the family of this number, socket(2).
+    /// A socket of the family of this number, socket(2), socketcall(2).
     ForFamily(u32),
     /// A namespace of this type, clone(2), unshare(2).
     ForNamespace(NamespaceType),
@@ -62,6 +62,9 @@ const PER_LINUX32: u64 = 8;
 
 /// S_ISUID of inode(7).
 const S_ISUID: u64 = 0x800;
+
+/// SYS_SOCKET of socketcall(2).
+const SYS_SOCKET: u64 = 1;
 
 /// O_WRONLY of open(2).
 const O_WRONLY: u64 = 1;
@@ -111,6 +114,7 @@ fn known_words(kind: CallKind, rule: CallRule) -> Option<[u64; 6]>
     let words = match (kind, rule) {
         (CallKind::ForPath(wish), _) => return path_words(wish, rule),
         (CallKind::ForFamily(family), CallRule::Socket) => one_word(0, u64::from(family)),
+        (CallKind::ForFamily(_), CallRule::Socketcall) => one_word(0, SYS_SOCKET),
         (CallKind::ForNamespace(kind), CallRule::Unshare | CallRule::Clone) => {
             one_word(0, u64::from(kind.flag()))
         }

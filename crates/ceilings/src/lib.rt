@@ -18,7 +18,7 @@ mod powers;
 mod programs;
 
 pub use bounds::Ceiling;
-pub use calls::{lets, lets_line, rule_of};
+pub use calls::{can_make_user, lets, lets_line, passing_line, plain_line, rule_of};
 pub use first::{launched_process, launched_table};
 pub use ids::IdList;
 pub use kinds::{CallKind, words};

@@ -24,12 +24,11 @@ use Rattle.kern_files.specs.Bits.{has_all}
 use Rattle.kern_files.specs.Looking.{flags_at, flags_by}
 use Rattle.kern_files.specs.MountCall.{ms_remount_bind, has_other_kind, flags_of}
 use Rattle.kernel_calls.specs.Calls.{IsPath}
-use Rattle.kernel_calls.specs.Rules.{rule_at}
 use Rattle.kernel_calls.specs.declared.call.Call.{Call}
 use Rattle.kernel_calls.specs.declared.rule.Rule.{Rule}
 use Rattle.kernel_laws.specs.Bound.{caps_at}
 use Rattle.kernel_laws.specs.Kinds.{ChangesMounts, RemovesMounts}
-use Rattle.kernel_laws.specs.Launched.{Launch, IsLaunched, lets, passes}
+use Rattle.kernel_laws.specs.Launched.{Launch, IsLaunched, lets}
 use Rattle.kernel_laws.specs.Questions.{Wish}
 use Rattle.kernel_laws.specs.Reach.{fits, Leads, Power, Nowise, Unmounting, Mounting, reach, reaches}
 use Rattle.reach_paths.specs.First.{LeadsBy, Shows, IsFirst}
@@ -41,7 +40,7 @@ use Rattle.reach_paths.proofs.Serving.{first_by_power}
 use Rattle.kernel_ways.specs.Exposures.{CanMount, FindsAt}
 use Rattle.kernel_ways.specs.Offers.{Offers}
 use Rattle.kernel_ways.specs.Uncovering.{covering, Detaches, still, then_one, umount_calls}
-use Rattle.kernel_ways.specs.Ways.{Way, here}
+use Rattle.kernel_ways.specs.Ways.{Way, here, CallAt, IsCallAt, place_of, rule_there, passes_at}
 use Rattle.kernel_ways.proofs.ByName.{unmounts_show_row, two_mounts_show_rows}
 use Rattle.kernel_ways.proofs.Choices as choices
 use Rattle.kernel_ways.proofs.Lines.{choice_of}
@@ -49,7 +48,7 @@ use Rattle.kernel_ways.proofs.Exposing.{HasPower, marks_count, remounted_fits, u
 use Rattle.kernel_ways.proofs.Rows.{IsKnown}
 use Rattle.chosen_calls.specs.Exposing.{shown_by, shown_if, shown_at, lead, exposing_path, exposing_calls}
 use Rattle.chosen_calls.specs.First.{line_of}
-use Rattle.chosen_calls.proofs.FirstLines.{chosen, number_is}
+use Rattle.chosen_calls.proofs.FirstLines.{chosen, place_is}
 use Rattle.chosen_calls.proofs.Lists.{get_here, drop_here}
 
 -- ---- the path that an entry shows a row at
@@ -114,29 +113,29 @@ module _ (launch : Launch) (l : IsLaunched launch) (o : Offers launch) (creds : 
       }
 
   -- the first call for mounts, and that for unmounts
-  mount_line : (own : Rule) (args : List ℕ) → choices.Choice ChangesMounts own args → (nr : ℕ) → nr < 2 ^ 32 → rule_at launch.calls.calls nr ≡ Some own → passes launch nr args → has creds.effective 21 ≡ true → CanMount launch creds known.Mount nr
+  mount_line : (own : Rule) (args : List ℕ) → choices.Choice ChangesMounts own args → (nr : CallAt) → IsCallAt nr → rule_there launch nr ≡ Some own → passes_at launch nr args → has creds.effective 21 ≡ true → CanMount launch creds known.Mount nr
   mount_line own args choices.mounts nr n at t admin = record { admin = admin; number = n; follows = at; through = t }
 
-  umount_line : (own : Rule) (args : List ℕ) → choices.Choice RemovesMounts own args → (nr : ℕ) → nr < 2 ^ 32 → rule_at launch.calls.calls nr ≡ Some own → passes launch nr args → has creds.effective 21 ≡ true → CanMount launch creds known.Umount nr
+  umount_line : (own : Rule) (args : List ℕ) → choices.Choice RemovesMounts own args → (nr : CallAt) → IsCallAt nr → rule_there launch nr ≡ Some own → passes_at launch nr args → has creds.effective 21 ≡ true → CanMount launch creds known.Umount nr
   umount_line own args choices.unmounts nr n at t admin = record { admin = admin; number = n; follows = at; through = t }
 
-  can_mount : lets launch ChangesMounts ≡ true → has creds.effective 21 ≡ true → CanMount launch creds known.Mount (line_of launch ChangesMounts).number
+  can_mount : lets launch ChangesMounts ≡ true → has creds.effective 21 ≡ true → CanMount launch creds known.Mount (place_of (line_of launch ChangesMounts))
   can_mount e admin =
       let c = chosen launch l ChangesMounts e in
       let x = c.line in
-      subst (CanMount launch creds known.Mount) (sym (number_is c)) (mount_line x.own x.args (choice_of x) x.line.number x.number x.at x.through admin)
+      subst (CanMount launch creds known.Mount) (sym (place_is c)) (mount_line x.own x.args (choice_of x) (place_of x.line) x.number x.at x.through admin)
 
-  can_umount : lets launch RemovesMounts ≡ true → has creds.effective 21 ≡ true → CanMount launch creds known.Umount (line_of launch RemovesMounts).number
+  can_umount : lets launch RemovesMounts ≡ true → has creds.effective 21 ≡ true → CanMount launch creds known.Umount (place_of (line_of launch RemovesMounts))
   can_umount e admin =
       let c = chosen launch l RemovesMounts e in
       let x = c.line in
-      subst (CanMount launch creds known.Umount) (sym (number_is c)) (umount_line x.own x.args (choice_of x) x.line.number x.number x.at x.through admin)
+      subst (CanMount launch creds known.Umount) (sym (place_is c)) (umount_line x.own x.args (choice_of x) (place_of x.line) x.number x.at x.through admin)
 
   -- by two mounts, with any flags that remount a single one
   pub by_mounts : (target : Row) → IsKnown launch.site target → (wish : Wish) → lets launch ChangesMounts ≡ true → has creds.effective 21 ≡ true → (flags : ℕ) → flags < 2 ^ 32 → has_all ms_remount_bind flags ≡ true → has_other_kind flags ≡ false → fits wish (flags_of flags) ≡ true
       → (x : ExposedAt launch creds Mounting flags target wish) × (flags_at x.now (proc ++ target.path) ≡ flags_of flags)
   by_mounts target there wish e admin flags small again other allowed =
-      let two = two_mounts_show_rows launch creds (line_of launch ChangesMounts).number flags l o (can_mount e admin) small again other in
+      let two = two_mounts_show_rows launch creds (place_of (line_of launch ChangesMounts)) flags l o (can_mount e admin) small again other in
       let below = two.each_row target there in (
         record {
           now = two.now;
@@ -170,7 +169,7 @@ module _ (launch : Launch) (l : IsLaunched launch) (o : Offers launch) (creds : 
     unmounting_by admin passes' None e first s = cc
     unmounting_by admin passes' (Some at) e first s =
         let shows = first.0 in
-        let nr = (line_of launch RemovesMounts).number in
+        let nr = (place_of (line_of launch RemovesMounts)) in
         let path : Path = shows.entry.place ++ shows.rest in
         let x = unmounts_show_row launch creds nr target wish at l o (can_umount passes' admin) there shows in
         let own = lead_is Unmounting launch.table target.path wish at e in

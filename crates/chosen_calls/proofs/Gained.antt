@@ -24,7 +24,7 @@ use Rattle.kernel_laws.specs.Questions.{ToExec}
 use Rattle.kernel_laws.specs.Reach.{Power, Nowise, reaches}
 use Rattle.kernel_ways.specs.Offers.{Offers, RunsProgram}
 use Rattle.kernel_ways.specs.Taking.{id_call, sets_call}
-use Rattle.kernel_ways.specs.Ways.{Way, here, by_creds}
+use Rattle.kernel_ways.specs.Ways.{Way, here, by_creds, place_of}
 use Rattle.kernel_ways.proofs.Solo.{way_join}
 use Rattle.kernel_ways.proofs.Attained.{IsRootlike, zeroed, basis_uids, uids_after, stays_zero, unmarked}
 use Rattle.kernel_ways.proofs.Exposing.{HasPower, marks_count}
@@ -36,7 +36,7 @@ use Rattle.chosen_calls.specs.Exposing.{exposing_path}
 use Rattle.chosen_calls.specs.First.{line_of, own_rule}
 use Rattle.chosen_calls.specs.Gaining.{IsRunner, CanBeMade, CapCanBeMade, GainCanBeMade, FileWay, Held, ByRun, ByCapset, CapWay, ByFile, ByRoot, GainWay, AtOnce, Behind, gives_at_once, common, gives_by_capset, by_rows, by_launch, takes_root, at_once, at_power, gain, run_call, run_calls, capset_call, file_calls, last_path, root_call, cap_calls, gain_calls}
 use Rattle.chosen_calls.proofs.Exposed.{marked}
-use Rattle.chosen_calls.proofs.FirstLines.{chosen, number_is, rule_is}
+use Rattle.chosen_calls.proofs.FirstLines.{chosen, place_is, rule_is}
 use Rattle.chosen_calls.proofs.Lists.{found_at}
 use Rattle.chosen_calls.proofs.Running.{RunnableAt, runs_at}
 
@@ -199,10 +199,10 @@ module _ (launch : Launch) (l : IsLaunched launch) (o : Offers launch) where
       let small : own < 2 ^ 41 = let P : ℕ → Type 0 = λ s. cut row.caps s < 2 ^ 41 in subst P (sym b.bounding) (common_small row.caps launch.creds.bounding o.bounding) in
       let inh : creds.inheritable < 2 ^ 41 = let P : ℕ → Type 0 = λ s. s < 2 ^ 41 in subst P (sym b.inheritable) o.inheritable in
       let set = privileged.capset_call launch o after r.now c.line own own creds.inheritable small small inh (gains.may_take creds (marks_of row) mark) in
-      let call_is' : capset_call launch row ≡ sets_call c.line.line.number own own creds.inheritable =
-      ap (λ n. sets_call n (common launch row) (common launch row) launch.creds.inheritable) (number_is c) ∙ ap (λ s. sets_call c.line.line.number s s launch.creds.inheritable) (sym same) ∙ ap (λ i. sets_call c.line.line.number own own i) (sym b.inheritable) in
+      let call_is' : capset_call launch row ≡ sets_call (place_of c.line.line) own own creds.inheritable =
+      ap (λ n. sets_call n (common launch row) (common launch row) launch.creds.inheritable) (place_is c) ∙ ap (λ s. sets_call (place_of c.line.line) s s launch.creds.inheritable) (sym same) ∙ ap (λ i. sets_call (place_of c.line.line) own own i) (sym b.inheritable) in
       let Q : Call → Type 0 = λ call. Way launch after r.now (call ∷ []) (with_sets after own own creds.inheritable) r.now in
-      let last : Q (capset_call launch row) = subst Q (sym call_is') (by_creds (sets_call c.line.line.number own own creds.inheritable) set.makes here) in
+      let last : Q (capset_call launch row) = subst Q (sym call_is') (by_creds (sets_call (place_of c.line.line) own own creds.inheritable) set.makes here) in
       let holds' : has (with_sets after own own creds.inheritable).effective number ≡ true = ap (λ s. has s number) same ∙ both.1 in
       let in_caps = and_parts (has row.caps number) (has launch.creds.bounding number) (sym (has_cut row.caps launch.creds.bounding number) ∙ both.1) in
       record {
@@ -258,10 +258,10 @@ module _ (launch : Launch) (l : IsLaunched launch) (o : Offers launch) where
       let root = ap (λ id. eqb id 0) (gains.uid_after after (marks_of g.target) mark) ∙ stays_zero g.target.setuid after.uids.effective g.rootlike uid in
       let w = gains.zero_gives after (marks_of g.target) mark root in
       let own : has after.bounding number ≡ true = ap (λ s. has s number) b.bounding ∙ parts.1 in
-      let same : root_call launch ≡ id_call c.line.line.number c.line.own 0 = ap (λ n. id_call n (own_rule (line_of launch TakesUid)) 0) (number_is c) ∙ ap (λ r. id_call c.line.line.number r 0) (rule_is c) in
+      let same : root_call launch ≡ id_call (place_of c.line.line) c.line.own 0 = ap (λ n. id_call n (own_rule (line_of launch TakesUid)) 0) (place_is c) ∙ ap (λ r. id_call (place_of c.line.line) r 0) (rule_is c) in
       let end : Creds = exec_done after (marks_of g.target) false in
       let Q : Call → Type 0 = λ call. Way launch g.creds g.now (call ∷ run_call launch last ∷ []) end g.now in
-      let then : Q (root_call launch) = subst Q (sym same) (by_creds (id_call c.line.line.number c.line.own 0) change.makes (by_creds (run_call launch last) run here)) in
+      let then : Q (root_call launch) = subst Q (sym same) (by_creds (id_call (place_of c.line.line) c.line.own 0) change.makes (by_creds (run_call launch last) run here)) in
       record { now = g.now; creds = end; way = way_join g.way then; basis = basis_exec after g.target b; holds = w.each number own; still = g.still }
 
   file_is : (from : Creds) (power : Power) (calls : List Call) (last : Path) (number : ℕ) → FileGained launch from power calls last number → Gained launch from power calls number

@@ -27,7 +27,7 @@ use Rattle.kernel_laws.specs.Reach.{Power, Nowise}
 use Rattle.kernel_ways.specs.Offers.{Offers, RunsProgram}
 use Rattle.kernel_ways.specs.Showing.{HaveAsked}
 use Rattle.kernel_ways.specs.Taking.{id_call}
-use Rattle.kernel_ways.specs.Ways.{Way, here, by_creds, IsSolo}
+use Rattle.kernel_ways.specs.Ways.{Way, here, by_creds, CallAt, IsSolo, place_of}
 use Rattle.kernel_ways.proofs.Solo.{way_join}
 use Rattle.kernel_ways.proofs.Attained.{uids_after}
 use Rattle.kernel_ways.proofs.Gains as gains
@@ -39,7 +39,7 @@ use Rattle.kernel_ways.proofs.Showing.{creds_show}
 use Rattle.chosen_calls.specs.Chosen.{runner, taking, id_at_power, id_by_cap, id_by_row, id_calls, uid_calls, gid_calls}
 use Rattle.chosen_calls.specs.First.{line_of, own_rule}
 use Rattle.chosen_calls.specs.Gaining.{IsRunner, CapWay, at_once, gaining, cap_calls, run_calls}
-use Rattle.chosen_calls.proofs.FirstLines.{chosen, number_is, rule_is}
+use Rattle.chosen_calls.proofs.FirstLines.{chosen, place_is, rule_is}
 use Rattle.chosen_calls.proofs.Gained.{found_runner, ran_at, at_once_gained, basis_launch}
 use Rattle.chosen_calls.proofs.Lists.{member_found}
 use Rattle.chosen_calls.proofs.Rows.{gained, admin_gained}
@@ -50,7 +50,7 @@ pub record Takes (launch : Launch) (kind : Kind) (id : ℕ) (question : Question
   pub way : Way launch creds table (taking launch kind id) end table
   pub has : HaveAsked question end
 
-taking_is : (launch : Launch) (kind : Kind) (id nr : ℕ) → (line_of launch kind).number ≡ nr → (rule : Rule) → own_rule (line_of launch kind) ≡ rule → taking launch kind id ≡ id_call nr rule id ∷ []
+taking_is : (launch : Launch) (kind : Kind) (id : ℕ) (nr : CallAt) → place_of (line_of launch kind) ≡ nr → (rule : Rule) → own_rule (line_of launch kind) ≡ rule → taking launch kind id ≡ id_call nr rule id ∷ []
 taking_is launch kind id nr n rule r = ap (λ nr. id_call nr (own_rule (line_of launch kind)) id ∷ []) n ∙ ap (λ rule. id_call nr rule id ∷ []) r
 
 module _ (launch : Launch) (l : IsLaunched launch) (o : Offers launch) (id : ℕ) (small : id ≤ 4294967294) (creds : Creds) (table : Table) where
@@ -58,17 +58,17 @@ module _ (launch : Launch) (l : IsLaunched launch) (o : Offers launch) (id : ℕ
   takes_uid e h =
       let c = chosen launch l TakesUid e in
       let change = privileged.uid_call launch o creds table id small c.line h in
-      let same = taking_is launch TakesUid id c.line.line.number (number_is c) c.line.own (rule_is c) in
+      let same = taking_is launch TakesUid id (place_of c.line.line) (place_is c) c.line.own (rule_is c) in
       let Q : List Call → Type 0 = λ calls. Way launch creds table calls (with_uids creds (all_of id)) table in
-      record { end = with_uids creds (all_of id); way = subst Q (sym same) (by_creds (id_call c.line.line.number c.line.own id) change.makes here); has = ap (λ (ids : Ids). ids.effective) (uids_after creds (all_of id)) }
+      record { end = with_uids creds (all_of id); way = subst Q (sym same) (by_creds (id_call (place_of c.line.line) c.line.own id) change.makes here); has = ap (λ (ids : Ids). ids.effective) (uids_after creds (all_of id)) }
 
   pub takes_gid : lets launch TakesGid ≡ true → has creds.effective 6 ≡ true → Takes launch TakesGid id (q.Gid id) creds table
   takes_gid e h =
       let c = chosen launch l TakesGid e in
       let change = privileged.gid_call launch o creds table id small c.line h in
-      let same = taking_is launch TakesGid id c.line.line.number (number_is c) c.line.own (rule_is c) in
+      let same = taking_is launch TakesGid id (place_of c.line.line) (place_is c) c.line.own (rule_is c) in
       let Q : List Call → Type 0 = λ calls. Way launch creds table calls change.now table in
-      record { end = change.now; way = subst Q (sym same) (by_creds (id_call c.line.line.number c.line.own id) change.change.makes here); has = change.has_gid }
+      record { end = change.now; way = subst Q (sym same) (by_creds (id_call (place_of c.line.line) c.line.own id) change.change.makes here); has = change.has_gid }
 
 -- what leaves an id open
 module _ (launch : Launch) where

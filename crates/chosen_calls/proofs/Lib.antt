@@ -4,6 +4,7 @@ pub mod Exposed
 pub mod Running
 pub mod Gained
 pub mod Complete
+pub mod Inside
 pub mod Rows
 pub mod Ids
 pub mod Shown

@@ -1,5 +1,5 @@
 -- What is found in a list, and where a list is cut.
-use Rattle.std.proofs.Common.{◌≡◌, ℕ, zero, suc, Bool, true, false, cond, List, [], ◌∷◌, ◌++◌, Some, refl, ap, ◌∙◌, sym, length, ◌⊎◌, inl, inr}
+use Rattle.std.proofs.Common.{◌≡◌, ℕ, zero, suc, ◌+◌, arith, Bool, true, false, cond, List, [], ◌∷◌, ◌++◌, Some, refl, ap, ◌∙◌, sym, length, ◌⊎◌, inl, inr}
 use Rattle.std.specs.Prelude.{find, drop, slice_get}
 use Rattle.std.specs.List.{list_any}
 use Rattle.std.proofs.lemmas.Bool.{or_cases}
@@ -32,6 +32,16 @@ member_found {X = X} p (y ∷ ys) (suc at) x e h = by (p y) (member_found p ys a
     by : (b : Bool) → (z : X) × (find p ys ≡ Some z) → (z : X) × (cond b (Some y) (find p ys) ≡ Some z)
     by true more = (y, refl)
     by false more = more
+
+-- of two lists behind one another the first has its numbers, and those of the second follow
+pub get_front : {X : Type 0} (front back : List X) (at : ℕ) (x : X) → slice_get front at ≡ Some x → slice_get (front ++ back) at ≡ Some x
+get_front [] back at x e = cc
+get_front (y ∷ front) back zero x e = e
+get_front (y ∷ front) back (suc at) x e = get_front front back at x e
+
+pub get_back : {X : Type 0} (front back : List X) (at : ℕ) → slice_get (front ++ back) (length front + at) ≡ slice_get back at
+get_back [] back at = let n : 0 + at ≡ at = omega arith in ap (slice_get back) n
+get_back (y ∷ front) back at = let n : suc (length front) + at ≡ suc (length front + at) = omega arith in ap (slice_get (y ∷ front ++ back)) n ∙ get_back front back at
 
 -- the element of a number, and what is behind it
 pub get_here : {X : Type 0} (earlier : List X) (x : X) (later : List X) → slice_get (earlier ++ x ∷ later) (length earlier) ≡ Some x

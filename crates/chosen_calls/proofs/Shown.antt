@@ -1,12 +1,16 @@
 -- The calls that are chosen for an open question show it.
-use Rattle.std.proofs.Common.{◌≡◌, ℕ, Bool, true, false, List, [], ◌∷◌, ◌++◌, Option, Some, None, refl, ap, ◌∙◌, sym, subst}
-use Rattle.std.specs.Prelude.{slice_get, not, ◌&&◌}
+use Rattle.std.proofs.Common.{◌≡◌, ℕ, Bool, true, false, List, [], ◌∷◌, ◌++◌, Option, Some, None, refl, ap, ◌∙◌, sym, subst, cond, inl}
+use Rattle.std.specs.Prelude.{slice_get, nat_lt, ◌&&◌, ◌||◌, unwrap_or}
+use Rattle.std.specs.List.{list_any}
 use Rattle.std.specs.Option.{option_map_or}
-use Rattle.std.proofs.lemmas.Bool.{and_parts, not-true, eq-eqb}
+use Rattle.std.specs.Str.{bytes_eq}
+use Rattle.std.proofs.lemmas.Slice.Eq.{bytes_eq-Decides}
+use Rattle.std.proofs.lemmas.Bool.{and_parts, eq-eqb}
 use Rattle.abs_path.specs.Paths.{Path}
 use Rattle.cap_sets.specs.Sets.{has}
 use Rattle.call_table.specs.declared.listed.CallLine.{CallLine}
 use Rattle.call_table.specs.Lookups.{numbered}
+use Rattle.call_table.specs.Table.{calls_in, every_call}
 use Rattle.kern_creds.specs.declared.creds.Creds.{Creds}
 use Rattle.kern_mounts.specs.Split.{Table}
 use Rattle.kernel_calls.specs.Doing as d
@@ -16,11 +20,11 @@ use Rattle.kernel_calls.specs.declared.call.Call.{Call}
 use Rattle.kernel_calls.specs.declared.payload.Payload.TheVariants.{Nothing}
 use Rattle.kernel_calls.specs.declared.rule.Rule.{Rule}
 use Rattle.kernel_model.specs.World.{World}
-use Rattle.kernel_laws.specs.Bound.{is_user, can_reach, can_have_cap, can_have_for, if_listed, power_of, ceiling, is_open}
+use Rattle.kernel_laws.specs.Bound.{is_user, can_reach, can_have_cap, can_have_for, if_listed, power_of, ceiling, is_open, is_call_open}
 use Rattle.kernel_laws.specs.Denied.{asks_space, asks_family, is_family, Shows}
 use Rattle.kernel_laws.specs.Kinds as k
 use Rattle.kernel_laws.specs.Kinds.{Kind}
-use Rattle.kernel_laws.specs.Launched.{Launch, IsLaunched, launch_of, lets, lets_line}
+use Rattle.kernel_laws.specs.Launched.{Launch, IsLaunched, launch_of, lets, lets_line, can_make_user}
 use Rattle.kernel_laws.specs.PlainCalls.{bare_call}
 use Rattle.kernel_laws.specs.Questions as q
 use Rattle.kernel_laws.specs.Questions.{Space, Question}
@@ -28,20 +32,24 @@ use Rattle.kernel_laws.proofs.Filters.{at_position}
 use Rattle.kernel_ways.specs.Laws.{IsFit}
 use Rattle.kernel_ways.specs.Offers.{Offers, RunsProgram}
 use Rattle.kernel_ways.specs.Showing.{Answers}
-use Rattle.kernel_ways.specs.Ways.{Way, here, IsSolo}
+use Rattle.kernel_ways.specs.Ways.{Way, here, IsSolo, place_of}
 use Rattle.kernel_ways.proofs.Choices as choices
 use Rattle.kernel_ways.proofs.Doings.{Performed}
-use Rattle.kernel_ways.proofs.Lines.{Line, choice_of, first_by, low_number, line_at}
+use Rattle.kernel_ways.proofs.Lines.{choice_of, first_by, low_number, line_at, of_abi, same_rule}
 use Rattle.kernel_ways.proofs.Performing as performing
 use Rattle.kernel_ways.proofs.Performing.{CapAtHand, is_free}
 use Rattle.kernel_ways.proofs.Showing.{calls_show, creds_show}
-use Rattle.kernel_ways.proofs.Starts.{starts_solo}
-use Rattle.chosen_calls.specs.Chosen.{plain_cap, row_calls, plain_calls, socket_calls, calls_for}
-use Rattle.chosen_calls.specs.First.{call_by}
+use Rattle.kernel_ways.proofs.Starts.{starts_solo, performs}
+use Rattle.chosen_calls.specs.Chosen.{plain_cap, row_calls, plain_calls, socket_calls, space_calls, user_call, pid_inside, call_inside, calls_for, is_called, plain_line, socket_payload}
+use Rattle.chosen_calls.specs.First.{call_by, no_line}
+use Rattle.chosen_calls.proofs.Inside.{user_called, inside_is}
+use Rattle.kernel_ways.proofs.Entering.{calls_show_inside}
+use Rattle.kernel_ways.proofs.InUser.{enters, Inside, own_space}
 use Rattle.chosen_calls.specs.Gaining.{gaining, gaining_if}
 use Rattle.chosen_calls.specs.Laws.{ChoiceShows}
-use Rattle.chosen_calls.proofs.FirstLines.{chosen, call_is}
+use Rattle.chosen_calls.proofs.FirstLines.{chosen, call_is, rule_is}
 use Rattle.chosen_calls.proofs.Ids.{uid_shown, gid_shown}
+use Rattle.chosen_calls.proofs.Lists.{any_found, found_at}
 use Rattle.chosen_calls.proofs.Rows.{gained, row_shown}
 
 module _ (world : World) (launch : Launch) (l : IsLaunched launch) (o : Offers launch) (s : IsSolo launch launch.creds launch.table world) (program : Path) (p : RunsProgram launch program) where
@@ -77,26 +85,89 @@ module _ (world : World) (launch : Launch) (l : IsLaunched launch) (o : Offers l
       let x = subst P (sym (call_is c Nothing)) (performing.own_space launch g.creds g.now g.holds space u c.line) in
       by_performed (q.Ns space) (asks_space space) g.creds g.now g.way x x.such
 
-  shown_call : (place : ℕ) (line : CallLine) → slice_get launch.calls.calls place ≡ Some line → lets_line launch k.PlainCall line ≡ true → can_have_for (ceiling launch) (rule_of line) ≡ true → Shows world (q.Call place) (plain_calls launch program line)
+  -- a user namespace by itself
+  shown_user : can_make_user launch ≡ true → Shows world (q.Ns q.User) (user_call launch ∷ [])
+  shown_user user =
+      let both = and_parts (nat_lt 0 launch.site.user_namespaces) (lets launch (k.ForSpace q.User)) user in
+      let c = chosen launch l (k.ForSpace q.User) both.1 in
+      let first = enters launch both.0 launch.creds launch.table c.line in
+      let call = first_by (place_of c.line.line) c.line.args Nothing in
+      let done = (first.inside world s).0 in
+      let P : Call → Type 0 = λ own. Shows world (q.Ns q.User) (own ∷ []) in
+      subst P (sym (call_is c Nothing)) (record { fit = (first.makes.fit, tt); done = (done, tt); last = inl (performs launch launch.creds launch.table world s (asks_space q.User) first.doing call first.effect first.makes first.such done) })
+
+  -- another one in it
+  shown_within : (space : Space) → is_user space ≡ false → lets launch (k.ForSpace space) ≡ true → can_make_user launch ≡ true → Shows world (q.Ns space) (user_call launch ∷ call_inside launch (k.ForSpace space) Nothing ∷ [])
+  shown_within space u e user =
+      let v = user_called launch l user launch.creds launch.table in
+      let c = chosen launch l (k.ForSpace space) e in
+      let P : Call → Type 0 = λ call. Inside launch launch.creds launch.table (pid_inside launch) v.small (asks_space space) call in
+      let x = subst P (sym (inside_is launch c Nothing)) (own_space launch launch.creds launch.table (pid_inside launch) v.small space u c.line) in
+      calls_show_inside launch launch.creds launch.creds launch.table launch.table world [] (q.Ns space) (pid_inside launch) (user_call launch) (call_inside launch (k.ForSpace space) Nothing) x.doing x.effect s here v.fit v.inside x.makes x.doable x.such
+
+  other_space : (space : Space) → is_user space ≡ false → (lets launch (k.ForSpace space) && (has (ceiling launch).effective 21 || can_make_user launch)) ≡ true
+      → Shows world (q.Ns space) (cond (has (ceiling launch).effective 21) (gaining launch program 21 ++ call_by launch (k.ForSpace space) Nothing ∷ []) (user_call launch ∷ call_inside launch (k.ForSpace space) Nothing ∷ []))
+  other_space space u e =
+      let both = and_parts (lets launch (k.ForSpace space)) (has (ceiling launch).effective 21 || can_make_user launch) e in
+      by (has (ceiling launch).effective 21) refl both.0 both.1
+    where
+      by : (b : Bool) → has (ceiling launch).effective 21 ≡ b → lets launch (k.ForSpace space) ≡ true → (b || can_make_user launch) ≡ true
+          → Shows world (q.Ns space) (cond b (gaining launch program 21 ++ call_by launch (k.ForSpace space) Nothing ∷ []) (user_call launch ∷ call_inside launch (k.ForSpace space) Nothing ∷ []))
+      by true h let' more = shown_space space u let' h
+      by false h let' more = shown_within space u let' more
+
+  shown_ns : (space : Space) → is_open launch (q.Ns space) ≡ true → Shows world (q.Ns space) (space_calls launch program space)
+  shown_ns q.User e = shown_user e
+  shown_ns q.Cgroup e = other_space q.Cgroup refl e
+  shown_ns q.Ipc e = other_space q.Ipc refl e
+  shown_ns q.Net e = other_space q.Net refl e
+  shown_ns q.Mnt e = other_space q.Mnt refl e
+  shown_ns q.Pid e = other_space q.Pid refl e
+  shown_ns q.Uts e = other_space q.Uts refl e
+
+  -- the line whose call is made is one of the name that passes
+  record CalledLine (name : List ℕ) : Type 0 where
+    at : ℕ
+    line : CallLine
+    listed : slice_get (every_call launch.calls) at ≡ Some line
+    is : plain_line launch name ≡ line
+    same : name ≡ line.name
+    lets' : lets_line launch k.PlainCall line ≡ true
+
+  called_line : (name : List ℕ) → list_any (is_called launch name) (every_call launch.calls) ≡ true → CalledLine name
+  unfolding plain_line
+  called_line name e =
+      let a = any_found (is_called launch name) (every_call launch.calls) e in
+      let f = found_at (is_called launch name) (every_call launch.calls) a.0 a.1 in
+      let such = and_parts (bytes_eq name a.0.name) (lets_line launch k.PlainCall a.0) f.2 in
+      record { at = f.0; line = a.0; listed = f.1; is = ap (λ o. unwrap_or o no_line) a.1; same = (bytes_eq-Decides name a.0.name).0 such.0; lets' = such.1 }
+
+  bare_by : {own : Rule} {args : List ℕ} → choices.Choice k.PlainCall own args → args ≡ k.no_words
+  bare_by (choices.plain number) = refl
+
+  shown_call : (place : ℕ) (line : CallLine) → slice_get (every_call launch.calls) place ≡ Some line → list_any (is_called launch line.name) (every_call launch.calls) ≡ true → can_have_for (ceiling launch) (rule_of line) ≡ true → Shows world (q.Call place) (plain_calls launch program line)
   shown_call place line listed e h =
-      let own = line_at launch l k.PlainCall place line listed e in
+      let called = called_line line.name e in
+      let other = called.line in
+      let own = line_at launch l k.PlainCall called.at other called.listed called.lets' in
+      let there = of_abi launch l called.at other called.listed in
+      let lines = calls_in launch.calls other.abi in
+      let found : numbered other.number lines ≡ Some other = at_position lines other.number there.at other (l.calls_once other.abi there.at other there.listed) there.listed in
+      let rule : rule_of line ≡ rule_of other = same_rule launch l place called.at line other listed called.listed called.same in
       let r = performing.plain_rule launch launch.creds launch.table own.0 in
-      let cap' : can_have_cap (ceiling launch) r.0 ≡ true = ap (can_have_for (ceiling launch)) (sym r.1) ∙ ap (λ (c : CallLine). can_have_for (ceiling launch) (rule_of c)) own.1 ∙ h in
-      let same : plain_cap (rule_of line) ≡ r.0 = ap (λ (c : CallLine). plain_cap (rule_of c)) (sym own.1) ∙ ap plain_cap r.1 in
+      let own_rule' : rule_of own.0.line ≡ rule_of line = ap rule_of own.1 ∙ sym rule in
+      let cap' : can_have_cap (ceiling launch) r.0 ≡ true = ap (can_have_for (ceiling launch)) (sym r.1 ∙ own_rule') ∙ h in
+      let same : plain_cap (rule_of line) ≡ r.0 = ap plain_cap (sym own_rule' ∙ r.1) in
       let w = having r.0 cap' in
       let can = subst (performing.can_for launch w.creds w.now) (sym r.1) w.can in
       let x = performing.plain launch w.creds w.now own.0 can in
-      let number : own.0.line.number ≡ line.number = ap (λ (c : CallLine). c.number) own.1 in
-      let shown = by_performed (q.Call place) k.asks_plain w.creds w.now w.way x (line, listed, number) in
-      let args : first_by own.0.line.number own.0.args Nothing ≡ bare_call line.number = ap (λ nr. first_by nr own.0.args Nothing) number ∙ ap (λ words. first_by line.number words Nothing) (bare own.0) in
+      let reached : numbered own.0.line.number (calls_in launch.calls own.0.line.abi) ≡ Some other = ap (λ (c : CallLine). numbered c.number (calls_in launch.calls c.abi)) own.1 ∙ found in
+      let shown = by_performed (q.Call place) k.asks_plain w.creds w.now w.way x (line, listed, other, reached, called.same) in
+      let call_is' : first_by (place_of own.0.line) own.0.args Nothing ≡ bare_call (plain_line launch line.name).abi (plain_line launch line.name).number =
+      ap (λ (c : CallLine). first_by (place_of c) own.0.args Nothing) (own.1 ∙ sym called.is) ∙ ap (λ words. first_by (place_of (plain_line launch line.name)) words Nothing) (bare_by (choice_of own.0)) in
       let P : List Call → Type 0 = λ calls. Shows world (q.Call place) calls in
-      subst P (ap (λ call. gaining_if launch program r.0 ++ call ∷ []) args ∙ ap (λ number. gaining_if launch program number ++ bare_call line.number ∷ []) (sym same)) shown
-    where
-      bare_by : {own : Rule} {args : List ℕ} → choices.Choice k.PlainCall own args → args ≡ k.no_words
-      bare_by (choices.plain number) = refl
-
-      bare : (line : Line launch k.PlainCall) → line.args ≡ k.no_words
-      bare line = bare_by (choice_of line)
+      let end = bare_call (plain_line launch line.name).abi (plain_line launch line.name).number in
+      subst P (ap (λ call. gaining_if launch program r.0 ++ call ∷ []) call_is' ∙ ap (λ number. gaining_if launch program number ++ end ∷ []) (sym same)) shown
 
   shown_socket : (place : ℕ) (line : CallLine) → slice_get launch.calls.families place ≡ Some line → lets launch (k.ForFamily line.number) ≡ true → can_have_cap (ceiling launch) line.cap ≡ true → Shows world (q.Socket place) (socket_calls launch program line)
   shown_socket place line listed e h =
@@ -105,8 +176,10 @@ module _ (world : World) (launch : Launch) (l : IsLaunched launch) (o : Offers l
       let asks : Doing → Bool = asks_family launch.calls.families place in
       let such : asks (d.Socket line.number) ≡ true = ap (λ (c : Option CallLine). is_family c line.number) listed ∙ eq-eqb line.number line.number refl in
       let c = chosen launch l (k.ForFamily line.number) e in
+      let payload : socket_payload launch line.number ≡ k.family_payload c.line.own line.number = ap (λ own. k.family_payload own line.number) (rule_is c) in
       let P : Call → Type 0 = λ call. Performed launch w.creds w.now asks call in
-      let x = subst P (sym (call_is c Nothing)) (performing.socket launch w.creds w.now line (low_number launch.calls.families o.calls.families.in_range place line listed) c.line found w.can asks such) in
+      let same = call_is c (socket_payload launch line.number) ∙ ap (first_by (place_of c.line.line) c.line.args) payload in
+      let x = subst P (sym same) (performing.socket launch w.creds w.now line (low_number launch.calls.families o.calls.families.in_range place line listed) c.line found w.can asks such such) in
       by_performed (q.Socket place) asks w.creds w.now w.way x x.such
 
   -- ---- each question
@@ -124,17 +197,14 @@ module _ (world : World) (launch : Launch) (l : IsLaunched launch) (o : Offers l
       let x = listed_is (can_reach launch (power_of launch) wish) (slice_get launch.site.rows place) e in
       of_listed (q.ByPath wish place) (row_calls launch program wish) (slice_get launch.site.rows place) x.0 x.1 (row_shown world launch l o s program p place x.0 x.1 wish fit x.2)
   shown (q.Call place) fit e =
-      let x = listed_is (λ line. lets_line launch k.PlainCall line && can_have_for (ceiling launch) (rule_of line)) (slice_get launch.calls.calls place) e in
-      let both = and_parts (lets_line launch k.PlainCall x.0) (can_have_for (ceiling launch) (rule_of x.0)) x.2 in
-      of_listed (q.Call place) (plain_calls launch program) (slice_get launch.calls.calls place) x.0 x.1 (shown_call place x.0 x.1 both.0 both.1)
+      let x = listed_is (is_call_open launch (ceiling launch)) (slice_get (every_call launch.calls) place) e in
+      let both = and_parts (list_any (is_called launch x.0.name) (every_call launch.calls)) (can_have_for (ceiling launch) (rule_of x.0)) x.2 in
+      of_listed (q.Call place) (plain_calls launch program) (slice_get (every_call launch.calls) place) x.0 x.1 (shown_call place x.0 x.1 both.0 both.1)
   shown (q.Socket place) fit e =
       let x = listed_is (λ line. lets launch (k.ForFamily line.number) && can_have_cap (ceiling launch) line.cap) (slice_get launch.calls.families place) e in
       let both = and_parts (lets launch (k.ForFamily x.0.number)) (can_have_cap (ceiling launch) x.0.cap) x.2 in
       of_listed (q.Socket place) (socket_calls launch program) (slice_get launch.calls.families place) x.0 x.1 (shown_socket place x.0 x.1 both.0 both.1)
-  shown (q.Ns space) fit e =
-      let both = and_parts (not (is_user space)) (lets launch (k.ForSpace space) && has (ceiling launch).effective 21) e in
-      let more = and_parts (lets launch (k.ForSpace space)) (has (ceiling launch).effective 21) both.1 in
-      shown_space space (not-true (is_user space) both.0) more.0 more.1
+  shown (q.Ns space) fit e = shown_ns space e
   shown q.MapWx fit e = shown_free q.MapWx k.MapsWx refl e (λ call x. x.such)
   shown q.ProtectX fit e = shown_free q.ProtectX k.ProtectsX refl e (λ call x. x.such)
   shown q.ShmX fit e = shown_free q.ShmX k.AttachesX refl e (λ call x. x.such)

@@ -14,6 +14,7 @@ use Rattle.kernel_laws.specs.Launched.{Launch, lets}
 use Rattle.kernel_laws.specs.Questions.{Wish}
 use Rattle.kernel_laws.specs.Reach.{Power, Nowise, Unmounting, Mounting, reach}
 use Rattle.kernel_ways.specs.Uncovering.{covering, umount_calls, mount_calls}
+use Rattle.kernel_ways.specs.Ways.{place_of}
 use Rattle.chosen_calls.specs.First.{line_of}
 
 -- where an entry shows a row: at its place, and from there as from its source on
@@ -46,8 +47,8 @@ abbrev pub exposing_calls : Launch → Power → ℕ → Wish → Path → List 
 exposing_calls launch Nowise flags wish row = []
 exposing_calls launch Unmounting flags wish row =
     let at = lead Unmounting launch.table row wish in
-    umount_calls (line_of launch RemovesMounts).number (covering (shown_at launch.table row at) (drop (at + 1) launch.table))
-exposing_calls launch Mounting flags wish row = mount_calls (line_of launch ChangesMounts).number flags
+    umount_calls (place_of (line_of launch RemovesMounts)) (covering (shown_at launch.table row at) (drop (at + 1) launch.table))
+exposing_calls launch Mounting flags wish row = mount_calls (place_of (line_of launch ChangesMounts)) flags
 
 -- the entry of this number shows the host at or above the row, at a path that a call can name
 pub record IsLead (table : Table) (row : Path) (at : ℕ) : Type 0 where

@@ -1,9 +1,10 @@
--- Which call of a kind is made: of those that the filters let through the first in an order of names (syscalls(2)), and behind these
--- the first of the table.
+-- Which call of a kind is made: of those that the filters let through the first in an order of names (syscalls(2)), by the native ABI
+-- before the other, and behind these the first of the table.
 use Rattle.std.specs.Prelude.{ℕ, Bool, false, codes, List, [], ◌∷◌, find, Option, None, option_and_then, unwrap_or}
 use Rattle.std.specs.Option.{option_or, option_map_or}
 use Rattle.call_table.specs.declared.listed.CallLine.{CallLine}
 use Rattle.call_table.specs.Lookups.{named}
+use Rattle.call_table.specs.Table.{calls_in, every_call}
 use Rattle.kernel_calls.specs.declared.call.Call.{Call}
 use Rattle.kernel_calls.specs.declared.payload.Payload.{Payload}
 use Rattle.kernel_calls.specs.declared.rule.Rule.{Rule}
@@ -13,7 +14,8 @@ use Rattle.kernel_laws.specs.Kinds.{Kind, ForPath, PlainCall, ForFamily, ForSpac
 use Rattle.kernel_laws.specs.Launched.{Launch, lets_line}
 use Rattle.kernel_laws.specs.Questions.{ToSee, ToRead, ToWrite, ToExec}
 
--- the names of the calls of a kind, in the order in which they are tried
+-- the names of the calls of a kind, in the order in which they are tried; socketcall(2), by which 32-bit programs make sockets, comes
+-- behind socket(2) of every ABI, as the first of the table
 abbrev pub names_of : Kind → List (List ℕ)
 names_of (ForPath ToSee) = codes "stat" ∷ codes "lstat" ∷ codes "newfstatat" ∷ codes "statx" ∷ codes "access" ∷ codes "faccessat" ∷ codes "faccessat2" ∷ []
 names_of (ForPath ToRead) = codes "open" ∷ codes "openat" ∷ []
@@ -34,18 +36,21 @@ names_of SetsCaps = codes "capset" ∷ []
 names_of TakesUid = codes "setuid" ∷ codes "setresuid" ∷ []
 names_of TakesGid = codes "setgid" ∷ codes "setresgid" ∷ codes "setgroups" ∷ []
 
--- the table has a call of the name that asks for the kind, and the filters let it through
-abbrev pub lets_name : Launch → Kind → List ℕ → Bool
-lets_name launch kind name = option_map_or (lets_line launch kind) (named name launch.calls.calls) false
+-- the ABI has a call of the name that asks for the kind, and the filters let it through
+abbrev pub lets_name : Launch → Kind → ℕ → List ℕ → Bool
+lets_name launch kind abi name = option_map_or (lets_line launch kind) (named name (calls_in launch.calls abi)) false
 
--- the line of the first such name, else the first line of the table that they let through
+-- the line of the first such name
+abbrev pub line_in : Launch → Kind → ℕ → Option CallLine
+line_in launch kind abi = option_and_then (λ name. named name (calls_in launch.calls abi)) (find (lets_name launch kind abi) (names_of kind))
+
+-- that of the native ABI, else that of the other, else the first line of the table that they let through
 abbrev pub first_line : Launch → Kind → Option CallLine
-first_line launch kind =
-    option_or (option_and_then (λ name. named name launch.calls.calls) (find (lets_name launch kind) (names_of kind))) (find (lets_line launch kind) launch.calls.calls)
+first_line launch kind = option_or (line_in launch kind 0) (option_or (line_in launch kind 1) (find (lets_line launch kind) (every_call launch.calls)))
 
 -- a line of no table
 abbrev pub no_line : CallLine
-no_line = record { name = []; number = 0; cap = None }
+no_line = record { name = []; abi = 0; number = 0; cap = None }
 
 -- that line, where there is one
 unfoldable pub line_of : Launch → Kind → CallLine
@@ -61,4 +66,4 @@ own_rule line = unwrap_or (rule_of line) (Plain None)
 
 -- the first call of a kind, by process 1, with the words that ask for it first
 abbrev pub call_by : Launch → Kind → Payload → Call
-call_by launch kind payload = record { pid = 1; nr = (line_of launch kind).number; args = args_of kind (line_of launch kind); payload = payload }
+call_by launch kind payload = record { pid = 1; abi = (line_of launch kind).abi; nr = (line_of launch kind).number; args = args_of kind (line_of launch kind); payload = payload }

@@ -15,6 +15,7 @@ use Rattle.kernel_laws.specs.Launched.{Launch, lets}
 use Rattle.kernel_laws.specs.Questions.{ToExec}
 use Rattle.kernel_laws.specs.Reach.{Power, Nowise}
 use Rattle.kernel_ways.specs.Taking.{id_call, sets_call}
+use Rattle.kernel_ways.specs.Ways.{place_of}
 use Rattle.chosen_calls.specs.Exposing.{exposing_calls, exposing_path}
 use Rattle.chosen_calls.specs.First.{call_by, line_of, own_rule}
 
@@ -118,7 +119,7 @@ abbrev pub run_calls : Launch → Power → Row → List Call
 run_calls launch power row = exposing_calls launch power ms_remount_bind ToExec row.path ++ run_call launch (exposing_path launch power ToExec row.path) ∷ []
 
 abbrev pub capset_call : Launch → Row → Call
-capset_call launch row = sets_call (line_of launch SetsCaps).number (common launch row) (common launch row) launch.creds.inheritable
+capset_call launch row = sets_call (place_of (line_of launch SetsCaps)) (common launch row) (common launch row) launch.creds.inheritable
 
 abbrev pub file_calls : Launch → Power → FileWay → List Call
 file_calls launch power Held = []
@@ -133,7 +134,7 @@ last_path launch program power (ByCapset row) = exposing_path launch power ToExe
 
 -- setuid(2) or setresuid(2) takes uid 0
 abbrev pub root_call : Launch → Call
-root_call launch = id_call (line_of launch TakesUid).number (own_rule (line_of launch TakesUid)) 0
+root_call launch = id_call (place_of (line_of launch TakesUid)) (own_rule (line_of launch TakesUid)) 0
 
 abbrev pub cap_calls : Launch → Path → Power → CapWay → List Call
 cap_calls launch program power (ByFile way) = file_calls launch power way

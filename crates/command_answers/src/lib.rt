@@ -1,7 +1,8 @@
 //! What a command does, whatever it is: it is prepared, and then printed.
 //!
 //! Preparing reads files of a `host_io` shelf and finds every refusal; what is `Ready` then is printed line by line, each
-//! line one piece for the sink. The crates of the commands stand on it, and the top call is written over `Ready` alone.
+//! line one piece for the sink. The crates of the commands stand on it. A command whose text is made while it is printed, as a
+//! report is, is no `Ready`: it answers its ending itself, by `finish_stop` and `ending_after`.
 //!
 //! `put_line(out, line_of(alloc, item))?` prints a line; `Stop::Refused(refused_line(alloc, "calls.txt", b"missing")?)`
 //! refuses a file.

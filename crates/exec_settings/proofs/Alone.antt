@@ -10,7 +10,7 @@ use Rattle.unit_values.specs.Lines.{listed_line}
 use Rattle.unit_values.proofs.OneMore.{after_last-push}
 use Rattle.std.proofs.Common.{◌≡◌, ℕ, Bool, true, false, Ok, Option, Some, None, List, [], ◌∷◌, ◌++◌, map, codes, refl, sym, ap, ◌∙◌, append-nil, subst}
 use Rattle.std.specs.Prelude.{◌||◌, ◌&&◌, ◌==◌, not, is_some, nat_lt, length, slice_get, flat_map, Result, filter, find, cond, option_and_then}
-use Rattle.std.specs.List.{cons_option, filter_map}
+use Rattle.std.specs.List.{cons_option, filter_map, list_any}
 use Rattle.std.specs.Str.{bytes_eq}
 use Rattle.dropin_merge.specs.declared.resolved.Resolved.{Resolved}
 use Rattle.unit_values.specs.Flags.{flag_value, unit_flag, unit_flag_notes}
@@ -24,8 +24,11 @@ use Rattle.filter_rules.specs.declared.namespace_types.NamespaceTypes.{Namespace
 use Rattle.call_table.specs.Table.{Table}
 use Rattle.site_table.specs.Table.{Site}
 use Rattle.path_settings.specs.Keys.{name_of, path_keys}
-use Rattle.filter_rules.specs.Names.{all_filters}
-use Rattle.filter_rules.specs.Wanted.{is_on}
+use Rattle.filter_rules.specs.Names.{all_programs}
+use Rattle.filter_rules.specs.Installed.{place_of, is_installed, installed}
+use Rattle.call_table.specs.Table.{Abi}
+use Rattle.std.proofs.lemmas.Bool.{and_right}
+use Rattle.filter_settings.specs.Architectures.{is_second, is_read, value_notes, unit_refuses_second, unit_architectures_notes}
 use Rattle.filter_rules.specs.declared.installed.Filter.{Filter}
 use Rattle.filter_rules.specs.declared.settings.FilterSettings.{FilterSettings}
 use Rattle.filter_settings.specs.CallLists.{call_list, call_notes, unit_call_list, unit_call_list_notes}
@@ -80,7 +83,7 @@ abbrev any_namespace : NamespaceTypes
 any_namespace = record { cgroup = true; ipc = true; net = true; mnt = true; pid = true; user = true; uts = true }
 
 abbrev bare : FilterSettings
-bare = made false false false false false false false false false KillProcess any_namespace None None
+bare = made false false false false false false false false false KillProcess any_namespace None None false
 
 abbrev unprotected : Protections
 unprotected = record { protect_system = system.No; protect_home = home.No; private_tmp = false; protect_kernel_tunables = false; protect_control_groups = false }
@@ -88,7 +91,12 @@ unprotected = record { protect_system = system.No; protect_home = home.No; priva
 abbrev unswitched : Switches
 unswitched = record { private_devices = false; protect_kernel_modules = false; protect_kernel_logs = false; dynamic_user = false }
 
-no_names : (filters : List Filter) → map (λ one. one.name) filters ≡ [] → filters ≡ []
+-- nothing of bare settings is installed
+none_installed : (second : Option Abi) → filter (is_installed bare) (all_programs second) ≡ []
+none_installed None = refl
+none_installed (Some second) = refl
+
+no_names : (filters : List Filter) → map place_of filters ≡ [] → filters ≡ []
 no_names [] e = refl
 no_names (one ∷ filters) e = cc
 
@@ -175,11 +183,17 @@ module _ (unit : Resolved) (h : HasCommandAlone unit) where
   killing : unit_error_action unit (codes "SystemCallErrorNumber") ≡ KillProcess
   killing = ap (λ value. value.action) (unsaid error_action_value default_action (codes "SystemCallErrorNumber") refl)
 
+  no_second_refused : (table : Table) → unit_refuses_second unit table (codes "SystemCallArchitectures") ≡ false
+  unfolding unit_refuses_second
+  no_second_refused table =
+      ap (λ (values : List Value). is_some table.second && (list_any is_read (in_force_values values) && not (list_any (is_second table) (unit_words unit (codes "SystemCallArchitectures"))))) (nothing (codes "SystemCallArchitectures") refl)
+      ∙ and_right (is_some table.second) false refl
+
   settings_bare : (table : Table) → settings_of unit table ≡ bare
   settings_bare table =
-      same_settings _ None _ KillProcess _ None _ any_namespace _ false _ false _ false _ false _ false _ false _ false _ false _ false
+      same_settings _ None _ KillProcess _ None _ any_namespace _ false _ false _ false _ false _ false _ false _ false _ false _ false _ false
       (no_calls table) killing (no_families table) all_namespaces (off (codes "MemoryDenyWriteExecute") refl) (off (codes "RestrictRealtime") refl) (off (codes "RestrictSUIDSGID") refl)
-      (off (codes "LockPersonality") refl) (off (codes "ProtectHostname") refl) (off (codes "ProtectKernelModules") refl) (off (codes "ProtectKernelLogs") refl) (off (codes "ProtectClock") refl) (off (codes "PrivateDevices") refl)
+      (off (codes "LockPersonality") refl) (off (codes "ProtectHostname") refl) (off (codes "ProtectKernelModules") refl) (off (codes "ProtectKernelLogs") refl) (off (codes "ProtectClock") refl) (off (codes "PrivateDevices") refl) (no_second_refused table)
 
   not_dynamic : is_dynamic unit ≡ false
   unfolding is_dynamic
@@ -189,8 +203,8 @@ module _ (unit : Resolved) (h : HasCommandAlone unit) where
   unfolding unit_filters
   filters_bare table = ap (λ on. with_dynamic_user on (settings_of unit table)) not_dynamic ∙ ap (with_dynamic_user false) (settings_bare table)
 
-  none_on : (table : Table) → filter (is_on (unit_filters unit table)) all_filters ≡ []
-  none_on table = ap (λ settings. filter (is_on settings) all_filters) (filters_bare table)
+  none_on : (table : Table) → installed (unit_filters unit table) table ≡ []
+  none_on table = ap (λ settings. installed settings table) (filters_bare table) ∙ none_installed table.second
 
   -- users, groups and capabilities
   is_superuser : (site : Site) → identity_of unit site (is_dynamic unit) ≡ Ok superuser
@@ -216,8 +230,8 @@ module _ (unit : Resolved) (h : HasCommandAlone unit) where
 
   no_new : (table : Table) (uid : ℕ) → unit_new_privileges unit table uid ≡ false
   no_new table uid =
-      ap (λ on. is_in_effect on (has_filter (unit_filters unit table)) uid (ambient_of unit)) unset
-      ∙ ap (λ settings. is_in_effect false (has_filter settings) uid (ambient_of unit)) (filters_bare table)
+      ap (λ on. is_in_effect on (has_filter (unit_filters unit table) table) uid (ambient_of unit)) unset
+      ∙ ap (λ places. is_in_effect false (not (length places == 0)) uid (ambient_of unit)) (none_on table)
 
   -- paths
   nothing_written : unit_written unit ≡ []
@@ -289,6 +303,10 @@ module _ (unit : Resolved) (h : HasCommandAlone unit) where
   unfolding unit_namespaces_notes
   types_unnoted = none_of _ _ (lines_unnoted (codes "RestrictNamespaces") refl) (ap namespaces_notes (unlisted (codes "RestrictNamespaces") refl))
 
+  architectures_unnoted : (table : Table) → unit_architectures_notes unit table (codes "SystemCallArchitectures") ≡ []
+  unfolding unit_architectures_notes
+  architectures_unnoted table = none_of _ _ (words_unnoted (codes "SystemCallArchitectures") refl) (ap (flat_map (value_notes table)) (nothing (codes "SystemCallArchitectures") refl))
+
   filters_unnoted : (table : Table) → filter_notes unit table ≡ []
   unfolding filter_notes restriction_notes flag_protection_notes list_notes
   filters_unnoted table =
@@ -296,7 +314,7 @@ module _ (unit : Resolved) (h : HasCommandAlone unit) where
       (none_of _ _
       (none_of _ _ (none_of _ _ (none_of _ _ (flag_unnoted (codes "MemoryDenyWriteExecute") refl) (flag_unnoted (codes "RestrictRealtime") refl)) (flag_unnoted (codes "RestrictSUIDSGID") refl)) (flag_unnoted (codes "LockPersonality") refl))
       (none_of _ _ (none_of _ _ (none_of _ _ (none_of _ _ (flag_unnoted (codes "ProtectHostname") refl) (flag_unnoted (codes "ProtectKernelModules") refl)) (flag_unnoted (codes "ProtectKernelLogs") refl)) (flag_unnoted (codes "ProtectClock") refl)) (flag_unnoted (codes "PrivateDevices") refl)))
-      (none_of _ _ (none_of _ _ (none_of _ _ (read_unnoted error_action_value (codes "SystemCallErrorNumber") refl) types_unnoted) (families_unnoted table)) (calls_unnoted table))
+      (none_of _ _ (none_of _ _ (none_of _ _ (none_of _ _ (read_unnoted error_action_value (codes "SystemCallErrorNumber") refl) types_unnoted) (families_unnoted table)) (calls_unnoted table)) (architectures_unnoted table))
 
   identity_unnoted : identity_notes unit ≡ []
   unfolding identity_notes

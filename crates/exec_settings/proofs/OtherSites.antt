@@ -60,9 +60,9 @@ mentions_same unit site other same =
 ids_same : (unit : Resolved) (site other : Site) → AreSameFor unit site other → identity_of unit other (is_dynamic unit) ≡ identity_of unit site (is_dynamic unit)
 unfolding identity_of
 ids_same unit site other agree =
-    ap (λ uid. identity_of unit (site_with uid other.rows other.users other.groups) (is_dynamic unit)) agree.dynamic_uid
-    ∙ ap (λ (users : _). identity_of unit (site_with site.dynamic_uid other.rows users other.groups) (is_dynamic unit)) agree.users
-    ∙ ap (λ (groups : _). identity_of unit (site_with site.dynamic_uid other.rows site.users groups) (is_dynamic unit)) agree.groups
+    ap (λ uid. identity_of unit (site_with uid other.user_namespaces other.rows other.users other.groups) (is_dynamic unit)) agree.dynamic_uid
+    ∙ ap (λ (users : _). identity_of unit (site_with site.dynamic_uid other.user_namespaces other.rows users other.groups) (is_dynamic unit)) agree.users
+    ∙ ap (λ (groups : _). identity_of unit (site_with site.dynamic_uid other.user_namespaces other.rows site.users groups) (is_dynamic unit)) agree.groups
 
 pub settings_rest : SettingsRestOnFew
 settings_rest unit table site other made same own = record {

@@ -1,8 +1,10 @@
 -- What is said by a unit without its other sections.
 use Rattle.std.proofs.Common.{◌≡◌, ℕ, ◌+◌, Bool, cond, Option, Some, None, List, [], ◌∷◌, ◌++◌, map, codes, refl, sym, ap, ◌∙◌, subst}
-use Rattle.std.specs.Prelude.{◌||◌, false, length, nat_lt, find, flat_map, unwrap_or}
+use Rattle.std.specs.Prelude.{◌||◌, ◌&&◌, not, is_some, false, length, nat_lt, find, flat_map, unwrap_or}
 use Rattle.std.specs.Option.{option_map}
-use Rattle.std.specs.List.{enumerate_from, filter_map}
+use Rattle.std.specs.List.{enumerate_from, filter_map, list_any}
+use Rattle.unit_values.specs.declared.value.Value.{Value}
+use Rattle.unit_values.specs.Values.{values_of, in_force as in_force_values}
 use Rattle.dropin_merge.specs.declared.resolved.Resolved.{Resolved}
 use Rattle.dropin_merge.specs.declared.resolved.UnitFile.{UnitFile}
 use Rattle.unit_grammar.specs.Before.{last_of}
@@ -19,6 +21,7 @@ use Rattle.filter_settings.specs.CallLists.{call_list, call_notes, unit_call_lis
 use Rattle.filter_settings.specs.ErrorActions.{default_action, error_action_value, unit_error_action}
 use Rattle.filter_settings.specs.FamilyLists.{family_list, family_notes, unit_family_list, unit_family_list_notes}
 use Rattle.filter_settings.specs.Lines.{in_force}
+use Rattle.filter_settings.specs.Architectures.{is_second, is_read, value_notes, unit_refuses_second, unit_architectures_notes}
 use Rattle.filter_settings.specs.Namespaces.{namespaces_notes, namespaces_of, unit_namespaces, unit_namespaces_notes}
 use Rattle.filter_settings.specs.Settings.{filter_notes, list_notes, protection_notes as flag_protection_notes, restriction_notes, settings_of}
 use Rattle.cred_settings.specs.Ambient.{ambient_of}
@@ -145,14 +148,24 @@ module _ (unit : Resolved) where
   unfolding unit_namespaces_notes
   types_notes key = both _ _ _ _ (lines_notes key) (ap namespaces_notes (lines key))
 
+  unpermitted : (table : Table) (key : List ℕ) → unit_refuses_second alone table key ≡ unit_refuses_second unit table key
+  unfolding unit_refuses_second
+  unpermitted table key =
+      ap (λ (values : List Value). is_some table.second && (list_any is_read (in_force_values values) && not (list_any (is_second table) (unit_words alone key)))) (same_values unit key)
+      ∙ ap (λ ws. is_some table.second && (list_any is_read (in_force_values (values_of unit key)) && not (list_any (is_second table) ws))) (words key)
+
+  unpermitted_notes : (table : Table) (key : List ℕ) → unit_architectures_notes alone table key ≡ unit_architectures_notes unit table key
+  unfolding unit_architectures_notes
+  unpermitted_notes table key = both _ _ _ _ (words_notes key) (ap (flat_map (value_notes table)) (same_values unit key))
+
   settings_same : (table : Table) → settings_of alone table ≡ settings_of unit table
   settings_same table =
       same_settings _ (unit_call_list unit table (codes "SystemCallFilter")) _ (unit_error_action unit (codes "SystemCallErrorNumber")) _ (unit_family_list unit table (codes "RestrictAddressFamilies")) _ (unit_namespaces unit (codes "RestrictNamespaces"))
       _ (unit_flag unit (codes "MemoryDenyWriteExecute")) _ (unit_flag unit (codes "RestrictRealtime")) _ (unit_flag unit (codes "RestrictSUIDSGID")) _ (unit_flag unit (codes "LockPersonality"))
-      _ (unit_flag unit (codes "ProtectHostname")) _ (unit_flag unit (codes "ProtectKernelModules")) _ (unit_flag unit (codes "ProtectKernelLogs")) _ (unit_flag unit (codes "ProtectClock")) _ (unit_flag unit (codes "PrivateDevices"))
+      _ (unit_flag unit (codes "ProtectHostname")) _ (unit_flag unit (codes "ProtectKernelModules")) _ (unit_flag unit (codes "ProtectKernelLogs")) _ (unit_flag unit (codes "ProtectClock")) _ (unit_flag unit (codes "PrivateDevices")) _ (unit_refuses_second unit table (codes "SystemCallArchitectures"))
       (calls table (codes "SystemCallFilter")) (ap (λ value. value.action) (last error_action_value default_action (codes "SystemCallErrorNumber"))) (families table (codes "RestrictAddressFamilies")) (types (codes "RestrictNamespaces"))
       (flag (codes "MemoryDenyWriteExecute")) (flag (codes "RestrictRealtime")) (flag (codes "RestrictSUIDSGID")) (flag (codes "LockPersonality"))
-      (flag (codes "ProtectHostname")) (flag (codes "ProtectKernelModules")) (flag (codes "ProtectKernelLogs")) (flag (codes "ProtectClock")) (flag (codes "PrivateDevices"))
+      (flag (codes "ProtectHostname")) (flag (codes "ProtectKernelModules")) (flag (codes "ProtectKernelLogs")) (flag (codes "ProtectClock")) (flag (codes "PrivateDevices")) (unpermitted table (codes "SystemCallArchitectures"))
 
   dynamic : is_dynamic alone ≡ is_dynamic unit
   unfolding is_dynamic
@@ -175,7 +188,7 @@ module _ (unit : Resolved) where
   lists_noted : (table : Table) → list_notes alone table ≡ list_notes unit table
   unfolding list_notes
   lists_noted table =
-      four _ _ _ _ _ _ _ _ (last_notes error_action_value (codes "SystemCallErrorNumber")) (types_notes (codes "RestrictNamespaces")) (families_notes table (codes "RestrictAddressFamilies")) (calls_notes table (codes "SystemCallFilter"))
+      five _ _ _ _ _ _ _ _ _ _ (last_notes error_action_value (codes "SystemCallErrorNumber")) (types_notes (codes "RestrictNamespaces")) (families_notes table (codes "RestrictAddressFamilies")) (calls_notes table (codes "SystemCallFilter")) (unpermitted_notes table (codes "SystemCallArchitectures"))
 
   filters_noted : (table : Table) → filter_notes alone table ≡ filter_notes unit table
   unfolding filter_notes
@@ -211,9 +224,9 @@ module _ (unit : Resolved) where
 
   new_privileges : (table : Table) (uid : ℕ) → unit_new_privileges alone table uid ≡ unit_new_privileges unit table uid
   new_privileges table uid =
-      ap (λ on. is_in_effect on (has_filter (unit_filters alone table)) uid (ambient_of alone)) sets
-      ∙ ap (λ settings. is_in_effect (sets_new_privileges unit) (has_filter settings) uid (ambient_of alone)) (filters table)
-      ∙ ap (is_in_effect (sets_new_privileges unit) (has_filter (unit_filters unit table)) uid) ambient
+      ap (λ on. is_in_effect on (has_filter (unit_filters alone table) table) uid (ambient_of alone)) sets
+      ∙ ap (λ settings. is_in_effect (sets_new_privileges unit) (has_filter settings table) uid (ambient_of alone)) (filters table)
+      ∙ ap (is_in_effect (sets_new_privileges unit) (has_filter (unit_filters unit table) table) uid) ambient
 
   identity_noted : identity_notes alone ≡ identity_notes unit
   unfolding identity_notes

@@ -48,4 +48,4 @@ module _ (unit : Resolved) (command : Command) (none : outside_key unit command 
   unfolding keys
   no_root_key =
       none_of_four (mentions_root (unit_written unit)) path.BindPaths path.BindReadOnlyPaths path.InaccessiblePaths path.TemporaryFileSystem
-      (unused 1 _ refl) (unused 2 _ refl) (unused 11 _ refl) (unused 43 _ refl)
+      (unused 1 _ refl) (unused 2 _ refl) (unused 11 _ refl) (unused 44 _ refl)

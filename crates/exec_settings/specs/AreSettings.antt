@@ -1,5 +1,5 @@
 -- What it is to be the settings of a unit.
-use Rattle.std.specs.Prelude.{◌≡◌, ◌≤◌, Ok, Some, List, filter, map, IsTrue}
+use Rattle.std.specs.Prelude.{◌≡◌, ◌≤◌, Ok, Some, List, map, IsTrue}
 use Rattle.std.specs.List.{All}
 use Rattle.bpf_code.specs.declared.machine.CallData.{CallData}
 use Rattle.call_rules.specs.Action.{case_action}
@@ -10,8 +10,8 @@ use Rattle.cred_settings.specs.Identities.{identity_of}
 use Rattle.dropin_merge.specs.declared.resolved.Resolved.{Resolved}
 use Rattle.filter_rules.specs.Costs.{HasShortCases, most_room}
 use Rattle.filter_rules.specs.Refusing.{AreRefusing}
-use Rattle.filter_rules.specs.Names.{all_filters}
-use Rattle.filter_rules.specs.Wanted.{is_on, wanted_action}
+use Rattle.filter_rules.specs.Installed.{place_of, installed}
+use Rattle.filter_rules.specs.Wanted.{wanted_action}
 use Rattle.filter_rules.specs.declared.installed.Filter.{Filter}
 use Rattle.filter_rules.specs.declared.settings.FilterSettings.{FilterSettings}
 use Rattle.path_settings.specs.Mentions.{leaves_the_root}
@@ -24,15 +24,15 @@ use Rattle.exec_settings.specs.Notes.{all_notes}
 use Rattle.exec_settings.specs.Order.{AreInOrder}
 use Rattle.exec_settings.specs.Settings.{unit_bounding, unit_new_privileges, unit_program}
 
--- the rules of a filter do to every call what the settings say by names and words
+-- the rules of a filter for an ABI do to every call what the settings say by names and words
 abbrev pub HasWantedRules : FilterSettings → Table → Filter → Type 0
-HasWantedRules settings table one = (input : CallData) → case_action one.rules input ≡ wanted_action one.name settings table input
+HasWantedRules settings table one = (input : CallData) → case_action one.rules input ≡ wanted_action one.name settings table one.abi input
 
--- exactly the filters that are on, in the order in which they are installed; each can be compiled, all fit into one stack of
+-- exactly the programs of the filters that are on, in the order in which they are installed; each can be compiled, all fit into one stack of
 -- programs, at most eight cases stand for a call or one whole value of one argument for each, and what is refused ends the
 -- process or answers an error number
 pub record AreFilters (settings : FilterSettings) (table : Table) (filters : List Filter) : Type 0 where
-  pub exactly_those_on : map (λ one. one.name) filters ≡ filter (is_on settings) all_filters
+  pub exactly_those_on : map place_of filters ≡ installed settings table
   pub do_as_wanted : All (HasWantedRules settings table) filters
   pub can_be_compiled : All (λ one. CanCompile one.rules) filters
   pub fit_into_a_stack : most_room filters ≤ 32768

@@ -30,6 +30,7 @@ with_dynamic_user dynamic said = record {
   protect_kernel_logs = said.protect_kernel_logs;
   protect_clock = said.protect_clock;
   private_devices = said.private_devices;
+  second_abi_refused = said.second_abi_refused;
 }
 
 -- what the keys of the filters come to

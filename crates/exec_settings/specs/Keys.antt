@@ -53,6 +53,7 @@ keys =
     (codes "SecureBits", Refused) ∷
     (codes "StateDirectory", Path) ∷
     (codes "SupplementaryGroups", Credentials) ∷
+    (codes "SystemCallArchitectures", Filter) ∷
     (codes "SystemCallErrorNumber", Filter) ∷
     (codes "SystemCallFilter", Filter) ∷
     (codes "TemporaryFileSystem", Place path.TemporaryFileSystem) ∷

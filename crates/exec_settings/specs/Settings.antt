@@ -1,11 +1,10 @@
 -- What the settings of a unit are.
-use Rattle.std.specs.Prelude.{ℕ, ◌==◌, not, Bool, Option, Some, None, option_and_then, filter, length}
+use Rattle.std.specs.Prelude.{ℕ, ◌==◌, not, Bool, Option, Some, None, option_and_then, length}
 use Rattle.abs_path.specs.Paths.{Path}
 use Rattle.cred_settings.specs.Ambient.{ambient_of}
 use Rattle.cred_settings.specs.Bounding.{bounding_of}
 use Rattle.cred_settings.specs.NewPrivileges.{is_in_effect}
-use Rattle.filter_rules.specs.Names.{all_filters}
-use Rattle.filter_rules.specs.Wanted.{is_on}
+use Rattle.filter_rules.specs.Installed.{installed}
 use Rattle.filter_rules.specs.declared.settings.FilterSettings.{FilterSettings}
 use Rattle.dropin_merge.specs.declared.resolved.Resolved.{Resolved}
 use Rattle.call_table.specs.Table.{Table}
@@ -32,9 +31,9 @@ abbrev pub unit_bounding : Resolved → Table → ℕ
 unit_bounding unit table = left_of (bounding_of unit) (unit_filters unit table)
 
 -- some filter of system calls is on
-abbrev pub has_filter : FilterSettings → Bool
-has_filter settings = not (length (filter (is_on settings) all_filters) == 0)
+abbrev pub has_filter : FilterSettings → Table → Bool
+has_filter settings table = not (length (installed settings table) == 0)
 
 -- NoNewPrivileges= is in effect for a service with this uid
 abbrev pub unit_new_privileges : Resolved → Table → ℕ → Bool
-unit_new_privileges unit table uid = is_in_effect (sets_new_privileges unit) (has_filter (unit_filters unit table)) uid (ambient_of unit)
+unit_new_privileges unit table uid = is_in_effect (sets_new_privileges unit) (has_filter (unit_filters unit table) table) uid (ambient_of unit)

@@ -71,6 +71,7 @@ pub fn keys() -> &'static [(&'static str, Meaning)]
         ("SecureBits", Refused),
         ("StateDirectory", Path),
         ("SupplementaryGroups", Credentials),
+        ("SystemCallArchitectures", Filter),
         ("SystemCallErrorNumber", Filter),
         ("SystemCallFilter", Filter),
         ("TemporaryFileSystem", Place(PathKey::TemporaryFileSystem)),

@@ -11,6 +11,8 @@ use Rattle.call_rules.specs.Sizes.{most_insns}
 use Rattle.call_table.specs.Table.{Table}
 use Rattle.filter_rules.specs.Costs.{HasShortCases, most_room}
 use Rattle.filter_rules.specs.Wanted.{wanted_action}
+use Rattle.filter_rules.specs.Names.{Place}
+use Rattle.filter_rules.specs.Installed.{place_of}
 use Rattle.filter_rules.specs.declared.installed.Filter.{Filter}
 use Rattle.filter_rules.specs.declared.settings.FilterSettings.{FilterSettings}
 use Rattle.exec_settings.specs.AreSettings.{AreFilters as AreRules, HasWantedRules}
@@ -29,16 +31,16 @@ compiled_more filters i filter made next one lt is compiled items before =
     let whole : take i filters ++ filter ∷ [] ≡ take (i + 1) filters = ap (λ f. take i filters ++ f ∷ []) is ∙ sym (take_more filters i filter lt) in
     subst (λ fs. AreCompiled fs next) whole (subst (AreCompiled (take i filters ++ filter ∷ [])) (sym items) (push (take i filters) made filter one before compiled))
 
-names : (filters : List Filter) (made : List Compiled) → AreCompiled filters made → map (λ one. one.name) made ≡ map (λ one. one.name) filters
+names : (filters : List Filter) (made : List Compiled) → AreCompiled filters made → map (λ one. (one.name, one.abi)) made ≡ map place_of filters
 names [] [] are = refl
 names [] (one ∷ made) are = absurd are
 names (rules ∷ filters) [] are = absurd are
-names (rules ∷ filters) (one ∷ made) are = ap (λ name. name ∷ map (λ one. one.name) made) are.0.named ∙ ap (λ rest. rules.name ∷ rest) (names filters made are.1)
+names (rules ∷ filters) (one ∷ made) are = ap (λ place. place ∷ map (λ one. (one.name, one.abi)) made) are.0.placed ∙ ap (λ rest. place_of rules ∷ rest) (names filters made are.1)
 
 -- a program that decides as rules do what is wanted does so too
 one_does : (settings : FilterSettings) (table : Table) (filter : Filter) (one : Compiled) → IsCompiled filter one → HasWantedRules settings table filter → All HasShortCases filter.rules.calls → DoesAsWanted settings table one
 one_does settings table filter one is wanted short = λ input is_data.
-    subst (λ action. AnswersWithin 96 one.program input (word_of action)) (wanted input ∙ ap (λ name. wanted_action name settings table input) (sym is.named)) (is.decides_soon short input is_data)
+    subst (λ action. AnswersWithin 96 one.program input (word_of action)) (wanted input ∙ ap (λ (place : Place). wanted_action place.0 settings table place.1 input) (sym is.placed)) (is.decides_soon short input is_data)
 
 -- the rules of each filter have short cases
 abbrev AreShort : List Filter → Type 0
@@ -71,7 +73,7 @@ room (rules ∷ filters) (one ∷ made) are =
 -- programs of rules that are wanted are the filters that are wanted
 pub are_filters : (settings : FilterSettings) (table : Table) (filters : List Filter) (made : List Compiled) → AreRules settings table filters → AreCompiled filters made → AreFilters settings table made
 are_filters settings table filters made rules are = record {
-  named = names filters made are ∙ rules.exactly_those_on;
+  placed = names filters made are ∙ rules.exactly_those_on;
   do_as_wanted = all_do settings table filters made are rules.do_as_wanted rules.cases_are_short;
   accepted = all_accepted filters made are;
   fit_into_a_stack = omega (arith, room filters made are, rules.fit_into_a_stack);

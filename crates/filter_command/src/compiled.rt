@@ -13,6 +13,8 @@ use std::alloc::{AllocError, Global};
 #[derive(Drop)]
 pub struct Compiled {
     pub name: FilterName,
+    /// The position of its ABI in the table of calls, from 0.
+    pub abi: u8,
     pub program: Program,
 }
 
@@ -23,6 +25,7 @@ fn compile_one(alloc: Global, filter: &Filter) -> Result<Compiled, AllocError>
 {
     Ok(Compiled {
         name: filter.name,
+        abi: filter.abi,
         program: compile(alloc, &filter.rules)?,
     })
 }

@@ -2,7 +2,6 @@ pub mod Chosen
 pub mod Counted
 pub mod LowWords
 pub mod Mapped
-pub mod Membership
 pub mod Ordered
 pub mod Room
 pub mod RulesOf

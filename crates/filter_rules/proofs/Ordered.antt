@@ -12,7 +12,7 @@ use Rattle.filter_rules.specs.Order.{Ascends}
 
 -- what stands in for a call behind the last one
 abbrev pub no_line : ℕ → CallLine
-no_line number = record { name = []; number = number; cap = None }
+no_line number = record { name = []; number = number; cap = None; abi = 0 }
 
 -- the call at the position of a number
 abbrev pub line_at : List CallLine → Numbered → CallLine

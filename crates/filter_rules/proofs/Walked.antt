@@ -14,7 +14,6 @@ use Rattle.std.proofs.lemmas.Map.Keys.{IsStrictlyIncreasing-from_sorted, sorted_
 use Rattle.bpf_code.specs.declared.machine.CallData.{CallData}
 use Rattle.call_rules.specs.declared.rules.CallRule.{CallRule}
 use Rattle.call_rules.specs.declared.actions.Action.{Action}
-use Rattle.call_rules.specs.declared.actions.Action.TheVariants.{KillProcess}
 use Rattle.call_rules.specs.Action.{case_action, call_action as rule_action}
 use Rattle.call_table.specs.declared.listed.CallLine.{CallLine}
 use Rattle.call_table.specs.Lookups.{has_number, numbered}
@@ -167,11 +166,11 @@ by_name input choose wanted rest h (Some call) = chosen (choose call.name) ∙ h
     chosen None = refl
     chosen (Some choice) = rule_chooses input call.number choice
 
-pub decides : (arch : ℕ) (calls ordered : List CallLine) (choose : List ℕ → Option Choice) (wanted : List ℕ → Action) (rest : Action) (input : CallData) → Ascends calls ordered →
+pub decides : (arch : ℕ) (calls ordered : List CallLine) (choose : List ℕ → Option Choice) (wanted : List ℕ → Action) (rest other : Action) (input : CallData) → Ascends calls ordered →
     ((name : List ℕ) → option_map_or (choice_action input) (choose name) rest ≡ wanted name) →
-    case_action (record { arch = arch; calls = rules_of choose ordered; rest = rest }) input ≡ cond (eqb input.arch arch) (option_map_or (λ call. wanted call.name) (numbered input.nr calls) rest) KillProcess
-decides arch calls ordered choose wanted rest input a h =
-    ap (λ action. cond (eqb input.arch arch) action KillProcess)
+    case_action (record { arch = arch; calls = rules_of choose ordered; rest = rest; other = other }) input ≡ cond (eqb input.arch arch) (option_map_or (λ call. wanted call.name) (numbered input.nr calls) rest) other
+decides arch calls ordered choose wanted rest other input a h =
+    ap (λ action. cond (eqb input.arch arch) action other)
     (ap (λ o. option_map_or (rule_action input) o rest)
     (found input.nr choose ordered (sorted_from_strictly_increasing (numbers ordered) a.ascending) ∙ ap (option_and_then (rule_at choose)) (same_found calls ordered input.nr a))
     ∙ by_name input choose wanted rest h (numbered input.nr calls))

@@ -8,7 +8,7 @@ use Rattle.call_rules.specs.Sizes.{case_count, test_count, most_insns}
 use Rattle.filter_rules.specs.Choices.{whole}
 use Rattle.filter_rules.specs.declared.installed.Filter.{Filter}
 use Rattle.filter_rules.specs.declared.names.FilterName.{FilterName}
-use Rattle.filter_rules.specs.declared.names.FilterName.TheVariants.{Families, MemoryDenyWriteExecute, Realtime, Suid, Namespaces, Hostname, Modules, Logs, Clock, Devices, Personality, Calls}
+use Rattle.filter_rules.specs.declared.names.FilterName.TheVariants.{Families, MemoryDenyWriteExecute, Realtime, Suid, Namespaces, Hostname, Modules, Logs, Clock, Devices, Personality, Calls, Archs}
 
 -- calls with a rule, cases over all of them, tests over all cases
 pub record Costs : Type 0 where
@@ -33,6 +33,7 @@ most_costs Clock = costs 512 0 0
 most_costs Devices = costs 512 0 0
 most_costs Personality = costs 1 2 2
 most_costs Calls = costs 512 0 0
+most_costs Archs = costs 0 0 0
 
 pub record KeepsWithin (most : Costs) (rules : RuleSet) : Type 0 where
   pub calls : length rules.calls ≤ most.calls

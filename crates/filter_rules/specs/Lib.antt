@@ -12,6 +12,7 @@ pub mod Personality
 pub mod Calls
 pub mod Refusing
 pub mod Wanted
+pub mod Installed
 pub mod Known
 pub mod Order
 pub mod Costs

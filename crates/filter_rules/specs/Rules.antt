@@ -1,5 +1,5 @@
 -- The rules of a filter.
-use Rattle.std.specs.Prelude.{◌≡◌, ℕ, Option, List}
+use Rattle.std.specs.Prelude.{◌≡◌, ℕ, Option, None, List}
 use Rattle.std.specs.Option.{option_map}
 use Rattle.std.specs.List.{All}
 use Rattle.bpf_code.specs.declared.machine.CallData.{CallData}
@@ -11,7 +11,7 @@ use Rattle.call_table.specs.declared.listed.CallLine.{CallLine}
 use Rattle.filter_rules.specs.declared.choice.Choice.{Choice}
 use Rattle.filter_rules.specs.declared.settings.FilterSettings.{FilterSettings}
 use Rattle.filter_rules.specs.declared.names.FilterName.{FilterName}
-use Rattle.filter_rules.specs.declared.names.FilterName.TheVariants.{Families, MemoryDenyWriteExecute, Realtime, Suid, Namespaces, Hostname, Modules, Logs, Clock, Devices, Personality, Calls}
+use Rattle.filter_rules.specs.declared.names.FilterName.TheVariants.{Families, MemoryDenyWriteExecute, Realtime, Suid, Namespaces, Hostname, Modules, Logs, Clock, Devices, Personality, Calls, Archs}
 use Rattle.filter_rules.specs.Blocked.{hostname_words, modules_words, logs_words, clock_words, devices_words}
 use Rattle.filter_rules.specs.Choices.{rule_with}
 use Rattle.filter_rules.specs.FamiliesChoice.{families_choice}
@@ -40,13 +40,14 @@ choice_of Clock settings table name = blocked_choice table clock_words name
 choice_of Devices settings table name = blocked_choice table devices_words name
 choice_of Personality settings table name = personality_choice name
 choice_of Calls settings table name = calls_choice table settings.calls settings.default_action name
+choice_of Archs settings table name = None
 
 abbrev pub rule_for : FilterName → FilterSettings → Table → CallLine → Option CallRule
 rule_for filter settings table call = option_map (rule_with call.number) (choice_of filter settings table call.name)
 
--- rules that do what the settings say, and are not too large
-pub record AreRulesOf (filter : FilterName) (settings : FilterSettings) (table : Table) (rules : RuleSet) : Type 0 where
-  pub wanted : (input : CallData) → case_action rules input ≡ wanted_action filter settings table input
+-- rules for the ABI of a position that do what the settings say, and are not too large
+pub record AreRulesOf (filter : FilterName) (settings : FilterSettings) (table : Table) (abi : ℕ) (rules : RuleSet) : Type 0 where
+  pub wanted : (input : CallData) → case_action rules input ≡ wanted_action filter settings table abi input
   pub compiled : CanCompile rules
   pub within : KeepsWithin (most_costs filter) rules
   pub short : All HasShortCases rules.calls

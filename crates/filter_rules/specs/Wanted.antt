@@ -1,16 +1,16 @@
 -- What the settings say of every call: by the filter's name, by the names of the table and by the low 32 bits of
 -- the arguments.
-use Rattle.std.specs.Prelude.{ℕ, ◌==◌, not, if◌then◌else◌, Bool, List, is_some}
+use Rattle.std.specs.Prelude.{ℕ, ◌==◌, not, if◌then◌else◌, Bool, List, Option, None, Some, is_some}
 use Rattle.std.specs.Option.{option_map_or}
 use Rattle.std.specs.List.{list_all}
 use Rattle.bpf_code.specs.declared.machine.CallData.{CallData}
 use Rattle.call_rules.specs.declared.actions.Action.{Action}
 use Rattle.call_rules.specs.declared.actions.Action.TheVariants.{KillProcess, Allow}
-use Rattle.call_table.specs.Table.{Table}
+use Rattle.call_table.specs.Table.{Abi, Table, arch_of, calls_in}
 use Rattle.call_table.specs.Lookups.{numbered}
 use Rattle.filter_rules.specs.declared.settings.FilterSettings.{FilterSettings}
 use Rattle.filter_rules.specs.declared.names.FilterName.{FilterName}
-use Rattle.filter_rules.specs.declared.names.FilterName.TheVariants.{Families, MemoryDenyWriteExecute, Realtime, Suid, Namespaces, Hostname, Modules, Logs, Clock, Devices, Personality, Calls}
+use Rattle.filter_rules.specs.declared.names.FilterName.TheVariants.{Families, MemoryDenyWriteExecute, Realtime, Suid, Namespaces, Hostname, Modules, Logs, Clock, Devices, Personality, Calls, Archs}
 use Rattle.linux_numbers.specs.Errnos.{eperm, eafnosupport}
 use Rattle.filter_rules.specs.Actions.{unless_refused}
 use Rattle.filter_rules.specs.Families.{refuses_family}
@@ -37,6 +37,7 @@ is_on settings Clock = settings.protect_clock
 is_on settings Devices = settings.private_devices
 is_on settings Personality = settings.lock_personality
 is_on settings Calls = is_some settings.calls
+is_on settings Archs = settings.second_abi_refused
 
 -- what a filter does to a call of this name
 abbrev pub named_action : FilterName → FilterSettings → Table → List ℕ → CallData → Action
@@ -52,6 +53,7 @@ named_action Clock settings table name input = unless_refused eperm (is_blocked 
 named_action Devices settings table name input = unless_refused eperm (is_blocked table devices_words name)
 named_action Personality settings table name input = unless_refused eperm (refuses_personality name input)
 named_action Calls settings table name input = call_action table settings.calls settings.default_action name
+named_action Archs settings table name input = KillProcess
 
 -- what a filter does to a number without a name
 abbrev pub unnamed_action : FilterName → FilterSettings → Action
@@ -67,10 +69,17 @@ unnamed_action Clock settings = Allow
 unnamed_action Devices settings = Allow
 unnamed_action Personality settings = Allow
 unnamed_action Calls settings = rest_action settings.calls settings.default_action
+unnamed_action Archs settings = KillProcess
 
--- another architecture than the table's ends the process; else the name of the number decides
-abbrev pub wanted_action : FilterName → FilterSettings → Table → CallData → Action
-wanted_action filter settings table input =
-    if input.arch == table.arch
-    then option_map_or (λ call. named_action filter settings table call.name input) (numbered input.nr table.calls) (unnamed_action filter settings)
-    else KillProcess
+-- what a filter does to a call of another architecture than its own: it ends the process where there is one ABI, and where
+-- there are two it leaves the call to the filters of the other
+abbrev pub other_action : Option Abi → Action
+other_action None = KillProcess
+other_action (Some second) = Allow
+
+-- of the ABI of a position: another architecture than its own, else the name that it gives the number decides
+abbrev pub wanted_action : FilterName → FilterSettings → Table → ℕ → CallData → Action
+wanted_action filter settings table abi input =
+    if input.arch == arch_of table abi
+    then option_map_or (λ call. named_action filter settings table call.name input) (numbered input.nr (calls_in table abi)) (unnamed_action filter settings)
+    else other_action table.second

@@ -1,16 +1,17 @@
 //! Which calls a word of a filter speaks of: a call by its name, or `@` and a group.
-ghost use Rattle.std.specs.Prelude.{◌≡◌};
+ghost use Rattle.std.specs.Prelude.{◌≡◌, ◌==◌, false};
+ghost use Rattle.std.specs.Option.{option_map_or};
 ghost use Rattle.std.specs.List.{list_any};
-ghost use Rattle.filter_rules.specs.Covers.{is_named, covers};
+ghost use Rattle.call_table.specs.Lookups.{place_named};
+ghost use Rattle.call_table.specs.Table.{every_call};
+ghost use Rattle.filter_rules.specs.Covers.{covers};
 
 use call_table::{CallTable, behind_at};
 
-// Whether the call of this name is one of the members, which are positions in the calls of the table.
+// Whether the first call of this name is one of the members, which are positions in all calls of the table.
 fn has_member_named(table: &CallTable, name: &str, members: &[usize]) -> bool
-    ensures { result ≡ list_any (is_named table.now.calls name.now) members.now }
+    ensures { result ≡ option_map_or (λ place. list_any (λ member. member == place) members.now) (place_named name.now (every_call table.now)) false }
 {
-    // What finding a call by its name rests on: no other has it.
-    let _ = table.calls();
     match table.position(name) {
         Some(position) => members.contains(&position),
         None => false,

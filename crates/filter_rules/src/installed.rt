@@ -1,17 +1,18 @@
 //! The filters that are on, in the order in which they are installed.
-ghost use Rattle.std.specs.Prelude.{◌≡◌, ◌≤◌, map, filter, IfOk};
+ghost use Rattle.std.specs.Prelude.{◌≡◌, ◌<◌, ◌≤◌, map, filter, length, IfOk};
 ghost use Rattle.std.specs.List.{All};
 ghost use Rattle.bpf_code.specs.declared.machine.CallData.{CallData};
 ghost use Rattle.call_rules.specs.Action.{case_action};
 ghost use Rattle.call_rules.specs.Sizes.{CanCompile};
 ghost use Rattle.filter_rules.specs.Costs.{KeepsWithin, HasShortCases, most_costs, most_room};
 ghost use Rattle.filter_rules.specs.Known.{HasKnownFamilies};
-ghost use Rattle.filter_rules.specs.Names.{all_filters};
+ghost use Rattle.filter_rules.specs.Installed.{shown, place_of, is_installed, installed};
+ghost use Rattle.call_table.specs.Table.{abis, calls_in};
 ghost use Rattle.filter_rules.specs.Order.{Ascends};
 ghost use Rattle.filter_rules.specs.Rules.{AreRulesOf};
 ghost use Rattle.filter_rules.specs.Wanted.{is_on, wanted_action};
 
-use crate::names::{FilterName, all_filters};
+use crate::names::{FilterName, FilterPlace, all_programs};
 use crate::namespaces::forbids_a_type;
 use crate::order::ascending;
 use crate::rules::rule_set;
@@ -20,10 +21,12 @@ use call_rules::RuleSet;
 use call_table::{CallLine, CallTable};
 use std::alloc::{AllocError, Global};
 
-/// A filter and its rules.
+/// A filter and its rules for an ABI.
 #[derive(Drop)]
 pub struct Filter {
     pub name: FilterName,
+    /// The position of its ABI in the table of calls, from 0.
+    pub abi: u8,
     pub rules: RuleSet,
 }
 
@@ -44,6 +47,29 @@ fn is_on(settings: &FilterSettings, filter: FilterName) -> bool
         FilterName::Devices => settings.private_devices,
         FilterName::Personality => settings.lock_personality,
         FilterName::Calls => settings.calls.is_some(),
+        FilterName::Archs => settings.second_abi_refused,
+    }
+}
+
+// The rules of a filter for its ABI, from the calls of both, ascending by number.
+fn rules_at(
+    alloc: Global,
+    table: &CallTable,
+    settings: &FilterSettings,
+    native: &[&CallLine],
+    second: &[&CallLine],
+    place: FilterPlace,
+) -> Result<RuleSet, AllocError>
+    requires known_families { HasKnownFamilies table.now settings.now }
+    requires in_range { place.abi < length (abis table.now) }
+    requires native_ascends { Ascends (calls_in table.now 0) (map (λ call. call.now) native.now) }
+    requires second_ascends { Ascends (calls_in table.now 1) (map (λ call. call.now) second.now) }
+    ensures { IfOk result (λ rules. AreRulesOf place.name settings.now table.now place.abi rules) }
+{
+    if place.abi == 0 {
+        rule_set(alloc, table, settings, place.name, 0, native)
+    } else {
+        rule_set(alloc, table, settings, place.name, 1, second)
     }
 }
 
@@ -52,25 +78,33 @@ fn filters_among(
     alloc: Global,
     table: &CallTable,
     settings: &FilterSettings,
-    calls: &[&CallLine],
-    names: &[FilterName],
+    native: &[&CallLine],
+    second: &[&CallLine],
+    places: &[FilterPlace],
 ) -> Result<Vec<Filter>, AllocError>
     requires known_families { HasKnownFamilies table.now settings.now }
-    requires ascends { Ascends table.now.calls (map (λ call. call.now) calls.now) }
-    ensures on { IfOk result (λ filters. map (λ made. made.name) filters.items ≡ filter (is_on settings.now) names.now) }
-    ensures rules { IfOk result (λ filters. All (λ made. AreRulesOf made.name settings.now table.now made.rules) filters.items) }
+    requires in_range { All (λ place. place.abi < length (abis table.now)) places.now }
+    requires native_ascends { Ascends (calls_in table.now 0) (map (λ call. call.now) native.now) }
+    requires second_ascends { Ascends (calls_in table.now 1) (map (λ call. call.now) second.now) }
+    ensures on { IfOk result (λ filters. map place_of filters.items ≡ filter (is_installed settings.now) (map shown places.now)) }
+    ensures rules { IfOk result (λ filters. All (λ made. AreRulesOf made.name settings.now table.now made.abi made.rules) filters.items) }
 {
     let mut filters = Vec::new(alloc);
-    for name in names {
-        if is_on(settings, *name) {
-            let rules = rule_set(alloc, table, settings, *name, calls)?;
-            filters.push(Filter { name: *name, rules })?;
+    for place in places {
+        if is_on(settings, place.name) {
+            let rules = rules_at(alloc, table, settings, native, second, *place)?;
+            filters.push(Filter {
+                name: place.name,
+                abi: place.abi,
+                rules,
+            })?;
         }
     }
     Ok(filters)
 }
 
-/// The filters that the settings ask for, with their rules (systemd.exec(5), Sandboxing and System Call Filtering).
+/// The filters that the settings ask for, with their rules for each ABI (systemd.exec(5), Sandboxing and System Call
+/// Filtering).
 ///
 /// Each family that is listed is one of the table, as where its word was looked up there. Where it is, want of
 /// memory is the only error.
@@ -81,9 +115,9 @@ pub fn filters(
 ) -> Result<Vec<Filter>, AllocError>
     requires known_families { HasKnownFamilies table.now settings.now }
     // Exactly the filters that are on, in the order in which they are installed.
-    ensures exactly_those_on { IfOk result (λ filters. map (λ made. made.name) filters.items ≡ filter (is_on settings.now) all_filters) }
+    ensures exactly_those_on { IfOk result (λ filters. map place_of filters.items ≡ installed settings.now table.now) }
     // What the settings say by names and words is what the rules say by numbers and tests.
-    ensures do_as_wanted { IfOk result (λ filters. All (λ made. (input : CallData) → case_action made.rules input ≡ wanted_action made.name settings.now table.now input) filters.items) }
+    ensures do_as_wanted { IfOk result (λ filters. All (λ made. (input : CallData) → case_action made.rules input ≡ wanted_action made.name settings.now table.now made.abi input) filters.items) }
     // Within the condition of a compiler, and within what the filter may cost.
     ensures can_be_compiled { IfOk result (λ filters. All (λ made. CanCompile made.rules) filters.items) }
     ensures keep_within_costs { IfOk result (λ filters. All (λ made. KeepsWithin (most_costs made.name) made.rules) filters.items) }
@@ -92,6 +126,14 @@ pub fn filters(
     // At most eight cases for a call, or one test each of one whole argument.
     ensures cases_are_short { IfOk result (λ filters. All (λ made. All HasShortCases made.rules.calls) filters.items) }
 {
-    let calls = ascending(alloc, table)?;
-    filters_among(alloc, table, settings, calls.as_slice(), all_filters())
+    let native = ascending(alloc, table, 0)?;
+    let second = ascending(alloc, table, 1)?;
+    filters_among(
+        alloc,
+        table,
+        settings,
+        native.as_slice(),
+        second.as_slice(),
+        all_programs(table),
+    )
 }

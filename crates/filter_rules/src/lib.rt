@@ -31,6 +31,6 @@ pub use calls::allows_call;
 pub use families::permits_family;
 pub use installed::{Filter, filters};
 pub use mentions::{CallList, FamilyList, FamilyMention, FamilyMentions, Mention, Mentions, Mode};
-pub use names::FilterName;
+pub use names::{FilterName, FilterPlace};
 pub use namespace_types::{NamespaceType, NamespaceTypes, all_types};
 pub use settings::FilterSettings;

@@ -1,6 +1,11 @@
 //! The names of filters, in the order in which filters are installed.
-ghost use Rattle.std.specs.Prelude.{◌≡◌};
-ghost use Rattle.filter_rules.specs.Names.{all_filters, text_of};
+ghost use Rattle.std.specs.Prelude.{◌≡◌, ◌<◌, map, length};
+ghost use Rattle.std.specs.List.{All};
+ghost use Rattle.call_table.specs.Table.{abis};
+ghost use Rattle.filter_rules.specs.Names.{all_programs, text_of};
+ghost use Rattle.filter_rules.specs.Installed.{shown};
+
+use call_table::CallTable;
 
 /// A filter, by the setting that asks for it (systemd.exec(5)).
 #[derive(Clone, Copy)]
@@ -29,6 +34,8 @@ pub enum FilterName {
     Personality,
     /// SystemCallFilter=
     Calls,
+    /// SystemCallArchitectures=
+    Archs,
 }
 
 impl FilterName {
@@ -49,26 +56,182 @@ impl FilterName {
             FilterName::Devices => "devices",
             FilterName::Personality => "personality",
             FilterName::Calls => "calls",
+            FilterName::Archs => "archs",
         }
     }
 }
 
-/// The filters in the order in which they are installed.
-pub fn all_filters() -> &'static [FilterName]
-    ensures { result.now ≡ all_filters }
+/// The program of a filter for an ABI, which is told by its position in the table of calls, from 0.
+#[derive(Clone, Copy)]
+pub struct FilterPlace {
+    pub name: FilterName,
+    pub abi: u8,
+}
+
+// Each filter for the one ABI that there is.
+const FOR_ONE: [FilterPlace; 12] = [
+    FilterPlace {
+        name: FilterName::Families,
+        abi: 0,
+    },
+    FilterPlace {
+        name: FilterName::MemoryDenyWriteExecute,
+        abi: 0,
+    },
+    FilterPlace {
+        name: FilterName::Realtime,
+        abi: 0,
+    },
+    FilterPlace {
+        name: FilterName::Suid,
+        abi: 0,
+    },
+    FilterPlace {
+        name: FilterName::Namespaces,
+        abi: 0,
+    },
+    FilterPlace {
+        name: FilterName::Hostname,
+        abi: 0,
+    },
+    FilterPlace {
+        name: FilterName::Modules,
+        abi: 0,
+    },
+    FilterPlace {
+        name: FilterName::Logs,
+        abi: 0,
+    },
+    FilterPlace {
+        name: FilterName::Clock,
+        abi: 0,
+    },
+    FilterPlace {
+        name: FilterName::Devices,
+        abi: 0,
+    },
+    FilterPlace {
+        name: FilterName::Personality,
+        abi: 0,
+    },
+    FilterPlace {
+        name: FilterName::Calls,
+        abi: 0,
+    },
+];
+
+// The filter on a second ABI, and each filter for both.
+const FOR_TWO: [FilterPlace; 25] = [
+    FilterPlace {
+        name: FilterName::Archs,
+        abi: 1,
+    },
+    FilterPlace {
+        name: FilterName::Families,
+        abi: 0,
+    },
+    FilterPlace {
+        name: FilterName::Families,
+        abi: 1,
+    },
+    FilterPlace {
+        name: FilterName::MemoryDenyWriteExecute,
+        abi: 0,
+    },
+    FilterPlace {
+        name: FilterName::MemoryDenyWriteExecute,
+        abi: 1,
+    },
+    FilterPlace {
+        name: FilterName::Realtime,
+        abi: 0,
+    },
+    FilterPlace {
+        name: FilterName::Realtime,
+        abi: 1,
+    },
+    FilterPlace {
+        name: FilterName::Suid,
+        abi: 0,
+    },
+    FilterPlace {
+        name: FilterName::Suid,
+        abi: 1,
+    },
+    FilterPlace {
+        name: FilterName::Namespaces,
+        abi: 0,
+    },
+    FilterPlace {
+        name: FilterName::Namespaces,
+        abi: 1,
+    },
+    FilterPlace {
+        name: FilterName::Hostname,
+        abi: 0,
+    },
+    FilterPlace {
+        name: FilterName::Hostname,
+        abi: 1,
+    },
+    FilterPlace {
+        name: FilterName::Modules,
+        abi: 0,
+    },
+    FilterPlace {
+        name: FilterName::Modules,
+        abi: 1,
+    },
+    FilterPlace {
+        name: FilterName::Logs,
+        abi: 0,
+    },
+    FilterPlace {
+        name: FilterName::Logs,
+        abi: 1,
+    },
+    FilterPlace {
+        name: FilterName::Clock,
+        abi: 0,
+    },
+    FilterPlace {
+        name: FilterName::Clock,
+        abi: 1,
+    },
+    FilterPlace {
+        name: FilterName::Devices,
+        abi: 0,
+    },
+    FilterPlace {
+        name: FilterName::Devices,
+        abi: 1,
+    },
+    FilterPlace {
+        name: FilterName::Personality,
+        abi: 0,
+    },
+    FilterPlace {
+        name: FilterName::Personality,
+        abi: 1,
+    },
+    FilterPlace {
+        name: FilterName::Calls,
+        abi: 0,
+    },
+    FilterPlace {
+        name: FilterName::Calls,
+        abi: 1,
+    },
+];
+
+/// All programs of filters in the order in which they are installed.
+pub fn all_programs(table: &CallTable) -> &'static [FilterPlace]
+    ensures programs { map shown result.now ≡ all_programs table.now.second }
+    ensures in_range { All (λ place. place.abi < length (abis table.now)) result.now }
 {
-    &[
-        FilterName::Families,
-        FilterName::MemoryDenyWriteExecute,
-        FilterName::Realtime,
-        FilterName::Suid,
-        FilterName::Namespaces,
-        FilterName::Hostname,
-        FilterName::Modules,
-        FilterName::Logs,
-        FilterName::Clock,
-        FilterName::Devices,
-        FilterName::Personality,
-        FilterName::Calls,
-    ]
+    if table.abis() == 1 {
+        &FOR_ONE
+    } else {
+        &FOR_TWO
+    }
 }

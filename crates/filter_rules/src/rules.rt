@@ -1,9 +1,10 @@
 //! The rules of a filter, made by walking the calls of the table: each call is asked for by its name.
-ghost use Rattle.std.specs.Prelude.{◌≡◌, map, IfOk};
+ghost use Rattle.std.specs.Prelude.{◌≡◌, ◌<◌, map, length, IfOk};
 ghost use Rattle.std.specs.List.{filter_map};
 ghost use Rattle.filter_rules.specs.Known.{HasKnownFamilies};
 ghost use Rattle.filter_rules.specs.Order.{Ascends};
-ghost use Rattle.filter_rules.specs.Wanted.{unnamed_action};
+ghost use Rattle.filter_rules.specs.Wanted.{unnamed_action, other_action};
+ghost use Rattle.call_table.specs.Table.{abis, calls_in};
 ghost use Rattle.filter_rules.specs.Rules.{choice_of, rule_for, AreRulesOf};
 
 use crate::blocked::blocked_choice;
@@ -55,6 +56,7 @@ fn choice_of(
             settings.default_action,
             name,
         )),
+        FilterName::Archs => Ok(None),
     }
 }
 
@@ -64,6 +66,7 @@ fn unnamed_action(settings: &FilterSettings, filter: FilterName) -> Action
 {
     match filter {
         FilterName::Calls => rest_action(&settings.calls, settings.default_action),
+        FilterName::Archs => Action::KillProcess,
         _ => Action::Allow,
     }
 }
@@ -101,27 +104,41 @@ fn rules_for(
     Ok(rules)
 }
 
-/// The rules of a filter, from the calls of the table, ascending by number.
+// What is done to calls of another architecture than that of a filter.
+fn other_action(table: &CallTable) -> Action
+    ensures { result ≡ other_action table.now.second }
+{
+    if table.abis() == 1 {
+        Action::KillProcess
+    } else {
+        Action::Allow
+    }
+}
+
+/// The rules of a filter for the ABI at this position, from its calls, ascending by number.
 pub fn rule_set(
     alloc: Global,
     table: &CallTable,
     settings: &FilterSettings,
     filter: FilterName,
+    abi: u8,
     calls: &[&CallLine],
 ) -> Result<RuleSet, AllocError>
     requires known_families { HasKnownFamilies table.now settings.now }
-    requires ascends { Ascends table.now.calls (map (λ call. call.now) calls.now) }
-    ensures { IfOk result (λ rules. AreRulesOf filter settings.now table.now rules) }
+    requires in_range { abi < length (abis table.now) }
+    requires ascends { Ascends (calls_in table.now abi) (map (λ call. call.now) calls.now) }
+    ensures { IfOk result (λ rules. AreRulesOf filter settings.now table.now abi rules) }
 {
     // What the costs of the rules rest on.
-    let few_calls = table.calls().len() <= 512;
+    let few_calls = table.calls_in(abi).len() <= 512;
     prove!(few_calls);
     let few_families = table.families().len() <= 128;
     prove!(few_families);
     let rules = rules_for(alloc, table, settings, filter, calls)?;
     Ok(RuleSet {
-        arch: table.arch(),
+        arch: table.arch_of(abi),
         calls: CallRules::new(rules),
         rest: unnamed_action(settings, filter),
+        other: other_action(table),
     })
 }

@@ -23,4 +23,6 @@ pub struct FilterSettings {
     pub protect_kernel_logs: bool,
     pub protect_clock: bool,
     pub private_devices: bool,
+    /// SystemCallArchitectures= is set, and does not permit the second ABI.
+    pub second_abi_refused: bool,
 }

@@ -19,3 +19,7 @@ four_said o a b c d {w} {x} {y} {z} {k} {m} {n} {p} first to_first second to_sec
   where
     all : p ≡ (((o ++ a) ++ b) ++ c) ++ d
     all = cc
+
+pub five_said : {X : Type 0} (o a b c d e : List X) {w x y z v k m n p q : List X} → w ≡ a → k ≡ o ++ w → x ≡ b → m ≡ k ++ x → y ≡ c → n ≡ m ++ y → z ≡ d → p ≡ n ++ z → v ≡ e → q ≡ p ++ v → q ≡ o ++ ((((a ++ b) ++ c) ++ d) ++ e)
+five_said o a b c d e {p = p} first to_first second to_second third to_third fourth to_fourth fifth to_fifth =
+    to_fifth ∙ ap (λ l. p ++ l) fifth ∙ ap (λ l. l ++ e) (four_said o a b c d first to_first second to_second third to_third fourth to_fourth) ∙ append_assoc o (((a ++ b) ++ c) ++ d) e

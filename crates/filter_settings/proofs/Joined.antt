@@ -9,14 +9,15 @@ use Rattle.filter_rules.specs.declared.namespace_types.NamespaceTypes.{Namespace
 use Rattle.filter_rules.specs.declared.settings.FilterSettings.{FilterSettings}
 use Rattle.unit_values.specs.Flags.{unit_flag}
 use Rattle.filter_settings.specs.ErrorActions.{unit_error_action}
+use Rattle.filter_settings.specs.Architectures.{unit_refuses_second}
 use Rattle.filter_settings.specs.CallLists.{unit_call_list}
 use Rattle.filter_settings.specs.FamilyLists.{unit_family_list}
 use Rattle.filter_settings.specs.Namespaces.{unit_namespaces}
 use Rattle.filter_settings.specs.Settings.{settings_of}
 
 -- the settings that these make
-abbrev pub made : Bool → Bool → Bool → Bool → Bool → Bool → Bool → Bool → Bool → Action → NamespaceTypes → Option FamilyList → Option CallList → FilterSettings
-made memory realtime suid personality hostname modules logs clock devices action types families calls =
+abbrev pub made : Bool → Bool → Bool → Bool → Bool → Bool → Bool → Bool → Bool → Action → NamespaceTypes → Option FamilyList → Option CallList → Bool → FilterSettings
+made memory realtime suid personality hostname modules logs clock devices action types families calls refused =
     record {
       calls = calls;
       default_action = action;
@@ -31,12 +32,13 @@ made memory realtime suid personality hostname modules logs clock devices action
       protect_kernel_logs = logs;
       protect_clock = clock;
       private_devices = devices;
+      second_abi_refused = refused;
     }
 
-pub joined_settings : (unit : Resolved) (table : Table) {memory realtime suid personality hostname modules logs clock devices : Bool} {action : Action} {types : NamespaceTypes} {families : Option FamilyList} {calls : Option CallList}
+pub joined_settings : (unit : Resolved) (table : Table) {memory realtime suid personality hostname modules logs clock devices : Bool} {action : Action} {types : NamespaceTypes} {families : Option FamilyList} {calls : Option CallList} {refused : Bool}
     → memory ≡ unit_flag unit (codes "MemoryDenyWriteExecute") → realtime ≡ unit_flag unit (codes "RestrictRealtime") → suid ≡ unit_flag unit (codes "RestrictSUIDSGID") → personality ≡ unit_flag unit (codes "LockPersonality")
     → hostname ≡ unit_flag unit (codes "ProtectHostname") → modules ≡ unit_flag unit (codes "ProtectKernelModules") → logs ≡ unit_flag unit (codes "ProtectKernelLogs") → clock ≡ unit_flag unit (codes "ProtectClock")
     → devices ≡ unit_flag unit (codes "PrivateDevices") → action ≡ unit_error_action unit (codes "SystemCallErrorNumber") → types ≡ unit_namespaces unit (codes "RestrictNamespaces")
-    → families ≡ unit_family_list unit table (codes "RestrictAddressFamilies") → calls ≡ unit_call_list unit table (codes "SystemCallFilter")
-    → made memory realtime suid personality hostname modules logs clock devices action types families calls ≡ settings_of unit table
-joined_settings unit table a b c d e f g h i j k l m = cc
+    → families ≡ unit_family_list unit table (codes "RestrictAddressFamilies") → calls ≡ unit_call_list unit table (codes "SystemCallFilter") → refused ≡ unit_refuses_second unit table (codes "SystemCallArchitectures")
+    → made memory realtime suid personality hostname modules logs clock devices action types families calls refused ≡ settings_of unit table
+joined_settings unit table a b c d e f g h i j k l m n = cc

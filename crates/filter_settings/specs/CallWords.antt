@@ -6,7 +6,7 @@ use Rattle.unit_grammar.specs.Kinds.{cut_at}
 use Rattle.unit_grammar.specs.declared.notes.NoteCause.{NoteCause}
 use Rattle.unit_grammar.specs.declared.notes.NoteCause.TheVariants.{Value as ValueCause, UnknownName}
 use Rattle.call_rules.specs.declared.actions.Action.{Action}
-use Rattle.call_table.specs.Table.{Table}
+use Rattle.call_table.specs.Table.{Table, every_call}
 use Rattle.call_table.specs.Names.{behind_at}
 use Rattle.call_table.specs.Lookups.{place_named, group_named}
 use Rattle.filter_rules.specs.declared.mentions.Mode.{Mode}
@@ -40,10 +40,10 @@ abbrev pub word_of : Bool → List ℕ → Option CallWord
 word_of may word = word_of_sides may word (cut_at (ascii ":") word)
 
 abbrev pub is_known_by : Table → List ℕ → Option (List ℕ) → Bool
-is_known_by table name None = is_some (place_named name table.calls)
+is_known_by table name None = is_some (place_named name (every_call table))
 is_known_by table name (Some group) = is_some (group_named group table.groups)
 
--- the table has a call of this name, or behind `@` a group
+-- some ABI of the table has a call of this name, or behind `@` the table a group
 abbrev pub is_known : Table → List ℕ → Bool
 is_known table name = is_known_by table name (behind_at name)
 

@@ -1,3 +1,4 @@
+pub mod Architectures
 pub mod ErrorActions
 pub mod Lines
 pub mod Modes

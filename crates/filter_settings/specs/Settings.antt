@@ -6,6 +6,7 @@ use Rattle.call_table.specs.Table.{Table}
 use Rattle.filter_rules.specs.declared.settings.FilterSettings.{FilterSettings}
 use Rattle.unit_values.specs.Flags.{unit_flag, unit_flag_notes}
 use Rattle.filter_settings.specs.ErrorActions.{unit_error_action, unit_error_action_notes}
+use Rattle.filter_settings.specs.Architectures.{unit_refuses_second, unit_architectures_notes}
 use Rattle.filter_settings.specs.CallLists.{unit_call_list, unit_call_list_notes}
 use Rattle.filter_settings.specs.FamilyLists.{unit_family_list, unit_family_list_notes}
 use Rattle.filter_settings.specs.Namespaces.{unit_namespaces, unit_namespaces_notes}
@@ -27,6 +28,7 @@ settings_of unit table =
       protect_kernel_logs = unit_flag unit (codes "ProtectKernelLogs");
       protect_clock = unit_flag unit (codes "ProtectClock");
       private_devices = unit_flag unit (codes "PrivateDevices");
+      second_abi_refused = unit_refuses_second unit table (codes "SystemCallArchitectures");
     }
 
 -- what is noted of the boolean keys that restrict what a service does, and of those that protect the system from it
@@ -46,9 +48,10 @@ protection_notes unit =
 -- of the keys that are actions or lists
 unfoldable pub list_notes : Resolved → Table → List FileNote
 list_notes unit table =
-    ((unit_error_action_notes unit (codes "SystemCallErrorNumber") ++ unit_namespaces_notes unit (codes "RestrictNamespaces"))
+    (((unit_error_action_notes unit (codes "SystemCallErrorNumber") ++ unit_namespaces_notes unit (codes "RestrictNamespaces"))
     ++ unit_family_list_notes unit table (codes "RestrictAddressFamilies"))
-    ++ unit_call_list_notes unit table (codes "SystemCallFilter")
+    ++ unit_call_list_notes unit table (codes "SystemCallFilter"))
+    ++ unit_architectures_notes unit table (codes "SystemCallArchitectures")
 
 -- all notes, key by key
 unfoldable pub filter_notes : Resolved → Table → List FileNote

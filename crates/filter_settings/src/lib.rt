@@ -7,6 +7,7 @@
 //! `filter_settings(alloc, &unit, &table)?` has the settings that `filter_rules::filters` takes, with the notes.
 #![tactic(auto)]
 
+mod architectures;
 mod call_lists;
 mod call_words;
 mod error_actions;

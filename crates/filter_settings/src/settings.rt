@@ -5,6 +5,7 @@ ghost use Rattle.filter_rules.specs.Known.{HasKnownFamilies};
 ghost use Rattle.filter_rules.specs.Refusing.{AreRefusing};
 ghost use Rattle.filter_settings.specs.Settings.{settings_of, filter_notes};
 
+use crate::architectures::second_refused_by_key;
 use crate::error_actions::error_action_of_key;
 use crate::key_lists::list_of_key;
 use crate::namespaces::namespaces_of_key;
@@ -28,7 +29,7 @@ fn flag(
 }
 
 /// What the files of a unit say of the keys of the system call filters (systemd.exec(5)): SystemCallFilter,
-/// SystemCallErrorNumber, RestrictAddressFamilies, RestrictNamespaces, and the boolean keys that turn a filter on.
+/// SystemCallErrorNumber, SystemCallArchitectures, RestrictAddressFamilies, RestrictNamespaces, and the boolean keys that turn a filter on.
 ///
 /// Calls, groups and families are looked up in the table. What cannot be read or is not known is passed over and
 /// noted, key by key; of one key first the values that cannot be expanded, then those that cannot be read, then words.
@@ -62,6 +63,12 @@ pub fn filter_settings(
         namespaces: namespaces_of_key(alloc, unit, "RestrictNamespaces")?.noted_in(&mut notes)?,
         families: list_of_key(alloc, unit, table, "RestrictAddressFamilies")?.noted_in(&mut notes)?,
         calls: list_of_key(alloc, unit, table, "SystemCallFilter")?.noted_in(&mut notes)?,
+        second_abi_refused: second_refused_by_key(
+            alloc,
+            unit,
+            table,
+            "SystemCallArchitectures",
+        )?.noted_in(&mut notes)?,
     };
     Ok(Said { what, notes })
 }

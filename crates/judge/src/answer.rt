@@ -5,6 +5,6 @@
 pub enum Verdict {
     /// No list of calls of the service's processes ever reaches it.
     Denied,
-    /// Nothing that is known of the launch keeps the processes from it.
+    /// Some list of calls of the service's processes reaches it, where the launch is one of a unit's settings.
     Open,
 }

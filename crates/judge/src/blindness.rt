@@ -6,6 +6,7 @@ ghost use Rattle.abs_path.specs.Prefix.{IsRest, is_below, is_prefix, rest_of};
 ghost use Rattle.linux_numbers.specs.Limits.{mount_max};
 ghost use Rattle.site_table.specs.Table.{kind_at};
 ghost use Rattle.site_table.specs.declared.kinds.RowKind.TheVariants.{Dir};
+ghost use Rattle.kern_mounts.specs.Mounts.{steps_of};
 ghost use Rattle.kernel_laws.specs.Blind.{exposes, is_blind, is_clear, shows_below};
 ghost use Rattle.kernel_laws.specs.Denied.{IsBlind};
 ghost use Rattle.kernel_laws.specs.Launched.{IsLaunchedWorld, launch_of};
@@ -25,7 +26,7 @@ fn is_clear(table: &MountTable, at: usize, front: &AbsPath, rest: &str, uncover:
     requires few { length table.now ≤ mount_max }
     requires in_range { at < length table.now }
     requires may_be_joined { IsRest rest.now }
-    ensures { result ≡ is_clear uncover (front.now ++ parts_of rest.now) (drop (at + 1) table.now) }
+    ensures { result ≡ is_clear uncover (front.now ++ parts_of rest.now) (drop (at + 1) (steps_of table.now)) }
 {
     uncover || !is_covered(table, at + 1, front, rest)
 }
@@ -42,7 +43,7 @@ fn shows_folder(
     requires few { length table.now ≤ mount_max }
     requires in_range { at < length table.now }
     ensures { result ≡ (is_prefix source.now folder.now
-        && is_clear uncover (place.now ++ rest_of source.now folder.now) (drop (at + 1) table.now)) }
+        && is_clear uncover (place.now ++ rest_of source.now folder.now) (drop (at + 1) (steps_of table.now))) }
 {
     match source.rest(folder) {
         None => false,
@@ -61,7 +62,7 @@ fn shows_below(
 ) -> bool
     requires few { length table.now ≤ mount_max }
     requires in_range { at < length table.now }
-    ensures { result ≡ shows_below uncover folder.now entry.now (drop (at + 1) table.now) entry.now.what }
+    ensures { result ≡ shows_below uncover folder.now entry.now (drop (at + 1) (steps_of table.now)) entry.now.what }
 {
     let place = &entry.place;
     match &entry.what {
@@ -75,7 +76,7 @@ fn shows_below(
 
 // Whether some entry of the table does.
 fn exposes(table: &MountTable, folder: &AbsPath, uncover: bool) -> bool
-    ensures { result ≡ exposes uncover folder.now table.now }
+    ensures { result ≡ exposes uncover folder.now (steps_of table.now) }
 {
     for at in 0..table.len() {
         if shows_below(table, at, table.entry(at), folder, uncover) {

@@ -1,19 +1,23 @@
 //! Which calls of the table can be made, sockets of which families, and namespaces of which types.
 
-ghost use Rattle.std.specs.Prelude.{◌≡◌};
+ghost use Rattle.std.specs.Prelude.{◌≡◌, ◌&&◌};
+ghost use Rattle.std.specs.List.{list_any};
+ghost use Rattle.std.specs.Str.{bytes_eq};
+ghost use Rattle.call_table.specs.Table.{every_call};
 ghost use Rattle.kernel_calls.specs.Rules.{rule_of};
 ghost use Rattle.kernel_laws.specs.Bound.{can_have_cap, can_have_for, ceiling, open_at, power_of};
-ghost use Rattle.kernel_laws.specs.Launched.{Launch, launch_of};
+ghost use Rattle.kernel_laws.specs.Kinds.{PlainCall};
+ghost use Rattle.kernel_laws.specs.Launched.{Launch, launch_of, lets_line};
 ghost use Rattle.kernel_laws.specs.Questions.{Call, Ns, Socket};
 ghost use Rattle.questions.specs.Meanings.{meant_space};
 ghost use Rattle.ceilings.specs.Own.{IsCeilingOf};
 
 use call_names::is_known;
 use call_table::CallLine;
-use ceilings::{CallKind, Ceiling, lets, lets_line};
+use ceilings::{CallKind, Ceiling, can_make_user, lets, plain_line};
 use kernel_model::World;
 use linux_numbers::capabilities::CAP_SYS_ADMIN;
-use questions::NamespaceType;
+use questions::{NamespaceType, call_at};
 
 // Whether the capability, if one is asked for, can become effective.
 fn can_have_cap(top: &Ceiling, cap: Option<u8>) -> bool
@@ -32,18 +36,27 @@ fn can_have_for(top: &Ceiling, line: &CallLine) -> bool
     is_known(line.name.as_str()) || can_have_cap(top, line.cap)
 }
 
-// Whether the call of this number in the table is plain, passes, and has its capability.
+// Whether a plain call of the name of this line passes.
+#[tactic(auto, using(ceilings::proofs::AllCalls::any_is_found, ceilings::proofs::AllCalls::lent_is))]
+fn is_called(world: &World<'_>, line: &CallLine) -> bool
+    ensures { let launch = launch_of world.now in
+        result ≡ list_any (λ other. bytes_eq line.now.name other.name && lets_line launch PlainCall other) (every_call launch.calls) }
+{
+    plain_line(world, line.name.as_str()).is_some()
+}
+
+// Whether the call of this number in the table is plain, passes by some ABI, and has its capability.
 pub(crate) fn is_call_open(world: &World<'_>, top: &Ceiling, at: usize) -> bool
     requires { IsCeilingOf (launch_of world.now) top.now }
     ensures { let launch = launch_of world.now in result ≡ open_at launch (power_of launch) (ceiling launch) (Call at) }
 {
-    match world.call_table().calls().get(at) {
+    match call_at(world.call_table(), at) {
         None => false,
-        Some(line) => lets_line(world, CallKind::PlainCall, line) && can_have_for(top, line),
+        Some(line) => is_called(world, line) && can_have_for(top, line),
     }
 }
 
-// Whether a socket of the family of this number in the table can be made, socket(2).
+// Whether a socket of the family of this number in the table can be made, socket(2), socketcall(2).
 pub(crate) fn is_socket_open(world: &World<'_>, top: &Ceiling, at: usize) -> bool
     requires { IsCeilingOf (launch_of world.now) top.now }
     ensures { let launch = launch_of world.now in result ≡ open_at launch (power_of launch) (ceiling launch) (Socket at) }
@@ -56,16 +69,17 @@ pub(crate) fn is_socket_open(world: &World<'_>, top: &Ceiling, at: usize) -> boo
     }
 }
 
-// Whether a namespace of the type can be made, clone(2), unshare(2): none of users can.
+// Whether a namespace of the type can be made, clone(2), unshare(2): one of users by itself, and every other one also in it.
 pub(crate) fn is_namespace_open(world: &World<'_>, top: &Ceiling, kind: NamespaceType) -> bool
     requires { IsCeilingOf (launch_of world.now) top.now }
     ensures { let launch = launch_of world.now in
         result ≡ open_at launch (power_of launch) (ceiling launch) (Ns (meant_space kind)) }
 {
     match kind {
-        NamespaceType::User => false,
+        NamespaceType::User => can_make_user(world),
         kind => {
-            top.effective.contains(CAP_SYS_ADMIN) && lets(world, CallKind::ForNamespace(kind))
+            lets(world, CallKind::ForNamespace(kind))
+                && (top.effective.contains(CAP_SYS_ADMIN) || can_make_user(world))
         }
     }
 }

@@ -2,26 +2,28 @@
 
 ghost use Rattle.std.specs.Prelude.{◌≡◌, ◌&&◌, not};
 ghost use Rattle.kernel_laws.specs.Bound.{can_reach, ceiling, is_barred, is_mounting, is_to_exec, open_at, power_of};
-ghost use Rattle.kernel_laws.specs.Launched.{IsLaunchedWorld, launch_of};
+ghost use Rattle.kernel_laws.specs.Launched.{IsLaunchedWorld, launch_of, can_make_user};
 ghost use Rattle.kernel_laws.specs.Questions.{ByPath};
 ghost use Rattle.reach_paths.specs.Meanings.{meant_power, meant_wish};
 ghost use Rattle.ceilings.specs.Own.{IsCeilingOf};
 
-use ceilings::{Ceiling, is_barred, launched_table};
+use ceilings::{Ceiling, can_make_user, is_barred, launched_table};
 use kernel_model::World;
 use questions::Wish;
 use reach_paths::{Power, reach};
 use site_table::Row;
 
-// Whether execve refuses the row by its marks on every table that the power makes: only mount(2) makes a mount on which they
-// are not looked at, MS_NOSUID.
+// Whether execve refuses the row by its marks on every table that the power makes, and in every user namespace: only mount(2) makes
+// a mount on which they are not looked at, MS_NOSUID, and in a newer user namespace the bounding set is full.
 fn is_refused(world: &World<'_>, power: Power, wish: Wish, row: &Row) -> bool
     requires { IsLaunchedWorld world.now }
-    ensures { result ≡ ((is_to_exec (meant_wish wish) && not (is_mounting (meant_power power)))
-        && is_barred (launch_of world.now) row.now) }
+    ensures { result ≡ (((is_to_exec (meant_wish wish) && not (is_mounting (meant_power power)))
+        && is_barred (launch_of world.now) row.now) && not (can_make_user (launch_of world.now))) }
 {
     match (wish, power) {
-        (Wish::Exec, Power::None | Power::Unmount) => is_barred(world, row),
+        (Wish::Exec, Power::None | Power::Unmount) => {
+            is_barred(world, row) && !can_make_user(world)
+        }
         _ => false,
     }
 }

@@ -2,6 +2,7 @@
 
 ghost use Rattle.std.specs.Prelude.{◌≡◌, ◌<◌, ◌^◌, Ok, Some};
 ghost use Rattle.call_table.specs.Facts.{IsWhole};
+ghost use Rattle.call_table.specs.Table.{arch_of};
 ghost use Rattle.exec_settings.specs.AreSettings.{AreSettings};
 ghost use Rattle.exec_settings.specs.declared.service.Settings.{Settings};
 ghost use Rattle.kern_mounts.specs.Launch.{CanBeMounted};
@@ -24,15 +25,26 @@ use dropin_merge::Resolved;
 use launcher::FilterProgram;
 use site_table::SiteTable;
 
+// The architecture of the second ABI, or 0.
+fn second_arch(table: &CallTable) -> u32
+    ensures { result ≡ arch_of table.now 1 }
+{
+    if table.abis() == 2 {
+        table.arch_of(1)
+    } else {
+        0
+    }
+}
+
 // What holds of every table and of every site; their parts are lent with it.
 fn know_table(table: &CallTable)
     ensures whole { IsWhole table.now }
-    ensures arch { table.now.arch < 2 ^ 32 }
+    ensures native { table.now.arch < 2 ^ 32 }
+    ensures second { arch_of table.now 1 < 2 ^ 32 }
 {
-    let _arch = table.arch();
-    let _calls = table.calls();
-    let _families = table.families();
-    let _groups = table.groups();
+    let _abis = table.abis();
+    let _native = table.arch();
+    let _second = second_arch(table);
 }
 
 fn know_site(site: &SiteTable)

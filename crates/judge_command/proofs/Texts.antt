@@ -65,7 +65,7 @@ module _ (asked : Asked) where
 
   -- the answer where a question is open
   pub open_text : (question : Question) → is_open (launch_in asked) (meant question) ≡ true
-      → verdict_line (world_in asked).calls (world_in asked).site (meant question) verdict.Open ++ flat_map (call_line (world_in asked).calls.calls) (calls_for (launch_in asked) asked.service.program (meant question)) ≡ answer_text asked question
+      → verdict_line (world_in asked).calls (world_in asked).site (meant question) verdict.Open ++ flat_map (call_line (world_in asked).calls) (calls_for (launch_in asked) asked.service.program (meant question)) ≡ answer_text asked question
   open_text question e = sym (ap (λ b. answer_lines (world_in asked).calls (world_in asked).site (if b then Open (meant question) (calls_for (launch_in asked) asked.service.program (meant question)) else Denied (meant question))) e)
 
   -- and where it is denied

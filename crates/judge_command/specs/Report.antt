@@ -15,7 +15,7 @@ use Rattle.judge_command.specs.Answers.{Answer, Denied, Open, is_denied}
 -- a question that is denied, or one that is open with the calls of its list below it
 abbrev pub answer_lines : calls.Table → Site → Answer → List ℕ
 answer_lines table site (Denied question) = verdict_line table site question verdict.Denied
-answer_lines table site (Open question list) = verdict_line table site question verdict.Open ++ flat_map (call_line table.calls) list
+answer_lines table site (Open question list) = verdict_line table site question verdict.Open ++ flat_map (call_line table) list
 
 -- how many answers are of each kind
 abbrev pub count_line : List Answer → List ℕ

@@ -26,7 +26,7 @@ fn print_calls<K: Sink>(
     table: &CallTable,
     out: &mut K,
 ) -> Result<(), SinkError>
-    ensures takes_the_text { TakesText (K.taken out.old) (K.taken out.new) (flat_map (call_line table.now.calls) list.now) result }
+    ensures takes_the_text { TakesText (K.taken out.old) (K.taken out.new) (flat_map (call_line table.now) list.now) result }
     ensures fault_rose { HasWriteCause (K.faults out.old) (K.faults out.new) result }
 {
     for call in list {

@@ -56,7 +56,7 @@ step-done creds file nosuid = record {
   bounding = within_self _;
   inheritable = within_union_left _ _ _ (within_self _);
   no_new_privs = λ e. e;
-  permitted = λ e. gains_nothing creds file nosuid (not-false creds.no_new_privs e);
+  permitted = λ e. gains_nothing false creds file nosuid (not-false creds.no_new_privs e);
 }
 
 step-capset : (creds : Creds) (p e i : ℕ) → Leaves (Step false creds) (after_capset creds p e i)

@@ -8,3 +8,4 @@ pub mod Bounded
 pub mod Runs
 pub mod GuardedIds
 pub mod GuardedCalls
+pub mod NewerExec

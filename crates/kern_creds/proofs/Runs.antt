@@ -27,7 +27,7 @@ sound-after creds (Lower cap') k = sound-lower creds k cap'
 sound-after creds ClearAmbient k = left_ok IsSound _ (sound-clear_ambient creds k)
 sound-after creds (SetKeepcaps on) k = left_ok IsSound _ (sound-set_keepcaps creds k on)
 sound-after creds SetNoNewPrivs k = left_ok IsSound _ (sound-set_no_new_privs creds k)
-sound-after creds (Exec file nosuid) k = sound-exec creds file nosuid k
+sound-after creds (Exec file nosuid) k = sound-exec false creds file nosuid k
 
 pub sound_by_call : (creds now : Creds) (call : Call) → IsSound creds → Leads creds call now → IsSound now
 sound_by_call creds now call k e = (sound-after creds call k).held now e
@@ -78,4 +78,4 @@ pub exec_gives_nothing : (creds now : Creds) (file : FileCreds) (nosuid : Bool) 
 exec_gives_nothing creds now file nosuid on e = (step_of creds now (Exec file nosuid) e).permitted (ap not on)
 
 pub exec_is_bounded : (creds now : Creds) (file : FileCreds) (nosuid : Bool) → IsSound creds → after_exec creds file nosuid ≡ Ok now → IsWithin now.permitted (union creds.inheritable creds.bounding)
-exec_is_bounded creds now file nosuid k e = (bounded-exec creds file nosuid k).held now e
+exec_is_bounded creds now file nosuid k e = (bounded-exec false creds file nosuid k).held now e

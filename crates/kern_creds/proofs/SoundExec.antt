@@ -5,7 +5,7 @@ use Rattle.cap_sets.specs.Sets.{none, union, cut, IsWithin}
 use Rattle.cap_sets.proofs.Members.{within_self, none_within, cut_within_left, cut_within_right, within_cut, union_within, within_union_left, within_union_right}
 use Rattle.kern_creds.specs.declared.file.FileCreds.{FileCreds}
 use Rattle.kern_creds.specs.declared.creds.Creds.{Creds}
-use Rattle.kern_creds.specs.Exec.{honours, is_privileged, runs_as_root, exec_uids, exec_ambient, exec_gains, exec_permitted, is_effective, exec_done, is_refused, after_exec}
+use Rattle.kern_creds.specs.Exec.{honours, is_privileged_in, runs_as_root_in, exec_uids_in, exec_ambient_in, exec_gains_in, exec_permitted_in, is_effective_in, exec_done_in, is_refused, exec_in}
 use Rattle.kern_creds.specs.Sound.{IsSound}
 use Rattle.kern_creds.proofs.Answers.{Leaves, left_err, left_ok, left_if}
 
@@ -21,21 +21,21 @@ cut_if : (b : Bool) (x y : ℕ) → b ≡ true → IsWithin (cond b (cut x y) x)
 cut_if true x y e = cut_within_right _ _ _ (within_self y)
 cut_if false x y e = cc
 
-module _ (creds : Creds) (file : FileCreds) (nosuid : Bool) where
+module _ (newer : Bool) (creds : Creds) (file : FileCreds) (nosuid : Bool) where
   abbrev amb : ℕ
-  amb = exec_ambient creds file nosuid
+  amb = exec_ambient_in newer creds file nosuid
 
   abbrev gains : ℕ
-  gains = exec_gains creds file nosuid
+  gains = exec_gains_in newer creds file nosuid
 
   abbrev root : Bool
-  root = runs_as_root (exec_uids creds file nosuid)
+  root = runs_as_root_in newer (exec_uids_in newer creds file nosuid)
 
   -- what is ambient afterwards lies where it lay before
   amb_before : (c : ℕ) → IsWithin creds.ambient c → IsWithin amb c
-  amb_before c w = within_if (honours creds nosuid && is_privileged file) none creds.ambient c (none_within c) w
+  amb_before c w = within_if (honours creds nosuid && is_privileged_in newer file) none creds.ambient c (none_within c) w
 
-  pub gains_nothing : creds.no_new_privs ≡ true → IsWithin (exec_permitted creds file nosuid) creds.permitted
+  pub gains_nothing : creds.no_new_privs ≡ true → IsWithin (exec_permitted_in newer creds file nosuid) creds.permitted
   gains_nothing e = cut_if creds.no_new_privs gains creds.permitted e
 
   module _ (k : IsSound creds) where
@@ -44,18 +44,18 @@ module _ (creds : Creds) (file : FileCreds) (nosuid : Bool) where
         above_if root (union creds.inheritable creds.bounding) _ amb (within_union_left _ _ _ (amb_before _ k.ambient_is_inheritable))
         (above_if (honours creds nosuid) (union (cut file.caps creds.bounding) amb) amb amb (within_union_right _ _ _ (within_self amb)) (within_self amb))
 
-    amb_permitted : IsWithin amb (exec_permitted creds file nosuid)
+    amb_permitted : IsWithin amb (exec_permitted_in newer creds file nosuid)
     amb_permitted = above_if creds.no_new_privs (cut gains creds.permitted) gains amb (within_cut _ _ _ amb_gains (amb_before _ k.ambient_is_permitted)) amb_gains
 
-    sound-done : IsSound (exec_done creds file nosuid)
+    sound-done : IsSound (exec_done_in newer creds file nosuid)
     sound-done = record {
-      effective_is_permitted = within_if (is_effective creds file nosuid) (exec_permitted creds file nosuid) amb _ (within_self _) amb_permitted;
+      effective_is_permitted = within_if (is_effective_in newer creds file nosuid) (exec_permitted_in newer creds file nosuid) amb _ (within_self _) amb_permitted;
       ambient_is_permitted = amb_permitted;
       ambient_is_inheritable = amb_before _ k.ambient_is_inheritable;
     }
 
-    pub sound-exec : Leaves IsSound (after_exec creds file nosuid)
-    sound-exec = left_if IsSound (is_refused creds file nosuid) (Err 1) (Ok (exec_done creds file nosuid)) (λ e. left_err IsSound 1) (λ e. left_ok IsSound _ sound-done)
+    pub sound-exec : Leaves IsSound (exec_in newer creds file nosuid)
+    sound-exec = left_if IsSound (is_refused creds file nosuid) (Err 1) (Ok (exec_done_in newer creds file nosuid)) (λ e. left_err IsSound 1) (λ e. left_ok IsSound _ sound-done)
 
     gains_bounded : IsWithin gains (union creds.inheritable creds.bounding)
     gains_bounded =
@@ -64,8 +64,8 @@ module _ (creds : Creds) (file : FileCreds) (nosuid : Bool) where
         (within_if (honours creds nosuid) (union (cut file.caps creds.bounding) amb) amb _
         (union_within _ _ _ (cut_within_right _ _ _ (within_union_right _ _ _ (within_self _))) inherited) inherited)
 
-    permitted_bounded : IsWithin (exec_permitted creds file nosuid) (union creds.inheritable creds.bounding)
+    permitted_bounded : IsWithin (exec_permitted_in newer creds file nosuid) (union creds.inheritable creds.bounding)
     permitted_bounded = within_if creds.no_new_privs (cut gains creds.permitted) gains _ (cut_within_left _ _ _ gains_bounded) gains_bounded
 
-    pub bounded-exec : Leaves (λ now. IsWithin now.permitted (union creds.inheritable creds.bounding)) (after_exec creds file nosuid)
-    bounded-exec = left_if _ (is_refused creds file nosuid) (Err 1) (Ok (exec_done creds file nosuid)) (λ e. left_err _ 1) (λ e. left_ok _ _ permitted_bounded)
+    pub bounded-exec : Leaves (λ now. IsWithin now.permitted (union creds.inheritable creds.bounding)) (exec_in newer creds file nosuid)
+    bounded-exec = left_if _ (is_refused creds file nosuid) (Err 1) (Ok (exec_done_in newer creds file nosuid)) (λ e. left_err _ 1) (λ e. left_ok _ _ permitted_bounded)

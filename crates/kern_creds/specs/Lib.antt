@@ -8,6 +8,7 @@ pub mod Setgroups
 pub mod Capset
 pub mod Prctl
 pub mod Exec
+pub mod Enter
 pub mod Calls
 pub mod Sound
 pub mod Steps

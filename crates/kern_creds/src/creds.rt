@@ -2,6 +2,7 @@
 
 ghost use Rattle.std.specs.Prelude.{◌≡◌, IfOk};
 ghost use Rattle.kern_creds.specs.Start.{start};
+ghost use Rattle.kern_creds.specs.Enter.{entered};
 ghost use Rattle.kern_creds.specs.RootChange.{with_uids};
 
 use crate::groups::Groups;
@@ -133,6 +134,19 @@ impl Creds {
         ensures { result ≡ self.now.keepcaps }
     {
         self.keepcaps
+    }
+
+    /// The process enters a user namespace of its own, user_namespaces(7): the permitted, effective and bounding sets are full, the
+    /// inheritable and ambient ones empty, and keepcaps is cleared. The ids, the groups and no_new_privs stay.
+    pub fn enter(&mut self)
+        ensures { self.new ≡ entered self.old }
+    {
+        self.permitted = CapSet::full();
+        self.effective = CapSet::full();
+        self.bounding = CapSet::full();
+        self.inheritable = CapSet::empty();
+        self.ambient = CapSet::empty();
+        self.keepcaps = false;
     }
 
     // Takes these uids, with what follows for the sets.

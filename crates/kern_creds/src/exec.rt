@@ -4,7 +4,7 @@
 
 ghost use Rattle.std.specs.Prelude.{◌≡◌};
 ghost use Rattle.kern_creds.specs.Answer.{Becomes};
-ghost use Rattle.kern_creds.specs.Exec.{is_refused, honours, is_privileged, exec_ids, exec_uids, exec_ambient, runs_as_root, exec_gains, exec_permitted, exec_effective, after_exec};
+ghost use Rattle.kern_creds.specs.Exec.{is_refused, honours, honours_ids, is_privileged_in, exec_ids, exec_uids_in, exec_ambient_in, runs_as_root_in, exec_gains_in, exec_permitted_in, exec_effective_in, exec_in};
 
 use crate::creds::Creds;
 use crate::file::FileCreds;
@@ -14,11 +14,11 @@ use cap_sets::CapSet;
 use linux_numbers::errnos::EPERM;
 
 impl FileCreds {
-    // Whether there is a set-id bit or a capability.
-    fn is_privileged(&self) -> bool
-        ensures { result ≡ is_privileged self.now }
+    // Whether there is a set-id bit that can count, or a capability.
+    fn is_privileged(&self, newer: bool) -> bool
+        ensures { result ≡ is_privileged_in newer self.now }
     {
-        self.setuid.is_some() || self.setgid.is_some() || !is_empty(self.caps)
+        (!newer && (self.setuid.is_some() || self.setgid.is_some())) || !is_empty(self.caps)
     }
 }
 
@@ -38,10 +38,10 @@ impl Ids {
         }
     }
 
-    fn runs_as_root(&self) -> bool
-        ensures { result ≡ runs_as_root self.now }
+    fn runs_as_root(&self, newer: bool) -> bool
+        ensures { result ≡ runs_as_root_in newer self.now }
     {
-        self.real == 0 || self.effective == 0
+        !newer && (self.real == 0 || self.effective == 0)
     }
 }
 
@@ -52,46 +52,53 @@ impl Creds {
         !self.no_new_privs && !nosuid
     }
 
+    fn honours_ids(&self, nosuid: bool, newer: bool) -> bool
+        ensures { result ≡ honours_ids newer self.now nosuid }
+    {
+        !newer && self.honours(nosuid)
+    }
+
     fn is_refused(&self, file: &FileCreds, nosuid: bool) -> bool
         ensures { result ≡ is_refused self.now file.now nosuid }
     {
         !nosuid && file.effective && !file.caps.within(self.bounding)
     }
 
-    fn exec_uids(&self, file: &FileCreds, nosuid: bool) -> Ids
-        ensures { result ≡ exec_uids self.now file.now nosuid }
+    fn exec_uids(&self, file: &FileCreds, nosuid: bool, newer: bool) -> Ids
+        ensures { result ≡ exec_uids_in newer self.now file.now nosuid }
     {
-        self.uids.after_exec(self.honours(nosuid), file.setuid)
+        self.uids
+            .after_exec(self.honours_ids(nosuid, newer), file.setuid)
     }
 
-    fn exec_ambient(&self, file: &FileCreds, nosuid: bool) -> CapSet
-        ensures { result ≡ exec_ambient self.now file.now nosuid }
+    fn exec_ambient(&self, file: &FileCreds, nosuid: bool, newer: bool) -> CapSet
+        ensures { result ≡ exec_ambient_in newer self.now file.now nosuid }
     {
-        if self.honours(nosuid) && file.is_privileged() {
+        if self.honours(nosuid) && file.is_privileged(newer) {
             CapSet::empty()
         } else {
             self.ambient
         }
     }
 
-    fn exec_gains(&self, file: &FileCreds, nosuid: bool) -> CapSet
-        ensures { result ≡ exec_gains self.now file.now nosuid }
+    fn exec_gains(&self, file: &FileCreds, nosuid: bool, newer: bool) -> CapSet
+        ensures { result ≡ exec_gains_in newer self.now file.now nosuid }
     {
-        if self.exec_uids(file, nosuid).runs_as_root() {
+        if self.exec_uids(file, nosuid, newer).runs_as_root(newer) {
             self.inheritable.union(self.bounding)
         } else if self.honours(nosuid) {
             file.caps
                 .cut(self.bounding)
-                .union(self.exec_ambient(file, nosuid))
+                .union(self.exec_ambient(file, nosuid, newer))
         } else {
-            self.exec_ambient(file, nosuid)
+            self.exec_ambient(file, nosuid, newer)
         }
     }
 
-    fn exec_permitted(&self, file: &FileCreds, nosuid: bool) -> CapSet
-        ensures { result ≡ exec_permitted self.now file.now nosuid }
+    fn exec_permitted(&self, file: &FileCreds, nosuid: bool, newer: bool) -> CapSet
+        ensures { result ≡ exec_permitted_in newer self.now file.now nosuid }
     {
-        let gains = self.exec_gains(file, nosuid);
+        let gains = self.exec_gains(file, nosuid, newer);
         if self.no_new_privs {
             gains.cut(self.permitted)
         } else {
@@ -99,32 +106,35 @@ impl Creds {
         }
     }
 
-    fn exec_effective(&self, file: &FileCreds, nosuid: bool) -> CapSet
-        ensures { result ≡ exec_effective self.now file.now nosuid }
+    fn exec_effective(&self, file: &FileCreds, nosuid: bool, newer: bool) -> CapSet
+        ensures { result ≡ exec_effective_in newer self.now file.now nosuid }
     {
-        let uids = self.exec_uids(file, nosuid);
-        if uids.effective == 0 || (self.honours(nosuid) && file.effective) {
-            self.exec_permitted(file, nosuid)
+        let uids = self.exec_uids(file, nosuid, newer);
+        if (!newer && uids.effective == 0) || (self.honours(nosuid) && file.effective) {
+            self.exec_permitted(file, nosuid, newer)
         } else {
-            self.exec_ambient(file, nosuid)
+            self.exec_ambient(file, nosuid, newer)
         }
     }
 
     /// execve(2) of a file with these marks, from a mount with or without nosuid.
     ///
     /// EPERM where the mount has not nosuid, the file's effective bit is on and the bounding set lacks one of its
-    /// capabilities; else the credentials change by the rules of capabilities(7).
-    pub fn exec(&mut self, file: &FileCreds, nosuid: bool) -> Result<(), u32>
-        ensures { Becomes self.old self.new result (after_exec self.old file.now nosuid) }
+    /// capabilities; else the credentials change by the rules of capabilities(7). In a newer user namespace, user_namespaces(7),
+    /// set-id bits count for nothing and root is a user as others.
+    pub fn exec(&mut self, file: &FileCreds, nosuid: bool, newer: bool) -> Result<(), u32>
+        ensures { Becomes self.old self.new result (exec_in newer self.old file.now nosuid) }
     {
         if self.is_refused(file, nosuid) {
             return Err(EPERM);
         }
-        let uids = self.exec_uids(file, nosuid);
-        let gids = self.gids.after_exec(self.honours(nosuid), file.setgid);
-        let permitted = self.exec_permitted(file, nosuid);
-        let effective = self.exec_effective(file, nosuid);
-        self.ambient = self.exec_ambient(file, nosuid);
+        let uids = self.exec_uids(file, nosuid, newer);
+        let gids = self
+            .gids
+            .after_exec(self.honours_ids(nosuid, newer), file.setgid);
+        let permitted = self.exec_permitted(file, nosuid, newer);
+        let effective = self.exec_effective(file, nosuid, newer);
+        self.ambient = self.exec_ambient(file, nosuid, newer);
         self.permitted = permitted;
         self.effective = effective;
         self.uids = uids;

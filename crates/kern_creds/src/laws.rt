@@ -8,7 +8,8 @@ ghost use Rattle.kern_creds.specs.declared.creds.Creds.{Creds};
 ghost use Rattle.kern_creds.specs.declared.file.FileCreds.{FileCreds};
 ghost use Rattle.linux_numbers.specs.Capabilities.{cap_setgid, cap_setuid};
 ghost use Rattle.kern_creds.specs.Start.{start};
-ghost use Rattle.kern_creds.specs.Exec.{after_exec, honours, is_privileged, runs_as_root};
+ghost use Rattle.kern_creds.specs.Exec.{after_exec, exec_in, honours, is_privileged, runs_as_root};
+ghost use Rattle.kern_creds.specs.Enter.{entered};
 ghost use Rattle.kern_creds.specs.Calls.{Call};
 ghost use Rattle.kern_creds.specs.Sound.{IsSound};
 ghost use Rattle.kern_creds.specs.Guarded.{AreAmong, is_set_user, is_set_group};
@@ -112,4 +113,19 @@ pub fn execve_gives_others()
         → is_privileged file ≡ true → after_exec creds file nosuid ≡ Ok now → now.ambient ≡ none }
     ensures ambient_stays { (creds now : Creds) (file : FileCreds) (nosuid : Bool) → honours creds nosuid ≡ false
         → after_exec creds file nosuid ≡ Ok now → now.ambient ≡ creds.ambient }
+{}
+
+/// A process that enters a user namespace of its own has every capability there, and keeps its ids, its groups and no_new_privs. In a
+/// newer user namespace execve takes no id from a set-id bit, and gives root no more than others.
+pub fn user_namespaces()
+    ensures entering_is_sound { (creds : Creds) → IsSound (entered creds) }
+    ensures entering_keeps { (creds : Creds) → ((entered creds).uids ≡ creds.uids) × ((entered creds).gids ≡ creds.gids)
+        × ((entered creds).groups ≡ creds.groups) × ((entered creds).no_new_privs ≡ creds.no_new_privs) }
+    ensures execve_stays_sound { (creds now : Creds) (file : FileCreds) (nosuid : Bool) → IsSound creds
+        → exec_in true creds file nosuid ≡ Ok now → IsSound now }
+    ensures execve_keeps_ids { (creds now : Creds) (file : FileCreds) (nosuid : Bool) → exec_in true creds file nosuid ≡ Ok now
+        → (now.uids.effective ≡ creds.uids.effective) × (now.uids.saved ≡ creds.uids.effective)
+        × (now.gids.effective ≡ creds.gids.effective) × (now.gids.saved ≡ creds.gids.effective) × (now.groups ≡ creds.groups) }
+    ensures root_is_as_others { (creds now : Creds) (file : FileCreds) (nosuid : Bool) → honours creds nosuid ≡ true
+        → exec_in true creds file nosuid ≡ Ok now → now.permitted ≡ union (cut file.caps creds.bounding) now.ambient }
 {}

@@ -2,3 +2,4 @@ mod CanBind
 mod Seeing
 mod Mounted
 mod Unmounted
+pub mod MountsCall

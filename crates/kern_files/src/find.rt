@@ -3,6 +3,7 @@
 ghost use Rattle.std.specs.Prelude.{◌≡◌, option_map, true};
 ghost use Rattle.abs_path.specs.Prefix.{is_prefix};
 ghost use Rattle.site_table.specs.Table.{row_at};
+ghost use Rattle.kern_mounts.specs.Mounts.{steps_of};
 ghost use Rattle.kern_mounts.specs.Entry.{entry_of};
 ghost use Rattle.kern_mounts.specs.Finds.{row_or_nothing, found_by, finds};
 ghost use Rattle.kern_files.specs.Found.{shown};
@@ -44,7 +45,7 @@ fn found_by<'a>(site: &'a SiteTable, entry: &MountStep, path: &AbsPath) -> Found
 
 /// The entry that the path belongs to.
 pub fn entry_of<'a>(table: &'a MountTable, path: &AbsPath) -> &'a MountStep
-    ensures entry { entry_of table.now path.now ≡ Some result.now }
+    ensures entry { entry_of (steps_of table.now) path.now ≡ Some result.now }
     ensures leads { is_prefix result.now.place path.now ≡ true }
 {
     table.entry(table.resolve(path))
@@ -52,7 +53,7 @@ pub fn entry_of<'a>(table: &'a MountTable, path: &AbsPath) -> &'a MountStep
 
 /// What the path finds, by the entry that it belongs to.
 pub fn find<'a>(table: &MountTable, site: &'a SiteTable, path: &AbsPath) -> Found<'a>
-    ensures { shown result ≡ finds (row_at site.now.rows) table.now path.now }
+    ensures { shown result ≡ finds (row_at site.now.rows) (steps_of table.now) path.now }
 {
     found_by(site, entry_of(table, path), path)
 }

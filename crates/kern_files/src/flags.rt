@@ -1,6 +1,7 @@
 //! Flags of calls, tested by masks, and the flags of the mount that a path is on.
 
 ghost use Rattle.std.specs.Prelude.{◌≡◌};
+ghost use Rattle.kern_mounts.specs.Mounts.{steps_of};
 ghost use Rattle.kern_files.specs.Bits.{has_some, has_all};
 ghost use Rattle.kern_files.specs.Looking.{flags_at};
 
@@ -24,7 +25,7 @@ pub fn has_all(mask: u32, flags: u32) -> bool
 
 /// The flags of the mount that the path is on, mount(2).
 pub fn flags_at(table: &MountTable, path: &AbsPath) -> Flags
-    ensures { result ≡ flags_at table.now path.now }
+    ensures { result ≡ flags_at (steps_of table.now) path.now }
 {
     entry_of(table, path).flags
 }

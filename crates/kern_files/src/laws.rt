@@ -1,6 +1,6 @@
 //! Laws of calls on paths, each the contract of a function that does nothing.
 
-ghost use Rattle.std.specs.Prelude.{◌≡◌, ◌↔◌, ◌⊎◌, ◌==◌, ◌||◌, ℕ, Bool, true, false, [], Option, Ok, Err};
+ghost use Rattle.std.specs.Prelude.{◌≡◌, ◌↔◌, ◌⊎◌, ◌==◌, ◌||◌, ℕ, Bool, true, false, [], Option, Ok, Err, map};
 ghost use Rattle.abs_path.specs.Paths.{Path};
 ghost use Rattle.linux_numbers.specs.Errnos.{eacces, ebusy, einval, enotdir};
 ghost use Rattle.site_table.specs.declared.row.Row.{Row};
@@ -12,6 +12,10 @@ ghost use Rattle.kern_files.specs.Looking.{access_mode, flags_at, see_answer, wr
 ghost use Rattle.kern_files.specs.Executing.{program_answer};
 ghost use Rattle.kern_files.specs.MountCall.{ms_bind, ms_remount, ms_remount_bind, has_other_kind, target_kind, after_mount};
 ghost use Rattle.kern_files.specs.UmountCall.{mnt_detach, umount_answer};
+ghost use Rattle.kern_files.specs.MountsCall.{mounts_after_mount, mounts_umount_answer};
+ghost use Rattle.kern_mounts.specs.Mounts.{Mounts, steps_of, plain, ArePlain};
+ghost use Rattle.kern_mounts.specs.Answer.{steps_answer, plain_answer};
+ghost use Rattle.kern_mounts.specs.Changes.{Changes};
 ghost use Rattle.kern_files.specs.There.{ShowsRow, IsEmptyPlace, IsHidden, IsWritableFile, IsProgram};
 
 /// A path is seen exactly where it shows a file of the host, or is the place of an empty file system.
@@ -74,4 +78,30 @@ pub fn limits_of_umount()
     ensures no_other_flags { (table : Table) (path : Path) (flags : ℕ)
         → (flags == 0 || flags == mnt_detach) ≡ false → umount_answer table path flags ≡ Err einval }
     ensures root_stays { (table : Table) (flags : ℕ) → umount_answer table [] flags ≡ Err einval }
+{}
+
+/// A call that is done on mounts is one of the changes that keep what they are backed by.
+pub fn changes_of_mounts()
+    ensures mount { (rows : Path → Option Row) (mounts next : Mounts) (source target : Path) (flags : ℕ)
+        → mounts_after_mount rows mounts source target flags ≡ Ok next → Changes mounts next }
+    ensures umount { (mounts next : Mounts) (path : Path) (flags : ℕ)
+        → mounts_umount_answer mounts path flags ≡ Ok next → Changes mounts next }
+{}
+
+/// Where no mount is locked and none keeps a flag, a call answers by the entries alone, and leaves it so.
+pub fn calls_on_plain_mounts()
+    ensures mount { (rows : Path → Option Row) (mounts : Mounts) (source target : Path) (flags : ℕ) → ArePlain mounts
+        → steps_answer (mounts_after_mount rows mounts source target flags)
+        ≡ after_mount rows (steps_of mounts) source target flags }
+    ensures umount { (mounts : Mounts) (path : Path) (flags : ℕ) → ArePlain mounts
+        → steps_answer (mounts_umount_answer mounts path flags) ≡ umount_answer (steps_of mounts) path flags }
+    ensures mounted { (rows : Path → Option Row) (mounts next : Mounts) (source target : Path) (flags : ℕ) → ArePlain mounts
+        → mounts_after_mount rows mounts source target flags ≡ Ok next → ArePlain next }
+    ensures umounted { (mounts next : Mounts) (path : Path) (flags : ℕ) → ArePlain mounts
+        → mounts_umount_answer mounts path flags ≡ Ok next → ArePlain next }
+    ensures mount_of_a_table { (rows : Path → Option Row) (table : Table) (source target : Path) (flags : ℕ)
+        → mounts_after_mount rows (map plain table) source target flags
+        ≡ plain_answer (after_mount rows table source target flags) }
+    ensures umount_of_a_table { (table : Table) (path : Path) (flags : ℕ)
+        → mounts_umount_answer (map plain table) path flags ≡ plain_answer (umount_answer table path flags) }
 {}

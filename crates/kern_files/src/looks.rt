@@ -3,6 +3,7 @@
 ghost use Rattle.std.specs.Prelude.{◌≡◌, ℕ};
 ghost use Rattle.site_table.specs.Kinds.{is_dir};
 ghost use Rattle.site_table.specs.Table.{row_at};
+ghost use Rattle.kern_mounts.specs.Mounts.{steps_of};
 ghost use Rattle.kern_mounts.specs.Finds.{finds};
 ghost use Rattle.kern_files.specs.Looking.{flags_at, valued, see_answer, write_answer, open_answer};
 
@@ -37,7 +38,7 @@ pub(crate) fn is_dir(kind: RowKind) -> bool
 /// ENOENT where there is nothing, EACCES where it is hidden.
 pub fn see(table: &MountTable, site: &SiteTable, path: &AbsPath) -> Result<(), u32>
     ensures sees_what_is_found { (value : ℕ) → valued value result
-        ≡ see_answer value (finds (row_at site.now.rows) table.now path.now) }
+        ≡ see_answer value (finds (row_at site.now.rows) (steps_of table.now) path.now) }
 {
     match find(table, site, path) {
         Found::Nothing(errno) => Err(errno),
@@ -51,7 +52,7 @@ pub fn see(table: &MountTable, site: &SiteTable, path: &AbsPath) -> Result<(), u
 /// read-only.
 pub fn write_file(table: &MountTable, site: &SiteTable, path: &AbsPath) -> Result<(), u32>
     ensures writes_what_may_be_written { (value : ℕ) → valued value result
-        ≡ write_answer value (flags_at table.now path.now) (finds (row_at site.now.rows) table.now path.now) }
+        ≡ write_answer value (flags_at (steps_of table.now) path.now) (finds (row_at site.now.rows) (steps_of table.now) path.now) }
 {
     match find(table, site, path) {
         Found::Row(row) if is_dir(row.kind) => Err(EISDIR),
@@ -72,7 +73,7 @@ pub fn open_file(
     flags: u32,
 ) -> Result<u64, u32>
     ensures opens_for_its_mode { result
-        ≡ open_answer flags (flags_at table.now path.now) (finds (row_at site.now.rows) table.now path.now) }
+        ≡ open_answer flags (flags_at (steps_of table.now) path.now) (finds (row_at site.now.rows) (steps_of table.now) path.now) }
 {
     match flags & O_ACCMODE {
         NO_MODE => return Err(EINVAL),

@@ -2,11 +2,13 @@
 
 ghost use Rattle.std.specs.Prelude.{◌≡◌, IfOk, true, Ok};
 ghost use Rattle.site_table.specs.Table.{row_at};
+ghost use Rattle.kern_mounts.specs.Mounts.{steps_of};
 ghost use Rattle.kern_mounts.specs.Bind.{can_bind};
 ghost use Rattle.kern_mounts.specs.Finds.{finds};
 ghost use Rattle.kern_files.specs.Found.{shown};
 ghost use Rattle.kern_files.specs.Bits.{has_all};
-ghost use Rattle.kern_files.specs.MountCall.{ms_remount_bind, kind_found, hidden_kind, target_kind, mount_onto, after_mount};
+ghost use Rattle.kern_files.specs.MountCall.{ms_remount_bind, kind_found, hidden_kind, target_kind};
+ghost use Rattle.kern_files.specs.MountsCall.{mounts_onto, mounts_after_mount};
 ghost use Rattle.kern_files.specs.Planning.{Plans, CanPerform};
 
 use crate::find::{Found, entry_of, find};
@@ -63,7 +65,7 @@ fn hidden_kind(entry: &MountStep, path: &AbsPath) -> Option<bool>
 
 // Whether the target is a directory, or the errno of what is not there.
 fn target_kind(table: &MountTable, site: &SiteTable, target: &AbsPath) -> Result<bool, u32>
-    ensures { result ≡ target_kind (row_at site.now.rows) table.now target.now }
+    ensures { result ≡ target_kind (row_at site.now.rows) (steps_of table.now) target.now }
 {
     match hidden_kind(entry_of(table, target), target) {
         Some(directory) => Ok(directory),
@@ -73,8 +75,8 @@ fn target_kind(table: &MountTable, site: &SiteTable, target: &AbsPath) -> Result
 
 // Whether the source is a directory, or the errno of what is not there; what is there can be bound.
 fn source_kind(table: &MountTable, site: &SiteTable, source: &AbsPath) -> Result<bool, u32>
-    ensures kind { result ≡ kind_found (finds (row_at site.now.rows) table.now source.now) }
-    ensures can_bind { IfOk result (λ directory. can_bind table.now source.now ≡ true) }
+    ensures kind { result ≡ kind_found (finds (row_at site.now.rows) (steps_of table.now) source.now) }
+    ensures can_bind { IfOk result (λ directory. can_bind (steps_of table.now) source.now ≡ true) }
 {
     // The rows are lent with what holds of each site: their paths are short.
     let _rows = site.rows();
@@ -91,8 +93,8 @@ fn planned_onto(
     directory: bool,
 ) -> Result<Change, u32>
     ensures by_the_rule { Plans table.now source.now target.now flags
-        (mount_onto (row_at site.now.rows) table.now source.now target.now flags (Ok directory)) result }
-    ensures can_perform { IfOk result (λ change. CanPerform table.now source.now change) }
+        (mounts_onto (row_at site.now.rows) table.now source.now target.now flags (Ok directory)) result }
+    ensures can_perform { IfOk result (λ change. CanPerform (steps_of table.now) source.now change) }
 {
     if has_some(MS_BIND, flags) {
         let own = source_kind(table, site, source)?;
@@ -120,8 +122,8 @@ pub fn planned(
     flags: u32,
 ) -> Result<Change, u32>
     ensures by_the_rule { Plans table.now source.now target.now flags
-        (after_mount (row_at site.now.rows) table.now source.now target.now flags) result }
-    ensures can_perform { IfOk result (λ change. CanPerform table.now source.now change) }
+        (mounts_after_mount (row_at site.now.rows) table.now source.now target.now flags) result }
+    ensures can_perform { IfOk result (λ change. CanPerform (steps_of table.now) source.now change) }
     ensures remounts { has_all ms_remount_bind flags ≡ true → IfOk result (λ change. change ≡ Change.Remount) }
 {
     if has_some(OTHER_KINDS, flags) {

@@ -4,6 +4,7 @@ ghost use Rattle.std.specs.Prelude.{◌≡◌};
 ghost use Rattle.site_table.specs.Kinds.{is_exe};
 ghost use Rattle.site_table.specs.Table.{row_at};
 ghost use Rattle.kern_mounts.specs.Finds.{finds};
+ghost use Rattle.kern_mounts.specs.Mounts.{steps_of};
 ghost use Rattle.kern_files.specs.Looking.{flags_at};
 ghost use Rattle.kern_files.specs.Executing.{marks_of, program_answer};
 
@@ -47,7 +48,7 @@ fn marks_of(row: &Row) -> FileCreds
 /// is noexec.
 pub fn program_at(table: &MountTable, site: &SiteTable, path: &AbsPath) -> Result<Program, u32>
     ensures program_that_may_be_executed { result
-        ≡ program_answer (flags_at table.now path.now) (finds (row_at site.now.rows) table.now path.now) }
+        ≡ program_answer (flags_at (steps_of table.now) path.now) (finds (row_at site.now.rows) (steps_of table.now) path.now) }
 {
     let row = match find(table, site, path) {
         Found::Row(row) => row,

@@ -1,54 +1,68 @@
--- What remount and umount2 make of a table, by the number of the entry that the path belongs to.
-use Rattle.std.proofs.Common.{◌≡◌, ℕ, ◌+◌, ◌++◌, Bool, true, false, filter, get_or, take, drop, set, Some, Ok, Err, refl, sym, ap, ◌∙◌}
+-- What remount and umount2 make of mounts, by the number of the mount that the path belongs to.
+use Rattle.std.proofs.Common.{◌≡◌, ℕ, ◌+◌, ◌++◌, ◌∷◌, [], Bool, true, false, filter, get_or, take, drop, set, Some, Ok, Err, refl, sym, ap, ◌∙◌}
 use Rattle.std.specs.Prelude.{not, ◌&&◌}
 use Rattle.std.specs.List.{list_any}
 use Rattle.abs_path.specs.Paths.{Path, is_root}
-use Rattle.linux_numbers.specs.Errnos.{ebusy, einval}
+use Rattle.linux_numbers.specs.Errnos.{ebusy, einval, eperm}
 use Rattle.kern_mounts.specs.declared.step.Flags.{Flags}
-use Rattle.kern_mounts.specs.declared.step.MountStep.{MountStep}
+use Rattle.kern_mounts.specs.declared.step.Mount.{Mount}
 use Rattle.kern_mounts.specs.Entry.{Belongs}
-use Rattle.kern_mounts.specs.Split.{Table, is_at, is_below}
-use Rattle.kern_mounts.specs.Umount.{unmounted, after_umount}
-use Rattle.kern_mounts.specs.Remount.{remounted, after_remount}
-use Rattle.kern_mounts.proofs.Splits.{about, split_by_number}
+use Rattle.kern_mounts.specs.Table.{StartsAtRoot}
+use Rattle.kern_mounts.specs.Keeping.{lacks}
+use Rattle.kern_mounts.specs.Mounts.{Mounts, steps_of, stands_at, stands_below}
+use Rattle.kern_mounts.specs.MountsUmount.{mounts_unmounted, mounts_after_umount}
+use Rattle.kern_mounts.specs.MountsRemount.{with_flags, with_root_flags, mounts_remounted, mounts_after_remount}
+use Rattle.kern_mounts.proofs.Splits.{about}
+use Rattle.kern_mounts.proofs.Mounts.{in_range, mount_by_number}
 use Rattle.kern_mounts.proofs.Writing.{written}
 
--- the entry of this number, in the list that stands for the table
-pub record Stands (table items : Table) (path : Path) (at : ℕ) (entry : MountStep) : Type 0 where
-  pub view : items ≡ table
-  pub belongs : Belongs table path at
-  pub entry_is : entry ≡ get_or items at entry
+-- the mount of this number, in the list that stands for the mounts
+pub record Stands (mounts items : Mounts) (path : Path) (at : ℕ) (mount : Mount) : Type 0 where
+  pub view : items ≡ mounts
+  pub belongs : Belongs (steps_of mounts) path at
+  pub entry_is : mount ≡ get_or items at mount
 
-split_stands : (table items : Table) (path : Path) (at : ℕ) (entry : MountStep) → Stands table items path at entry → entry ≡ get_or table at entry
-split_stands table items path at entry h = h.entry_is ∙ ap (λ (t : Table). get_or t at entry) h.view
+mount_stands : (mounts items : Mounts) (path : Path) (at : ℕ) (mount : Mount) → Stands mounts items path at mount → mount ≡ get_or mounts at mount
+mount_stands mounts items path at mount h = h.entry_is ∙ ap (λ (t : Mounts). get_or t at mount) h.view
 
-remount_by : (table : Table) (path : Path) (flags : Flags) (at : ℕ) (entry : MountStep) → Belongs table path at → entry ≡ get_or table at entry → after_remount table path flags ≡ remounted path flags (Some (about table at entry))
-remount_by table path flags at entry h e = ap (remounted path flags) (split_by_number table path at entry h e)
+remount_by : (mounts items : Mounts) (path : Path) (flags : Flags) (at : ℕ) (mount : Mount) → Stands mounts items path at mount → mounts_after_remount mounts path flags ≡ mounts_remounted path flags (Some (about mounts at mount))
+remount_by mounts items path flags at mount h = ap (mounts_remounted path flags) (mount_by_number mounts path at mount h.belongs (mount_stands mounts items path at mount h))
 
-pub remount_refused : (table items : Table) (path : Path) (flags : Flags) (at : ℕ) (entry : MountStep) → Stands table items path at entry → is_at path entry ≡ false → after_remount table path flags ≡ Err einval
-remount_refused table items path flags at entry h other = remount_by table path flags at entry h.belongs (split_stands table items path at entry h) ∙ rw other refl
+pub remount_refused : (mounts items : Mounts) (path : Path) (flags : Flags) (at : ℕ) (mount : Mount) → Stands mounts items path at mount → stands_at path mount ≡ false → mounts_after_remount mounts path flags ≡ Err einval
+remount_refused mounts items path flags at mount h other = remount_by mounts items path flags at mount h ∙ rw other refl
 
-pub remount_done : (table items : Table) (path : Path) (flags : Flags) (at : ℕ) (entry : MountStep) → Stands table items path at entry → is_at path entry ≡ true →
-    after_remount table path flags ≡ Ok (set items at (record entry { flags = flags }))
-remount_done table items path flags at entry h own =
-    remount_by table path flags at entry h.belongs (split_stands table items path at entry h) ∙ rw own refl
-    ∙ ap Ok (sym (written table at (record entry { flags = flags }) h.belongs.in_range)) ∙ ap (λ (t : Table). Ok (set t at (record entry { flags = flags }))) (sym h.view)
+pub remount_kept : (mounts items : Mounts) (path : Path) (flags : Flags) (at : ℕ) (mount : Mount) → Stands mounts items path at mount → stands_at path mount ≡ true → lacks mount.kept flags ≡ true → mounts_after_remount mounts path flags ≡ Err eperm
+remount_kept mounts items path flags at mount h own kept = remount_by mounts items path flags at mount h ∙ rw (own, kept) refl
 
-umount_by : (table : Table) (path : Path) (detach : Bool) (at : ℕ) (entry : MountStep) → Belongs table path at → entry ≡ get_or table at entry → is_root path ≡ false → after_umount table path detach ≡ unmounted path detach (Some (about table at entry))
-umount_by table path detach at entry h e below = rw below (ap (unmounted path detach) (split_by_number table path at entry h e))
+pub remount_done : (mounts items : Mounts) (path : Path) (flags : Flags) (at : ℕ) (mount : Mount) → Stands mounts items path at mount → stands_at path mount ≡ true → lacks mount.kept flags ≡ false →
+    mounts_after_remount mounts path flags ≡ Ok (set items at (with_flags mount flags))
+remount_done mounts items path flags at mount h own free =
+    remount_by mounts items path flags at mount h ∙ rw (own, free) refl
+    ∙ ap Ok (sym (written mounts at (with_flags mount flags) (in_range mounts path at h.belongs))) ∙ ap (λ (t : Mounts). Ok (set t at (with_flags mount flags))) (sym h.view)
 
-pub umount_elsewhere : (table items : Table) (path : Path) (detach : Bool) (at : ℕ) (entry : MountStep) → Stands table items path at entry → is_root path ≡ false → is_at path entry ≡ false → after_umount table path detach ≡ Err einval
-umount_elsewhere table items path detach at entry h below other = umount_by table path detach at entry h.belongs (split_stands table items path at entry h) below ∙ rw other refl
+umount_by : (mounts items : Mounts) (path : Path) (detach : Bool) (at : ℕ) (mount : Mount) → Stands mounts items path at mount → is_root path ≡ false → mounts_after_umount mounts path detach ≡ mounts_unmounted path detach (Some (about mounts at mount))
+umount_by mounts items path detach at mount h below = rw below (ap (mounts_unmounted path detach) (mount_by_number mounts path at mount h.belongs (mount_stands mounts items path at mount h)))
 
-pub umount_busy : (table items : Table) (path : Path) (at : ℕ) (entry : MountStep) → Stands table items path at entry → is_root path ≡ false → is_at path entry ≡ true →
-    list_any (is_below path) (drop (at + 1) items) ≡ true → after_umount table path false ≡ Err ebusy
-umount_busy table items path at entry h below own some =
-    let there : list_any (is_below path) (drop (at + 1) table) ≡ true = ap (λ (t : Table). list_any (is_below path) (drop (at + 1) t)) (sym h.view) ∙ some in
-    umount_by table path false at entry h.belongs (split_stands table items path at entry h) below ∙ rw (own, there) refl
+pub umount_elsewhere : (mounts items : Mounts) (path : Path) (detach : Bool) (at : ℕ) (mount : Mount) → Stands mounts items path at mount → is_root path ≡ false → stands_at path mount ≡ false → mounts_after_umount mounts path detach ≡ Err einval
+umount_elsewhere mounts items path detach at mount h below other = umount_by mounts items path detach at mount h below ∙ rw other refl
 
-pub umount_done : (table items : Table) (path : Path) (detach : Bool) (at : ℕ) (entry : MountStep) → Stands table items path at entry → is_root path ≡ false → is_at path entry ≡ true →
-    (not detach && list_any (is_below path) (drop (at + 1) items)) ≡ false → after_umount table path detach ≡ Ok (take at items ++ filter (λ other. not (is_below path other)) (drop (at + 1) items))
-umount_done table items path detach at entry h below own none =
-    let none_there : (not detach && list_any (is_below path) (drop (at + 1) table)) ≡ false = ap (λ (t : Table). not detach && list_any (is_below path) (drop (at + 1) t)) (sym h.view) ∙ none in
-    umount_by table path detach at entry h.belongs (split_stands table items path at entry h) below ∙ rw (own, none_there) refl
-    ∙ ap (λ (t : Table). Ok (take at t ++ filter (λ other. not (is_below path other)) (drop (at + 1) t))) (sym h.view)
+pub umount_locked : (mounts items : Mounts) (path : Path) (detach : Bool) (at : ℕ) (mount : Mount) → Stands mounts items path at mount → is_root path ≡ false → stands_at path mount ≡ true → mount.locked ≡ true → mounts_after_umount mounts path detach ≡ Err einval
+umount_locked mounts items path detach at mount h below own lock = umount_by mounts items path detach at mount h below ∙ rw (own, lock) refl
+
+pub umount_busy : (mounts items : Mounts) (path : Path) (at : ℕ) (mount : Mount) → Stands mounts items path at mount → is_root path ≡ false → stands_at path mount ≡ true → mount.locked ≡ false →
+    list_any (stands_below path) (drop (at + 1) items) ≡ true → mounts_after_umount mounts path false ≡ Err ebusy
+umount_busy mounts items path at mount h below own free some =
+    let there : list_any (stands_below path) (drop (at + 1) mounts) ≡ true = ap (λ (t : Mounts). list_any (stands_below path) (drop (at + 1) t)) (sym h.view) ∙ some in
+    umount_by mounts items path false at mount h below ∙ rw (own, free, there) refl
+
+pub umount_done : (mounts items : Mounts) (path : Path) (detach : Bool) (at : ℕ) (mount : Mount) → Stands mounts items path at mount → is_root path ≡ false → stands_at path mount ≡ true → mount.locked ≡ false →
+    (not detach && list_any (stands_below path) (drop (at + 1) items)) ≡ false → mounts_after_umount mounts path detach ≡ Ok (take at items ++ filter (λ other. not (stands_below path other)) (drop (at + 1) items))
+umount_done mounts items path detach at mount h below own free none =
+    let none_there : (not detach && list_any (stands_below path) (drop (at + 1) mounts)) ≡ false = ap (λ (t : Mounts). not detach && list_any (stands_below path) (drop (at + 1) t)) (sym h.view) ∙ none in
+    umount_by mounts items path detach at mount h below ∙ rw (own, free, none_there) refl
+    ∙ ap (λ (t : Mounts). Ok (take at t ++ filter (λ other. not (stands_below path other)) (drop (at + 1) t))) (sym h.view)
+
+-- ---- the first mount
+pub root_set : (mounts : Mounts) (mount : Mount) (flags : Flags) → StartsAtRoot (steps_of mounts) → mount ≡ get_or mounts 0 mount → set mounts 0 (with_flags mount flags) ≡ with_root_flags flags mounts
+root_set [] mount flags h e = absurd h
+root_set (first ∷ mounts) mount flags h e = ap (λ (m : Mount). with_flags m flags ∷ mounts) e

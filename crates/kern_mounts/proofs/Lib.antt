@@ -3,6 +3,8 @@ pub mod Finding
 mod Mounting
 pub mod Paths
 pub mod Splits
+pub mod Mounts
+pub mod Steps
 pub mod Unmounting
 pub mod Writing
 pub mod Changing
@@ -12,3 +14,9 @@ pub mod Alike
 pub mod Leaving
 pub mod Bindable
 pub mod Places
+pub mod Keeping
+pub mod Covering
+pub mod Copied
+pub mod Backing
+pub mod Calls
+pub mod Plain

@@ -7,7 +7,10 @@ use Rattle.std.proofs.lemmas.List.{map-append, length-map, take-map, get_or-map}
 use Rattle.abs_path.specs.Paths.{Path}
 use Rattle.abs_path.specs.Prefix.{is_prefix, is_below as is_path_below}
 use Rattle.place_tree.specs.Places.{IsLastLeading, without}
+use Rattle.kern_mounts.specs.declared.step.Mount.{Mount}
 use Rattle.kern_mounts.specs.declared.step.MountStep.{MountStep}
+use Rattle.kern_mounts.specs.Mounts.{Mounts, steps_of, stands_below}
+use Rattle.kern_mounts.proofs.Mounts.{steps_append, steps_take, steps_drop, steps_filter}
 use Rattle.kern_mounts.specs.Table.{StartsAtRoot, IsTable, places_of, HasPlaces}
 use Rattle.kern_mounts.specs.Entry.{Belongs}
 use Rattle.kern_mounts.specs.Split.{is_below}
@@ -59,12 +62,6 @@ places_without table next places after path at e f g =
     ∙ sym (map-append (λ step. step.place) (take at table) (filter (λ entry. not (is_below path entry)) (drop (at + 1) table)))
     ∙ ap places_of (sym f)
 
--- an entry with other flags stands where it stood
-pub places_stay : (table : List MountStep) (at : ℕ) (entry next : MountStep) → entry ≡ get_or table at entry → next.place ≡ entry.place → places_of (set table at next) ≡ places_of table
-places_stay [] at entry next e f = refl
-places_stay (step ∷ table) zero entry next e f = ap (λ (p : Path). p ∷ places_of table) (f ∙ ap (λ (s : MountStep). s.place) e)
-places_stay (step ∷ table) (suc at) entry next e f = ap (λ (l : List Path). step.place ∷ l) (places_stay table at entry next e f)
-
 front_of : {X : Type 0} (xs ys : List X) → take (length xs) (xs ++ ys) ≡ xs
 front_of [] [] = refl
 front_of [] (y ∷ ys) = refl
@@ -80,18 +77,38 @@ places_cut table places more after len e f g =
 pub places_grown : (table more : List MountStep) (places after : List Path) → HasPlaces table places → after ≡ places ++ places_of more → HasPlaces (table ++ more) after
 places_grown table more places after e f = f ∙ ap (λ (l : List Path). l ++ places_of more) e ∙ sym (map-append (λ step. step.place) table more)
 
--- a table in which an entry has other flags is one
-pub table_stays : (table : List MountStep) (at : ℕ) (entry next : MountStep) → IsTable table → entry ≡ get_or table at entry → next.place ≡ entry.place → IsTable (set table at next)
-table_stays table at entry next h e f = record { root = root table at h.root e; few = let same = length-set table at next in omega (arith, same, h.few) }
-  where
-    root : (table : List MountStep) (at : ℕ) → StartsAtRoot table → entry ≡ get_or table at entry → StartsAtRoot (set table at next)
-    root [] at h e = absurd h
-    root (step ∷ table) zero h e = f ∙ ap (λ (s : MountStep). s.place) e ∙ h
-    root (step ∷ table) (suc at) h e = h
-
 pub in_range_of_places : (table : List MountStep) (places : List Path) (at : ℕ) → HasPlaces table places → at < length table → at < length places
 in_range_of_places table places at e lt = let long = ap length e ∙ length-map table (λ step. step.place) in omega arith
 
 pub where_refused : {T E : Type 0} (r : Result T E) (Fact : Type 0) → Fact → OnErr r Fact
 where_refused (Ok done) Fact h = tt
 where_refused (Err error) Fact h = h
+
+-- ---- mounts
+-- a mount with other flags stands where it stood
+pub mount_places_stay : (mounts : Mounts) (at : ℕ) (mount next : Mount) → mount ≡ get_or mounts at mount → next.step.place ≡ mount.step.place → places_of (steps_of (set mounts at next)) ≡ places_of (steps_of mounts)
+mount_places_stay [] at mount next e f = refl
+mount_places_stay (first ∷ mounts) zero mount next e f = ap (λ (p : Path). p ∷ places_of (steps_of mounts)) (f ∙ ap (λ (m : Mount). m.step.place) e)
+mount_places_stay (first ∷ mounts) (suc at) mount next e f = ap (λ (l : List Path). first.step.place ∷ l) (mount_places_stay mounts at mount next e f)
+
+-- mounts of which one has other flags are a table
+pub mounts_stay : (mounts : Mounts) (at : ℕ) (mount next : Mount) → IsTable (steps_of mounts) → mount ≡ get_or mounts at mount → next.step.place ≡ mount.step.place → IsTable (steps_of (set mounts at next))
+mounts_stay mounts at mount next h e f = record {
+  root = root mounts at h.root e;
+  few = let same = length-set mounts at next in let long = length-map mounts (λ (m : Mount). m.step) in let longer = length-map (set mounts at next) (λ (m : Mount). m.step) in omega (arith, same, long, longer, h.few);
+}
+  where
+    root : (mounts : Mounts) (at : ℕ) → StartsAtRoot (steps_of mounts) → mount ≡ get_or mounts at mount → StartsAtRoot (steps_of (set mounts at next))
+    root [] at h e = absurd h
+    root (first ∷ mounts) zero h e = f ∙ ap (λ (m : Mount). m.step.place) e ∙ h
+    root (first ∷ mounts) (suc at) h e = h
+
+-- what is taken away of the places is taken away of the mounts
+pub mount_places_without : (mounts next : Mounts) (places after : List Path) (path : Path) (at : ℕ) → HasPlaces (steps_of mounts) places → next ≡ take at mounts ++ filter (λ mount. not (stands_below path mount)) (drop (at + 1) mounts) →
+    after ≡ without at path places → HasPlaces (steps_of next) after
+mount_places_without mounts next places after path at e f g =
+    places_without (steps_of mounts) (steps_of next) places after path at e
+    (ap steps_of f ∙ steps_append (take at mounts) (filter (λ mount. not (stands_below path mount)) (drop (at + 1) mounts))
+    ∙ ap (λ (t : List MountStep). t ++ steps_of (filter (λ mount. not (stands_below path mount)) (drop (at + 1) mounts))) (sym (steps_take at mounts))
+    ∙ ap (λ (t : List MountStep). take at (steps_of mounts) ++ t) (steps_filter (λ step. not (is_below path step)) (drop (at + 1) mounts) ∙ ap (filter (λ step. not (is_below path step))) (sym (steps_drop (at + 1) mounts))))
+    g

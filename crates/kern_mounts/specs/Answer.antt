@@ -1,20 +1,31 @@
 -- What a call answers: errno(3) where it is refused, and then the table stays; else the table that the rule makes.
-use Rattle.std.specs.Prelude.{◌≡◌, ℕ, Result, Ok, Err, IsOk}
+use Rattle.std.specs.Prelude.{◌≡◌, ℕ, Result, Ok, Err, IsOk, map}
 use Rattle.kern_mounts.specs.declared.error.MountError.{MountError}
 use Rattle.kern_mounts.specs.declared.error.MountError.TheVariants.{Errno, Memory}
+use Rattle.kern_mounts.specs.Mounts.{Mounts, steps_of, plain}
 use Rattle.kern_mounts.specs.Split.{Table}
 
 -- from the old table to the new one, with this result, where the rule answers so
-abbrev pub Becomes : Table → Table → Result (Unit {0}) ℕ → Result Table ℕ → Type 0
+abbrev pub Becomes : {T : Type 0} → T → T → Result (Unit {0}) ℕ → Result T ℕ → Type 0
 Becomes old new (Ok u) answer = answer ≡ Ok new
 Becomes old new (Err errno) answer = (answer ≡ Err errno) × (new ≡ old)
 
 -- why a call that takes memory is refused, where the rule answers so: want of memory only where the rule does not refuse it
-abbrev pub Refuses : MountError → Result Table ℕ → Type 0
+abbrev pub Refuses : {T : Type 0} → MountError → Result T ℕ → Type 0
 Refuses (Errno errno) answer = answer ≡ Err errno
 Refuses Memory answer = IsOk answer
 
 -- from the old table to the new one, by a call that takes memory
-abbrev pub BecomesOrMemory : Table → Table → Result (Unit {0}) MountError → Result Table ℕ → Type 0
+abbrev pub BecomesOrMemory : {T : Type 0} → T → T → Result (Unit {0}) MountError → Result T ℕ → Type 0
 BecomesOrMemory old new (Ok u) answer = answer ≡ Ok new
 BecomesOrMemory old new (Err error) answer = Refuses error answer × (new ≡ old)
+
+-- the answer, of the entries alone
+abbrev pub steps_answer : Result Mounts ℕ → Result Table ℕ
+steps_answer (Ok mounts) = Ok (steps_of mounts)
+steps_answer (Err errno) = Err errno
+
+-- the answer of a rule on entries, as of mounts that are not locked and keep nothing
+abbrev pub plain_answer : Result Table ℕ → Result Mounts ℕ
+plain_answer (Ok table) = Ok (map plain table)
+plain_answer (Err errno) = Err errno

@@ -9,3 +9,13 @@ pub mod Push
 pub mod Bind
 pub mod Unmounts
 pub mod Answer
+pub mod Mounts
+pub mod Keeping
+pub mod MountAt
+pub mod MountsUmount
+pub mod MountsRemount
+pub mod MountsPush
+pub mod MountsBind
+pub mod Copying
+pub mod Backing
+pub mod Changes

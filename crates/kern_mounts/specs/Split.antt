@@ -10,19 +10,22 @@ abbrev pub Table : Type 0
 Table = List MountStep
 
 -- an entry, with what comes before it and what comes after it
-pub record Split : Type 0 where
-  pub earlier : Table
-  pub entry : MountStep
-  pub later : Table
+pub record SplitOf (X : Type 0) : Type 0 where
+  pub earlier : List X
+  pub entry : X
+  pub later : List X
+
+abbrev pub Split : Type 0
+Split = SplitOf MountStep
 
 -- about an entry of the later ones, or else about this one where it is of the kind
-abbrev pub split_or : Option Split → Bool → MountStep → Table → Option Split
+abbrev pub split_or : {X : Type 0} → Option (SplitOf X) → Bool → X → List X → Option (SplitOf X)
 split_or (Some split) own entry table = Some (record split { earlier = entry ∷ split.earlier })
 split_or None true entry table = Some (record { earlier = []; entry = entry; later = table })
 split_or None false entry table = None
 
 -- about the last entry of this kind
-abbrev pub split_last : (MountStep → Bool) → Table → Option Split
+abbrev pub split_last : {X : Type 0} → (X → Bool) → List X → Option (SplitOf X)
 split_last p [] = None
 split_last p (entry ∷ table) = split_or (split_last p table) (p entry) entry table
 

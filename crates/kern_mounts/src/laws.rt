@@ -1,6 +1,7 @@
 //! Laws of mount tables, each the contract of a function that does nothing.
 
 pub mod changes;
+pub mod locks;
 
 ghost use Rattle.std.specs.Prelude.{◌≡◌, ℕ, true, false, List, ◌∷◌, [], ◌++◌, map, Bool, Option, Some, slice_get, Contains};
 ghost use Rattle.abs_path.specs.Paths.{Path};

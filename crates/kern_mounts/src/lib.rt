@@ -11,5 +11,5 @@ mod step;
 mod table;
 
 pub use error::MountError;
-pub use step::{Flags, MountStep, What};
+pub use step::{Flags, Mount, MountStep, What};
 pub use table::MountTable;

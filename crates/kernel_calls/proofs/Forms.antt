@@ -8,11 +8,11 @@ use Rattle.call_names.specs.declared.rule.CallRule.{CallRule}
 use Rattle.call_names.specs.declared.rule.CallRule.TheVariants as known
 use Rattle.call_names.specs.declared.payload.PayloadForm.TheVariants as form
 use Rattle.kernel_calls.specs.declared.payload.Payload.{Payload}
-use Rattle.kernel_calls.specs.declared.payload.Payload.TheVariants.{Nothing, OnePath, TwoPaths, Sets, Ids, Code}
+use Rattle.kernel_calls.specs.declared.payload.Payload.TheVariants.{Nothing, OnePath, TwoPaths, Sets, Ids, Family, Code}
 use Rattle.kernel_calls.specs.declared.rule.Rule.{Rule}
 use Rattle.kernel_calls.specs.declared.rule.Rule.TheVariants as rule
 use Rattle.kernel_calls.specs.Calls.{form_of_payload}
-use Rattle.kernel_calls.specs.Doing.{Doing, See, Open, Create, Truncate, Execve, SetMode, Map, Protect, Attach, Schedule, Personality, Socket, Enter, Fork, Clone, Unshare, Exit, Mount, Umount, Setuid, Setgid, Setresuid, Setresgid, Setgroups, Capset, Prctl, Seccomp, Plain, bare, by_path, by_paths, by_sets, by_ids, by_code, known_doing, doing_by}
+use Rattle.kernel_calls.specs.Doing.{Doing, See, Open, Create, Truncate, Execve, SetMode, Map, Protect, Attach, Schedule, Personality, Socket, Socketcall, Enter, Fork, Clone, Unshare, Exit, Mount, Umount, Setuid, Setgid, Setresuid, Setresgid, Setgroups, Capset, Prctl, Seccomp, Plain, bare, by_path, by_paths, by_sets, by_ids, by_family, by_code, known_doing, doing_by}
 use Rattle.kernel_calls.specs.Rules.{form_of_rule}
 use Rattle.kernel_calls.specs.Words.{low_word}
 
@@ -36,6 +36,10 @@ by_ids_form : (doing : List ℕ → Doing) (payload : Payload) → (form_of_payl
 by_ids_form doing (Ids ids) = (λ h. refl, λ h. refl)
 by_ids_form doing payload = (λ h. cc, λ h. cc)
 
+by_family_form : (doing : ℕ → Doing) (payload : Payload) → (form_of_payload payload ≡ form.Family) ↔ IsSome (by_family doing payload)
+by_family_form doing (Family family) = (λ h. refl, λ h. refl)
+by_family_form doing payload = (λ h. cc, λ h. cc)
+
 by_code_form : (doing : List ℕ → Doing) (payload : Payload) → (form_of_payload payload ≡ form.Program) ↔ IsSome (by_code doing payload)
 by_code_form doing (Code bytes) = (λ h. refl, λ h. refl)
 by_code_form doing payload = (λ h. cc, λ h. cc)
@@ -53,6 +57,7 @@ known_form known.Attach args = bare_form (Attach (low_word args 2))
 known_form known.Schedule args = bare_form (Schedule (low_word args 1))
 known_form known.Personality args = bare_form (Personality (low_word args 0))
 known_form known.Socket args = bare_form (Socket (low_word args 0))
+known_form known.Socketcall args = by_family_form (Socketcall (low_word args 0))
 known_form known.Enter args = bare_form Enter
 known_form known.Fork args = bare_form Fork
 known_form known.Clone args = bare_form (Clone (low_word args 0))
@@ -90,6 +95,7 @@ known_low known.Attach args other payload same = ap (λ w. bare (Attach w) paylo
 known_low known.Schedule args other payload same = ap (λ w. bare (Schedule w) payload) (same 1 (omega arith))
 known_low known.Personality args other payload same = ap (λ w. bare (Personality w) payload) (same 0 (omega arith))
 known_low known.Socket args other payload same = ap (λ w. bare (Socket w) payload) (same 0 (omega arith))
+known_low known.Socketcall args other payload same = ap (λ w. by_family (Socketcall w) payload) (same 0 (omega arith))
 known_low known.Clone args other payload same = ap (λ w. bare (Clone w) payload) (same 0 (omega arith))
 known_low known.Unshare args other payload same = ap (λ w. bare (Unshare w) payload) (same 0 (omega arith))
 known_low known.Mount args other payload same = ap (λ w. by_paths (λ source target. Mount source target w) payload) (same 3 (omega arith))

@@ -10,6 +10,7 @@ use Rattle.kernel_calls.specs.declared.call.Call.{Call}
 use Rattle.kernel_calls.specs.declared.rule.Rule.{Rule}
 use Rattle.kernel_calls.specs.declared.rule.Rule.TheVariants.{Plain}
 use Rattle.kernel_calls.specs.Calls.{form_of_payload}
+use Rattle.call_table.specs.Table.{Table, calls_in}
 use Rattle.kernel_calls.specs.Doing.{Doing, doing_by, Lacking, Misformed, asked_if, asked_by, asked_of}
 use Rattle.kernel_calls.specs.Rules.{rule_by, rule_of, rule_at, form_of_rule}
 use Rattle.kernel_calls.proofs.Search.{at_its_place}
@@ -37,8 +38,8 @@ plain line cap = by (known_call line.name)
     by (Some Absent) = (λ h. cc, λ h. cc)
     by (Some (Modelled rule)) = (λ h. cc, λ h. cc)
 
-pub lacking : (calls : List CallLine) (call : Call) → (asked_of calls call ≡ Lacking) ↔ (rule_at calls call.nr ≡ None)
-lacking calls call = by (rule_at calls call.nr)
+pub lacking : (table : Table) (call : Call) → (asked_of table call ≡ Lacking) ↔ (rule_at (calls_in table call.abi) call.nr ≡ None)
+lacking table call = by (rule_at (calls_in table call.abi) call.nr)
   where
     asks : (doing : Option Doing) → asked_if doing ≡ Lacking → ⊥
     asks None h = cc
@@ -48,15 +49,16 @@ lacking calls call = by (rule_at calls call.nr)
     by None = (λ h. refl, λ h. refl)
     by (Some rule) = (λ h. absurd (asks (doing_by rule call.args call.payload) h), λ h. cc)
 
-pub absent_calls_are_lacking : (calls : List CallLine) (call : Call) (at : ℕ) (line : CallLine) → AreOnce calls → slice_get calls at ≡ Some line → call.nr ≡ line.number → (asked_of calls call ≡ Lacking) ↔ (known_call line.name ≡ Some Absent)
-absent_calls_are_lacking calls call at line once e same =
+pub absent_calls_are_lacking : (table : Table) (call : Call) (at : ℕ) (line : CallLine) → AreOnce (calls_in table call.abi) → slice_get (calls_in table call.abi) at ≡ Some line → call.nr ≡ line.number → (asked_of table call ≡ Lacking) ↔ (known_call line.name ≡ Some Absent)
+absent_calls_are_lacking table call at line once e same =
+    let calls : List CallLine = calls_in table call.abi in
     let rule : rule_at calls call.nr ≡ rule_of line = ap (rule_at calls) same ∙ one_rule calls at line once e in
-    (λ h. (absent line).0 (sym rule ∙ (lacking calls call).0 h), λ h. (lacking calls call).1 (rule ∙ (absent line).1 h))
+    (λ h. (absent line).0 (sym rule ∙ (lacking table call).0 h), λ h. (lacking table call).1 (rule ∙ (absent line).1 h))
 
-pub misformed : (calls : List CallLine) (call : Call) (rule : Rule) → rule_at calls call.nr ≡ Some rule → (asked_of calls call ≡ Misformed) ↔ (¬ (form_of_payload call.payload ≡ form_of_rule rule))
-misformed calls call rule e =
+pub misformed : (table : Table) (call : Call) (rule : Rule) → rule_at (calls_in table call.abi) call.nr ≡ Some rule → (asked_of table call ≡ Misformed) ↔ (¬ (form_of_payload call.payload ≡ form_of_rule rule))
+misformed table call rule e =
     let decides = form_decides rule call.args call.payload in
-    let same : asked_of calls call ≡ asked_if (doing_by rule call.args call.payload) = ap (λ o. asked_by o call) e in
+    let same : asked_of table call ≡ asked_if (doing_by rule call.args call.payload) = ap (λ o. asked_by o call) e in
     (λ h f. some (doing_by rule call.args call.payload) (sym same ∙ h) (decides.0 f), λ never. same ∙ none (doing_by rule call.args call.payload) (λ is. never (decides.1 is)))
   where
     some : (doing : Option Doing) → asked_if doing ≡ Misformed → IsSome doing → ⊥

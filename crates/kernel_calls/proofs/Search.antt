@@ -26,7 +26,7 @@ abbrev pub none : Numbered
 none = record { number = 0; position = 0 }
 
 abbrev blank : CallLine
-blank = record { name = []; number = 0; cap = None }
+blank = record { name = []; number = 0; cap = None; abi = 0 }
 
 -- the line at a place, with its number
 abbrev line_at : List CallLine → ℕ → Numbered

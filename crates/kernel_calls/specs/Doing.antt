@@ -4,9 +4,9 @@ use Rattle.abs_path.specs.Paths.{Path}
 use Rattle.call_names.specs.Known.{place_of}
 use Rattle.call_names.specs.declared.rule.CallRule.{CallRule}
 use Rattle.call_names.specs.declared.rule.CallRule.TheVariants as known
-use Rattle.call_table.specs.declared.listed.CallLine.{CallLine}
+use Rattle.call_table.specs.Table.{Table, calls_in}
 use Rattle.kernel_calls.specs.declared.payload.Payload.{Payload}
-use Rattle.kernel_calls.specs.declared.payload.Payload.TheVariants.{Nothing, OnePath, TwoPaths, Sets, Ids, Code}
+use Rattle.kernel_calls.specs.declared.payload.Payload.TheVariants.{Nothing, OnePath, TwoPaths, Sets, Ids, Family, Code}
 use Rattle.kernel_calls.specs.declared.call.Call.{Call}
 use Rattle.kernel_calls.specs.declared.rule.Rule.{Rule}
 use Rattle.kernel_calls.specs.declared.rule.Rule.TheVariants as rule
@@ -33,6 +33,8 @@ pub data Doing : Type 0 where
   Schedule : ℕ → Doing
   Personality : ℕ → Doing
   Socket : ℕ → Doing
+  -- socketcall(2): the operation, and the family that it points to
+  Socketcall : ℕ → ℕ → Doing
   -- setns(2) and fork(2); clone(2) and unshare(2): the flags; exit(2)
   Enter : Doing
   Fork : Doing
@@ -64,6 +66,7 @@ bare doing (OnePath path) = None
 bare doing (TwoPaths source target) = None
 bare doing (Sets permitted effective inheritable) = None
 bare doing (Ids ids) = None
+bare doing (Family family) = None
 bare doing (Code bytes) = None
 
 -- a call with one path
@@ -73,6 +76,7 @@ by_path doing Nothing = None
 by_path doing (TwoPaths source target) = None
 by_path doing (Sets permitted effective inheritable) = None
 by_path doing (Ids ids) = None
+by_path doing (Family family) = None
 by_path doing (Code bytes) = None
 
 -- a call with two paths
@@ -82,6 +86,7 @@ by_paths doing Nothing = None
 by_paths doing (OnePath path) = None
 by_paths doing (Sets permitted effective inheritable) = None
 by_paths doing (Ids ids) = None
+by_paths doing (Family family) = None
 by_paths doing (Code bytes) = None
 
 -- a call with three sets of capabilities
@@ -91,6 +96,7 @@ by_sets doing Nothing = None
 by_sets doing (OnePath path) = None
 by_sets doing (TwoPaths source target) = None
 by_sets doing (Ids ids) = None
+by_sets doing (Family family) = None
 by_sets doing (Code bytes) = None
 
 -- a call with a list of ids
@@ -100,7 +106,18 @@ by_ids doing Nothing = None
 by_ids doing (OnePath path) = None
 by_ids doing (TwoPaths source target) = None
 by_ids doing (Sets permitted effective inheritable) = None
+by_ids doing (Family family) = None
 by_ids doing (Code bytes) = None
+
+-- a call with a family
+abbrev pub by_family : (ℕ → Doing) → Payload → Option Doing
+by_family doing (Family family) = Some (doing family)
+by_family doing Nothing = None
+by_family doing (OnePath path) = None
+by_family doing (TwoPaths source target) = None
+by_family doing (Sets permitted effective inheritable) = None
+by_family doing (Ids ids) = None
+by_family doing (Code bytes) = None
 
 -- a call with the bytes of a program
 abbrev pub by_code : (List ℕ → Doing) → Payload → Option Doing
@@ -110,6 +127,7 @@ by_code doing (OnePath path) = None
 by_code doing (TwoPaths source target) = None
 by_code doing (Sets permitted effective inheritable) = None
 by_code doing (Ids ids) = None
+by_code doing (Family family) = None
 
 -- what a call of a known rule asks for; nothing where the payload is not of its form
 abbrev pub known_doing : CallRule → List ℕ → Payload → Option Doing
@@ -125,6 +143,7 @@ known_doing known.Attach args payload = bare (Attach (low_word args 2)) payload
 known_doing known.Schedule args payload = bare (Schedule (low_word args 1)) payload
 known_doing known.Personality args payload = bare (Personality (low_word args 0)) payload
 known_doing known.Socket args payload = bare (Socket (low_word args 0)) payload
+known_doing known.Socketcall args payload = by_family (Socketcall (low_word args 0)) payload
 known_doing known.Enter args payload = bare Enter payload
 known_doing known.Fork args payload = bare Fork payload
 known_doing known.Clone args payload = bare (Clone (low_word args 0)) payload
@@ -161,6 +180,6 @@ abbrev pub asked_by : Option Rule → Call → Asked
 asked_by None call = Lacking
 asked_by (Some rule) call = asked_if (doing_by rule call.args call.payload)
 
--- what a call asks a kernel with this table for
-abbrev pub asked_of : List CallLine → Call → Asked
-asked_of calls call = asked_by (rule_at calls call.nr) call
+-- what a call asks a kernel with this table for, by the calls of its ABI
+abbrev pub asked_of : Table → Call → Asked
+asked_of table call = asked_by (rule_at (calls_in table call.abi) call.nr) call

@@ -1,5 +1,6 @@
 -- Which rule a call of the table follows, by its name.
-use Rattle.std.specs.Prelude.{ℕ, List, Option, Some, None, option_and_then}
+use Rattle.std.specs.Prelude.{ℕ, List, Option, Some, None, option_and_then, map}
+use Rattle.call_table.specs.Table.{Table, second_calls}
 use Rattle.call_names.specs.Known.{known_call, form_of}
 use Rattle.call_names.specs.declared.known.KnownCall.{KnownCall}
 use Rattle.call_names.specs.declared.known.KnownCall.TheVariants.{Modelled, Absent}
@@ -23,6 +24,13 @@ rule_of line = rule_by (known_call line.name) line.cap
 -- the rule of a number; none too where no line has it
 abbrev pub rule_at : List CallLine → ℕ → Option Rule
 rule_at calls nr = option_and_then rule_of (numbered nr calls)
+
+-- the rules of the native ABI and of a second, line by line
+abbrev pub TableRules : Type 0
+TableRules = List (Option Rule) × List (Option Rule)
+
+abbrev pub rules_of : Table → TableRules
+rules_of table = (map rule_of table.calls, map rule_of (second_calls table.second))
 
 -- what a call of the rule carries beside its words
 abbrev pub form_of_rule : Rule → PayloadForm

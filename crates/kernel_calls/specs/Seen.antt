@@ -1,5 +1,5 @@
 -- What the values of the code stand for.
-use Rattle.kernel_calls.specs.Doing.{Doing, See, Open, Create, Truncate, Execve, SetMode, Map, Protect, Attach, Schedule, Personality, Socket, Enter, Fork, Clone, Unshare, Exit, Mount, Umount, Setuid, Setgid, Setresuid, Setresgid, Setgroups, Capset, Prctl, Seccomp, Plain, Asked, Lacking, Misformed, Does}
+use Rattle.kernel_calls.specs.Doing.{Doing, See, Open, Create, Truncate, Execve, SetMode, Map, Protect, Attach, Schedule, Personality, Socket, Socketcall, Enter, Fork, Clone, Unshare, Exit, Mount, Umount, Setuid, Setgid, Setresuid, Setresgid, Setgroups, Capset, Prctl, Seccomp, Plain, Asked, Lacking, Misformed, Does}
 use Rattle.kernel_calls.specs.declared.doing.Doing.{Doing as Lent}
 use Rattle.kernel_calls.specs.declared.doing.Doing.TheVariants as lent
 use Rattle.kernel_calls.specs.declared.asked.Asked.{Asked as LentAsked}
@@ -19,6 +19,7 @@ seen (lent.Attach flags) = Attach flags
 seen (lent.Schedule policy) = Schedule policy
 seen (lent.Personality persona) = Personality persona
 seen (lent.Socket family) = Socket family
+seen (lent.Socketcall operation family) = Socketcall operation family
 seen lent.Enter = Enter
 seen lent.Fork = Fork
 seen (lent.Clone flags) = Clone flags

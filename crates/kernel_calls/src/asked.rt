@@ -1,8 +1,8 @@
 //! What a call asks a kernel with a table for.
 
-ghost use Rattle.std.specs.Prelude.{◌≡◌, map};
+ghost use Rattle.std.specs.Prelude.{◌≡◌};
 ghost use Rattle.kernel_calls.specs.Doing.{asked_of};
-ghost use Rattle.kernel_calls.specs.Rules.{rule_of};
+ghost use Rattle.kernel_calls.specs.Rules.{rules_of};
 ghost use Rattle.kernel_calls.specs.Seen.{asked_seen};
 
 use crate::call::Call;
@@ -22,12 +22,12 @@ pub enum Asked<'a> {
 }
 
 impl Rules {
-    /// What a call asks for, by its number in the table that the rules are of. It takes no memory.
+    /// What a call asks for, by its number in its ABI of the table that the rules are of. It takes no memory.
     pub fn asked<'a>(&self, calls: &CallTable, call: &'a Call) -> Asked<'a>
-        requires { self.now ≡ map rule_of calls.now.calls }
-        ensures by_number_words_and_payload { asked_seen result ≡ asked_of calls.now.calls call.now }
+        requires { self.now ≡ rules_of calls.now }
+        ensures by_number_words_and_payload { asked_seen result ≡ asked_of calls.now call.now }
     {
-        match self.rule(calls, call.nr) {
+        match self.rule(calls, call.abi, call.nr) {
             None => Asked::Lacking,
             Some(rule) => match doing_of(rule, call) {
                 None => Asked::Misformed,

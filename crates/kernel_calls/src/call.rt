@@ -11,6 +11,8 @@ use crate::words::low_word;
 pub struct Call {
     /// The number of the process that makes the call, from 1.
     pub pid: u32,
+    /// The ABI by which it is made: its position in the table of calls, from 0.
+    pub abi: u8,
     /// The number of the call.
     pub nr: u32,
     /// The six words that the call is given.

@@ -41,6 +41,8 @@ pub enum Doing<'a> {
     Personality(u32),
     /// socket(2), with the address family.
     Socket(u32),
+    /// socketcall(2), with the operation and the address family that it points to.
+    Socketcall(u32, u32),
     /// setns(2).
     Enter,
     /// fork(2) and vfork(2).
@@ -138,6 +140,10 @@ fn known_doing<'a>(rule: CallRule, args: &[u64; 6], payload: &'a Payload) -> Opt
         },
         Payload::Ids(list) => match rule {
             CallRule::Setgroups => Some(Doing::Setgroups(list.list())),
+            _ => None,
+        },
+        Payload::Family(family) => match rule {
+            CallRule::Socketcall => Some(Doing::Socketcall(low_word(args, 0), *family)),
             _ => None,
         },
         Payload::Code(code) => match rule {

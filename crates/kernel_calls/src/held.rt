@@ -44,6 +44,12 @@ fn set_fits(set: CapSet)
     let _word = set.bits();
 }
 
+fn family_fits(family: u32)
+    ensures { family < 2 ^ 32 }
+{
+    let _family = family;
+}
+
 fn payload_fits(payload: &Payload)
     ensures { FitsPayload payload.now }
 {
@@ -60,6 +66,7 @@ fn payload_fits(payload: &Payload)
             set_fits(*inheritable);
         }
         Payload::Ids(list) => ids_fit(list.list()),
+        Payload::Family(family) => family_fits(*family),
         Payload::Code(code) => bytes_fit(code.list()),
     }
 }
@@ -69,6 +76,7 @@ pub fn fits(call: &Call)
     ensures { IsCall call.now }
 {
     let _pid = call.pid;
+    let _abi = call.abi;
     let _nr = call.nr;
     words_fit(&call.args);
     payload_fits(&call.payload);

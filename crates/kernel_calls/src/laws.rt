@@ -5,6 +5,7 @@ ghost use Rattle.call_names.specs.Known.{known_call, is_known};
 ghost use Rattle.call_names.specs.declared.known.KnownCall.TheVariants.{Absent};
 ghost use Rattle.call_table.specs.declared.listed.CallLine.{CallLine};
 ghost use Rattle.call_table.specs.Lookups.{AreOnce};
+ghost use Rattle.call_table.specs.Table.{Table, calls_in};
 ghost use Rattle.kernel_calls.specs.declared.call.Call.{Call};
 ghost use Rattle.kernel_calls.specs.declared.payload.Payload.{Payload};
 ghost use Rattle.kernel_calls.specs.declared.rule.Rule.{Rule};
@@ -23,19 +24,19 @@ pub fn each_call_has_one_rule()
     ensures absent { (line : CallLine) → ((rule_of line ≡ None) ↔ (known_call line.name ≡ Some Absent)) }
     ensures plain { (line : CallLine) (cap : Option ℕ)
         → ((rule_of line ≡ Some (Plain cap)) ↔ ((is_known line.name ≡ false) × (line.cap ≡ cap))) }
-    ensures absent_calls_are_lacking { (calls : List CallLine) (call : Call) (at : ℕ) (line : CallLine)
-        → AreOnce calls → slice_get calls at ≡ Some line → call.nr ≡ line.number
-        → ((asked_of calls call ≡ Lacking) ↔ (known_call line.name ≡ Some Absent)) }
+    ensures absent_calls_are_lacking { (table : Table) (call : Call) (at : ℕ) (line : CallLine)
+        → AreOnce (calls_in table call.abi) → slice_get (calls_in table call.abi) at ≡ Some line → call.nr ≡ line.number
+        → ((asked_of table call ≡ Lacking) ↔ (known_call line.name ≡ Some Absent)) }
 {}
 
 /// The form of its payload decides whether a call that the kernel has asks for anything.
 pub fn form_decides()
     ensures of_the_rule { (rule : Rule) (args : List ℕ) (payload : Payload)
         → ((form_of_payload payload ≡ form_of_rule rule) ↔ IsSome (doing_by rule args payload)) }
-    ensures lacking { (calls : List CallLine) (call : Call)
-        → ((asked_of calls call ≡ Lacking) ↔ (rule_at calls call.nr ≡ None)) }
-    ensures misformed { (calls : List CallLine) (call : Call) (rule : Rule) → rule_at calls call.nr ≡ Some rule
-        → ((asked_of calls call ≡ Misformed) ↔ (¬ (form_of_payload call.payload ≡ form_of_rule rule))) }
+    ensures lacking { (table : Table) (call : Call)
+        → ((asked_of table call ≡ Lacking) ↔ (rule_at (calls_in table call.abi) call.nr ≡ None)) }
+    ensures misformed { (table : Table) (call : Call) (rule : Rule) → rule_at (calls_in table call.abi) call.nr ≡ Some rule
+        → ((asked_of table call ≡ Misformed) ↔ (¬ (form_of_payload call.payload ≡ form_of_rule rule))) }
 {}
 
 /// Of the words of a call only the low halves matter, syscall(2).

@@ -2,7 +2,7 @@
 //!
 //! A call is a number, six words and what its pointers point to, syscall(2); `Rules` says once for each call of a
 //! `CallTable` what the kernel does for it, and `asked` what a call asks for. It rests on `call_names` and `call_table`.
-//! Where a table has the line `call getpid 39`, `rules.rule(&table, 39)` is `Some(Rule::Plain(None))`.
+//! Where a table has the line `call getpid 39`, `rules.rule(&table, 0, 39)` is `Some(Rule::Plain(None))`.
 #![tactic(auto)]
 
 mod asked;

@@ -27,6 +27,8 @@ pub enum Payload {
     Sets(CapSet, CapSet, CapSet),
     /// Ids of groups, setgroups(2).
     Ids(IdList),
+    /// The number of an address family, the first of the words that socketcall(2) points to.
+    Family(u32),
     /// The bytes of a program, seccomp(2).
     Code(Bytes),
 }
@@ -42,6 +44,7 @@ impl Payload {
             Payload::TwoPaths(_, _) => PayloadForm::TwoPaths,
             Payload::Sets(_, _, _) => PayloadForm::Sets,
             Payload::Ids(_) => PayloadForm::Ids,
+            Payload::Family(_) => PayloadForm::Family,
             Payload::Code(_) => PayloadForm::Program,
         }
     }

@@ -1,6 +1,8 @@
 -- Each question of the list is asked of what it is about.
 use Rattle.std.proofs.Common.{◌≡◌, ℕ, Bool, true, false, List, [], ◌∷◌, ◌++◌, Some, refl, ap, ◌∙◌, sym, subst, append_assoc, length, length-append}
-use Rattle.std.specs.Prelude.{map, not, slice_get, ◌+◌}
+use Rattle.std.specs.Prelude.{map, not, slice_get, ◌+◌, ◌&&◌}
+use Rattle.std.proofs.lemmas.Bool.{and_parts}
+use Rattle.call_table.specs.Members.{is_first}
 use Rattle.std.specs.List.{AllByRecursion}
 use Rattle.call_table.specs.declared.listed.CallLine.{CallLine}
 use Rattle.call_table.specs.Table as calls
@@ -33,17 +35,17 @@ module _ (table : calls.Table) where
   get_at [] line lines = refl
   get_at (first ∷ front) line lines = get_at front line lines
 
-  calls_asked : (front lines : List CallLine) → table.calls ≡ front ++ lines → AllAsked (of_calls (length front) lines)
+  calls_asked : (front lines : List CallLine) → calls.every_call table ≡ front ++ lines → AllAsked (of_calls (calls.every_call table) (length front) lines)
   calls_asked front [] whole = tt
   calls_asked front (line ∷ lines) whole =
-      let next : table.calls ≡ (front ++ line ∷ []) ++ lines = whole ∙ sym (append_assoc front (line ∷ []) lines) in
+      let next : calls.every_call table ≡ (front ++ line ∷ []) ++ lines = whole ∙ sym (append_assoc front (line ∷ []) lines) in
       let count : length (front ++ line ∷ []) ≡ length front + 1 = length-append front (line ∷ []) in
-      let P : ℕ → Type 0 = λ n. AllAsked (of_calls n lines) in
-      both (if_so (is_plain (rule_of line)) (Call (length front))) (of_calls (length front + 1) lines)
-      (asked_if (is_plain (rule_of line)) (Call (length front)) (λ e own listed.
-      let here : slice_get table.calls (length front) ≡ Some line = ap (λ (l : List CallLine). slice_get l (length front)) whole ∙ get_at front line lines in
+      let P : ℕ → Type 0 = λ n. AllAsked (of_calls (calls.every_call table) n lines) in
+      both (if_so (is_plain (rule_of line) && is_first (calls.every_call table) line.name (length front)) (Call (length front))) (of_calls (calls.every_call table) (length front + 1) lines)
+      (asked_if (is_plain (rule_of line) && is_first (calls.every_call table) line.name (length front)) (Call (length front)) (λ e own listed.
+      let here : slice_get (calls.every_call table) (length front) ≡ Some line = ap (λ (l : List CallLine). slice_get l (length front)) whole ∙ get_at front line lines in
       let same : line ≡ own = cc in
-      ap (λ (l : CallLine). is_plain (rule_of l)) (sym same) ∙ e))
+      ap (λ (l : CallLine). is_plain (rule_of l)) (sym same) ∙ (and_parts (is_plain (rule_of line)) (is_first (calls.every_call table) line.name (length front)) e).0))
       (subst P count (calls_asked (front ++ line ∷ []) lines next))
 
   families_asked : (at : ℕ) (lines : List CallLine) → AllAsked (of_families at lines)
@@ -67,12 +69,12 @@ module _ (table : calls.Table) where
 
   pub all_asked : (site : Site) → AllAsked (questions table site)
   all_asked site =
-      let one : List Question = of_rows 0 site.rows ++ of_calls 0 table.calls in
+      let one : List Question = of_rows 0 site.rows ++ of_calls (calls.every_call table) 0 (calls.every_call table) in
       let two : List Question = one ++ of_families 0 table.families in
       let three : List Question = two ++ other_questions in
       let four : List Question = three ++ map Cap (count_from 0 41) in
       let five : List Question = four ++ map Uid (uids_of site) in
-      let h = both (of_rows 0 site.rows) (of_calls 0 table.calls) (rows_asked 0 site.rows) (calls_asked [] table.calls refl) in
+      let h = both (of_rows 0 site.rows) (of_calls (calls.every_call table) 0 (calls.every_call table)) (rows_asked 0 site.rows) (calls_asked [] (calls.every_call table) refl) in
       let h = both one (of_families 0 table.families) h (families_asked 0 table.families) in
       let h = both two other_questions h others_asked in
       let h = both three (map Cap (count_from 0 41)) h (caps_asked (count_from 0 41)) in

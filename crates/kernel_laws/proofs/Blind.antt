@@ -1,5 +1,5 @@
 -- Blind by the table, blind in every world; and back.
-use Rattle.std.proofs.Common.{◌≡◌, Bool, true, false, [], ◌∷◌, ◌++◌, Option, Some, None, inl, inr, refl, ap, ◌∙◌, sym, subst, append_assoc}
+use Rattle.std.proofs.Common.{◌≡◌, Bool, true, false, [], ◌∷◌, ◌++◌, Option, Some, None, inl, inr, refl, ap, ◌∙◌, sym, subst, append_assoc, eqb}
 use Rattle.std.specs.Prelude.{not, option_and_then, ◌-◌}
 use Rattle.std.proofs.lemmas.Bool.{and_parts, and_from, or_left, or_right, not-true}
 use Rattle.abs_path.specs.Paths.{Path}
@@ -13,13 +13,16 @@ use Rattle.kern_mounts.specs.declared.step.MountStep.{MountStep}
 use Rattle.kern_mounts.proofs.Entries.{entry_leads}
 use Rattle.kernel_laws.specs.Blind.{is_clear, shows_below, exposes, blind_at, SeesBelow, BlindIsSound}
 use Rattle.kernel_laws.specs.Bound.{power_of, ceiling}
-use Rattle.kernel_laws.specs.Ceiling.{CanHave}
+use Rattle.kernel_laws.specs.Ceiling.{CanHave, TableIn}
+use Rattle.kernel_laws.specs.NewerTables.{CanHaveNewer}
+use Rattle.kernel_laws.proofs.NewerTables.{tables_stable, folders_are_seen}
+use Rattle.kern_mounts.specs.Mounts.{Mounts}
 use Rattle.kernel_laws.specs.Launched.{launch_of}
 use Rattle.kern_mounts.specs.Split.{Table, Split, split_at}
 use Rattle.kernel_laws.specs.Reach.{Power, Nowise, Unmounting, Mounting}
 use Rattle.kernel_model.specs.Runs.{run}
 use Rattle.kern_mounts.specs.Unmounts.{IsTrimmed}
-use Rattle.kernel_model.specs.World.{table_of}
+use Rattle.kernel_model.specs.World.{mounts_of, table_of}
 use Rattle.kern_mounts.proofs.Paths.{behind, leads_not, either}
 use Rattle.kern_mounts.proofs.Splits.{None_have, split_some, split_of}
 use Rattle.kern_mounts.proofs.Unmounting.{part_has, trimmed_part}
@@ -151,8 +154,17 @@ shut Mounting launched table folder any b s = cc
 pub blind_is_sound : BlindIsSound
 blind_is_sound world folder s b list fit e =
     let launch = launch_of world in
-    let held = ceiling_run launch s.launched list world fit (launched_held world s) in
+    let below : Mounts → Type 0 = CanHaveNewer (power_of launch) launch.table in
+    let held = ceiling_run launch s.launched below (tables_stable launch (power_of launch) s.launched.ordered) list world fit (launched_held world below s) in
     let now = run world list in
     let h = held.each (e.pid - 1) e.process (lives now e.pid e.process e.lives).place in
-    let allowed = own_allowed launch (power_of launch) (ceiling launch) now e.process h in
-    shut (power_of launch) launch.table (table_of now e.process.namespace) folder allowed b (record { path = e.path; place = e.place; shown = e.shown; below = e.below })
+    by (eqb h.owner 1) (own_allowed launch (power_of launch) (ceiling launch) below now e.process h)
+  where
+    seen : SeesBelow folder (table_of (run world list) e.process.namespace)
+    seen = record { path = e.path; place = e.place; shown = e.shown; below = e.below }
+
+    by : (ours : Bool) → TableIn ours (launch_of world) (power_of (launch_of world)) (CanHaveNewer (power_of (launch_of world)) (launch_of world).table) (mounts_of (run world list) e.process.namespace) → ⊥
+    by true allowed = shut (power_of (launch_of world)) (launch_of world).table (table_of (run world list) e.process.namespace) folder allowed.entries b seen
+    by false allowed =
+        let open' = folders_are_seen (power_of (launch_of world)) (launch_of world).table (mounts_of (run world list) e.process.namespace) folder allowed seen in
+        cc

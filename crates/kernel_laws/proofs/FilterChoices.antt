@@ -48,7 +48,7 @@ use Rattle.kernel_laws.proofs.Filters.{bare_is}
 use Rattle.kernel_laws.proofs.FirstWords.{no_wish}
 
 abbrev pub with_name : CallLine → List ℕ → CallLine
-with_name line name = record { name = name; number = line.number; cap = line.cap }
+with_name line name = record { name = name; number = line.number; cap = line.cap; abi = line.abi }
 
 some_same : (own rule' : Rule) → Some own ≡ Some rule' → own ≡ rule'
 some_same own rule' e = cc
@@ -381,3 +381,4 @@ first_passes filter.Logs settings table line r kind p doing input first is does 
 first_passes filter.Clock settings table line r kind p doing input first is does asked are = λ e. e
 first_passes filter.Devices settings table line r kind p doing input first is does asked are = λ e. e
 first_passes filter.Calls settings table line r kind p doing input first is does asked are = λ e. e
+first_passes filter.Archs settings table line r kind p doing input first is does asked are = λ e. e

@@ -1,7 +1,7 @@
 -- What stacks above the launch programs let through.
-use Rattle.std.proofs.Common.{◌≡◌, ℕ, Bool, true, false, List, [], ◌∷◌, ◌++◌, Option, Some, None, refl, sym, ap, ◌∙◌, cond, arith, eqb}
+use Rattle.std.proofs.Common.{◌≡◌, ℕ, zero, suc, Bool, true, false, List, [], ◌∷◌, ◌++◌, Option, Some, None, refl, sym, subst, ap, ◌∙◌, cond, arith, eqb}
 use Rattle.std.specs.Prelude.{slice_get, option_and_then, ◌||◌, ◌<◌, ◌^◌}
-use Rattle.std.specs.List.{list_any}
+use Rattle.std.specs.List.{list_any, All}
 use Rattle.std.proofs.lemmas.Bool.{or_left, or_right, eqb-true}
 use Rattle.bpf_code.specs.declared.machine.Insn.{Insn}
 use Rattle.bpf_code.specs.declared.machine.CallData.{CallData}
@@ -11,8 +11,11 @@ use Rattle.bpf_code.specs.Meaning.{IsCallData}
 use Rattle.bpf_code.specs.Stack.{decision_on}
 use Rattle.bpf_code.proofs.Stacks.{refusals_stand}
 use Rattle.call_table.specs.declared.listed.CallLine.{CallLine}
-use Rattle.std.proofs.lemmas.List.Folds.{find_at}
-use Rattle.call_table.proofs.Places.{place_is}
+use Rattle.std.proofs.lemmas.List.Folds.{find_at, list_any-append}
+use Rattle.call_table.proofs.Places.{place_is, found_holds}
+use Rattle.call_table.specs.Table.{Abi, Table, native, second_calls, every_call, arch_of, calls_in}
+use Rattle.std.proofs.lemmas.List.Elements.{All-head, All-tail, All-cons}
+use Rattle.std.specs.Option.{option_map_or, option_to_list}
 use Rattle.call_table.specs.Lookups.{numbered, has_number, place_numbered}
 use Rattle.kernel_calls.specs.declared.call.Call.{Call}
 use Rattle.kernel_calls.specs.Calls.{IsCall}
@@ -27,8 +30,8 @@ use Rattle.kernel_laws.specs.Launched.{Launch, data_at, is_pass, lets_words, let
 -- what a stack above the launch programs lets through, of any kind, some call of that kind passes the launch programs with
 -- its first words
 pub record LetsThrough (launch : Launch) : Type 0 where
-  pub kinds : (newer : List (List Insn)) (call : Call) (doing : Doing) → IsCall call → decision_on (launch.stack ++ newer) (data_at launch call.nr call.args) ≡ decision.Pass
-      → asked_of launch.calls.calls call ≡ Does doing → (kind : Kind) → asks kind doing ≡ true → lets launch kind ≡ true
+  pub kinds : (newer : List (List Insn)) (call : Call) (doing : Doing) → IsCall call → decision_on (launch.stack ++ newer) (data_at launch call.abi call.nr call.args) ≡ decision.Pass
+      → asked_of launch.calls call ≡ Does doing → (kind : Kind) → asks kind doing ≡ true → lets launch kind ≡ true
 
 -- a call without a payload asks for this one thing
 pub bare_is : (doing own : Doing) (payload : Payload) → bare own payload ≡ Some doing → own ≡ doing
@@ -37,6 +40,7 @@ bare_is doing own (pay.OnePath path) e = cc
 bare_is doing own (pay.TwoPaths source target) e = cc
 bare_is doing own (pay.Sets permitted effective inheritable) e = cc
 bare_is doing own (pay.Ids ids) e = cc
+bare_is doing own (pay.Family family) e = cc
 bare_is doing own (pay.Code bytes) e = cc
 
 -- a line of this number, with this rule
@@ -58,9 +62,12 @@ pub record Asks (calls : List CallLine) (call : Call) (doing : Doing) : Type 0 w
   pub at : rule_at calls call.nr ≡ Some rule
   pub is : doing_by rule call.args call.payload ≡ Some doing
 
-pub asks_for : (calls : List CallLine) (call : Call) (doing : Doing) → asked_of calls call ≡ Does doing → Asks calls call doing
-asks_for calls call doing e = by (rule_at calls call.nr) refl e
+pub asks_for : (table : Table) (call : Call) (doing : Doing) → asked_of table call ≡ Does doing → Asks (calls_in table call.abi) call doing
+asks_for table call doing e = by (rule_at (calls_in table call.abi) call.nr) refl e
   where
+    calls : List CallLine
+    calls = calls_in table call.abi
+
     by_doing : (rule : Rule) → rule_at calls call.nr ≡ Some rule → (o : Option Doing) → doing_by rule call.args call.payload ≡ o → asked_if o ≡ Does doing → Asks calls call doing
     by_doing rule at None f e = cc
     by_doing rule at (Some own) f e = let same : own ≡ doing = cc in record { rule = rule; at = at; is = f ∙ ap (λ (d : Doing). Some d) same }
@@ -70,7 +77,7 @@ asks_for calls call doing e = by (rule_at calls call.nr) refl e
     by (Some rule) at e = by_doing rule at (doing_by rule call.args call.payload) refl e
 
 -- found lines are among the lines, with their number
-any_found : (p : CallLine → Bool) (calls : List CallLine) (nr : ℕ) (line : CallLine) → numbered nr calls ≡ Some line → p line ≡ true → list_any p calls ≡ true
+pub any_found : (p : CallLine → Bool) (calls : List CallLine) (nr : ℕ) (line : CallLine) → numbered nr calls ≡ Some line → p line ≡ true → list_any p calls ≡ true
 any_found p [] nr line e h = cc
 any_found p (first ∷ calls) nr line e h = by (eqb first.number nr) e (any_found p calls nr line)
   where
@@ -99,26 +106,73 @@ older launch l newer input fit p = by (decision_on launch.stack input) refl
     by (decision.Errno errno) e = absurd (refusals_stand launch.stack newer input (l.plain input fit) (λ q. let no' : decision.Errno errno ≡ decision.Pass = sym e ∙ q in cc) p)
     by decision.Kill e = absurd (refusals_stand launch.stack newer input (l.plain input fit) (λ q. let no' : decision.Kill ≡ decision.Pass = sym e ∙ q in cc) p)
 
-pub data_fits : (launch : Launch) (call : Call) → launch.calls.arch < 2 ^ 32 → IsCall call → IsCallData (data_at launch call.nr call.args)
-data_fits launch call arch fit = record { nr = fit.nr; arch = arch; ip = omega arith; count = fit.count; args = fit.args }
+pub data_fits : (launch : Launch) (call : Call) → ((abi : ℕ) → arch_of launch.calls abi < 2 ^ 32) → IsCall call → IsCallData (data_at launch call.abi call.nr call.args)
+data_fits launch call arch fit = record { nr = fit.nr; arch = arch call.abi; ip = omega arith; count = fit.count; args = fit.args }
 
-lets_chosen : (launch : Launch) (kind : Kind) (rule : Rule) (nr : ℕ) → Chosen launch kind rule nr → lets_words launch nr (words kind rule) ≡ true
-lets_chosen launch kind rule nr c = ap (lets_words launch nr) c.are ∙ ap is_pass c.passes
+-- what holds of all lines holds of one that is found
+pub found_all : (P : CallLine → Type 0) (calls : List CallLine) (nr : ℕ) (line : CallLine) → All P calls → numbered nr calls ≡ Some line → P line
+found_all P calls nr line each e = found_holds P (has_number nr) calls line each e
+
+-- of a place
+pub slice_all : (P : CallLine → Type 0) (lines : List CallLine) (place : ℕ) (line : CallLine) → All P lines → slice_get lines place ≡ Some line → P line
+slice_all P [] place line each e = cc
+slice_all P (first ∷ lines) zero line each e = let same : first ≡ line = cc in subst P same (All-head P first lines each)
+slice_all P (first ∷ lines) (suc place) line each e = slice_all P lines place line (All-tail P first lines each) e
+
+-- of a list and of its parts
+all_front : (P : CallLine → Type 0) (xs ys : List CallLine) → All P (xs ++ ys) → All P xs
+all_front P [] ys each = λ k d lt. absurd (omega arith)
+all_front P (x ∷ xs) ys each = All-cons P x xs (All-head P x (xs ++ ys) each) (all_front P xs ys (All-tail P x (xs ++ ys) each))
+
+all_back : (P : CallLine → Type 0) (xs ys : List CallLine) → All P (xs ++ ys) → All P ys
+all_back P [] ys each = each
+all_back P (x ∷ xs) ys each = all_back P xs ys (All-tail P x (xs ++ ys) each)
+
+-- of all calls, and of those of an ABI
+pub all_in : (P : CallLine → Type 0) (table : Table) (abi : ℕ) → All P (every_call table) → All P (calls_in table abi)
+all_in P table abi each = either abi table.second refl
+  where
+    parts : All P table.calls × All P (second_calls table.second)
+    parts = (all_front P table.calls (second_calls table.second) each, all_back P table.calls (second_calls table.second) each)
+
+    either : (abi : ℕ) (o : Option Abi) → table.second ≡ o → All P (option_map_or (λ found. found.calls) (slice_get (native table ∷ option_to_list table.second) abi) [])
+    either zero o e = parts.0
+    either (suc abi) None e = subst (λ (s : Option Abi). All P (option_map_or (λ found. found.calls) (slice_get (option_to_list s) abi) [])) (sym e) (λ k d lt. absurd (omega arith))
+    either (suc zero) (Some second) e = subst (λ (s : Option Abi). All P (option_map_or (λ found. found.calls) (slice_get (option_to_list s) 0) [])) (sym e) (subst (λ (s : Option Abi). All P (second_calls s)) e parts.1)
+    either (suc (suc abi)) (Some second) e = subst (λ (s : Option Abi). All P (option_map_or (λ found. found.calls) (slice_get (option_to_list s) (suc abi)) [])) (sym e) (λ k d lt. absurd (omega arith))
+
+-- a call of an ABI is one of all
+pub among_all : (p : CallLine → Bool) (table : Table) (abi : ℕ) → list_any p (calls_in table abi) ≡ true → list_any p (every_call table) ≡ true
+among_all p table abi h = list_any-append p table.calls (second_calls table.second) ∙ either abi h table.second refl
+  where
+    either : (abi : ℕ) → list_any p (calls_in table abi) ≡ true → (o : Option Abi) → table.second ≡ o → (list_any p table.calls || list_any p (second_calls table.second)) ≡ true
+    either zero h o e = or_left (list_any p table.calls) (list_any p (second_calls table.second)) h
+    either (suc zero) h None e = let none = sym (ap (λ (s : Option Abi). list_any p (option_map_or (λ found. found.calls) (slice_get (option_to_list s) 0) [])) e) ∙ h in cc
+    either (suc zero) h (Some second) e =
+        or_right (list_any p table.calls) (list_any p (second_calls table.second))
+        (ap (λ (s : Option Abi). list_any p (second_calls s)) e ∙ sym (ap (λ (s : Option Abi). list_any p (option_map_or (λ found. found.calls) (slice_get (option_to_list s) 0) [])) e) ∙ h)
+    either (suc (suc abi)) h None e = let none = sym (ap (λ (s : Option Abi). list_any p (option_map_or (λ found. found.calls) (slice_get (option_to_list s) (suc abi)) [])) e) ∙ h in cc
+    either (suc (suc abi)) h (Some second) e = let none = sym (ap (λ (s : Option Abi). list_any p (option_map_or (λ found. found.calls) (slice_get (option_to_list s) (suc abi)) [])) e) ∙ h in cc
+
+lets_chosen : (launch : Launch) (kind : Kind) (rule : Rule) (abi nr : ℕ) → Chosen launch kind rule abi nr → lets_words launch abi nr (words kind rule) ≡ true
+lets_chosen launch kind rule abi nr c = ap (lets_words launch abi nr) c.are ∙ ap is_pass c.passes
 
 -- the line of a call that was let through lets its kinds through
-pub line_lets : (launch : Launch) → IsLaunched launch → (newer : List (List Insn)) (call : Call) (doing : Doing) → IsCall call → decision_on (launch.stack ++ newer) (data_at launch call.nr call.args) ≡ decision.Pass
-    → (kind : Kind) → asks kind doing ≡ true → (a : Asks launch.calls.calls call doing) (h : HasRule launch.calls.calls call.nr a.rule) → lets_line launch kind h.line ≡ true
+pub line_lets : (launch : Launch) → IsLaunched launch → (newer : List (List Insn)) (call : Call) (doing : Doing) → IsCall call → decision_on (launch.stack ++ newer) (data_at launch call.abi call.nr call.args) ≡ decision.Pass
+    → (kind : Kind) → asks kind doing ≡ true → (a : Asks (calls_in launch.calls call.abi) call doing) (h : HasRule (calls_in launch.calls call.abi) call.nr a.rule) → lets_line launch kind h.line ≡ true
 line_lets launch l newer call doing fit p kind asked a h =
-    let own = older launch l newer (data_at launch call.nr call.args) (data_fits launch call l.arch fit) p in
-    let chosen = l.chosen kind call.nr call.args a.rule call.payload doing fit.nr (record { count = fit.count; each = fit.args }) a.at a.is asked own in
-    let number : h.line.number ≡ call.nr = found_number launch.calls.calls call.nr h.line h.found in
-    ap (lets_rule launch kind h.line.number) h.is ∙ ap (λ n. lets_words launch n (words kind a.rule)) number ∙ lets_chosen launch kind a.rule call.nr chosen
+    let own = older launch l newer (data_at launch call.abi call.nr call.args) (data_fits launch call l.arch fit) p in
+    let chosen = l.chosen kind call.abi call.nr call.args a.rule call.payload doing fit.nr (record { count = fit.count; each = fit.args }) a.at a.is asked own in
+    let calls = calls_in launch.calls call.abi in
+    let number : h.line.number ≡ call.nr = found_number calls call.nr h.line h.found in
+    let abi : h.line.abi ≡ call.abi = found_all (λ line. line.abi ≡ call.abi) calls call.nr h.line (l.calls_of_abi call.abi) h.found in
+    ap (lets_rule launch kind h.line.abi h.line.number) h.is ∙ ap (λ n. lets_words launch h.line.abi n (words kind a.rule)) number ∙ ap (λ n. lets_words launch n call.nr (words kind a.rule)) abi ∙ lets_chosen launch kind a.rule call.abi call.nr chosen
 
 pub lets_through : (launch : Launch) → IsLaunched launch → LetsThrough launch
 unfolding lets
 lets_through launch l = record {
   kinds = λ newer call doing fit p is kind asked.
-      let a = asks_for launch.calls.calls call doing is in
-      let h = has_rule launch.calls.calls call.nr a.rule a.at in
-      any_found (lets_line launch kind) launch.calls.calls call.nr h.line h.found (line_lets launch l newer call doing fit p kind asked a h);
+      let a = asks_for launch.calls call doing is in
+      let h = has_rule (calls_in launch.calls call.abi) call.nr a.rule a.at in
+      among_all (lets_line launch kind) launch.calls call.abi (any_found (lets_line launch kind) (calls_in launch.calls call.abi) call.nr h.line h.found (line_lets launch l newer call doing fit p kind asked a h));
 }

@@ -21,6 +21,7 @@ use Rattle.kernel_laws.specs.Questions as q
 use Rattle.kernel_laws.specs.Questions.{Wish}
 use Rattle.kernel_laws.specs.Kinds as k
 use Rattle.kernel_laws.specs.Kinds.{Kind, asks, words, AreWords}
+use Rattle.call_table.specs.Table.{calls_in}
 use Rattle.kernel_laws.specs.Launched.{Launch, data_at, passes, Chosen}
 
 pub record Has (kind : Kind) (rule' : Rule) : Type 0 where
@@ -112,6 +113,11 @@ given-Socket : (args : List ℕ) → Given (d.Socket (low_word args 0)) (rule.Kn
 given-Socket args (k.ForFamily family) h = record { args = _; are = refl }
 given-Socket args (k.ForPath wish) h = no_wish (d.Socket (low_word args 0)) refl wish h
 given-Socket args kind h = cc
+
+given-Socketcall : (args : List ℕ) (family : ℕ) → Given (d.Socketcall (low_word args 0) family) (rule.Known known.Socketcall)
+given-Socketcall args family (k.ForFamily own) h = record { args = _; are = refl }
+given-Socketcall args family (k.ForPath wish) h = no_wish (d.Socketcall (low_word args 0) family) refl wish h
+given-Socketcall args family kind h = cc
 
 given-Enter : Given (d.Enter) (rule.Known known.Enter)
 given-Enter (k.ForPath wish) h = no_wish d.Enter refl wish h
@@ -216,6 +222,8 @@ has_words (rule.Known known.Personality) args pay.Nothing doing f = by_same (d.P
 has_words (rule.Known known.Personality) args payload doing f = cc
 has_words (rule.Known known.Socket) args pay.Nothing doing f = by_same (d.Socket (low_word args 0)) doing (rule.Known known.Socket) (given-Socket args) (cc)
 has_words (rule.Known known.Socket) args payload doing f = cc
+has_words (rule.Known known.Socketcall) args (pay.Family family) doing f = by_same (d.Socketcall (low_word args 0) family) doing (rule.Known known.Socketcall) (given-Socketcall args family) (cc)
+has_words (rule.Known known.Socketcall) args payload doing f = cc
 has_words (rule.Known known.Enter) args pay.Nothing doing f = by_same (d.Enter) doing (rule.Known known.Enter) given-Enter (cc)
 has_words (rule.Known known.Enter) args payload doing f = cc
 has_words (rule.Known known.Fork) args pay.Nothing doing f = by_same (d.Fork) doing (rule.Known known.Fork) given-Fork (cc)
@@ -250,9 +258,9 @@ has_words (rule.Plain number) args pay.Nothing doing f = by_same (d.Plain number
 has_words (rule.Plain number) args payload doing f = cc
 
 -- filters that go by the number alone
-pub chosen_by_number : (launch : Launch) → ((nr : ℕ) (args other : List ℕ) → decision_on launch.stack (data_at launch nr args) ≡ decision_on launch.stack (data_at launch nr other))
-    → (kind : Kind) (nr : ℕ) (args : List ℕ) (rule' : Rule) (payload : Payload) (doing : Doing) → nr < 2 ^ 32 → AreWords args
-    → rule_at launch.calls.calls nr ≡ Some rule' → doing_by rule' args payload ≡ Some doing → asks kind doing ≡ true → passes launch nr args → Chosen launch kind rule' nr
-chosen_by_number launch alike kind nr args rule' payload doing few fit at is asked p =
+pub chosen_by_number : (launch : Launch) → ((abi nr : ℕ) (args other : List ℕ) → decision_on launch.stack (data_at launch abi nr args) ≡ decision_on launch.stack (data_at launch abi nr other))
+    → (kind : Kind) (abi nr : ℕ) (args : List ℕ) (rule' : Rule) (payload : Payload) (doing : Doing) → nr < 2 ^ 32 → AreWords args
+    → rule_at (calls_in launch.calls abi) nr ≡ Some rule' → doing_by rule' args payload ≡ Some doing → asks kind doing ≡ true → passes launch abi nr args → Chosen launch kind rule' abi nr
+chosen_by_number launch alike kind abi nr args rule' payload doing few fit at is asked p =
     let w = has_words rule' args payload doing is kind asked in
-    record { args = w.args; are = w.are; passes = alike nr w.args args ∙ p }
+    record { args = w.args; are = w.are; passes = alike abi nr w.args args ∙ p }

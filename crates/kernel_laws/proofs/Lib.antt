@@ -1,4 +1,7 @@
 pub mod Numbered
+pub mod Newer
+pub mod Flags
+pub mod NewerSteps
 pub mod Moments
 pub mod Filters
 pub mod Done
@@ -21,6 +24,9 @@ pub mod Programs
 pub mod FirstWords
 pub mod FilterChoices
 pub mod SettingsChoose
+pub mod Showing
+pub mod MountOfPath
+pub mod NewerTables
 pub mod Blind
 pub mod Exposed
 pub mod ExposedByMount

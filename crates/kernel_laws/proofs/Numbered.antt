@@ -19,6 +19,18 @@ put_some (x ∷ xs) zero (suc j) y z e = (z, e, inr refl)
 put_some (x ∷ xs) (suc i) zero y z e = (z, e, inr refl)
 put_some (x ∷ xs) (suc i) (suc j) y z e = put_some xs i j y z e
 
+-- the same, by whether the place is this one
+pub put_some_at : {X : Type 0} (xs : List X) (i j : ℕ) (y z : X) → slice_get xs j ≡ Some z → (v : X) × (slice_get (slice_set xs i y) j ≡ Some v) × (((i ≡ j) × (v ≡ y)) ⊎ (v ≡ z))
+put_some_at [] i j y z e = cc
+put_some_at (x ∷ xs) zero zero y z e = (y, refl, inl (refl, refl))
+put_some_at (x ∷ xs) zero (suc j) y z e = (z, e, inr refl)
+put_some_at (x ∷ xs) (suc i) zero y z e = (z, e, inr refl)
+put_some_at (x ∷ xs) (suc i) (suc j) y z e = later (put_some_at xs i j y z e)
+  where
+    later : (v : _) × (slice_get (slice_set xs i y) j ≡ Some v) × (((i ≡ j) × (v ≡ y)) ⊎ (v ≡ z)) → (v : _) × (slice_get (slice_set xs i y) j ≡ Some v) × (((suc i ≡ suc j) × (v ≡ y)) ⊎ (v ≡ z))
+    later (v, g, inl h) = (v, g, inl (ap suc h.0, h.1))
+    later (v, g, inr h) = (v, g, inr h)
+
 pub get_push : {X : Type 0} (xs : List X) (j : ℕ) (y z : X) → slice_get (xs ++ y ∷ []) j ≡ Some z → (z ≡ y) ⊎ (slice_get xs j ≡ Some z)
 get_push [] zero y z e = inl cc
 get_push [] (suc j) y z e = cc

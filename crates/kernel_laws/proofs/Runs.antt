@@ -1,203 +1,372 @@
 -- Closed bounds hold in each world of each run that uses only what may be used, by many processes that share tables.
-use Rattle.std.proofs.Common.{◌≡◌, ℕ, Bool, true, false, List, [], ◌∷◌, ◌++◌, Option, Some, None, ◌⊎◌, inl, inr, refl, cond, ap, ◌∙◌, sym, subst, length, append_assoc, eqb}
-use Rattle.std.specs.Prelude.{slice_get, slice_set, nat_lt, ◌-◌, ◌+◌}
+use Rattle.std.proofs.lemmas.Bool.{eqb-true, eq-eqb, not-false, not-true, and_from}
+use Rattle.std.proofs.lemmas.Bool.Decides.{nat_tests}
+use Rattle.kernel_model.proofs.Lists.{length-push, length-set}
+use Rattle.std.proofs.Common.{arith, ◌≡◌, ℕ, Bool, true, false, List, [], ◌∷◌, ◌++◌, Option, Some, None, ◌⊎◌, inl, inr, refl, cond, ap, ◌∙◌, sym, subst, length, append_assoc, eqb}
+use Rattle.std.specs.Prelude.{slice_get, slice_set, nat_lt, not, ◌-◌, ◌+◌}
 use Rattle.bpf_code.specs.declared.machine.Insn.{Insn}
 use Rattle.bpf_code.specs.declared.decision.Decision.{Decision}
 use Rattle.bpf_code.specs.declared.decision.Decision.TheVariants as decision
 use Rattle.bpf_code.specs.Stack.{decision_on}
 use Rattle.call_table.specs.Table as calls
 use Rattle.site_table.specs.Table.{Site, row_at}
-use Rattle.kernel_laws.specs.Bounds.{Bounds, Keeps}
+use Rattle.kernel_laws.specs.Bounds.{Bounds, KeepsIn}
+use Rattle.kern_creds.specs.Enter.{entered}
+use Rattle.kern_mounts.specs.Copying.{copied, locked_copy}
 use Rattle.kernel_calls.specs.declared.call.Call.{Call}
 use Rattle.kernel_calls.specs.Calls.{IsCall, AreCalls}
-use Rattle.kern_mounts.specs.Split.{Table}
+use Rattle.kern_mounts.specs.Mounts.{Mounts as Table}
 use Rattle.kernel_calls.specs.Doing.{Doing, Asked, Lacking, Misformed, Does, asked_of}
 use Rattle.kernel_model.specs.Effects as f
 use Rattle.kernel_model.specs.Effects.{Effect, effect_of}
 use Rattle.kernel_model.specs.declared.reply.Reply.TheVariants as reply
-use Rattle.kernel_model.specs.World.{World, table_or, table_of, with_process, with_child, with_copy, moved_to, ended, living_of, host_of, caller_of}
+use Rattle.kernel_model.specs.World.{World, table_or, mounts_of, table_of, with_process, with_child, with_copy, moved_to, ended, living_of, host_of, caller_of, owner_or, owner_of, is_newer, with_user, entered_by}
 use Rattle.kernel_model.specs.declared.process.Process.{Process}
 use Rattle.kernel_model.specs.declared.reply.Reply.{Reply}
 use Rattle.linux_numbers.specs.Errnos.{eagain, enospc}
-use Rattle.kernel_model.specs.Step.{most_processes, most_namespaces, child_of, applied, answered, decided, data_of, step_by, step}
+use Rattle.kernel_model.specs.Step.{most_processes, most_namespaces, child_in, child_of, moved_in, has_user_left, applied, answered, decided, data_of, step_by, step, decision_of}
 use Rattle.kernel_model.specs.Runs.{run}
 use Rattle.kernel_laws.specs.Reach.{Power}
-use Rattle.kernel_laws.specs.Kinds.{Kind, asks, TakesUid, TakesGid}
-use Rattle.kernel_laws.specs.Launched.{Launch, data_at, lets}
-use Rattle.kernel_laws.specs.Ceiling.{CanHave, IsClosed, IsHeld, AreHeld, IsSafe}
+use Rattle.kernel_laws.specs.Kinds.{Kind, asks, TakesUid, TakesGid, ForSpace}
+use Rattle.kernel_laws.specs.Questions.{User}
+use Rattle.kernel_laws.specs.Launched.{Launch, data_at, lets, can_make_user}
+use Rattle.kernel_laws.specs.Ceiling.{CanHave, CanHold, IsClosed, IsHeld, AreHeld, IsSafe, IsStable, TableIn}
 use Rattle.kernel_laws.specs.Spared.{Uses, Spares, AllSpare}
-use Rattle.kernel_laws.proofs.Numbered.{get_put, put_some, get_push, push_some, push_last, not_first, get_number, lives}
+use Rattle.kernel_laws.proofs.Numbered.{get_put, put_some_at, get_push, push_some, push_last, not_first, get_number, lives}
 use Rattle.kernel_laws.proofs.Filters.{LetsThrough}
+use Rattle.kernel_laws.proofs.Done.{passed_on}
 use Rattle.kernel_laws.proofs.Steps.{safe_effect}
+use Rattle.kernel_laws.proofs.Newer.{ids_of, ids-entered, not_one}
+use Rattle.kernel_laws.proofs.NewerSteps.{safe_newer}
 
-module _ (launch : Launch) (power : Power) (top : Bounds) where
-  abbrev Held : List Table → Process → Type 0
-  Held = IsHeld launch power top
+module _ (launch : Launch) (power : Power) (top : Bounds) (below : Table → Type 0) where
+  abbrev Held : List Table → List ℕ → Process → Type 0
+  Held = IsHeld launch power top below
 
   abbrev All : World → Type 0
-  All = AreHeld launch power top
+  All = AreHeld launch power top below
 
-  with_creds : (tables : List Table) (process now : Process) → Held tables process → Keeps top now.creds → now.stack ≡ process.stack → now.namespace ≡ process.namespace → Held tables now
-  with_creds tables process now h kept stack namespace = record {
+  with_creds : (tables : List Table) (owners : List ℕ) (process now : Process) → Held tables owners process → KeepsIn (is_newer now) top now.creds → now.stack ≡ process.stack → now.namespace ≡ process.namespace → now.user ≡ process.user → Held tables owners now
+  with_creds tables owners process now h kept stack namespace user = record {
     creds = kept;
     newer = h.newer;
     stack = stack ∙ h.stack;
     table = h.table;
     numbered = ap (λ n. eqb n 0) namespace ∙ h.numbered;
     own = ap (λ n. slice_get tables (n - 1)) namespace ∙ h.own;
+    owner = h.owner;
+    owned = ap (λ n. slice_get owners (n - 1)) namespace ∙ h.owned;
     allowed = h.allowed;
+    home = λ e. h.home (ap (λ u. not (eqb u 1)) (sym user) ∙ e);
+    made = λ e. h.made (ap (λ u. not (eqb u 1)) (sym user) ∙ e);
   }
 
   -- one process changed
-  held_put : (world : World) (pid : ℕ) (process : Process) → All world → Held world.tables process → All (with_process world pid process)
+  held_put : (world : World) (pid : ℕ) (process : Process) → All world → Held world.tables world.owners process → All (with_process world pid process)
   held_put world pid process held one = record {
     calls = held.calls;
     site = held.site;
+    numbers = held.numbers;
     each = λ j q e. by j q (get_put world.processes (pid - 1) j process q e);
   }
     where
-      by : (j : ℕ) (q : Process) → (q ≡ process) ⊎ (slice_get world.processes j ≡ Some q) → Held world.tables q
-      by j q (inl same) = subst (Held world.tables) (sym same) one
+      by : (j : ℕ) (q : Process) → (q ≡ process) ⊎ (slice_get world.processes j ≡ Some q) → Held world.tables world.owners q
+      by j q (inl same) = subst (Held world.tables world.owners) (sym same) one
       by j q (inr e) = held.each j q e
 
   -- one process more
-  held_push : (world : World) (process : Process) → All world → Held world.tables process → All (with_child world process)
+  held_push : (world : World) (process : Process) → All world → Held world.tables world.owners process → All (with_child world process)
   held_push world process held one = record {
     calls = held.calls;
     site = held.site;
+    numbers = held.numbers;
     each = λ j q e. by j q (get_push world.processes j process q e);
   }
     where
-      by : (j : ℕ) (q : Process) → (q ≡ process) ⊎ (slice_get world.processes j ≡ Some q) → Held world.tables q
-      by j q (inl same) = subst (Held world.tables) (sym same) one
+      by : (j : ℕ) (q : Process) → (q ≡ process) ⊎ (slice_get world.processes j ≡ Some q) → Held world.tables world.owners q
+      by j q (inl same) = subst (Held world.tables world.owners) (sym same) one
       by j q (inr e) = held.each j q e
 
   -- a shared table changed: all processes that have it see the new one
-  under_put : (tables : List Table) (at : ℕ) (table : Table) (process : Process) → CanHave power launch.table table → Held tables process → Held (slice_set tables at table) process
-  under_put tables at table process allowed h =
-      let changed = put_some tables at (process.namespace - 1) table h.table h.own in
-      record { creds = h.creds; newer = h.newer; stack = h.stack; table = changed.0; numbered = h.numbered; own = changed.1; allowed = by changed.0 changed.2 }
+  under_put : (tables : List Table) (owners : List ℕ) (at : ℕ) (table : Table) (owner : ℕ) (process : Process) → slice_get owners at ≡ Some owner → TableIn (eqb owner 1) launch power below table → Held tables owners process → Held (slice_set tables at table) owners process
+  under_put tables owners at table owner process there allowed h =
+      let changed = put_some_at tables at (process.namespace - 1) table h.table h.own in
+      record {
+        creds = h.creds;
+        newer = h.newer;
+        stack = h.stack;
+        table = changed.0;
+        numbered = h.numbered;
+        own = changed.1;
+        owner = h.owner;
+        owned = h.owned;
+        allowed = by changed.0 changed.2;
+        home = h.home;
+        made = h.made;
+      }
     where
-      by : (now : Table) → (now ≡ table) ⊎ (now ≡ h.table) → CanHave power launch.table now
-      by now (inl same) = subst (CanHave power launch.table) (sym same) allowed
-      by now (inr same) = subst (CanHave power launch.table) (sym same) h.allowed
+      by : (now : Table) → ((at ≡ process.namespace - 1) × (now ≡ table)) ⊎ (now ≡ h.table) → TableIn (eqb h.owner 1) launch power below now
+      by now (inl changed) =
+          let one : owner ≡ h.owner = (let e : slice_get owners at ≡ Some h.owner = ap (slice_get owners) changed.0 ∙ h.owned in cc) in
+          let P : ℕ → Type 0 = λ o. TableIn (eqb o 1) launch power below table in
+          subst (TableIn (eqb h.owner 1) launch power below) (sym changed.1) (subst P one allowed)
+      by now (inr same) = subst (TableIn (eqb h.owner 1) launch power below) (sym same) h.allowed
 
-  under_push : (tables : List Table) (table : Table) (process : Process) → Held tables process → Held (tables ++ table ∷ []) process
-  under_push tables table process h = record { creds = h.creds; newer = h.newer; stack = h.stack; table = h.table; numbered = h.numbered; own = push_some tables (process.namespace - 1) table h.table h.own; allowed = h.allowed }
-
-  -- the table that a process has
-  own_table : (world : World) (process : Process) (h : Held world.tables process) → table_of world process.namespace ≡ h.table
+  -- the table that a process has, and whom its mount namespace belongs to
+  own_table : (world : World) (process : Process) (h : Held world.tables world.owners process) → mounts_of world process.namespace ≡ h.table
   own_table world process h = ap table_or (get_number world.tables process.namespace h.table h.numbered h.own)
 
-  pub own_allowed : (world : World) (process : Process) → Held world.tables process → CanHave power launch.table (table_of world process.namespace)
-  own_allowed world process h = subst (CanHave power launch.table) (sym (own_table world process h)) h.allowed
+  pub own_owner : (world : World) (process : Process) (h : Held world.tables world.owners process) → owner_of world process.namespace ≡ h.owner
+  own_owner world process h = ap owner_or (get_number world.owners process.namespace h.owner h.numbered h.owned)
 
-  -- one namespace more, with the table of a process
-  held_copy : (world : World) (process : Process) → All world → All (with_copy world process.namespace)
-  held_copy world process held = record { calls = held.calls; site = held.site; each = λ j q e. under_push world.tables (table_of world process.namespace) q (held.each j q e) }
+  pub own_allowed : (world : World) (process : Process) (h : Held world.tables world.owners process) → TableIn (eqb h.owner 1) launch power below (mounts_of world process.namespace)
+  own_allowed world process h = subst (TableIn (eqb h.owner 1) launch power below) (sym (own_table world process h)) h.allowed
 
-  -- and the process there
-  held_moved : (world : World) (process : Process) → Held world.tables process → Held (with_copy world process.namespace).tables (moved_to process (length world.tables))
-  held_moved world process h = record {
-    creds = h.creds;
-    newer = h.newer;
-    stack = h.stack;
-    table = table_of world process.namespace;
-    numbered = not_first (length world.tables);
-    own = push_last world.tables (table_of world process.namespace);
-    allowed = own_allowed world process h;
-  }
+  -- in the first user namespace it is a table of that
+  pub first_allowed : (world : World) (process : Process) (h : Held world.tables world.owners process) → is_newer process ≡ false → CanHold power launch.table (mounts_of world process.namespace)
+  first_allowed world process h first =
+      let P : ℕ → Type 0 = λ o. TableIn (eqb o 1) launch power below (mounts_of world process.namespace) in
+      subst P (h.home first) (own_allowed world process h)
 
-  held_child : (world : World) (process : Process) (own : Bool) → All world → Held world.tables process → All (child_of world process own).1
-  held_child world process false held h = held_push world process held h
-  held_child world process true held h = by (nat_lt (length world.tables) most_namespaces)
-    where
-      by : (b : Bool) → All (cond {A = Reply × World} b (reply.Done (length world.processes + 1), with_child (with_copy world process.namespace) (moved_to process (length world.tables))) (reply.Refused enospc, world)).1
-      by true = held_push (with_copy world process.namespace) (moved_to process (length world.tables)) (held_copy world process held) (held_moved world process h)
-      by false = held
+  module _ (stable : IsStable launch power below) where
+    -- a copy for a user namespace
+    copy_allowed : (owner user : ℕ) (table : Table) → (eqb user 1 ≡ true → owner ≡ 1) → TableIn (eqb owner 1) launch power below table → TableIn (eqb user 1) launch power below (copied (not (eqb owner user)) table)
+    copy_allowed owner user table home allowed = by (eqb user 1) refl (eqb owner user) refl
+      where
+        by_owner : (b : Bool) → eqb owner 1 ≡ b → TableIn b launch power below table → below (locked_copy table)
+        by_owner true e h = stable.begins table h
+        by_owner false e h = stable.copies table h
 
-  held_ended : (world : World) (pid : ℕ) (process : Process) → All world → Held world.tables process → All (with_process world pid (ended process))
-  held_ended world pid process held h = held_put world pid (ended process) held (with_creds world.tables process (ended process) h h.creds refl refl)
+        by : (first : Bool) → eqb user 1 ≡ first → (same : Bool) → eqb owner user ≡ same → TableIn first launch power below (copied (not same) table)
+        by true e true g = let P : ℕ → Type 0 = λ o. TableIn (eqb o 1) launch power below table in subst P (home e) allowed
+        by true e false g =
+            let one : owner ≡ user = home e ∙ sym (eqb-true user 1 e) in
+            let on : eqb owner user ≡ true = eq-eqb owner user one in
+            cc
+        by false e true g =
+            let one : owner ≡ user = eqb-true owner user g in
+            let off : eqb owner 1 ≡ false = ap (λ o. eqb o 1) one ∙ e in
+            let P : Bool → Type 0 = λ b. TableIn b launch power below table in
+            subst P off allowed
+        by false e false g = by_owner (eqb owner 1) refl allowed
 
-  -- an effect that is safe leaves all held
-  held_applied : (world : World) (pid : ℕ) (process : Process) (effect : Effect) → All world → Held world.tables process → IsSafe launch power top effect → All (applied world pid process effect).1
-  held_applied world pid process (f.Refuse errno) held h safe = held
-  held_applied world pid process (f.Answer value) held h safe = held
-  held_applied world pid process (f.SetCreds creds) held h safe = held_put world pid (record process { creds = creds }) held (with_creds world.tables process (record process { creds = creds }) h safe refl refl)
-  held_applied world pid process (f.SetTable table) held h safe = record { calls = held.calls; site = held.site; each = λ j q e. under_put world.tables (process.namespace - 1) table q safe (held.each j q e) }
-  held_applied world pid process (f.Push program) held h safe = held_put world pid (record process { stack = process.stack ++ program ∷ [] }) held (record {
-    creds = h.creds;
-    newer = h.newer ++ program ∷ [];
-    stack = ap (λ (s : List (List Insn)). s ++ program ∷ []) h.stack ∙ append_assoc launch.stack h.newer (program ∷ []);
-    table = h.table;
-    numbered = h.numbered;
-    own = h.own;
-    allowed = h.allowed;
-  })
-  held_applied world pid process (f.Child own) held h safe = by (nat_lt (length world.processes) most_processes)
-    where
-      by : (b : Bool) → All (cond {A = Reply × World} b (child_of world process own) (reply.Refused eagain, world)).1
-      by true = held_child world process own held h
-      by false = held
-  held_applied world pid process f.OwnTable held h safe = by (nat_lt (length world.tables) most_namespaces)
-    where
-      by : (b : Bool) → All (cond {A = Reply × World} b (reply.Done 0, with_process (with_copy world process.namespace) pid (moved_to process (length world.tables))) (reply.Refused enospc, world)).1
-      by true = held_put (with_copy world process.namespace) pid (moved_to process (length world.tables)) (held_copy world process held) (held_moved world process h)
-      by false = held
-  held_applied world pid process f.End held h safe = held_ended world pid process held h
+    -- a mount namespace more
+    under_push : (tables : List Table) (owners : List ℕ) (table : Table) (owner : ℕ) (process : Process) → Held tables owners process → Held (tables ++ table ∷ []) (owners ++ owner ∷ []) process
+    under_push tables owners table owner process h = record {
+      creds = h.creds;
+      newer = h.newer;
+      stack = h.stack;
+      table = h.table;
+      numbered = h.numbered;
+      own = push_some tables (process.namespace - 1) table h.table h.own;
+      owner = h.owner;
+      owned = push_some owners (process.namespace - 1) owner h.owner h.owned;
+      allowed = h.allowed;
+      home = h.home;
+      made = h.made;
+    }
+
+    abbrev copy_of : World → Process → Table
+    copy_of world process = copied (not (eqb (owner_of world process.namespace) process.user)) (mounts_of world process.namespace)
+
+    -- one mount namespace more, with the table of a process
+    held_copy : (world : World) (process : Process) → All world → All (with_copy world process.namespace process.user)
+    held_copy world process held = record {
+      calls = held.calls;
+      site = held.site;
+      numbers = length-push world.owners process.user ∙ ap (λ n. n + 1) held.numbers ∙ sym (length-push world.tables (copy_of world process));
+      each = λ j q e. under_push world.tables world.owners (copy_of world process) process.user q (held.each j q e);
+    }
+
+    first_home : (process : Process) (owner : ℕ) → (is_newer process ≡ false → owner ≡ 1) → eqb process.user 1 ≡ true → owner ≡ 1
+    first_home process owner home e = home (ap not e)
+
+    -- and the process there
+    held_moved : (world : World) (process : Process) → length world.owners ≡ length world.tables → Held world.tables world.owners process → Held (with_copy world process.namespace process.user).tables (with_copy world process.namespace process.user).owners (moved_to process (length world.tables))
+    held_moved world process numbers h = record {
+      creds = h.creds;
+      newer = h.newer;
+      stack = h.stack;
+      table = copy_of world process;
+      numbered = not_first (length world.tables);
+      own = push_last world.tables (copy_of world process);
+      owner = process.user;
+      owned = ap (λ n. slice_get (world.owners ++ process.user ∷ []) (n + 1 - 1)) (sym numbers) ∙ push_last world.owners process.user;
+      allowed =
+          let P : ℕ → Type 0 = λ o. TableIn (eqb process.user 1) launch power below (copied (not (eqb o process.user)) (mounts_of world process.namespace)) in
+          subst P (sym (own_owner world process h)) (copy_allowed h.owner process.user (mounts_of world process.namespace) (first_home process h.owner h.home) (own_allowed world process h));
+      home = λ e. eqb-true process.user 1 (not-false (eqb process.user 1) e);
+      made = h.made;
+    }
+
+    -- a child in a world that differs from the old one in no mount namespace
+    held_child : (old world : World) (child : Process) (own : Bool) → All old → All world → Held world.tables world.owners child → All (child_in old world child own).1
+    held_child old world child false before held h = held_push world child held h
+    held_child old world child true before held h = by (nat_lt (length world.tables) most_namespaces)
+      where
+        by : (b : Bool) → All (cond {A = Reply × World} b (reply.Done (length world.processes + 1), with_child (with_copy world child.namespace child.user) (moved_to child (length world.tables))) (reply.Refused enospc, old)).1
+        by true = held_push (with_copy world child.namespace child.user) (moved_to child (length world.tables)) (held_copy world child held) (held_moved world child held.numbers h)
+        by false = before
+
+    held_in : (old world : World) (pid : ℕ) (process : Process) (own : Bool) → All old → All world → Held world.tables world.owners process → All (moved_in old world pid process own).1
+    held_in old world pid process false before held h = held_put world pid process held h
+    held_in old world pid process true before held h = by (nat_lt (length world.tables) most_namespaces)
+      where
+        by : (b : Bool) → All (cond {A = Reply × World} b (reply.Done 0, with_process (with_copy world process.namespace process.user) pid (moved_to process (length world.tables))) (reply.Refused enospc, old)).1
+        by true = held_put (with_copy world process.namespace process.user) pid (moved_to process (length world.tables)) (held_copy world process held) (held_moved world process held.numbers h)
+        by false = before
+
+    -- a user namespace more changes no process
+    held_user : (world : World) → All world → All (with_user world)
+    held_user world held = record { calls = held.calls; site = held.site; numbers = held.numbers; each = held.each }
+
+    pub can_make_one : (world : World) → All world → lets launch (ForSpace User) ≡ true → has_user_left world ≡ true → can_make_user launch ≡ true
+    can_make_one world held user left =
+        let some : nat_lt 0 world.site.user_namespaces ≡ true = above_some world.users world.site.user_namespaces left in
+        and_from _ _ (ap (λ (s : Site). nat_lt 0 s.user_namespaces) (sym held.site) ∙ some) user
+      where
+        above_some : (a b : ℕ) → nat_lt a b ≡ true → nat_lt 0 b ≡ true
+        above_some a b e = grind (arith, nat_tests)
+
+    -- and the process in it
+    held_entered : (world : World) (process : Process) → All world → Held world.tables world.owners process → lets launch (ForSpace User) ≡ true → has_user_left world ≡ true → Held world.tables world.owners (entered_by process world.users)
+    held_entered world process held h user left = record {
+      creds = let P : Bool → Type 0 = λ b. KeepsIn b top (entered process.creds) in subst P (sym is_new) (ids-entered top process.creds (ids_of (is_newer process) top process.creds h.creds));
+      newer = h.newer;
+      stack = h.stack;
+      table = h.table;
+      numbered = h.numbered;
+      own = h.own;
+      owner = h.owner;
+      owned = h.owned;
+      allowed = h.allowed;
+      home = λ e. let no' : true ≡ false = sym is_new ∙ e in cc;
+      made = λ e. can_make_one world held user left;
+    }
+      where
+        is_new : not (eqb (world.users + 2) 1) ≡ true
+        is_new = ap not (not_one world.users)
+
+    held_ended : (world : World) (pid : ℕ) (process : Process) → All world → Held world.tables world.owners process → All (with_process world pid (ended process))
+    held_ended world pid process held h = held_put world pid (ended process) held (with_creds world.tables world.owners process (ended process) h h.creds refl refl refl)
+
+    -- an effect that is safe leaves all held
+    held_applied : (world : World) (pid : ℕ) (process : Process) (effect : Effect) → All world → (h : Held world.tables world.owners process) → IsSafe launch power top below (is_newer process) (eqb h.owner 1) effect → All (applied world pid process effect).1
+    held_applied world pid process (f.Refuse errno) held h safe = held
+    held_applied world pid process (f.Answer value) held h safe = held
+    held_applied world pid process (f.SetCreds creds) held h safe = held_put world pid (record process { creds = creds }) held (with_creds world.tables world.owners process (record process { creds = creds }) h safe refl refl refl)
+    held_applied world pid process (f.SetTable table) held h safe = record {
+      calls = held.calls;
+      site = held.site;
+      numbers = held.numbers ∙ sym (length-set world.tables (process.namespace - 1) table);
+      each = λ j q e. under_put world.tables world.owners (process.namespace - 1) table h.owner q h.owned safe (held.each j q e);
+    }
+    held_applied world pid process (f.Push program) held h safe = held_put world pid (record process { stack = process.stack ++ program ∷ [] }) held (record {
+      creds = h.creds;
+      newer = h.newer ++ program ∷ [];
+      stack = ap (λ (s : List (List Insn)). s ++ program ∷ []) h.stack ∙ append_assoc launch.stack h.newer (program ∷ []);
+      table = h.table;
+      numbered = h.numbered;
+      own = h.own;
+      owner = h.owner;
+      owned = h.owned;
+      allowed = h.allowed;
+      home = h.home;
+      made = h.made;
+    })
+    held_applied world pid process (f.Child own) held h safe = by (nat_lt (length world.processes) most_processes)
+      where
+        by : (b : Bool) → All (cond {A = Reply × World} b (child_of world process own) (reply.Refused eagain, world)).1
+        by true = held_child world world process own held held h
+        by false = held
+    held_applied world pid process f.OwnTable held h safe = held_in world world pid process true held held h
+    held_applied world pid process (f.UserChild own) held h safe = by (has_user_left world) refl (nat_lt (length world.processes) most_processes)
+      where
+        by : (b : Bool) → has_user_left world ≡ b → (c : Bool) → All (cond {A = Reply × World} b (cond {A = Reply × World} c (child_in world (with_user world) (entered_by process world.users) own) (reply.Refused eagain, world)) (reply.Refused enospc, world)).1
+        by true e true = held_child world (with_user world) (entered_by process world.users) own held (held_user world held) (held_entered world process held h safe e)
+        by true e false = held
+        by false e c = held
+    held_applied world pid process (f.OwnUser own) held h safe = by (has_user_left world) refl
+      where
+        by : (b : Bool) → has_user_left world ≡ b → All (cond {A = Reply × World} b (moved_in world (with_user world) pid (entered_by process world.users) own) (reply.Refused enospc, world)).1
+        by true e = held_in world (with_user world) pid (entered_by process world.users) own held (held_user world held) (held_entered world process held h safe e)
+        by false e = held
+    held_applied world pid process f.End held h safe = held_ended world pid process held h
 
   module _ (filters : LetsThrough launch) where
     -- what a living process asks for, once its stack lets it through
-    pub through_of : (world : World) (call : Call) (process : Process) → IsCall call → All world → Held world.tables process → decision_on process.stack (data_of world call) ≡ decision.Pass
-        → (doing : Doing) → asked_of world.calls.calls call ≡ Does doing → (kind : Kind) → asks kind doing ≡ true → lets launch kind ≡ true
+    pub through_of : (world : World) (call : Call) (process : Process) → IsCall call → All world → Held world.tables world.owners process → decision_of world call process ≡ decision.Pass
+        → (doing : Doing) → asked_of world.calls call ≡ Does doing → (kind : Kind) → asks kind doing ≡ true → lets launch kind ≡ true
     through_of world call process fit held h passed doing is kind asked =
-        let own : decision_on (launch.stack ++ h.newer) (data_at launch call.nr call.args) ≡ decision.Pass =
-        ap (λ (c : calls.Table). decision_on (launch.stack ++ h.newer) (record { nr = call.nr; arch = c.arch; ip = 0; args = call.args })) (sym held.calls)
-        ∙ ap (λ (s : List (List Insn)). decision_on s (data_of world call)) (sym h.stack) ∙ passed in
-        let same : asked_of launch.calls.calls call ≡ Does doing = ap (λ (c : calls.Table). asked_of c.calls call) (sym held.calls) ∙ is in
+        let own : decision_on (launch.stack ++ h.newer) (data_at launch call.abi call.nr call.args) ≡ decision.Pass =
+        ap (λ (c : calls.Table). decision_on (launch.stack ++ h.newer) (record { nr = call.nr; arch = calls.arch_of c call.abi; ip = 0; args = call.args })) (sym held.calls)
+        ∙ ap (λ (s : List (List Insn)). decision_on s (data_of world call)) (sym h.stack) ∙ passed_on world call process passed in
+        let same : asked_of launch.calls call ≡ Does doing = ap (λ (c : calls.Table). asked_of c call) (sym held.calls) ∙ is in
         filters.kinds h.newer call doing fit own same kind asked
 
-    module _ (uids gids : Bool) (closed : IsClosed launch uids gids power top) where
+    module _ (stable : IsStable launch power below) (uids gids : Bool) (closed : IsClosed launch uids gids power top) where
       -- what the process asks for, once its stack lets it through, uses only what may be used
       abbrev UsesIfLet : World → Call → Process → Type 0
-      UsesIfLet world call process = decision_on process.stack (data_of world call) ≡ decision.Pass → (doing : Doing) → asked_of world.calls.calls call ≡ Does doing → Uses uids gids process.creds doing
+      UsesIfLet world call process = is_newer process ≡ false → decision_of world call process ≡ decision.Pass → (doing : Doing) → asked_of world.calls call ≡ Does doing → Uses uids gids process.creds doing
 
-      held_answered : (world : World) (call : Call) (process : Process) → IsCall call → All world → Held world.tables process → UsesIfLet world call process → decision_on process.stack (data_of world call) ≡ decision.Pass
-          → (asked : Asked) → asked_of world.calls.calls call ≡ asked → All (answered world call.pid process asked).1
+      -- what a process asks for is safe, by its user namespace and by that which its mount namespace belongs to
+      safe_of : (world : World) (call : Call) (process : Process) (held : All world) (h : Held world.tables world.owners process) → {doing : Doing} → ((kind : Kind) → asks kind doing ≡ true → lets launch kind ≡ true)
+          → (is_newer process ≡ false → Uses uids gids process.creds doing) → IsSafe launch power top below (is_newer process) (eqb h.owner 1) (effect_of (host_of world) (caller_of world process) doing)
+      safe_of world call process held h {doing = doing} through uses =
+          let P : Site → Type 0 = λ s. IsSafe launch power top below (is_newer process) (eqb h.owner 1) (effect_of (record { rows = row_at s.rows; families = world.calls.families }) (caller_of world process) doing) in
+          subst P (sym held.site) (by (is_newer process) refl h.creds (own_allowed world process h))
+        where
+          apart : is_newer process ≡ true → eqb (owner_of world process.namespace) process.user ≡ true → eqb h.owner 1 ≡ false
+          apart new e =
+              let same : owner_of world process.namespace ≡ process.user = eqb-true (owner_of world process.namespace) process.user e in
+              let user : eqb process.user 1 ≡ false = not-true (eqb process.user 1) new in
+              ap (λ o. eqb o 1) (sym (own_owner world process h) ∙ same) ∙ user
+
+          by : (b : Bool) → is_newer process ≡ b → KeepsIn b top process.creds → TableIn (eqb h.owner 1) launch power below (mounts_of world process.namespace)
+              → IsSafe launch power top below b (eqb h.owner 1) (effect_of (record { rows = row_at launch.site.rows; families = world.calls.families }) (record { creds = process.creds; stack = process.stack; table = mounts_of world process.namespace; newer = b; owns = eqb (owner_of world process.namespace) process.user }) doing)
+          by true new kept allowed =
+              safe_newer launch power top below stable (eqb h.owner 1) (eqb (owner_of world process.namespace) process.user) (apart new) (mounts_of world process.namespace) allowed world.calls.families process.creds process.stack doing kept through
+          by false first kept allowed =
+              let home : h.owner ≡ 1 = h.home first in
+              let user : process.user ≡ 1 = eqb-true process.user 1 (not-false (eqb process.user 1) first) in
+              let owns : eqb (owner_of world process.namespace) process.user ≡ true = eq-eqb (owner_of world process.namespace) process.user (own_owner world process h ∙ home ∙ sym user) in
+              let P : Bool → Type 0 = λ o. IsSafe launch power top below false (eqb h.owner 1) (effect_of (record { rows = row_at launch.site.rows; families = world.calls.families }) (record { creds = process.creds; stack = process.stack; table = mounts_of world process.namespace; newer = false; owns = o }) doing) in
+              let Q : ℕ → Type 0 = λ o. IsSafe launch power top below false (eqb o 1) (effect_of (record { rows = row_at launch.site.rows; families = world.calls.families }) (record { creds = process.creds; stack = process.stack; table = mounts_of world process.namespace; newer = false; owns = true }) doing) in
+              subst P (sym owns) (subst Q (sym home) (safe_effect launch uids gids power top below closed world.calls.families process.creds process.stack (mounts_of world process.namespace) doing kept (first_allowed world process h first) through (uses first)))
+
+      held_answered : (world : World) (call : Call) (process : Process) → IsCall call → All world → Held world.tables world.owners process → UsesIfLet world call process → decision_of world call process ≡ decision.Pass
+          → (asked : Asked) → asked_of world.calls call ≡ asked → All (answered world call.pid process asked).1
       held_answered world call process fit held h uses passed Lacking is = held
       held_answered world call process fit held h uses passed Misformed is = held
       held_answered world call process fit held h uses passed (Does doing) is =
-          let through = through_of world call process fit held h passed doing is in
-          let safe = safe_effect launch uids gids power top closed world.calls.families (caller_of world process) doing h.creds (own_allowed world process h) through (uses passed doing is) in
-          let P : Site → Type 0 = λ s. IsSafe launch power top (effect_of (record { rows = row_at s.rows; families = world.calls.families }) (caller_of world process) doing) in
-          held_applied world call.pid process (effect_of (host_of world) (caller_of world process) doing) held h (subst P (sym held.site) safe)
+          held_applied stable world call.pid process (effect_of (host_of world) (caller_of world process) doing) held h (safe_of world call process held h (through_of world call process fit held h passed doing is) (λ first. uses first passed doing is))
 
-      held_decided : (world : World) (call : Call) (process : Process) → IsCall call → All world → Held world.tables process → UsesIfLet world call process
-          → (d : Decision) → decision_on process.stack (data_of world call) ≡ d → All (decided world call process d).1
-      held_decided world call process fit held h uses decision.Pass e = held_answered world call process fit held h uses e (asked_of world.calls.calls call) refl
+      held_decided : (world : World) (call : Call) (process : Process) → IsCall call → All world → Held world.tables world.owners process → UsesIfLet world call process
+          → (d : Decision) → decision_of world call process ≡ d → All (decided world call process d).1
+      held_decided world call process fit held h uses decision.Pass e = held_answered world call process fit held h uses e (asked_of world.calls call) refl
       held_decided world call process fit held h uses (decision.Errno errno) e = held
-      held_decided world call process fit held h uses decision.Kill e = held_ended world call.pid process held h
+      held_decided world call process fit held h uses decision.Kill e = held_ended stable world call.pid process held h
 
-      held_by : (world : World) (call : Call) → IsCall call → All world → ((process : Process) → living_of world call.pid ≡ Some process → Held world.tables process → UsesIfLet world call process)
+      held_by : (world : World) (call : Call) → IsCall call → All world → ((process : Process) → living_of world call.pid ≡ Some process → Held world.tables world.owners process → UsesIfLet world call process)
           → (o : Option Process) → living_of world call.pid ≡ o → All (step_by world call o).1
       held_by world call fit held uses None e = held
       held_by world call fit held uses (Some process) e =
           let h = held.each (call.pid - 1) process (lives world call.pid process e).place in
-          held_decided world call process fit held h (uses process e h) (decision_on process.stack (data_of world call)) refl
+          held_decided world call process fit held h (uses process e h) (decision_of world call process) refl
 
       spared_step : (world : World) (call : Call) → IsCall call → Spares uids gids world call → All world → All (step world call).1
-      spared_step world call fit spares held = held_by world call fit held (λ process e h passed doing is. spares process doing e is) (living_of world call.pid) refl
+      spared_step world call fit spares held = held_by world call fit held (λ process e h first passed doing is. spares process doing e first is) (living_of world call.pid) refl
 
       pub spared_run : (list : List Call) (world : World) → AreCalls list → AllSpare uids gids world list → All world → All (run world list)
       spared_run [] world fit spares held = held
       spared_run (call ∷ list) world fit spares held = spared_run list (step world call).1 fit.1 spares.1 (spared_step world call fit.0 spares.0 held)
 
     -- where each capability may be used by what passes, each call does
-    module _ (closed : IsClosed launch (lets launch TakesUid) (lets launch TakesGid) power top) where
+    module _ (stable : IsStable launch power below) (closed : IsClosed launch (lets launch TakesUid) (lets launch TakesGid) power top) where
       pub held_step : (world : World) (call : Call) → IsCall call → All world → All (step world call).1
       held_step world call fit held =
-          held_by (lets launch TakesUid) (lets launch TakesGid) closed world call fit held
-          (λ process e h passed doing is. let let_through = through_of world call process fit held h passed doing is in ((λ asked has. let_through TakesUid asked), (λ asked has. let_through TakesGid asked))) (living_of world call.pid) refl
+          held_by stable (lets launch TakesUid) (lets launch TakesGid) closed world call fit held
+          (λ process e h first passed doing is. let let_through = through_of world call process fit held h passed doing is in ((λ asked has. let_through TakesUid asked), (λ asked has. let_through TakesGid asked))) (living_of world call.pid) refl
 
       pub held_run : (list : List Call) (world : World) → AreCalls list → All world → All (run world list)
       held_run [] world fit held = held

@@ -1,6 +1,6 @@
 -- What closed bounds rule out is reached by no list of calls.
 use Rattle.std.proofs.Common.{◌≡◌, ℕ, Bool, true, false, Option, Some, None, Result, Ok, Err, ◌⊎◌, inl, inr, refl, cond, ap, ◌∙◌, sym, subst, eqb}
-use Rattle.std.specs.Prelude.{not}
+use Rattle.std.specs.Prelude.{not, nat_lt, length}
 use Rattle.std.specs.List.{AllByRecursion}
 use Rattle.std.proofs.lemmas.Bool.{eqb-true, and_parts, and_from}
 use Rattle.abs_path.specs.Paths.{Path}
@@ -9,7 +9,7 @@ use Rattle.cap_sets.proofs.Members.{has_cut, has_none}
 use Rattle.site_table.specs.declared.row.Row.{Row}
 use Rattle.site_table.specs.Table.{row_at}
 use Rattle.kern_creds.specs.declared.creds.Creds.{Creds}
-use Rattle.kern_creds.specs.Exec.{is_refused, exec_done, after_exec}
+use Rattle.kern_creds.specs.Exec.{is_refused, exec_done_in, exec_in}
 use Rattle.kern_mounts.specs.Entry.{entry_of}
 use Rattle.kern_mounts.specs.Finds.{Found, row, finds}
 use Rattle.kern_mounts.specs.declared.step.Flags.{Flags}
@@ -25,12 +25,15 @@ use Rattle.kernel_calls.specs.Doing.{Doing}
 use Rattle.kernel_model.specs.Effects as f
 use Rattle.kernel_model.specs.Effects.{Effect, effect_of, looks, creds_effect, with_admin, newuser, other_spaces, newns}
 use Rattle.kern_files.specs.Looking.{flags_by, flags_at, access_mode, is_writing, see_answer, write_answer, open_answer}
-use Rattle.linux_numbers.specs.Errnos.{eperm, eisdir, einval, erofs}
+use Rattle.linux_numbers.specs.Errnos.{eperm, eagain, enospc, eisdir, einval, erofs}
 use Rattle.kern_files.specs.declared.program.Program.{Program}
-use Rattle.kern_files.specs.Executing.{marks_of, program_answer, executed, exec_answer}
-use Rattle.kernel_model.specs.World.{World, table_of, host_of, caller_of}
+use Rattle.kern_files.specs.Executing.{marks_of, program_answer, executed_in, exec_answer_in}
+use Rattle.kernel_model.specs.World.{World, table_of, host_of, caller_of, is_newer, with_user, entered_by}
 use Rattle.kernel_model.specs.declared.process.Process.{Process}
-use Rattle.kernel_model.specs.Step.{applied}
+use Rattle.kernel_model.specs.Step.{most_processes, child_in, moved_in, has_user_left, applied}
+use Rattle.kernel_model.specs.declared.reply.Reply.{Reply}
+use Rattle.kernel_model.specs.declared.reply.Reply.TheVariants as reply
+use Rattle.kernel_laws.proofs.Flags.{user_flag}
 use Rattle.kernel_model.specs.Runs.{IsDone}
 use Rattle.kernel_laws.specs.Questions as q
 use Rattle.kernel_laws.specs.Questions.{Wish, ToSee, ToRead, ToWrite, ToExec, Space, flag_of}
@@ -80,18 +83,18 @@ module _ (world : World) (pid : ℕ) (process : Process) where
     pub runs : flags.no_exec ≡ false
     pub taken : is_refused creds (marks_of target) flags.no_suid ≡ false
 
-  exec_done' : (creds : Creds) (flags : Flags) (target : Row) → D (creds_effect (exec_answer creds flags (row target))) → RunDone creds flags target
-  exec_done' creds flags target h = by (program_answer flags (row target)) refl h
+  exec_done' : (newer : Bool) (creds : Creds) (flags : Flags) (target : Row) → D (creds_effect (exec_answer_in newer creds flags (row target))) → RunDone creds flags target
+  exec_done' newer creds flags target h = by (program_answer flags (row target)) refl h
     where
-      by_refused : (b : Bool) → D (creds_effect (cond b (Err eperm) (Ok (exec_done creds (marks_of target) flags.no_suid)))) → b ≡ false
+      by_refused : (b : Bool) → D (creds_effect (cond b (Err eperm) (Ok (exec_done_in newer creds (marks_of target) flags.no_suid)))) → b ≡ false
       by_refused true h = absurd h
       by_refused false h = refl
 
-      by : (answer : Result Program ℕ) → program_answer flags (row target) ≡ answer → D (creds_effect (executed creds answer)) → RunDone creds flags target
+      by : (answer : Result Program ℕ) → program_answer flags (row target) ≡ answer → D (creds_effect (executed_in newer creds answer)) → RunDone creds flags target
       by (Err errno) is h = absurd h
       by (Ok program) is h =
           let ran = ran_program flags target program is in
-          let P : Program → Type 0 = λ p. D (creds_effect (after_exec creds p.file p.no_suid)) in
+          let P : Program → Type 0 = λ p. D (creds_effect (exec_in newer creds p.file p.no_suid)) in
           record { exe = ran.exe; runs = ran.runs; taken = by_refused (is_refused creds (marks_of target) flags.no_suid) (subst P ran.is h) }
 
 -- a call that is done and whose path finds the row has the flags that it needs
@@ -123,9 +126,9 @@ wish_fits world pid process ToWrite (d.Truncate own) path target e g h =
     ap (λ (p : Path). not (flags_at (table_of world process.namespace) p).read_only) (sym here) ∙ ap not off
 wish_fits world pid process ToExec (d.Execve own) path target e g h =
     let here : own ≡ path = cc in
-    let P : Found Row → Type 0 = λ found. DoneBy world pid process (creds_effect (exec_answer process.creds (flags_at (table_of world process.namespace) own) found)) in
+    let P : Found Row → Type 0 = λ found. DoneBy world pid process (creds_effect (exec_answer_in (is_newer process) process.creds (flags_at (table_of world process.namespace) own) found)) in
     let found : finds (row_at world.site.rows) (table_of world process.namespace) own ≡ row target = ap (finds (row_at world.site.rows) (table_of world process.namespace)) here ∙ g in
-    let r = exec_done' world pid process process.creds (flags_at (table_of world process.namespace) own) target (subst P found h) in
+    let r = exec_done' world pid process (is_newer process) process.creds (flags_at (table_of world process.namespace) own) target (subst P found h) in
     ap (λ (p : Path). not (flags_at (table_of world process.namespace) p).no_exec) (sym here) ∙ ap not r.runs
 wish_fits world pid process wish doing path target e g h = cc
 
@@ -135,9 +138,9 @@ pub run_taken : (world : World) (pid : ℕ) (process : Process) (doing : Doing) 
     → is_refused process.creds (marks_of target) (flags_at (table_of world process.namespace) path).no_suid ≡ false
 run_taken world pid process (d.Execve own) path target e g h =
     let here : own ≡ path = cc in
-    let P : Found Row → Type 0 = λ found. DoneBy world pid process (creds_effect (exec_answer process.creds (flags_at (table_of world process.namespace) own) found)) in
+    let P : Found Row → Type 0 = λ found. DoneBy world pid process (creds_effect (exec_answer_in (is_newer process) process.creds (flags_at (table_of world process.namespace) own) found)) in
     let found : finds (row_at world.site.rows) (table_of world process.namespace) own ≡ row target = ap (finds (row_at world.site.rows) (table_of world process.namespace)) here ∙ g in
-    let r = exec_done' world pid process process.creds (flags_at (table_of world process.namespace) own) target (subst P found h) in
+    let r = exec_done' world pid process (is_newer process) process.creds (flags_at (table_of world process.namespace) own) target (subst P found h) in
     ap (λ (p : Path). is_refused process.creds (marks_of target) (flags_at (table_of world process.namespace) p).no_suid) (sym here) ∙ r.taken
 run_taken world pid process doing path target e g h = cc
 
@@ -212,40 +215,63 @@ user_or_other q.Pid = inr (refl, refl)
 user_or_other q.User = inl refl
 user_or_other q.Uts = inr (refl, refl)
 
-abbrev pub MadeSpace : Space → Process → Type 0
-MadeSpace space process = (is_user space ≡ false) × (has process.creds.effective 21 ≡ true)
+-- a user namespace is asked for, and one was left; or another, by CAP_SYS_ADMIN
+abbrev pub MadeSpace : World → Space → Process → Doing → Type 0
+MadeSpace world space process doing = ((asks_space q.User doing ≡ true) × (has_user_left world ≡ true)) ⊎ ((is_user space ≡ false) × (has process.creds.effective 21 ≡ true))
 
--- what is behind the test of user namespaces
-space_by : (world : World) (pid : ℕ) (process : Process) (space : Space) (flags : ℕ) (own none' : Effect) → has_all (flag_of space) flags ≡ true
-    → DoneBy world pid process (cond (has_some newuser flags) (f.Refuse 28) (cond (has_some other_spaces flags) (with_admin process.creds own) none')) → MadeSpace space process
-space_by world pid process space flags own none' asked h = by (user_or_other space)
+module _ (world : World) (pid : ℕ) (process : Process) (space : Space) (flags : ℕ) (doing : Doing) (own none' user : Effect) (asked : has_all (flag_of space) flags ≡ true) (is : has_all newuser flags ≡ true → asks_space q.User doing ≡ true)
+    (left : DoneBy world pid process user → has_user_left world ≡ true) where
+  bit : has flags (bit_of space) ≡ true
+  bit = on_flag (bit_of space) (flag_of space) flags (own_bit space) asked
+
+  rest_by : has_some newuser flags ≡ false → DoneBy world pid process (cond (has_some other_spaces flags) (with_admin process.creds own) none') → MadeSpace world space process doing
+  rest_by off h = by (user_or_other space)
+    where
+      by : (has newuser (bit_of space) ≡ true) ⊎ ((has other_spaces (bit_of space) ≡ true) × (is_user space ≡ false)) → MadeSpace world space process doing
+      by (inl user) = let on = in_mask (bit_of space) newuser flags user bit in cc
+      by (inr other) =
+          let on = in_mask (bit_of space) other_spaces flags other.0 bit in
+          let P : Bool → Type 0 = λ b. DoneBy world pid process (cond b (with_admin process.creds own) none') in
+          inr (other.1, (when' world pid process (has process.creds.effective 21) 1 own (subst P on h)).0)
+
+  -- what is behind the other tests
+  space_by : DoneBy world pid process (cond (has_some newuser flags) user (cond (has_some other_spaces flags) (with_admin process.creds own) none')) → MadeSpace world space process doing
+  space_by h = by (has_some newuser flags) refl h
+    where
+      by : (b : Bool) → has_some newuser flags ≡ b → DoneBy world pid process (cond b user (cond (has_some other_spaces flags) (with_admin process.creds own) none')) → MadeSpace world space process doing
+      by true e h = inl (is (user_flag flags e), left h)
+      by false e h = rest_by e h
+
+-- where a user namespace was made one was left
+child_left : (world : World) (pid : ℕ) (process : Process) (own : Bool) → DoneBy world pid process (f.UserChild own) → has_user_left world ≡ true
+child_left world pid process own h = by (has_user_left world) h
   where
-    bit : has flags (bit_of space) ≡ true
-    bit = on_flag (bit_of space) (flag_of space) flags (own_bit space) asked
+    by : (b : Bool) → IsDone (cond {A = Reply × World} b (cond {A = Reply × World} (nat_lt (length world.processes) most_processes) (child_in world (with_user world) (entered_by process world.users) own) (reply.Refused eagain, world)) (reply.Refused enospc, world)).0 → b ≡ true
+    by true h = refl
+    by false h = absurd h
 
-    rest : (has_some newuser flags ≡ false) × DoneBy world pid process (cond (has_some other_spaces flags) (with_admin process.creds own) none')
-    rest = unless world pid process (has_some newuser flags) 28 (cond (has_some other_spaces flags) (with_admin process.creds own) none') h
-
-    by : (has newuser (bit_of space) ≡ true) ⊎ ((has other_spaces (bit_of space) ≡ true) × (is_user space ≡ false)) → MadeSpace space process
-    by (inl user) = let on = in_mask (bit_of space) newuser flags user bit in let off = rest.0 in cc
-    by (inr other) =
-        let on = in_mask (bit_of space) other_spaces flags other.0 bit in
-        let P : Bool → Type 0 = λ b. DoneBy world pid process (cond b (with_admin process.creds own) none') in
-        (other.1, (when' world pid process (has process.creds.effective 21) 1 own (subst P on rest.1)).0)
+own_left : (world : World) (pid : ℕ) (process : Process) (own : Bool) → DoneBy world pid process (f.OwnUser own) → has_user_left world ≡ true
+own_left world pid process own h = by (has_user_left world) h
+  where
+    by : (b : Bool) → IsDone (cond {A = Reply × World} b (moved_in world (with_user world) pid (entered_by process world.users) own) (reply.Refused enospc, world)).0 → b ≡ true
+    by true h = refl
+    by false h = absurd h
 
 pub space_done : (world : World) (pid : ℕ) (process : Process) (space : Space) (doing : Doing) → asks_space space doing ≡ true
-    → DoneBy world pid process (effect_of (host_of world) (caller_of world process) doing) → MadeSpace space process
+    → DoneBy world pid process (effect_of (host_of world) (caller_of world process) doing) → MadeSpace world space process doing
 space_done world pid process space (d.Unshare flags) asked h =
-    let one = unless world pid process (has_some 0x81fd_ffff flags) 22 (cond (has_some newuser flags) (f.Refuse 28) (cond (has_some other_spaces flags) (with_admin process.creds (cond (has_some newns flags) f.OwnTable (f.Answer 0))) (f.Answer 0))) h in
-    space_by world pid process space flags (cond (has_some newns flags) f.OwnTable (f.Answer 0)) (f.Answer 0) asked one.1
+    let one = unless world pid process (has_some 0x81fd_ffff flags) 22 (cond (has_some newuser flags) (f.OwnUser (has_some newns flags)) (cond (has_some other_spaces flags) (with_admin process.creds (cond (has_some newns flags) f.OwnTable (f.Answer 0))) (f.Answer 0))) h in
+    space_by world pid process space flags (d.Unshare flags) (cond (has_some newns flags) f.OwnTable (f.Answer 0)) (f.Answer 0) (f.OwnUser (has_some newns flags)) asked (λ e. e) (own_left world pid process (has_some newns flags)) one.1
 space_done world pid process space (d.Clone flags) asked h =
-    let one = unless world pid process (has_some 0x1_0000 flags) 22 (cond (has_some newuser flags) (f.Refuse 28) (cond (has_some other_spaces flags) (with_admin process.creds (f.Child (has_some newns flags))) (f.Child false))) h in
-    space_by world pid process space flags (f.Child (has_some newns flags)) (f.Child false) asked one.1
+    let one = unless world pid process (has_some 0x1_0000 flags) 22 (cond (has_some newuser flags) (f.UserChild (has_some newns flags)) (cond (has_some other_spaces flags) (with_admin process.creds (f.Child (has_some newns flags))) (f.Child false))) h in
+    space_by world pid process space flags (d.Clone flags) (f.Child (has_some newns flags)) (f.Child false) (f.UserChild (has_some newns flags)) asked (λ e. e) (child_left world pid process (has_some newns flags)) one.1
 space_done world pid process space doing asked h = cc
 
--- a capability that a call asks for
-pub cap_done : (world : World) (pid : ℕ) (process : Process) (cap' : Option ℕ) (value number : ℕ) → cap' ≡ Some number → DoneBy world pid process (f.with_cap_of cap' process.creds (f.Answer value)) → has process.creds.effective number ≡ true
-cap_done world pid process None value number e h = cc
-cap_done world pid process (Some own) value number e h =
+-- a capability that a call asks for, in the first user namespace
+pub cap_done : (world : World) (pid : ℕ) (process : Process) (newer : Bool) (cap' : Option ℕ) (value number : ℕ) → cap' ≡ Some number → DoneBy world pid process (f.first_alone newer cap' (f.with_cap_of cap' process.creds (f.Answer value)))
+    → (newer ≡ false) × (has process.creds.effective number ≡ true)
+cap_done world pid process newer None value number e h = cc
+cap_done world pid process true (Some own) value number e h = absurd h
+cap_done world pid process false (Some own) value number e h =
     let same : own ≡ number = cc in
-    ap (has process.creds.effective) (sym same) ∙ (when' world pid process (has process.creds.effective own) 1 (f.Answer value) h).0
+    (refl, ap (has process.creds.effective) (sym same) ∙ (when' world pid process (has process.creds.effective own) 1 (f.Answer value) h).0)

@@ -16,34 +16,38 @@ use Rattle.kern_creds.specs.Exec.{honours, is_refused, after_exec}
 use Rattle.kern_creds.specs.Prctl.{after_drop_bounding, after_raise, after_lower, after_clear_ambient, after_set_keepcaps, after_set_no_new_privs}
 use Rattle.kern_creds.proofs.Answers.{Leaves}
 use Rattle.kern_mounts.specs.Finds.{Found, row, empty_directory, nothing, finds}
-use Rattle.kern_files.specs.Bits.{has_some}
+use Rattle.kern_files.specs.Bits.{has_some, has_all}
 use Rattle.kernel_laws.specs.Bounds.{Bounds, Keeps}
 use Rattle.kern_mounts.specs.Split.{Table}
 use Rattle.kern_mounts.specs.Umount.{after_umount}
-use Rattle.kern_files.specs.MountCall.{after_mount}
+use Rattle.kern_files.specs.MountsCall.{mounts_after_mount, mounts_umount_answer}
+use Rattle.kern_files.proofs.MountsCall.{umount_answer_steps, mount_stays_plain, umount_stays_plain}
+use Rattle.kern_mounts.specs.Mounts.{Mounts, steps_of}
 use Rattle.kernel_calls.specs.Doing as d
 use Rattle.kernel_calls.specs.Doing.{Doing}
-use Rattle.kernel_model.specs.Effects.{Effect, Refuse, Answer, SetCreds, Push, Child, OwnTable, Caller, effect_of, looks, creds_effect, table_effect, with_cap_of, with_admin, socket_effect, clone_effect, unshare_effect, ambient_effect, prctl_effect, push_effect, seccomp_effect, newuser, other_spaces, newns}
+use Rattle.kernel_model.specs.Effects.{Effect, Refuse, Answer, SetCreds, Push, Child, OwnTable, UserChild, OwnUser, Caller, effect_of, looks, creds_effect, table_effect, with_cap_of, with_admin, socket_effect, clone_effect, unshare_effect, ambient_effect, prctl_effect, push_effect, seccomp_effect, newuser, other_spaces, newns, socketcall_effect}
 use Rattle.kern_files.specs.Looking.{flags_at}
 use Rattle.linux_numbers.specs.Errnos.{einval}
 use Rattle.kern_files.specs.declared.program.Program.{Program}
 use Rattle.kern_files.specs.Executing.{marks_of, program_answer, executed, exec_answer}
-use Rattle.kern_files.specs.UmountCall.{mnt_detach, umount_answer}
+use Rattle.kern_files.specs.UmountCall.{mnt_detach}
 use Rattle.kernel_laws.specs.Reach.{Power, Nowise, Unmounting, Mounting}
 use Rattle.kernel_laws.specs.Kinds as k
 use Rattle.kernel_laws.specs.Kinds.{Kind, asks}
 use Rattle.kernel_laws.specs.Launched.{Launch, lets}
-use Rattle.kernel_laws.specs.Ceiling.{CanHave, IsClosed, IsSafe}
+use Rattle.kernel_laws.specs.Ceiling.{CanHave, CanHold, IsClosed, IsSafe}
 use Rattle.kernel_laws.specs.Spared.{Uses}
+use Rattle.kernel_laws.specs.Questions.{User}
+use Rattle.kernel_laws.proofs.Flags.{user_flag}
 use Rattle.kernel_laws.proofs.Kept.{kept-clear_ambient, kept-no_new_privs, kept-keepcaps, kept-lower, kept-drop_bounding, kept-raise, kept-capset}
 use Rattle.kernel_laws.proofs.KeptIds.{kept-setuid, kept-setresuid, kept-setgid, kept-setresgid, kept-setgroups}
 use Rattle.kernel_laws.proofs.KeptExec.{kept-exec, off}
 use Rattle.kernel_laws.proofs.Ran.{ran_program}
 use Rattle.kern_mounts.proofs.Unmounting.{trims, trimmed_through, trimmed_top}
 
-module _ (launch : Launch) (may_uids may_gids : Bool) (power : Power) (top : Bounds) (closed : IsClosed launch may_uids may_gids power top) where
+module _ (launch : Launch) (may_uids may_gids : Bool) (power : Power) (top : Bounds) (below : Mounts → Type 0) (closed : IsClosed launch may_uids may_gids power top) where
   abbrev Safe : Effect → Type 0
-  Safe = IsSafe launch power top
+  Safe = IsSafe launch power top below false true
 
   safe_creds : (answer : Result Creds ℕ) → Leaves (Keeps top) answer → Safe (creds_effect answer)
   safe_creds (Ok creds) l = l.held creds refl
@@ -64,9 +68,13 @@ module _ (launch : Launch) (may_uids may_gids : Bool) (power : Power) (top : Bou
   safe_cap_of None creds value = tt
   safe_cap_of (Some number) creds value = safe_if (has creds.effective number) (Answer value) (Refuse 1) (λ e. tt) (λ e. tt)
 
-  safe_socket : (creds : Creds) (line : Option CallLine) → Safe (socket_effect creds line)
+  safe_socket : (creds : Creds) (line : Option CallLine) → Safe (socket_effect false creds line)
   safe_socket creds None = tt
   safe_socket creds (Some line) = safe_cap_of line.cap creds 3
+
+  safe_socketcall : (creds : Creds) (operation : ℕ) (line : Option CallLine) → Safe (socketcall_effect false creds operation line)
+  safe_socketcall creds operation line =
+      safe_if (eqb operation 1) (socket_effect false creds line) _ (λ e. safe_socket creds line) λ e. safe_if (nat_le 2 operation && nat_le operation 20) (Answer 0) (Refuse 22) (λ e. tt) (λ e. tt)
 
   not_refused : (creds : Creds) (file : FileCreds) (nosuid : Bool) → Keeps top creds → honours creds nosuid ≡ true → is_refused creds file nosuid ≡ false → file.effective ≡ true → IsWithin file.caps top.bounding
   not_refused creds file nosuid held h r e =
@@ -89,14 +97,14 @@ module _ (launch : Launch) (may_uids may_gids : Bool) (power : Power) (top : Bou
           (record { table = table; path = path; allowed = allowed; found = e; exe = ran.exe; runs = ran.runs; suid = grind arith })
           (not_refused creds (marks_of target) (flags_at table path).no_suid held h r)))
 
-  safe_clone : (creds : Creds) (flags : ℕ) → Keeps top creds → Safe (clone_effect creds flags)
-  safe_clone creds flags held =
-      safe_if (has_some 0x1_0000 flags) (Refuse 22) _ (λ e. tt) λ e. safe_if (has_some newuser flags) (Refuse 28) _ (λ e. tt) λ e.
+  safe_clone : (creds : Creds) (flags : ℕ) → Keeps top creds → (has_all newuser flags ≡ true → lets launch (k.ForSpace User) ≡ true) → Safe (clone_effect creds flags)
+  safe_clone creds flags held user =
+      safe_if (has_some 0x1_0000 flags) (Refuse 22) _ (λ e. tt) λ e. safe_if (has_some newuser flags) (UserChild (has_some newns flags)) _ (λ e. user (user_flag flags e)) λ e.
       safe_if (has_some other_spaces flags) (with_admin creds (Child (has_some newns flags))) (Child false) (λ e. safe_admin creds (Child (has_some newns flags)) held (λ h. tt)) (λ e. tt)
 
-  safe_unshare : (creds : Creds) (flags : ℕ) → Keeps top creds → Safe (unshare_effect creds flags)
-  safe_unshare creds flags held =
-      safe_if (has_some 0x81fd_ffff flags) (Refuse 22) _ (λ e. tt) λ e. safe_if (has_some newuser flags) (Refuse 28) _ (λ e. tt) λ e.
+  safe_unshare : (creds : Creds) (flags : ℕ) → Keeps top creds → (has_all newuser flags ≡ true → lets launch (k.ForSpace User) ≡ true) → Safe (unshare_effect creds flags)
+  safe_unshare creds flags held user =
+      safe_if (has_some 0x81fd_ffff flags) (Refuse 22) _ (λ e. tt) λ e. safe_if (has_some newuser flags) (OwnUser (has_some newns flags)) _ (λ e. user (user_flag flags e)) λ e.
       safe_if (has_some other_spaces flags) (with_admin creds (cond (has_some newns flags) OwnTable (Answer 0))) (Answer 0)
       (λ e. safe_admin creds (cond (has_some newns flags) OwnTable (Answer 0)) held (λ h. safe_if (has_some newns flags) OwnTable (Answer 0) (λ e. tt) (λ e. tt))) (λ e. tt)
 
@@ -133,51 +141,65 @@ module _ (launch : Launch) (may_uids may_gids : Bool) (power : Power) (top : Bou
   unmounted Unmounting table next path detach barred allowed e = trimmed_through (trims path detach table next (trimmed_top allowed closed.rooted) e) allowed
   unmounted Mounting table next path detach barred allowed e = tt
 
-  safe_table : (answer : Result Table ℕ) → ((table : Table) → answer ≡ Ok table → CanHave power launch.table table) → Safe (table_effect answer)
-  safe_table (Ok table) h = h table refl
+  safe_table : (answer : Result Mounts ℕ) → ((mounts : Mounts) → answer ≡ Ok mounts → CanHold power launch.table mounts) → Safe (table_effect answer)
+  safe_table (Ok mounts) h = h mounts refl
   safe_table (Err errno) h = tt
 
-  safe_umount : (table : Table) (path : Path) (flags : ℕ) → CanHave power launch.table table → (power ≡ Nowise → ⊥) → Safe (table_effect (umount_answer table path flags))
-  safe_umount table path flags allowed h = safe_table (umount_answer table path flags) (λ next e. unmounted power table next path (eqb flags mnt_detach) h allowed (by (eqb flags 0 || eqb flags mnt_detach) next e))
+  safe_umount : (mounts : Mounts) (path : Path) (flags : ℕ) → CanHold power launch.table mounts → (power ≡ Nowise → ⊥) → Safe (table_effect (mounts_umount_answer mounts path flags))
+  safe_umount mounts path flags allowed h = safe_table (mounts_umount_answer mounts path flags) (λ next e. record {
+    plain = umount_stays_plain mounts next path flags allowed.plain e;
+    entries = unmounted power (steps_of mounts) (steps_of next) path (eqb flags mnt_detach) h allowed.entries (by (eqb flags 0 || eqb flags mnt_detach) (steps_of next) (umount_answer_steps mounts next path flags e));
+  })
     where
-      by : (b : Bool) (next : Table) → cond {A = Result Table ℕ} b (after_umount table path (eqb flags mnt_detach)) (Err einval) ≡ Ok next → after_umount table path (eqb flags mnt_detach) ≡ Ok next
+      by : (b : Bool) (next : Table) → cond {A = Result Table ℕ} b (after_umount (steps_of mounts) path (eqb flags mnt_detach)) (Err einval) ≡ Ok next → after_umount (steps_of mounts) path (eqb flags mnt_detach) ≡ Ok next
       by true next e = e
       by false next e = cc
+
+  safe_mount : (mounts : Mounts) (source target : Path) (flags : ℕ) → CanHold power launch.table mounts → power ≡ Mounting → Safe (table_effect (mounts_after_mount (row_at launch.site.rows) mounts source target flags))
+  safe_mount mounts source target flags allowed h = safe_table (mounts_after_mount (row_at launch.site.rows) mounts source target flags) (λ next e. record {
+    plain = mount_stays_plain (row_at launch.site.rows) mounts next source target flags allowed.plain e;
+    entries = mounted (steps_of next) h;
+  })
 
   -- the kinds that a call asks for are let through
   abbrev pub Through : Doing → Type 0
   Through doing = (kind : Kind) → asks kind doing ≡ true → lets launch kind ≡ true
 
-  pub safe_effect : (families : List CallLine) (caller : Caller) (doing : Doing) → Keeps top caller.creds → CanHave power launch.table caller.table → Through doing → Uses may_uids may_gids caller.creds doing
-      → Safe (effect_of (record { rows = row_at launch.site.rows; families = families }) caller doing)
-  safe_effect families caller (d.See path) held allowed p u = safe_looks _
-  safe_effect families caller (d.Open flags path) held allowed p u = safe_looks _
-  safe_effect families caller (d.Create path) held allowed p u = safe_looks _
-  safe_effect families caller (d.Truncate path) held allowed p u = safe_looks _
-  safe_effect families caller (d.Execve path) held allowed p u = safe_exec caller.creds caller.table path held allowed _ refl
-  safe_effect families caller (d.SetMode mode) held allowed p u = tt
-  safe_effect families caller (d.Map protection) held allowed p u = tt
-  safe_effect families caller (d.Protect protection) held allowed p u = tt
-  safe_effect families caller (d.Attach flags) held allowed p u = tt
-  safe_effect families caller (d.Schedule policy) held allowed p u = safe_looks _
-  safe_effect families caller (d.Personality domain) held allowed p u = tt
-  safe_effect families caller (d.Socket family) held allowed p u = safe_socket caller.creds _
-  safe_effect families caller d.Enter held allowed p u = tt
-  safe_effect families caller d.Fork held allowed p u = tt
-  safe_effect families caller (d.Clone flags) held allowed p u = safe_clone caller.creds flags held
-  safe_effect families caller (d.Unshare flags) held allowed p u = safe_unshare caller.creds flags held
-  safe_effect families caller d.Exit held allowed p u = tt
-  safe_effect families caller (d.Mount source target flags) held allowed p u =
-      safe_admin caller.creds (table_effect (after_mount (row_at launch.site.rows) caller.table source target flags)) held (λ h. safe_table _ (λ next e. mounted next (closed.mount (p k.ChangesMounts refl) h)))
-  safe_effect families caller (d.Umount path flags) held allowed p u =
-      safe_admin caller.creds (table_effect (umount_answer caller.table path flags)) held (λ h. safe_umount caller.table path flags allowed (closed.umount (p k.RemovesMounts refl) h))
-  safe_effect families caller (d.Setuid id) held allowed p u = safe_creds _ (kept-setuid top caller.creds held closed.settled (λ h. closed.any_uid (u.0 refl h) (held.effective.each 7 h)) id)
-  safe_effect families caller (d.Setgid id) held allowed p u = safe_creds _ (kept-setgid top caller.creds held (λ h. closed.any_gid (u.1 refl h) (held.effective.each 6 h)) id)
-  safe_effect families caller (d.Setresuid r e s) held allowed p u = safe_creds _ (kept-setresuid top caller.creds held closed.settled (λ h. closed.any_uid (u.0 refl h) (held.effective.each 7 h)) r e s)
-  safe_effect families caller (d.Setresgid r e s) held allowed p u = safe_creds _ (kept-setresgid top caller.creds held (λ h. closed.any_gid (u.1 refl h) (held.effective.each 6 h)) r e s)
-  safe_effect families caller (d.Setgroups ids) held allowed p u = safe_creds _ (kept-setgroups top caller.creds held (λ h. closed.any_gid (u.1 refl h) (held.effective.each 6 h)) ids)
-  safe_effect families caller (d.Capset permitted effective inheritable) held allowed p u =
-      safe_creds _ (kept-capset top caller.creds held permitted effective inheritable (closed.capset_effective (p k.SetsCaps refl)) (closed.capset_inheritable (p k.SetsCaps refl)))
-  safe_effect families caller (d.Prctl option value third) held allowed p u = safe_prctl caller.creds option value third held
-  safe_effect families caller (d.Seccomp operation flags bytes) held allowed p u = safe_seccomp caller.creds caller.stack operation flags bytes
-  safe_effect families caller (d.Plain cap') held allowed p u = safe_cap_of cap' caller.creds 0
+  -- a process of the first user namespace, whose mount namespace belongs to that
+  abbrev pub first_caller : Creds → List (List Insn) → Mounts → Caller
+  first_caller creds stack table = record { creds = creds; stack = stack; table = table; newer = false; owns = true }
+
+  pub safe_effect : (families : List CallLine) (creds : Creds) (stack : List (List Insn)) (table : Mounts) (doing : Doing) → Keeps top creds → CanHold power launch.table table → Through doing → Uses may_uids may_gids creds doing
+      → Safe (effect_of (record { rows = row_at launch.site.rows; families = families }) (first_caller creds stack table) doing)
+  safe_effect families creds stack table (d.See path) held allowed p u = safe_looks _
+  safe_effect families creds stack table (d.Open flags path) held allowed p u = safe_looks _
+  safe_effect families creds stack table (d.Create path) held allowed p u = safe_looks _
+  safe_effect families creds stack table (d.Truncate path) held allowed p u = safe_looks _
+  safe_effect families creds stack table (d.Execve path) held allowed p u = safe_exec creds (steps_of table) path held allowed.entries _ refl
+  safe_effect families creds stack table (d.SetMode mode) held allowed p u = tt
+  safe_effect families creds stack table (d.Map protection) held allowed p u = tt
+  safe_effect families creds stack table (d.Protect protection) held allowed p u = tt
+  safe_effect families creds stack table (d.Attach flags) held allowed p u = tt
+  safe_effect families creds stack table (d.Schedule policy) held allowed p u = safe_looks _
+  safe_effect families creds stack table (d.Personality domain) held allowed p u = tt
+  safe_effect families creds stack table (d.Socket family) held allowed p u = safe_socket creds _
+  safe_effect families creds stack table (d.Socketcall operation family) held allowed p u = safe_socketcall creds operation _
+  safe_effect families creds stack table d.Enter held allowed p u = tt
+  safe_effect families creds stack table d.Fork held allowed p u = tt
+  safe_effect families creds stack table (d.Clone flags) held allowed p u = safe_clone creds flags held (p (k.ForSpace User))
+  safe_effect families creds stack table (d.Unshare flags) held allowed p u = safe_unshare creds flags held (p (k.ForSpace User))
+  safe_effect families creds stack table d.Exit held allowed p u = tt
+  safe_effect families creds stack table (d.Mount source target flags) held allowed p u =
+      safe_admin creds (table_effect (mounts_after_mount (row_at launch.site.rows) table source target flags)) held (λ h. safe_mount table source target flags allowed (closed.mount (p k.ChangesMounts refl) h))
+  safe_effect families creds stack table (d.Umount path flags) held allowed p u =
+      safe_admin creds (table_effect (mounts_umount_answer table path flags)) held (λ h. safe_umount table path flags allowed (closed.umount (p k.RemovesMounts refl) h))
+  safe_effect families creds stack table (d.Setuid id) held allowed p u = safe_creds _ (kept-setuid top creds held closed.settled (λ h. closed.any_uid (u.0 refl h) (held.effective.each 7 h)) id)
+  safe_effect families creds stack table (d.Setgid id) held allowed p u = safe_creds _ (kept-setgid top creds held (λ h. closed.any_gid (u.1 refl h) (held.effective.each 6 h)) id)
+  safe_effect families creds stack table (d.Setresuid r e s) held allowed p u = safe_creds _ (kept-setresuid top creds held closed.settled (λ h. closed.any_uid (u.0 refl h) (held.effective.each 7 h)) r e s)
+  safe_effect families creds stack table (d.Setresgid r e s) held allowed p u = safe_creds _ (kept-setresgid top creds held (λ h. closed.any_gid (u.1 refl h) (held.effective.each 6 h)) r e s)
+  safe_effect families creds stack table (d.Setgroups ids) held allowed p u = safe_creds _ (kept-setgroups top creds held (λ h. closed.any_gid (u.1 refl h) (held.effective.each 6 h)) ids)
+  safe_effect families creds stack table (d.Capset permitted effective inheritable) held allowed p u =
+      safe_creds _ (kept-capset top creds held permitted effective inheritable (closed.capset_effective (p k.SetsCaps refl)) (closed.capset_inheritable (p k.SetsCaps refl)))
+  safe_effect families creds stack table (d.Prctl option value third) held allowed p u = safe_prctl creds option value third held
+  safe_effect families creds stack table (d.Seccomp operation flags bytes) held allowed p u = safe_seccomp creds stack operation flags bytes
+  safe_effect families creds stack table (d.Plain cap') held allowed p u = safe_cap_of cap' creds 0

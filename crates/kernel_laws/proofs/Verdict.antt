@@ -1,7 +1,12 @@
 -- What the ceiling closes is denied.
-use Rattle.std.proofs.Common.{◌≡◌, ℕ, Bool, true, false, List, ◌++◌, Option, Some, None, refl, ap, ◌∙◌, sym, subst}
-use Rattle.std.specs.Prelude.{slice_get, not, ◌&&◌, ◌-◌, is_some}
-use Rattle.std.proofs.lemmas.Bool.{eqb-true, eq-eqb, and_from}
+use Rattle.std.proofs.Common.{◌≡◌, ℕ, inl, inr, ◌⊎◌, cond, eqb, Bool, true, false, List, ◌++◌, Option, Some, None, refl, ap, ◌∙◌, sym, subst}
+use Rattle.std.specs.Prelude.{slice_get, not, ◌&&◌, ◌||◌, ◌-◌, is_some, nat_le}
+use Rattle.std.specs.List as list
+use Rattle.std.specs.List.{list_any}
+use Rattle.std.specs.Str.{bytes_eq}
+use Rattle.std.proofs.lemmas.Slice.Eq.{bytes_eq-Decides}
+use Rattle.call_names.specs.Known.{known_call}
+use Rattle.std.proofs.lemmas.Bool.{eqb-true, eq-eqb, and_from, or_left, or_right, and_parts}
 use Rattle.bpf_code.specs.declared.machine.Insn.{Insn}
 use Rattle.bpf_code.specs.declared.decision.Decision.TheVariants as decision
 use Rattle.bpf_code.specs.Stack.{decision_on}
@@ -11,44 +16,50 @@ use Rattle.cap_sets.proofs.Members.{within-from_IsWithin, IsWithin-from_within, 
 use Rattle.call_table.specs.declared.listed.CallLine.{CallLine}
 use Rattle.call_table.specs.Table as calls
 use Rattle.call_table.specs.Lookups.{numbered}
+use Rattle.linux_numbers.specs.Errnos.{einval}
 use Rattle.site_table.specs.declared.row.Row.{Row}
 use Rattle.site_table.specs.Table.{Site, row_at}
 use Rattle.kern_creds.specs.Exec.{is_refused}
 use Rattle.kern_mounts.specs.Finds.{row, finds}
-use Rattle.kernel_laws.specs.Bounds.{Bounds}
+use Rattle.kernel_laws.specs.Bounds.{Bounds, Keeps, KeepsIn}
 use Rattle.kernel_calls.specs.declared.call.Call.{Call}
 use Rattle.kernel_calls.specs.Calls.{IsCall}
 use Rattle.kernel_calls.specs.declared.rule.Rule.TheVariants as rule
 use Rattle.kernel_calls.specs.declared.rule.Rule.{Rule}
-use Rattle.kernel_calls.specs.Rules.{rule_of}
+use Rattle.kernel_calls.specs.Rules.{rule_of, rule_by}
 use Rattle.kernel_calls.specs.Doing as d
 use Rattle.kernel_calls.specs.Doing.{Doing, Does, asked_of, bare, doing_by}
 use Rattle.kernel_model.specs.Effects as f
-use Rattle.kernel_model.specs.Effects.{effect_of, socket_effect}
+use Rattle.kernel_model.specs.Effects.{Effect, Host, Caller, effect_of, socket_effect}
 use Rattle.kern_files.specs.Looking.{flags_at}
 use Rattle.kern_files.specs.Executing.{marks_of}
-use Rattle.kernel_model.specs.World.{World, table_of, host_of, caller_of}
+use Rattle.kernel_model.specs.World.{World, mounts_of, table_of, host_of, caller_of, is_newer}
 use Rattle.kernel_model.specs.declared.process.Process.{Process}
 use Rattle.kernel_model.specs.Runs.{moment_at, run}
 use Rattle.kernel_laws.specs.Questions as q
 use Rattle.kernel_laws.specs.Questions.{Wish, ToSee, ToRead, ToWrite, ToExec, Space, Question, is_plain, IsAsked}
 use Rattle.kernel_laws.specs.Denied.{path_for, ReachesRow, ReachesCall, Performs, Reaches, Holds, IsDenied, is_family, asks_family, asks_space, asks_map, asks_protect, asks_attach, asks_realtime, asks_personality, asks_mode}
-use Rattle.kernel_laws.specs.Reach.{Power}
+use Rattle.kernel_laws.specs.Reach.{Power, Leads, reaches}
 use Rattle.kernel_laws.specs.Kinds as k
-use Rattle.kernel_laws.specs.Kinds.{Kind, asks}
-use Rattle.kernel_laws.specs.Launched.{Launch, data_at, lets, lets_line, IsLaunched, launch_of}
-use Rattle.kernel_laws.specs.Ceiling.{IsHeld}
-use Rattle.kernel_laws.specs.Bound.{power_of, ceiling, is_open, can_reach, is_to_exec, is_mounting, is_barred, can_have_cap, can_have_for, if_listed}
+use Rattle.kernel_laws.specs.Kinds.{Kind, asks, asks_number}
+use Rattle.kernel_laws.specs.Launched.{Launch, data_at, lets, lets_line, can_make_user, IsLaunched, launch_of}
+use Rattle.kernel_laws.specs.Ceiling.{IsHeld, IsStable, TableIn}
+use Rattle.kernel_laws.specs.Bound.{power_of, ceiling, is_open, can_reach, is_to_exec, is_user, is_mounting, is_barred, can_have_cap, can_have_for, if_listed, is_call_open}
+use Rattle.kernel_laws.specs.NewerTables.{CanHaveNewer}
+use Rattle.kernel_laws.proofs.NewerTables.{tables_stable, rows_are_reached}
+use Rattle.kern_mounts.specs.Split.{Table}
+use Rattle.kern_mounts.specs.Mounts.{Mounts, steps_of}
+use Rattle.kernel_model.specs.Step.{has_user_left}
 use Rattle.kernel_laws.specs.Laws.{DenialIsSound}
-use Rattle.kernel_laws.proofs.Runs.{through_of, own_allowed}
+use Rattle.kernel_laws.proofs.Runs.{through_of, own_allowed, first_allowed, can_make_one}
 use Rattle.kernel_laws.proofs.Moments.{no_moment}
 use Rattle.kernel_laws.proofs.Done.{WasDone, was_done}
-use Rattle.kernel_laws.proofs.Filters.{bare_is, lets_through, line_lets, HasRule, has_rule, Asks, asks_for, at_position}
+use Rattle.kernel_laws.proofs.Filters.{bare_is, lets_through, line_lets, HasRule, has_rule, Asks, asks_for, at_position, any_found, found_all, among_all, all_in, slice_all}
 use Rattle.kernel_laws.proofs.Reach.{leads, reaches_if}
 use Rattle.kernel_laws.proofs.Held.{AllHeld, launched_held, ceiling_step, ceiling_run, cap_within, uid_within, gid_within}
-use Rattle.kernel_laws.proofs.Sound.{DoneBy, wish_fits, run_taken, honours_at, honours_below, space_done, cap_done}
+use Rattle.kernel_laws.proofs.Sound.{DoneBy, MadeSpace, wish_fits, run_taken, honours_at, honours_below, space_done, cap_done}
 
-module _ (launch : Launch) (l : IsLaunched launch) where
+module _ (launch : Launch) (l : IsLaunched launch) (below : Mounts → Type 0) (stable : IsStable launch (power_of launch) below) where
   abbrev power : Power
   power = power_of launch
 
@@ -56,17 +67,17 @@ module _ (launch : Launch) (l : IsLaunched launch) where
   top = ceiling launch
 
   abbrev All : World → Type 0
-  All = AllHeld launch
+  All = AllHeld launch below
 
-  held_of : (now : World) (call : Call) → All now → (w : WasDone now call) → IsHeld launch power top now.tables w.process
+  held_of : (now : World) (call : Call) → All now → (w : WasDone now call) → IsHeld launch power top below now.tables now.owners w.process
   held_of now call held w = held.each (call.pid - 1) w.process w.living.place
 
   kind_lets : (now : World) (call : Call) → IsCall call → All now → (w : WasDone now call) → (kind : Kind) → asks kind w.doing ≡ true → lets launch kind ≡ true
   kind_lets now call fit held w kind asked =
-      through_of launch power top (lets_through launch l) now call w.process fit held (held_of now call held w) w.passed w.doing w.asks kind asked
+      through_of launch power top below (lets_through launch l) now call w.process fit held (held_of now call held w) w.let_through w.doing w.asks kind asked
 
   -- one call asks for one thing
-  same_doing : (now : World) (call : Call) (one other : Doing) → asked_of now.calls.calls call ≡ Does one → asked_of now.calls.calls call ≡ Does other → one ≡ other
+  same_doing : (now : World) (call : Call) (one other : Doing) → asked_of now.calls call ≡ Does one → asked_of now.calls call ≡ Does other → one ≡ other
   same_doing now call one other e g = cc
 
   kind_of : (now : World) (call : Call) → IsCall call → All now → (such : Doing → Bool) → (p : Performs such (moment_at now call)) → (kind : Kind) → ((doing : Doing) → such doing ≡ true → asks kind doing ≡ true) → lets launch kind ≡ true
@@ -75,30 +86,52 @@ module _ (launch : Launch) (l : IsLaunched launch) where
       let same = same_doing now call p.doing w.doing p.is w.asks in
       kind_lets now call fit held w kind (h w.doing (ap such (sym same) ∙ p.such))
 
-  -- a capability of a process is in the ceiling
-  has_top : (now : World) (call : Call) → All now → (w : WasDone now call) → (number : ℕ) → has w.process.creds.effective number ≡ true → has top.effective number ≡ true
-  has_top now call held w number h = (held_of now call held w).creds.effective.each number h
+  -- the bounds of a process of the first user namespace
+  kept_first : (now : World) (call : Call) → All now → (w : WasDone now call) → is_newer w.process ≡ false → Keeps top w.process.creds
+  kept_first now call held w first = let P : Bool → Type 0 = λ b. KeepsIn b top w.process.creds in subst P first (held_of now call held w).creds
+
+  -- a capability of such a process is in the ceiling
+  has_top : (now : World) (call : Call) → All now → (w : WasDone now call) → is_newer w.process ≡ false → (number : ℕ) → has w.process.creds.effective number ≡ true → has top.effective number ≡ true
+  has_top now call held w first number h = (kept_first now call held w first).effective.each number h
 
   -- ---- paths
-  not_barred : (now : World) (call : Call) → All now → (w : WasDone now call) → (path : Path) (target : Row) → is_mounting power ≡ false
+  not_barred : (now : World) (call : Call) → All now → (w : WasDone now call) → is_newer w.process ≡ false → (path : Path) (target : Row) → is_mounting power ≡ false
       → is_refused w.process.creds (marks_of target) (flags_at (table_of now w.process.namespace) path).no_suid ≡ false → is_barred launch target ≡ false
-  not_barred now call held w path target low r =
+  not_barred now call held w first path target low r =
       let h = held_of now call held w in
       let table = table_of now w.process.namespace in
-      let allowed = own_allowed launch power top now w.process h in
+      let allowed = (first_allowed launch power top below now w.process h first).entries in
       let suid : (flags_at table path).no_suid ≡ false = honours_at table path (honours_below power launch.table table (λ e. let no' : is_mounting power ≡ true = ap is_mounting e in cc) allowed l.honours) in
       let own : (not false && target.effective) && not (within target.caps w.process.creds.bounding) ≡ false = ap (λ b. (not b && target.effective) && not (within target.caps w.process.creds.bounding)) (sym suid) ∙ r in
-      by target.effective (within target.caps w.process.creds.bounding) refl own h.creds.bounding
+      by target.effective (within target.caps w.process.creds.bounding) refl own (kept_first now call held w first).bounding
     where
       by : (e b : Bool) → within target.caps w.process.creds.bounding ≡ b → (e && not b) ≡ false → IsWithin w.process.creds.bounding launch.creds.bounding → (e && not (within target.caps launch.creds.bounding)) ≡ false
       by false b is g within' = refl
       by true false is g within' = cc
       by true true is g within' = ap not (within-from_IsWithin _ _ (within_through _ _ _ (IsWithin-from_within _ _ is) within'))
 
-  free : (exec low barred : Bool) → (exec ≡ true → low ≡ false → barred ≡ false) → not ((exec && not low) && barred) ≡ true
-  free true true barred h = refl
-  free true false barred h = ap not (h refl refl)
-  free false low barred h = refl
+  free : (exec low barred make : Bool) → (exec ≡ true → low ≡ false → make ≡ false → barred ≡ false) → not (((exec && not low) && barred) && not make) ≡ true
+  free true true barred make h = refl
+  free true false true true h = refl
+  free true false false make h = refl
+  free true false true false h = let no' : true ≡ false = h refl refl refl in cc
+  free false low barred make h = refl
+
+  -- who is in a newer user namespace has shown that one can be made
+  first_if : (now : World) (call : Call) → All now → (w : WasDone now call) → can_make_user launch ≡ false → is_newer w.process ≡ false
+  first_if now call held w off = by (is_newer w.process) refl
+    where
+      by : (b : Bool) → is_newer w.process ≡ b → b ≡ false
+      by true e = let on = (held_of now call held w).made e in cc
+      by false e = refl
+
+  -- what a table of a newer user namespace leads to is reached without it
+  abbrev LeadsToReached : Type 0
+  LeadsToReached = (mounts : Mounts) (target : Path) (wish : Wish) → below mounts → Leads (steps_of mounts) target wish → reaches power launch.table target wish ≡ true
+
+  reaches_in : LeadsToReached → (ours : Bool) (mounts : Mounts) (target : Path) (wish : Wish) → TableIn ours launch power below mounts → Leads (steps_of mounts) target wish → reaches power launch.table target wish ≡ true
+  reaches_in less true mounts target wish allowed lead = reaches_if power launch.table (steps_of mounts) target wish allowed.entries lead
+  reaches_in less false mounts target wish allowed lead = less mounts target wish allowed lead
 
   only_exec : (wish : Wish) → is_to_exec wish ≡ true → wish ≡ ToExec
   only_exec ToSee e = cc
@@ -106,8 +139,8 @@ module _ (launch : Launch) (l : IsLaunched launch) where
   only_exec ToWrite e = cc
   only_exec ToExec e = refl
 
-  row_open : (wish : Wish) (place : ℕ) (now : World) (call : Call) → IsCall call → All now → ReachesRow wish place (moment_at now call) → is_open launch (q.ByPath wish place) ≡ true
-  row_open wish place now call fit held r =
+  row_open : LeadsToReached → (wish : Wish) (place : ℕ) (now : World) (call : Call) → IsCall call → All now → ReachesRow wish place (moment_at now call) → is_open launch (q.ByPath wish place) ≡ true
+  row_open less wish place now call fit held r =
       let w = was_done now call r.done in
       let same = same_doing now call r.doing w.doing r.asks w.asks in
       let one : r.process ≡ w.process = (let made = w.living.made in let own = r.caller in cc) in
@@ -120,39 +153,56 @@ module _ (launch : Launch) (l : IsLaunched launch) where
       let fit' = wish_fits now call.pid w.process wish w.doing r.path r.target wanted found w.done in
       let lead = leads launch.site.rows table r.path r.target wish seen fit' in
       let h = held_of now call held w in
-      let there = reaches_if power launch.table table r.target.path wish (own_allowed launch power top now w.process h) lead in
-      let open' = free (is_to_exec wish) (is_mounting power) (is_barred launch r.target) (λ exec low.
+      let there = reaches_in less (eqb h.owner 1) (mounts_of now w.process.namespace) r.target.path wish (own_allowed launch power top below now w.process h) lead in
+      let open' = free (is_to_exec wish) (is_mounting power) (is_barred launch r.target) (can_make_user launch) (λ exec low off.
       let is_exec = only_exec wish exec in
       let wanted' : path_for ToExec w.doing ≡ Some r.path = ap (λ (v : Wish). path_for v w.doing) (sym is_exec) ∙ wanted in
-      not_barred now call held w r.path r.target low (run_taken now call.pid w.process w.doing r.path r.target wanted' found w.done)) in
+      not_barred now call held w (first_if now call held w off) r.path r.target low (run_taken now call.pid w.process w.doing r.path r.target wanted' found w.done)) in
       ap (if_listed (can_reach launch power wish)) listed ∙ and_from _ _ (and_from _ _ passes there) open'
 
   -- ---- plain calls
-  can_cap : (now : World) (call : Call) → All now → (w : WasDone now call) → (cap' : Option ℕ) (value : ℕ) → DoneBy now call.pid w.process (f.with_cap_of cap' w.process.creds (f.Answer value)) → can_have_cap top cap' ≡ true
+  can_cap : (now : World) (call : Call) → All now → (w : WasDone now call) → (cap' : Option ℕ) (value : ℕ) → DoneBy now call.pid w.process (f.first_alone (is_newer w.process) cap' (f.with_cap_of cap' w.process.creds (f.Answer value))) → can_have_cap top cap' ≡ true
   can_cap now call held w None value h = refl
-  can_cap now call held w (Some number) value h = has_top now call held w number (cap_done now call.pid w.process (Some number) value number refl h)
+  can_cap now call held w (Some number) value h =
+      let done = cap_done now call.pid w.process (is_newer w.process) (Some number) value number refl h in
+      has_top now call held w done.0 number done.1
+
+  -- a name has one rule
+  one_rule : (line other : CallLine) → line.name ≡ other.name → line.cap ≡ other.cap → rule_of line ≡ rule_of other
+  unfolding rule_of
+  one_rule line other name cap' = ap (λ n. rule_by (known_call n) line.cap) name ∙ ap (rule_by (known_call other.name)) cap'
+
+  same_rule : (place nr abi : ℕ) (line called : CallLine) → slice_get (calls.every_call launch.calls) place ≡ Some line → numbered nr (calls.calls_in launch.calls abi) ≡ Some called → line.name ≡ called.name → rule_of line ≡ rule_of called
+  same_rule place nr abi line called listed found name =
+      let caps = slice_all (λ one. list.All (λ other. one.name ≡ other.name → one.cap ≡ other.cap) (calls.every_call launch.calls)) (calls.every_call launch.calls) place line l.one_cap listed in
+      let cap' = found_all (λ other. line.name ≡ other.name → line.cap ≡ other.cap) (calls.calls_in launch.calls abi) nr called (all_in (λ other. line.name ≡ other.name → line.cap ≡ other.cap) launch.calls abi caps) found in
+      one_rule line called name (cap' name)
 
   plain_open : (place : ℕ) (now : World) (call : Call) → IsAsked launch.calls (q.Call place) → IsCall call → All now → ReachesCall place (moment_at now call) → is_open launch (q.Call place) ≡ true
   plain_open place now call asked fit held r =
       let w = was_done now call r.done in
-      let listed : slice_get launch.calls.calls place ≡ Some r.line = ap (λ (c : calls.Table). slice_get c.calls place) (sym held.calls) ∙ r.listed in
-      let own : asked_of launch.calls.calls call ≡ Does w.doing = ap (λ (c : calls.Table). asked_of c.calls call) (sym held.calls) ∙ w.asks in
-      let a = asks_for launch.calls.calls call w.doing own in
-      let h = has_rule launch.calls.calls call.nr a.rule a.at in
-      let there = at_position launch.calls.calls r.line.number place r.line (l.calls_once place r.line listed) listed in
-      let here : numbered call.nr launch.calls.calls ≡ Some r.line = ap (λ n. numbered n launch.calls.calls) r.same ∙ there in
-      let same : h.line ≡ r.line = (let e = h.found in cc) in
-      let is_rule : rule_of r.line ≡ Some a.rule = ap rule_of (sym same) ∙ h.is in
+      let lines : List CallLine = calls.calls_in launch.calls call.abi in
+      let listed : slice_get (calls.every_call launch.calls) place ≡ Some r.line = ap (λ (c : calls.Table). slice_get (calls.every_call c) place) (sym held.calls) ∙ r.listed in
+      let own : asked_of launch.calls call ≡ Does w.doing = ap (λ (c : calls.Table). asked_of c call) (sym held.calls) ∙ w.asks in
+      let a = asks_for launch.calls call w.doing own in
+      let h = has_rule lines call.nr a.rule a.at in
+      let here : numbered call.nr lines ≡ Some r.called = ap (λ (c : calls.Table). numbered call.nr (calls.calls_in c call.abi)) (sym held.calls) ∙ r.found in
+      let same : h.line ≡ r.called = (let e = h.found in cc) in
+      let is_rule : rule_of r.line ≡ Some a.rule = same_rule place call.nr call.abi r.line r.called listed here r.same ∙ ap rule_of (sym same) ∙ h.is in
       let plain : is_plain (Some a.rule) ≡ true = ap is_plain (sym is_rule) ∙ asked r.line listed in
-      ap (if_listed (λ line. lets_line launch k.PlainCall line && can_have_for top (rule_of line))) listed
-      ∙ and_from _ _ (ap (lets_line launch k.PlainCall) (sym same) ∙ by_lets w a h plain) (ap (can_have_for top) is_rule ∙ by_cap w a.rule plain a.is)
+      let lets' : lets_line launch k.PlainCall h.line ≡ true = by_lets w a h plain in
+      let named : bytes_eq r.line.name h.line.name ≡ true = (bytes_eq-Decides r.line.name h.line.name).1 (r.same ∙ ap (λ (x : CallLine). x.name) (sym same)) in
+      let p : CallLine → Bool = λ other. bytes_eq r.line.name other.name && lets_line launch k.PlainCall other in
+      let some : list_any p (calls.every_call launch.calls) ≡ true = among_all p launch.calls call.abi (any_found p lines call.nr h.line h.found (and_from _ _ named lets')) in
+      ap (if_listed (is_call_open launch top)) listed
+      ∙ and_from _ _ some (ap (can_have_for top) is_rule ∙ by_cap w a.rule plain a.is)
     where
-      by_lets : (w : WasDone now call) (a : Asks launch.calls.calls call w.doing) (h : HasRule launch.calls.calls call.nr a.rule) → is_plain (Some a.rule) ≡ true → lets_line launch k.PlainCall h.line ≡ true
+      by_lets : (w : WasDone now call) (a : Asks (calls.calls_in launch.calls call.abi) call w.doing) (h : HasRule (calls.calls_in launch.calls call.abi) call.nr a.rule) → is_plain (Some a.rule) ≡ true → lets_line launch k.PlainCall h.line ≡ true
       by_lets w a h plain =
           let g = held_of now call held w in
-          let passed : decision_on (launch.stack ++ g.newer) (data_at launch call.nr call.args) ≡ decision.Pass =
-          ap (λ (c : calls.Table). decision_on (launch.stack ++ g.newer) (record { nr = call.nr; arch = c.arch; ip = 0; args = call.args })) (sym held.calls)
-          ∙ ap (λ (s : List (List Insn)). decision_on s (record { nr = call.nr; arch = now.calls.arch; ip = 0; args = call.args })) (sym g.stack) ∙ w.passed in
+          let passed : decision_on (launch.stack ++ g.newer) (data_at launch call.abi call.nr call.args) ≡ decision.Pass =
+          ap (λ (c : calls.Table). decision_on (launch.stack ++ g.newer) (record { nr = call.nr; arch = calls.arch_of c call.abi; ip = 0; args = call.args })) (sym held.calls)
+          ∙ ap (λ (s : List (List Insn)). decision_on s (record { nr = call.nr; arch = calls.arch_of now.calls call.abi; ip = 0; args = call.args })) (sym g.stack) ∙ w.passed in
           line_lets launch l g.newer call w.doing fit passed k.PlainCall (by_rule a.rule plain a.is) a h
         where
           by_rule : (r : Rule) → is_plain (Some r) ≡ true → doing_by r call.args call.payload ≡ Some w.doing → asks k.PlainCall w.doing ≡ true
@@ -166,12 +216,29 @@ module _ (launch : Launch) (l : IsLaunched launch) where
       by_cap w r plain e = cc
 
   -- ---- sockets
-  family_is : (families : List CallLine) (place : ℕ) (doing : Doing) → asks_family families place doing ≡ true → (family : ℕ) × (line : CallLine) × (doing ≡ d.Socket family) × (slice_get families place ≡ Some line) × (family ≡ line.number)
-  family_is families place (d.Socket family) e = by (slice_get families place) refl e
+  -- a call for the family of a place comes to what socket(2) of that family comes to
+  record ForFamilyAt (families : List CallLine) (place : ℕ) (doing : Doing) : Type 0 where
+    pub family : ℕ
+    pub line : CallLine
+    pub listed : slice_get families place ≡ Some line
+    pub same : family ≡ line.number
+    pub asks_it : asks_number family doing ≡ true
+    pub comes_to : (host : Host) (caller : Caller) → effect_of host caller doing ≡ socket_effect caller.newer caller.creds (numbered family host.families)
+
+  family_listed : (families : List CallLine) (place family : ℕ) (doing : Doing) → is_family (slice_get families place) family ≡ true → asks_number family doing ≡ true
+      → ((host : Host) (caller : Caller) → effect_of host caller doing ≡ socket_effect caller.newer caller.creds (numbered family host.families)) → ForFamilyAt families place doing
+  family_listed families place family doing e asks_it comes_to = by (slice_get families place) refl e
     where
-      by : (o : Option CallLine) → slice_get families place ≡ o → is_family o family ≡ true → (own : ℕ) × (line : CallLine) × (d.Socket family ≡ d.Socket own) × (slice_get families place ≡ Some line) × (own ≡ line.number)
+      by : (o : Option CallLine) → slice_get families place ≡ o → is_family o family ≡ true → ForFamilyAt families place doing
       by None is e = cc
-      by (Some line) is e = (family, line, refl, is, eqb-true family line.number e)
+      by (Some line) is e = record { family = family; line = line; listed = is; same = eqb-true family line.number e; asks_it = asks_it; comes_to = comes_to }
+
+  family_is : (families : List CallLine) (place : ℕ) (doing : Doing) → asks_family families place doing ≡ true → ForFamilyAt families place doing
+  family_is families place (d.Socket family) e = family_listed families place family (d.Socket family) e (eq-eqb family family refl) (λ host caller. refl)
+  family_is families place (d.Socketcall operation family) e =
+      let both = and_parts (eqb operation 1) (is_family (slice_get families place) family) e in
+      family_listed families place family (d.Socketcall operation family) both.1 (and_from _ _ both.0 (eq-eqb family family refl))
+      (λ host caller. ap (λ b. cond b (socket_effect caller.newer caller.creds (numbered family host.families)) (cond (nat_le 2 operation && nat_le operation 20) (f.Answer 0) (f.Refuse einval))) both.0)
   family_is families place doing e = cc
 
   socket_open : (place : ℕ) (now : World) (call : Call) → IsCall call → All now → Performs (asks_family now.calls.families place) (moment_at now call) → is_open launch (q.Socket place) ≡ true
@@ -179,15 +246,14 @@ module _ (launch : Launch) (l : IsLaunched launch) where
       let w = was_done now call p.done in
       let same = same_doing now call p.doing w.doing p.is w.asks in
       let h = family_is now.calls.families place w.doing (ap (asks_family now.calls.families place) (sym same) ∙ p.such) in
-      let line = h.1 in
-      let listed : slice_get launch.calls.families place ≡ Some line = ap (λ (c : calls.Table). slice_get c.families place) (sym held.calls) ∙ h.3 in
+      let line = h.line in
+      let listed : slice_get launch.calls.families place ≡ Some line = ap (λ (c : calls.Table). slice_get c.families place) (sym held.calls) ∙ h.listed in
       let found = at_position launch.calls.families line.number place line (l.families_once place line listed) listed in
-      let here : numbered h.0 now.calls.families ≡ Some line = ap (λ (c : calls.Table). numbered h.0 c.families) held.calls ∙ ap (λ n. numbered n launch.calls.families) h.4 ∙ found in
-      let asked : asks (k.ForFamily line.number) w.doing ≡ true = ap (asks (k.ForFamily line.number)) h.2 ∙ eq-eqb h.0 line.number h.4 in
+      let here : numbered h.family now.calls.families ≡ Some line = ap (λ (c : calls.Table). numbered h.family c.families) held.calls ∙ ap (λ n. numbered n launch.calls.families) h.same ∙ found in
+      let asked : asks (k.ForFamily line.number) w.doing ≡ true = ap (λ n. asks_number n w.doing) (sym h.same) ∙ h.asks_it in
       let passes = kind_lets now call fit held w (k.ForFamily line.number) asked in
-      let P : Doing → Type 0 = λ x. DoneBy now call.pid w.process (effect_of (host_of now) (caller_of now w.process) x) in
-      let Q : Option CallLine → Type 0 = λ o. DoneBy now call.pid w.process (socket_effect w.process.creds o) in
-      let done : DoneBy now call.pid w.process (socket_effect w.process.creds (Some line)) = subst Q here (subst P h.2 w.done) in
+      let P : Effect → Type 0 = λ x. DoneBy now call.pid w.process x in
+      let done : DoneBy now call.pid w.process (socket_effect (is_newer w.process) w.process.creds (Some line)) = subst P (h.comes_to (host_of now) (caller_of now w.process) ∙ ap (socket_effect (is_newer w.process) w.process.creds) here) w.done in
       ap (if_listed (λ line. lets launch (k.ForFamily line.number) && can_have_cap top line.cap)) listed ∙ and_from _ _ passes (can_cap now call held w line.cap 3 done)
 
   space_open : (space : Space) (now : World) (call : Call) → IsCall call → All now → Performs (asks_space space) (moment_at now call) → is_open launch (q.Ns space) ≡ true
@@ -196,29 +262,46 @@ module _ (launch : Launch) (l : IsLaunched launch) where
       let same = same_doing now call p.doing w.doing p.is w.asks in
       let asked : asks_space space w.doing ≡ true = ap (asks_space space) (sym same) ∙ p.such in
       let made = space_done now call.pid w.process space w.doing asked w.done in
-      and_from _ _ (ap not made.0) (and_from _ _ (kind_lets now call fit held w (k.ForSpace space) asked) (has_top now call held w 21 made.1))
+      by (is_user space) refl (kind_lets now call fit held w (k.ForSpace space) asked) made
+    where
+      can_make : (w : WasDone now call) → asks_space q.User w.doing ≡ true → has_user_left now ≡ true → can_make_user launch ≡ true
+      can_make w asked left = can_make_one launch power top below stable now held (kind_lets now call fit held w (k.ForSpace q.User) asked) left
+
+      by : (user : Bool) → is_user space ≡ user → lets launch (k.ForSpace space) ≡ true → MadeSpace now space (was_done now call p.done).process (was_done now call p.done).doing
+          → cond user (can_make_user launch) (lets launch (k.ForSpace space) && (has top.effective 21 || can_make_user launch)) ≡ true
+      by user e let' (inl made) = by_made user (can_make (was_done now call p.done) made.0 made.1) let'
+        where
+          by_made : (user : Bool) → can_make_user launch ≡ true → lets launch (k.ForSpace space) ≡ true → cond user (can_make_user launch) (lets launch (k.ForSpace space) && (has top.effective 21 || can_make_user launch)) ≡ true
+          by_made true on let' = on
+          by_made false on let' = and_from _ _ let' (or_right (has top.effective 21) (can_make_user launch) on)
+      by true e let' (inr made) = let off = made.0 in cc
+      by false e let' (inr made) = and_from _ _ let' (by_space (is_newer (was_done now call p.done).process) refl)
+        where
+          by_space : (b : Bool) → is_newer (was_done now call p.done).process ≡ b → (has top.effective 21 || can_make_user launch) ≡ true
+          by_space true new = or_right (has top.effective 21) (can_make_user launch) ((held_of now call held (was_done now call p.done)).made new)
+          by_space false first = or_left (has top.effective 21) (can_make_user launch) (has_top now call held (was_done now call p.done) first 21 made.1)
 
   -- ---- states
   -- what is reached by a call from a world that is held, or holds there, is open
-  reached_open : (question : Question) → IsAsked launch.calls question → (now : World) (call : Call) → IsCall call → All now → Reaches question (moment_at now call) → is_open launch question ≡ true
-  reached_open (q.ByPath wish place) asked now call fit held r = row_open wish place now call fit held r
-  reached_open (q.Call place) asked now call fit held r = plain_open place now call asked fit held r
-  reached_open (q.Socket place) asked now call fit held r = socket_open place now call fit held r
-  reached_open (q.Ns space) asked now call fit held r = space_open space now call fit held r
-  reached_open q.MapWx asked now call fit held r = kind_of now call fit held asks_map r k.MapsWx (λ doing e. e)
-  reached_open q.ProtectX asked now call fit held r = kind_of now call fit held asks_protect r k.ProtectsX (λ doing e. e)
-  reached_open q.ShmX asked now call fit held r = kind_of now call fit held asks_attach r k.AttachesX (λ doing e. e)
-  reached_open q.Realtime asked now call fit held r = kind_of now call fit held asks_realtime r k.SchedulesRealtime (λ doing e. e)
-  reached_open q.Personality asked now call fit held r = kind_of now call fit held asks_personality r k.TakesPersonality (λ doing e. e)
-  reached_open q.SuidBit asked now call fit held r = kind_of now call fit held asks_mode r k.SetsMode (λ doing e. e)
-  reached_open (q.Cap number) asked now call fit held r = absurd r
-  reached_open (q.Uid id) asked now call fit held r = absurd r
-  reached_open (q.Gid id) asked now call fit held r = absurd r
+  reached_open : LeadsToReached → (question : Question) → IsAsked launch.calls question → (now : World) (call : Call) → IsCall call → All now → Reaches question (moment_at now call) → is_open launch question ≡ true
+  reached_open less (q.ByPath wish place) asked now call fit held r = row_open less wish place now call fit held r
+  reached_open less (q.Call place) asked now call fit held r = plain_open place now call asked fit held r
+  reached_open less (q.Socket place) asked now call fit held r = socket_open place now call fit held r
+  reached_open less (q.Ns space) asked now call fit held r = space_open space now call fit held r
+  reached_open less q.MapWx asked now call fit held r = kind_of now call fit held asks_map r k.MapsWx (λ doing e. e)
+  reached_open less q.ProtectX asked now call fit held r = kind_of now call fit held asks_protect r k.ProtectsX (λ doing e. e)
+  reached_open less q.ShmX asked now call fit held r = kind_of now call fit held asks_attach r k.AttachesX (λ doing e. e)
+  reached_open less q.Realtime asked now call fit held r = kind_of now call fit held asks_realtime r k.SchedulesRealtime (λ doing e. e)
+  reached_open less q.Personality asked now call fit held r = kind_of now call fit held asks_personality r k.TakesPersonality (λ doing e. e)
+  reached_open less q.SuidBit asked now call fit held r = kind_of now call fit held asks_mode r k.SetsMode (λ doing e. e)
+  reached_open less (q.Cap number) asked now call fit held r = absurd r
+  reached_open less (q.Uid id) asked now call fit held r = absurd r
+  reached_open less (q.Gid id) asked now call fit held r = absurd r
 
   held_open : (question : Question) (now : World) → All now → Holds question now → is_open launch question ≡ true
-  held_open (q.Cap number) now held s = cap_within launch power top now held number s
-  held_open (q.Uid id) now held s = uid_within launch power top now held id s
-  held_open (q.Gid id) now held s = gid_within launch power top now held id s
+  held_open (q.Cap number) now held s = cap_within launch power top below now held number s
+  held_open (q.Uid id) now held s = uid_within launch power top below now held id s
+  held_open (q.Gid id) now held s = gid_within launch power top below now held id s
   held_open (q.ByPath wish place) now held s = absurd s
   held_open (q.Call place) now held s = absurd s
   held_open (q.Socket place) now held s = absurd s
@@ -230,12 +313,16 @@ module _ (launch : Launch) (l : IsLaunched launch) where
   held_open q.Personality now held s = absurd s
   held_open q.SuidBit now held s = absurd s
 
-  pub closed_denied : (world : World) → All world → (question : Question) → IsAsked launch.calls question → is_open launch question ≡ false → IsDenied world question
-  closed_denied world start question asked off = record {
-    no_moment = λ list fit some. no_moment All (Reaches question) (ceiling_step launch l)
-        (λ now call fit held r. let on = reached_open question asked now call fit held r in cc) world start list fit some;
-    no_world = λ list fit s. let on = held_open question (run world list) (ceiling_run launch l list world fit start) s in cc;
+  pub closed_denied : LeadsToReached → (world : World) → All world → (question : Question) → IsAsked launch.calls question → is_open launch question ≡ false → IsDenied world question
+  closed_denied less world start question asked off = record {
+    no_moment = λ list fit some. no_moment All (Reaches question) (ceiling_step launch l below stable)
+        (λ now call fit held r. let on = reached_open less question asked now call fit held r in cc) world start list fit some;
+    no_world = λ list fit s. let on = held_open question (run world list) (ceiling_run launch l below stable list world fit start) s in cc;
   }
 
 pub denial_is_sound : DenialIsSound
-denial_is_sound world question s asked off = closed_denied (launch_of world) s.launched world (launched_held world s) question asked off
+denial_is_sound world question s asked off =
+    let launch = launch_of world in
+    let below : Mounts → Type 0 = CanHaveNewer (power_of launch) launch.table in
+    closed_denied launch s.launched below (tables_stable launch (power_of launch) s.launched.ordered) (rows_are_reached (power_of launch) launch.table)
+    world (launched_held world below s) question asked off

@@ -1,6 +1,9 @@
 -- The ceiling of a launched service, computed; and what it makes of each question.
 use Rattle.std.specs.Prelude.{ℕ, ◌==◌, Bool, true, false, List, [], ◌∷◌, Option, Some, None, if◌then◌else◌, not, ◌&&◌, ◌||◌, slice_get}
 use Rattle.std.specs.List.{list_any}
+use Rattle.std.specs.Str.{bytes_eq}
+use Rattle.call_table.specs.declared.listed.CallLine.{CallLine}
+use Rattle.call_table.specs.Table.{every_call}
 use Rattle.cap_sets.specs.Sets.{has, none, union, cut, within}
 use Rattle.site_table.specs.declared.row.Row.{Row}
 use Rattle.linux_numbers.specs.Capabilities.{cap_sys_admin, cap_setuid, cap_setgid}
@@ -11,7 +14,7 @@ use Rattle.kernel_calls.specs.declared.rule.Rule.{Rule}
 use Rattle.kernel_calls.specs.declared.rule.Rule.TheVariants.{Plain}
 use Rattle.kernel_calls.specs.Rules.{rule_of}
 use Rattle.kernel_laws.specs.Kinds.{ForPath, PlainCall, ForFamily, ForSpace, MapsWx, ProtectsX, AttachesX, SchedulesRealtime, TakesPersonality, SetsMode, ChangesMounts, RemovesMounts, SetsCaps, TakesUid, TakesGid}
-use Rattle.kernel_laws.specs.Launched.{Launch, lets, lets_line}
+use Rattle.kernel_laws.specs.Launched.{Launch, lets, lets_line, can_make_user}
 use Rattle.kernel_laws.specs.Questions.{Wish, ToSee, ToRead, ToWrite, ToExec, Space, User, Question, ByPath, Call, Socket, Ns, MapWx, ProtectX, ShmX, Realtime, Personality, SuidBit, Cap, Uid, Gid}
 
 -- the union over the rows
@@ -144,28 +147,34 @@ is_to_exec ToSee = false
 is_to_exec ToRead = false
 is_to_exec ToWrite = false
 
--- user namespaces, which the kernel does not make
+-- user namespaces
 abbrev pub is_user : Space → Bool
 is_user User = true
 is_user _ = false
 
--- a row can be seen, read, written or run: a call for it passes, some table shows it, and execve does not refuse it
+-- a row can be seen, read, written or run: a call for it passes, some table shows it, and execve does not refuse it; it refuses none
+-- in a newer user namespace, where the bounding set is full
 abbrev pub can_reach : Launch → Power → Wish → Row → Bool
 can_reach launch power wish row =
     (lets launch (ForPath wish) && reaches power launch.table row.path wish)
-    && not ((is_to_exec wish && not (is_mounting power)) && is_barred launch row)
+    && not (((is_to_exec wish && not (is_mounting power)) && is_barred launch row) && not (can_make_user launch))
 
 -- what is listed is so
 abbrev pub if_listed : {X : Type 0} → (X → Bool) → Option X → Bool
 if_listed p None = false
 if_listed p (Some x) = p x
 
+-- a plain call of the name passes in some ABI, and its capability can be had
+abbrev pub is_call_open : Launch → Bounds → CallLine → Bool
+is_call_open launch top line = list_any (λ other. bytes_eq line.name other.name && lets_line launch PlainCall other) (every_call launch.calls) && can_have_for top (rule_of line)
+
 -- the verdict: open where this is so, else denied
 abbrev pub open_at : Launch → Power → Bounds → Question → Bool
 open_at launch power top (ByPath wish place) = if_listed (can_reach launch power wish) (slice_get launch.site.rows place)
-open_at launch power top (Call place) = if_listed (λ line. lets_line launch PlainCall line && can_have_for top (rule_of line)) (slice_get launch.calls.calls place)
+open_at launch power top (Call place) = if_listed (is_call_open launch top) (slice_get (every_call launch.calls) place)
 open_at launch power top (Socket place) = if_listed (λ line. lets launch (ForFamily line.number) && can_have_cap top line.cap) (slice_get launch.calls.families place)
-open_at launch power top (Ns space) = not (is_user space) && (lets launch (ForSpace space) && has top.effective cap_sys_admin)
+open_at launch power top (Ns space) =
+    if is_user space then can_make_user launch else lets launch (ForSpace space) && (has top.effective cap_sys_admin || can_make_user launch)
 open_at launch power top MapWx = lets launch MapsWx
 open_at launch power top ProtectX = lets launch ProtectsX
 open_at launch power top ShmX = lets launch AttachesX

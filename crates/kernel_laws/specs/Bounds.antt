@@ -37,6 +37,19 @@ pub record Keeps (top : Bounds) (creds : Creds) : Type 0 where
   pub gids : IsIdsWithin creds.gids top.gid
   pub groups : AllByRecursion (λ id. top.gid id ≡ true) creds.groups
 
+-- what holds of the credentials of every process, in whatever user namespace it is: what root and capabilities can do there does
+-- not reach out of it, user_namespaces(7)
+pub record KeepsIds (top : Bounds) (creds : Creds) : Type 0 where
+  pub no_new_privs : top.no_new_privs ≡ true → creds.no_new_privs ≡ true
+  pub uids : IsIdsWithin creds.uids top.uid
+  pub gids : IsIdsWithin creds.gids top.gid
+  pub groups : AllByRecursion (λ id. top.gid id ≡ true) creds.groups
+
+-- by whether the process is in a newer user namespace
+abbrev pub KeepsIn : Bool → Bounds → Creds → Type 0
+KeepsIn false = Keeps
+KeepsIn true = KeepsIds
+
 -- bounds that no change of ids and no execve of a file without marks leaves
 pub record IsSettled (top : Bounds) : Type 0 where
   pub inheritable : IsWithin top.inheritable top.bounding

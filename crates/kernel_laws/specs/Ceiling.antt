@@ -1,5 +1,5 @@
 -- What bounds every process of the service, and when such bounds are left by no call.
-use Rattle.std.specs.Prelude.{◌≡◌, ℕ, ◌-◌, Bool, true, false, ◌==◌, List, ◌++◌, Some, slice_get}
+use Rattle.std.specs.Prelude.{◌≡◌, ℕ, ◌-◌, Bool, true, false, ◌==◌, List, ◌++◌, length, Some, Ok, slice_get}
 use Rattle.bpf_code.specs.declared.machine.Insn.{Insn}
 use Rattle.abs_path.specs.Paths.{Path}
 use Rattle.cap_sets.specs.Sets.{has, IsWithin}
@@ -8,24 +8,33 @@ use Rattle.site_table.specs.Table.{row_at}
 use Rattle.kern_mounts.specs.Finds.{row, finds}
 use Rattle.kern_mounts.specs.Table.{StartsAtRoot}
 use Rattle.linux_numbers.specs.Capabilities.{cap_sys_admin, cap_setuid, cap_setgid}
-use Rattle.kernel_laws.specs.Bounds.{Bounds, Keeps, IsSettled, Admits}
+use Rattle.kernel_laws.specs.Bounds.{Bounds, Keeps, IsSettled, Admits, KeepsIn}
+use Rattle.kern_mounts.specs.Mounts.{Mounts, steps_of, ArePlain}
 use Rattle.kern_mounts.specs.Split.{Table}
 use Rattle.site_table.specs.Kinds.{is_exe}
 use Rattle.kern_mounts.specs.Unmounts.{IsTrimmed}
 use Rattle.kernel_laws.specs.Reach.{Power, Nowise, Unmounting, Mounting}
-use Rattle.kernel_laws.specs.Kinds.{ChangesMounts, RemovesMounts, SetsCaps}
-use Rattle.kernel_model.specs.Effects.{Effect, Refuse, Answer, SetCreds, SetTable, Push, Child, OwnTable, End}
+use Rattle.kernel_laws.specs.Kinds.{ForSpace, ChangesMounts, RemovesMounts, SetsCaps}
+use Rattle.kernel_laws.specs.Questions.{User}
+use Rattle.kernel_model.specs.Effects.{Effect, Refuse, Answer, SetCreds, SetTable, Push, Child, OwnTable, UserChild, OwnUser, End}
 use Rattle.kern_files.specs.Looking.{flags_at}
 use Rattle.kern_files.specs.Executing.{marks_of}
-use Rattle.kernel_model.specs.World.{World}
+use Rattle.kern_files.specs.MountsCall.{mounts_after_mount, mounts_umount_answer}
+use Rattle.kern_mounts.specs.Copying.{locked_copy}
+use Rattle.kernel_model.specs.World.{World, is_newer}
 use Rattle.kernel_model.specs.declared.process.Process.{Process}
-use Rattle.kernel_laws.specs.Launched.{Launch, lets}
+use Rattle.kernel_laws.specs.Launched.{Launch, lets, can_make_user}
 
 -- the tables that a process can have at a power
 abbrev pub CanHave : Power → Table → Table → Type 0
 CanHave Nowise launched table = table ≡ launched
 CanHave Unmounting launched table = IsTrimmed table launched
 CanHave Mounting launched table = Unit {0}
+
+-- and the mounts: their entries are such a table, none is locked, and none keeps a flag
+pub record CanHold (power : Power) (launched : Table) (mounts : Mounts) : Type 0 where
+  pub plain : ArePlain mounts
+  pub entries : CanHave power launched (steps_of mounts)
 
 -- a row that execve can run with its marks honoured
 pub record CanRun (launch : Launch) (power : Power) (target : Row) : Type 0 where
@@ -49,29 +58,52 @@ pub record IsClosed (launch : Launch) (uids gids : Bool) (power : Power) (top : 
   pub mount : lets launch ChangesMounts ≡ true → has top.effective cap_sys_admin ≡ true → power ≡ Mounting
   pub umount : lets launch RemovesMounts ≡ true → has top.effective cap_sys_admin ≡ true → (power ≡ Nowise) → ⊥
 
+-- what is told of the mount tables that belong to newer user namespaces, and that no call leaves: copies of tables that processes of
+-- the first one can have, and all that mount(2) and umount2(2) make of them
+pub record IsStable (launch : Launch) (power : Power) (below : Mounts → Type 0) : Type 0 where
+  pub begins : (mounts : Mounts) → CanHold power launch.table mounts → below (locked_copy mounts)
+  pub copies : (mounts : Mounts) → below mounts → below (locked_copy mounts)
+  pub mounts : (mounts now : Mounts) (source target : Path) (flags : ℕ) → below mounts → mounts_after_mount (row_at launch.site.rows) mounts source target flags ≡ Ok now → below now
+  pub unmounts : (mounts now : Mounts) (path : Path) (flags : ℕ) → below mounts → mounts_umount_answer mounts path flags ≡ Ok now → below now
+
+-- the mount table, by whether it belongs to the first user namespace
+abbrev pub TableIn : Bool → Launch → Power → (Mounts → Type 0) → Mounts → Type 0
+TableIn true launch power below mounts = CanHold power launch.table mounts
+TableIn false launch power below mounts = below mounts
+
 -- what holds of each process in each world of a run
-pub record IsHeld (launch : Launch) (power : Power) (top : Bounds) (tables : List Table) (process : Process) : Type 0 where
-  pub creds : Keeps top process.creds
+pub record IsHeld (launch : Launch) (power : Power) (top : Bounds) (below : Mounts → Type 0) (tables : List Mounts) (owners : List ℕ) (process : Process) : Type 0 where
+  pub creds : KeepsIn (is_newer process) top process.creds
   pub newer : List (List Insn)
   pub stack : process.stack ≡ launch.stack ++ newer
-  pub table : Table
+  pub table : Mounts
   pub numbered : (process.namespace == 0) ≡ false
   pub own : slice_get tables (process.namespace - 1) ≡ Some table
-  pub allowed : CanHave power launch.table table
+  -- the user namespace that the mount namespace belongs to
+  pub owner : ℕ
+  pub owned : slice_get owners (process.namespace - 1) ≡ Some owner
+  pub allowed : TableIn (owner == 1) launch power below table
+  -- in the first user namespace it is in a mount namespace of that, and another one was made
+  pub home : is_newer process ≡ false → owner ≡ 1
+  pub made : is_newer process ≡ true → can_make_user launch ≡ true
 
 -- the tables that the kernel was told stay, and each process that was made is held
-pub record AreHeld (launch : Launch) (power : Power) (top : Bounds) (world : World) : Type 0 where
+pub record AreHeld (launch : Launch) (power : Power) (top : Bounds) (below : Mounts → Type 0) (world : World) : Type 0 where
   pub calls : world.calls ≡ launch.calls
   pub site : world.site ≡ launch.site
-  pub each : (at : ℕ) (process : Process) → slice_get world.processes at ≡ Some process → IsHeld launch power top world.tables process
+  pub numbers : length world.owners ≡ length world.tables
+  pub each : (at : ℕ) (process : Process) → slice_get world.processes at ≡ Some process → IsHeld launch power top below world.tables world.owners process
 
--- an effect that leaves no bound
-abbrev pub IsSafe : Launch → Power → Bounds → Effect → Type 0
-IsSafe launch power top (SetCreds creds) = Keeps top creds
-IsSafe launch power top (SetTable table) = CanHave power launch.table table
-IsSafe launch power top (Refuse error) = Unit {0}
-IsSafe launch power top (Answer value) = Unit {0}
-IsSafe launch power top (Push program) = Unit {0}
-IsSafe launch power top (Child own) = Unit {0}
-IsSafe launch power top OwnTable = Unit {0}
-IsSafe launch power top End = Unit {0}
+-- an effect that leaves no bound, by whether the process is in a newer user namespace and whether its mount namespace belongs to
+-- the first one
+abbrev pub IsSafe : Launch → Power → Bounds → (Mounts → Type 0) → Bool → Bool → Effect → Type 0
+IsSafe launch power top below newer ours (SetCreds creds) = KeepsIn newer top creds
+IsSafe launch power top below newer ours (SetTable table) = TableIn ours launch power below table
+IsSafe launch power top below newer ours (UserChild own) = lets launch (ForSpace User) ≡ true
+IsSafe launch power top below newer ours (OwnUser own) = lets launch (ForSpace User) ≡ true
+IsSafe launch power top below newer ours (Refuse error) = Unit {0}
+IsSafe launch power top below newer ours (Answer value) = Unit {0}
+IsSafe launch power top below newer ours (Push program) = Unit {0}
+IsSafe launch power top below newer ours (Child own) = Unit {0}
+IsSafe launch power top below newer ours OwnTable = Unit {0}
+IsSafe launch power top below newer ours End = Unit {0}

@@ -1,11 +1,13 @@
 -- What it means that a question is reached, that no list of calls reaches it, and that a list shows it; and what a
 -- service cannot see.
-use Rattle.std.specs.Prelude.{◌≡◌, ℕ, ◌==◌, ◌||◌, ◌⊎◌, not, Bool, true, false, List, [], ◌∷◌, slice_get, Option, Some, None, Any, if◌then◌else◌}
+use Rattle.std.specs.Prelude.{◌≡◌, ℕ, ◌==◌, ◌&&◌, ◌||◌, ◌⊎◌, not, Bool, true, false, List, [], ◌∷◌, slice_get, Option, Some, None, Any, if◌then◌else◌}
 use Rattle.std.specs.List.{list_any}
 use Rattle.abs_path.specs.Paths.{Path}
 use Rattle.abs_path.specs.Prefix.{is_below}
 use Rattle.cap_sets.specs.Sets.{has}
 use Rattle.call_table.specs.declared.listed.CallLine.{CallLine}
+use Rattle.call_table.specs.Lookups.{numbered}
+use Rattle.call_table.specs.Table.{every_call, calls_in}
 use Rattle.site_table.specs.declared.row.Row.{Row}
 use Rattle.site_table.specs.Table.{row_at}
 use Rattle.kern_creds.specs.declared.creds.Creds.{Creds}
@@ -36,7 +38,7 @@ path_for _ _ = None
 pub record ReachesRow (wish : Wish) (place : ℕ) (moment : Moment) : Type 0 where
   pub done : IsDone moment.reply
   pub doing : Doing
-  pub asks : asked_of moment.before.calls.calls moment.call ≡ Does doing
+  pub asks : asked_of moment.before.calls moment.call ≡ Does doing
   pub path : Path
   pub wanted : path_for wish doing ≡ Some path
   pub target : Row
@@ -45,12 +47,14 @@ pub record ReachesRow (wish : Wish) (place : ℕ) (moment : Moment) : Type 0 whe
   pub caller : process_of moment.before moment.call.pid ≡ Some process
   pub found : finds (row_at moment.before.site.rows) (table_of moment.before process.namespace) path ≡ row target
 
--- a call that is done, with the number of the call of this place
+-- a call that is done, and to whose number its ABI gives the name of the call of this place among all calls
 pub record ReachesCall (place : ℕ) (moment : Moment) : Type 0 where
   pub done : IsDone moment.reply
   pub line : CallLine
-  pub listed : slice_get moment.before.calls.calls place ≡ Some line
-  pub same : moment.call.nr ≡ line.number
+  pub listed : slice_get (every_call moment.before.calls) place ≡ Some line
+  pub called : CallLine
+  pub found : numbered moment.call.nr (calls_in moment.before.calls moment.call.abi) ≡ Some called
+  pub same : line.name ≡ called.name
 
 -- clone(2), unshare(2): the flag of the type is set
 abbrev pub asks_space : Space → Doing → Bool
@@ -93,16 +97,17 @@ abbrev pub is_family : Option CallLine → ℕ → Bool
 is_family None family = false
 is_family (Some line) family = family == line.number
 
--- socket(2) of the family of this place
+-- socket(2) of the family of this place, or SYS_SOCKET, which is 1, of socketcall(2)
 abbrev pub asks_family : List CallLine → ℕ → Doing → Bool
 asks_family families place (doing.Socket family) = is_family (slice_get families place) family
+asks_family families place (doing.Socketcall operation family) = operation == 1 && is_family (slice_get families place) family
 asks_family families place _ = false
 
 -- a call that is done and asks for such a thing
 pub record Performs (asks : Doing → Bool) (moment : Moment) : Type 0 where
   pub done : IsDone moment.reply
   pub doing : Doing
-  pub is : asked_of moment.before.calls.calls moment.call ≡ Does doing
+  pub is : asked_of moment.before.calls moment.call ≡ Does doing
   pub such : asks doing ≡ true
 
 -- the question is answered by a call of a run; of capabilities and ids nothing is asked that a call does
@@ -121,22 +126,22 @@ Reaches (Cap number) moment = ⊥
 Reaches (Uid id) moment = ⊥
 Reaches (Gid id) moment = ⊥
 
--- a living process has such credentials
-pub record SomeLiving (P : Creds → Type 0) (world : World) : Type 0 where
+-- such a process lives
+pub record SomeLiving (P : Process → Type 0) (world : World) : Type 0 where
   pub pid : ℕ
   pub process : Process
   pub lives : living_of world pid ≡ Some process
-  pub has : P process.creds
+  pub has : P process
 
 -- as its effective gid or among its groups, credentials(7)
 abbrev pub HasGid : ℕ → Creds → Type 0
 HasGid id creds = (creds.gids.effective ≡ id) ⊎ (list_any (λ group. group == id) creds.groups ≡ true)
 
--- the question is answered by a world itself
+-- the question is answered by a world itself; capabilities are asked of the first user namespace
 abbrev pub Holds : Question → World → Type 0
-Holds (Cap number) world = SomeLiving (λ creds. has creds.effective number ≡ true) world
-Holds (Uid id) world = SomeLiving (λ creds. creds.uids.effective ≡ id) world
-Holds (Gid id) world = SomeLiving (HasGid id) world
+Holds (Cap number) world = SomeLiving (λ process. (has process.creds.effective number ≡ true) × (process.user ≡ 1)) world
+Holds (Uid id) world = SomeLiving (λ process. process.creds.uids.effective ≡ id) world
+Holds (Gid id) world = SomeLiving (λ process. HasGid id process.creds) world
 Holds _ world = ⊥
 
 -- no list of calls has a run from this world with a moment that reaches the question, nor a world that holds it. The empty

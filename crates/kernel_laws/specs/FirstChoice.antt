@@ -1,5 +1,5 @@
 -- The filters of settings look at no more words than the first choices need.
-use Rattle.std.specs.Prelude.{◌≡◌, ℕ, ◌<◌, ◌^◌, true, List, Some}
+use Rattle.std.specs.Prelude.{◌≡◌, ℕ, ◌==◌, ◌<◌, ◌^◌, true, false, IfSome, List, Some}
 use Rattle.std.specs.List.{AllByRecursion}
 use Rattle.bpf_code.specs.declared.machine.CallData.{CallData}
 use Rattle.bpf_code.specs.declared.machine.Insn.{Insn}
@@ -26,14 +26,17 @@ FirstPasses = (filter : FilterName) (settings : FilterSettings) (table : calls.T
     → rule_of line ≡ Some rule → doing_by rule input.args payload ≡ Some doing → asks kind doing ≡ true → words kind rule ≡ Some first.args
     → decision_of (word_of (named_action filter settings table line.name input)) ≡ decision.Pass → decision_of (word_of (named_action filter settings table line.name first)) ≡ decision.Pass
 
--- the program's answers are the words of what some filter of the settings does, seccomp(2)
+-- the program's answers are the words of what some filter of the settings does for an ABI, seccomp(2)
 pub record Means (settings : FilterSettings) (table : calls.Table) (code : List Insn) : Type 0 where
   pub filter : FilterName
-  pub answers : (input : CallData) → IsCallData input → answer_of code input ≡ word_of (wanted_action filter settings table input)
+  pub abi : ℕ
+  pub found : calls.Abi
+  pub there : calls.abi_at table abi ≡ Some found
+  pub answers : (input : CallData) → IsCallData input → answer_of code input ≡ word_of (wanted_action filter settings table abi input)
 
 -- a launch by programs of the settings meets what is asked of first choices
 abbrev pub SettingsChoose : Type 0
-SettingsChoose = (launch : Launch) (settings : FilterSettings) → launch.calls.arch < 2 ^ 32 → AllByRecursion (Means settings launch.calls) launch.stack
+SettingsChoose = (launch : Launch) (settings : FilterSettings) → ((abi : ℕ) → calls.arch_of launch.calls abi < 2 ^ 32) → IfSome launch.calls.second (λ second. second.arch == launch.calls.arch ≡ false) → AllByRecursion (Means settings launch.calls) launch.stack
     → ((input : CallData) → IsCallData input → ArePlain (answers_of launch.stack input))
-    → (kind : Kind) (nr : ℕ) (args : List ℕ) (rule : Rule) (payload : Payload) (doing : Doing) → nr < 2 ^ 32 → AreWords args
-    → rule_at launch.calls.calls nr ≡ Some rule → doing_by rule args payload ≡ Some doing → asks kind doing ≡ true → passes launch nr args → Chosen launch kind rule nr
+    → (kind : Kind) (abi nr : ℕ) (args : List ℕ) (rule : Rule) (payload : Payload) (doing : Doing) → nr < 2 ^ 32 → AreWords args
+    → rule_at (calls.calls_in launch.calls abi) nr ≡ Some rule → doing_by rule args payload ≡ Some doing → asks kind doing ≡ true → passes launch abi nr args → Chosen launch kind rule abi nr

@@ -1,8 +1,10 @@
--- Kinds of calls, by what they ask for; and the words with which a kind is asked for first.
-use Rattle.std.specs.Prelude.{◌≡◌, ℕ, ◌==◌, ◌<◌, ◌^◌, Bool, true, false, List, [], ◌∷◌, length, All, set, Option, Some, None}
+-- Kinds of calls, by what they ask for; and the words, and of families the payload, with which a kind is asked for first.
+use Rattle.std.specs.Prelude.{◌≡◌, ℕ, ◌==◌, ◌&&◌, ◌<◌, ◌^◌, Bool, true, false, List, [], ◌∷◌, length, All, set, Option, Some, None}
 use Rattle.std.specs.Option.{is_some}
 use Rattle.call_names.specs.Known.{place_of}
 use Rattle.call_names.specs.declared.rule.CallRule.TheVariants as known
+use Rattle.kernel_calls.specs.declared.payload.Payload.{Payload}
+use Rattle.kernel_calls.specs.declared.payload.Payload.TheVariants.{Family, Nothing}
 use Rattle.kernel_calls.specs.declared.rule.Rule.{Rule}
 use Rattle.kernel_calls.specs.declared.rule.Rule.TheVariants as rule
 use Rattle.kernel_calls.specs.Doing as doing
@@ -15,7 +17,7 @@ pub data Kind : Type 0 where
   ForPath : Wish → Kind
   -- nothing but the call itself
   PlainCall : Kind
-  -- a socket of the family, socket(2)
+  -- a socket of the family, socket(2), socketcall(2)
   ForFamily : ℕ → Kind
   -- a namespace of the type, clone(2), unshare(2)
   ForSpace : Space → Kind
@@ -48,6 +50,7 @@ asks_plain _ = false
 
 abbrev pub asks_number : ℕ → Doing → Bool
 asks_number family (doing.Socket own) = own == family
+asks_number family (doing.Socketcall operation own) = operation == 1 && own == family
 asks_number family _ = false
 
 abbrev pub asks_mount : Doing → Bool
@@ -101,7 +104,7 @@ one_word at value = set no_words at value
 
 -- the words with which a call of the rule asks for the kind first; none where the rule does not: O_WRONLY of open(2), PROT_WRITE
 -- and PROT_EXEC of mmap(2), PROT_EXEC of mprotect(2), SHM_EXEC of shmat(2), SCHED_FIFO of sched(7), PER_LINUX32 of
--- personality(2), S_ISUID of inode(7)
+-- personality(2), S_ISUID of inode(7), SYS_SOCKET of socketcall(2)
 abbrev pub words : Kind → Rule → Option (List ℕ)
 words (ForPath ToSee) (rule.Known known.See) = Some no_words
 words (ForPath ToRead) (rule.Known (known.Open flags)) = Some no_words
@@ -111,6 +114,7 @@ words (ForPath ToWrite) (rule.Known known.Truncate) = Some no_words
 words (ForPath ToExec) (rule.Known known.Execve) = Some no_words
 words PlainCall (rule.Plain cap) = Some no_words
 words (ForFamily family) (rule.Known known.Socket) = Some (one_word 0 family)
+words (ForFamily family) (rule.Known known.Socketcall) = Some (one_word 0 1)
 words (ForSpace space) (rule.Known known.Unshare) = Some (one_word 0 (flag_of space))
 words (ForSpace space) (rule.Known known.Clone) = Some (one_word 0 (flag_of space))
 words MapsWx (rule.Known known.Map) = Some (one_word 2 6)
@@ -128,6 +132,11 @@ words TakesGid (rule.Known known.Setgid) = Some no_words
 words TakesGid (rule.Known known.Setresgid) = Some no_words
 words TakesGid (rule.Known known.Setgroups) = Some no_words
 words _ _ = None
+
+-- what the first call for a family carries: the family, where the call is socketcall(2), which has no word for it
+abbrev pub family_payload : Rule → ℕ → Payload
+family_payload (rule.Known known.Socketcall) family = Family family
+family_payload rule family = Nothing
 
 -- six words of 64 bits, syscall(2)
 pub record AreWords (args : List ℕ) : Type 0 where

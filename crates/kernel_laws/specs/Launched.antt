@@ -1,5 +1,5 @@
 -- A launched service: what it begins with, what its filters let through, and the facts that a launch ensures.
-use Rattle.std.specs.Prelude.{◌≡◌, ℕ, ◌<◌, ◌^◌, Bool, true, false, List, [], ◌∷◌, All, slice_get, Option, Some, None}
+use Rattle.std.specs.Prelude.{◌≡◌, ℕ, ◌<◌, ◌^◌, ◌&&◌, nat_lt, Bool, true, false, List, [], ◌∷◌, length, All, slice_get, Option, Some, None}
 use Rattle.std.specs.List.{AllByRecursion, list_any}
 use Rattle.bpf_code.specs.declared.machine.Insn.{Insn}
 use Rattle.bpf_code.specs.declared.machine.CallData.{CallData}
@@ -12,19 +12,23 @@ use Rattle.cap_sets.specs.Sets.{IsWithin}
 use Rattle.call_table.specs.declared.listed.CallLine.{CallLine}
 use Rattle.call_table.specs.Table as calls
 use Rattle.call_table.specs.Lookups.{IsInRange, place_numbered}
+use Rattle.call_table.specs.Facts.{AreOf}
 use Rattle.site_table.specs.Table.{Site}
 use Rattle.kern_creds.specs.declared.creds.Creds.{Creds}
 use Rattle.kern_creds.specs.Start as creds
+use Rattle.kern_mounts.specs.Mounts.{ArePlain as ArePlainMounts}
 use Rattle.kern_mounts.specs.Split.{Table}
 use Rattle.kern_mounts.specs.Table.{StartsAtRoot}
+use Rattle.kern_mounts.specs.Unmounts.{IsOrdered}
 use Rattle.kern_mounts.specs.declared.step.MountStep.{MountStep}
 use Rattle.kernel_calls.specs.declared.payload.Payload.{Payload}
 use Rattle.kernel_calls.specs.declared.rule.Rule.{Rule}
 use Rattle.kernel_calls.specs.Rules.{rule_of, rule_at}
 use Rattle.kernel_calls.specs.Doing.{Doing, doing_by}
 use Rattle.kernel_model.specs.declared.process.Process.{Process}
-use Rattle.kernel_model.specs.World.{World, of_number, process_of, table_of}
-use Rattle.kernel_laws.specs.Kinds.{Kind, asks, words, AreWords}
+use Rattle.kernel_model.specs.World.{World, of_number, process_of, mounts_of, table_of}
+use Rattle.kernel_laws.specs.Kinds.{Kind, asks, words, AreWords, ForSpace}
+use Rattle.kernel_laws.specs.Questions.{User}
 
 -- the tables that the kernel is told, and what process 1 has: credentials(7), its filters (seccomp(2)), the oldest first, and its
 -- mount table (mount_namespaces(7))
@@ -35,13 +39,13 @@ pub record Launch : Type 0 where
   pub stack : List (List Insn)
   pub table : Table
 
--- the data of a call with this number and these words
-abbrev pub data_at : Launch → ℕ → List ℕ → CallData
-data_at launch nr args = record { nr = nr; arch = launch.calls.arch; ip = 0; args = args }
+-- the data of a call by this ABI, with this number and these words
+abbrev pub data_at : Launch → ℕ → ℕ → List ℕ → CallData
+data_at launch abi nr args = record { nr = nr; arch = calls.arch_of launch.calls abi; ip = 0; args = args }
 
 -- the filters let such a call through
-abbrev pub passes : Launch → ℕ → List ℕ → Type 0
-passes launch nr args = decision_on launch.stack (data_at launch nr args) ≡ decision.Pass
+abbrev pub passes : Launch → ℕ → ℕ → List ℕ → Type 0
+passes launch abi nr args = decision_on launch.stack (data_at launch abi nr args) ≡ decision.Pass
 
 -- the call is let through
 abbrev pub is_pass : Decision → Bool
@@ -50,36 +54,43 @@ is_pass (decision.Errno errno) = false
 is_pass decision.Kill = false
 
 -- they let a call with these words through, if there are any
-abbrev pub lets_words : Launch → ℕ → Option (List ℕ) → Bool
-lets_words launch nr None = false
-lets_words launch nr (Some args) = is_pass (decision_on launch.stack (data_at launch nr args))
+abbrev pub lets_words : Launch → ℕ → ℕ → Option (List ℕ) → Bool
+lets_words launch abi nr None = false
+lets_words launch abi nr (Some args) = is_pass (decision_on launch.stack (data_at launch abi nr args))
 
 -- they let a call of the rule through, if there is one, with the words that ask for the kind first
-abbrev pub lets_rule : Launch → Kind → ℕ → Option Rule → Bool
-lets_rule launch kind nr None = false
-lets_rule launch kind nr (Some rule) = lets_words launch nr (words kind rule)
+abbrev pub lets_rule : Launch → Kind → ℕ → ℕ → Option Rule → Bool
+lets_rule launch kind abi nr None = false
+lets_rule launch kind abi nr (Some rule) = lets_words launch abi nr (words kind rule)
 
--- the call of this line can ask for the kind, and the filters let it through with the words that ask first
+-- the call of this line, by its ABI, can ask for the kind, and the filters let it through with the words that ask first
 abbrev pub lets_line : Launch → Kind → CallLine → Bool
-lets_line launch kind line = lets_rule launch kind line.number (rule_of line)
+lets_line launch kind line = lets_rule launch kind line.abi line.number (rule_of line)
 
--- some call of the table does
+-- some call of the table does, in whatever ABI
 unfoldable pub lets : Launch → Kind → Bool
-lets launch kind = list_any (lets_line launch kind) launch.calls.calls
+lets launch kind = list_any (lets_line launch kind) (calls.every_call launch.calls)
+
+-- a user namespace can be made, user_namespaces(7): the host allows one, and some call passes that asks for one
+abbrev pub can_make_user : Launch → Bool
+can_make_user launch = nat_lt 0 launch.site.user_namespaces && lets launch (ForSpace User)
 
 -- of calls that the filters let through and that ask for one kind, the first choice passes too
-pub record Chosen (launch : Launch) (kind : Kind) (rule : Rule) (nr : ℕ) : Type 0 where
+pub record Chosen (launch : Launch) (kind : Kind) (rule : Rule) (abi nr : ℕ) : Type 0 where
   pub args : List ℕ
   pub are : words kind rule ≡ Some args
-  pub passes : passes launch nr args
+  pub passes : passes launch abi nr args
 
 -- what a launch leaves
 pub record IsLaunched (launch : Launch) : Type 0 where
-  -- each number is given once: the line of a place is what its number finds; and calls have numbers of 32 bits
-  pub calls_once : (at : ℕ) (line : CallLine) → slice_get launch.calls.calls at ≡ Some line → place_numbered line.number launch.calls.calls ≡ Some at
+  -- each ABI gives a number once: the line of a place is what its number finds; a line says its ABI; a name has one capability;
+  -- and calls have numbers of 32 bits
+  pub calls_once : (abi at : ℕ) (line : CallLine) → slice_get (calls.calls_in launch.calls abi) at ≡ Some line → place_numbered line.number (calls.calls_in launch.calls abi) ≡ Some at
+  pub calls_of_abi : (abi : ℕ) → AreOf abi (calls.calls_in launch.calls abi)
+  pub one_cap : All (λ line. All (λ other. line.name ≡ other.name → line.cap ≡ other.cap) (calls.every_call launch.calls)) (calls.every_call launch.calls)
   pub families_once : (at : ℕ) (line : CallLine) → slice_get launch.calls.families at ≡ Some line → place_numbered line.number launch.calls.families ≡ Some at
-  pub calls_in_range : All IsInRange launch.calls.calls
-  pub arch : launch.calls.arch < 2 ^ 32
+  pub calls_in_range : (abi : ℕ) → All IsInRange (calls.calls_in launch.calls abi)
+  pub arch : (abi : ℕ) → calls.arch_of launch.calls abi < 2 ^ 32
   -- the three uids are one, and the three gids
   pub real : launch.creds.uids.real ≡ launch.creds.uids.effective
   pub saved : launch.creds.uids.saved ≡ launch.creds.uids.effective
@@ -92,17 +103,18 @@ pub record IsLaunched (launch : Launch) : Type 0 where
   pub inheritable_bounding : IsWithin launch.creds.inheritable launch.creds.bounding
   pub inheritable_effective : IsWithin launch.creds.inheritable launch.creds.effective
   pub root : launch.creds.uids.effective ≡ 0 → IsWithin launch.creds.bounding launch.creds.effective
-  -- the table starts at `/`, and no entry of it is without set-user-id programs
+  -- the table starts at `/`, no later place leads to an earlier one, and no entry is without set-user-id programs
   pub rooted : StartsAtRoot launch.table
+  pub ordered : IsOrdered launch.table
   pub honours : AllByRecursion (λ (step : MountStep). step.flags.no_suid ≡ false) launch.table
   -- the programs refuse for good or let through, and look at no more words than the first choices need
   pub plain : (input : CallData) → IsCallData input → ArePlain (answers_of launch.stack input)
-  pub chosen : (kind : Kind) (nr : ℕ) (args : List ℕ) (rule : Rule) (payload : Payload) (doing : Doing) → nr < 2 ^ 32 → AreWords args
-      → rule_at launch.calls.calls nr ≡ Some rule → doing_by rule args payload ≡ Some doing → asks kind doing ≡ true → passes launch nr args → Chosen launch kind rule nr
+  pub chosen : (kind : Kind) (abi nr : ℕ) (args : List ℕ) (rule : Rule) (payload : Payload) (doing : Doing) → nr < 2 ^ 32 → AreWords args
+      → rule_at (calls.calls_in launch.calls abi) nr ≡ Some rule → doing_by rule args payload ≡ Some doing → asks kind doing ≡ true → passes launch abi nr args → Chosen launch kind rule abi nr
 
 -- process 1 of a world
 abbrev pub process_or : Option Process → Process
-process_or None = record { creds = creds.start; stack = []; namespace = 0; alive = false }
+process_or None = record { creds = creds.start; stack = []; namespace = 0; user = 0; alive = false }
 process_or (Some process) = process
 
 abbrev pub first_of : World → Process
@@ -118,9 +130,16 @@ launch_of world = record {
   table = table_of world (first_of world).namespace;
 }
 
--- the world that a launch leaves: process 1 alone, living, in a namespace that was made
+-- the world that a launch leaves: process 1 alone, living, in the first user namespace, and in a mount namespace of it
 pub record IsLaunchedWorld (world : World) : Type 0 where
   pub alone : world.processes ≡ first_of world ∷ []
   pub lives : (first_of world).alive ≡ true
-  pub own : of_number world.tables (first_of world).namespace ≡ Some (table_of world (first_of world).namespace)
+  pub user : (first_of world).user ≡ 1
+  pub home : of_number world.owners (first_of world).namespace ≡ Some 1
+  pub numbers : length world.owners ≡ length world.tables
+  -- no other user namespace was made
+  pub no_users : world.users ≡ 0
+  pub own : of_number world.tables (first_of world).namespace ≡ Some (mounts_of world (first_of world).namespace)
+  -- no mount of it is locked, and none keeps a flag
+  pub plain : ArePlainMounts (mounts_of world (first_of world).namespace)
   pub launched : IsLaunched (launch_of world)

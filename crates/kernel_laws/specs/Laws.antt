@@ -3,13 +3,14 @@ use Rattle.std.specs.Prelude.{◌≡◌, false}
 use Rattle.std.specs.List.{AllByRecursion}
 use Rattle.call_table.specs.Table as table
 use Rattle.site_table.specs.Table.{Site}
-use Rattle.kernel_laws.specs.Bound.{is_open}
+use Rattle.kernel_laws.specs.Bound.{is_open, power_of}
 use Rattle.kernel_laws.specs.Denied.{IsDenied}
 use Rattle.kernel_laws.specs.Launched.{launch_of, IsLaunchedWorld}
 use Rattle.kernel_laws.specs.Questions.{Question, IsAsked, questions}
 use Rattle.kernel_model.specs.World.{World}
 
--- a question that the ceiling closes is reached by no list of calls
+-- a question that the ceiling closes is reached by no list of calls, where the tables of newer user namespaces show no more than those
+-- of the first one
 abbrev pub DenialIsSound : Type 0
 DenialIsSound = (world : World) (question : Question) → IsLaunchedWorld world → IsAsked world.calls question → is_open (launch_of world) question ≡ false → IsDenied world question
 

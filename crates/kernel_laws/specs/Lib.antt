@@ -7,8 +7,10 @@ pub mod FirstChoice
 pub mod Bounds
 pub mod Reach
 pub mod ReachLaws
+pub mod Showing
 pub mod Ceiling
 pub mod Bound
 pub mod Spared
 pub mod Laws
 pub mod Blind
+pub mod NewerTables

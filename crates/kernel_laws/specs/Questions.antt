@@ -1,7 +1,8 @@
 -- What is asked of a launched service, and the list of all questions.
-use Rattle.std.specs.Prelude.{◌≡◌, slice_get, ℕ, zero, suc, ◌+◌, ◌==◌, nat_lt, not, Bool, true, false, List, [], ◌∷◌, ◌++◌, map, Option, Some, None, if◌then◌else◌}
+use Rattle.std.specs.Prelude.{◌≡◌, slice_get, ℕ, zero, suc, ◌+◌, ◌==◌, ◌&&◌, nat_lt, not, Bool, true, false, List, [], ◌∷◌, ◌++◌, map, Option, Some, None, if◌then◌else◌}
 use Rattle.call_table.specs.declared.listed.CallLine.{CallLine}
 use Rattle.call_table.specs.Table as calls
+use Rattle.call_table.specs.Members.{is_first}
 use Rattle.site_table.specs.declared.row.Row.{Row}
 use Rattle.site_table.specs.Kinds.{is_dir, is_exe}
 use Rattle.site_table.specs.Table.{Site}
@@ -42,7 +43,7 @@ pub data Question : Type 0 where
   ByPath : Wish → ℕ → Question
   -- is this one
   Call : ℕ → Question
-  -- makes a socket of the family, socket(2)
+  -- makes a socket of the family, socket(2), socketcall(2)
   Socket : ℕ → Question
   -- makes a namespace of the type, clone(2), unshare(2)
   Ns : Space → Question
@@ -72,8 +73,8 @@ is_plain _ = false
 
 -- what is asked of a call is asked of a plain one
 abbrev pub IsAsked : calls.Table → Question → Type 0
-IsAsked calls (Call place) = (line : CallLine) → slice_get calls.calls place ≡ Some line → is_plain (rule_of line) ≡ true
-IsAsked calls _ = Unit {0}
+IsAsked table (Call place) = (line : CallLine) → slice_get (calls.every_call table) place ≡ Some line → is_plain (rule_of line) ≡ true
+IsAsked table _ = Unit {0}
 
 -- the thing or nothing
 abbrev pub if_so : {X : Type 0} → Bool → X → List X
@@ -89,10 +90,10 @@ abbrev pub of_rows : ℕ → List Row → List Question
 of_rows at [] = []
 of_rows at (row ∷ rows) = of_row at row ++ of_rows (at + 1) rows
 
--- of each plain call, counted from a number
-abbrev pub of_calls : ℕ → List CallLine → List Question
-of_calls at [] = []
-of_calls at (line ∷ lines) = if_so (is_plain (rule_of line)) (Call at) ++ of_calls (at + 1) lines
+-- of each plain call, counted from a number, at the first of all lines of its name
+abbrev pub of_calls : List CallLine → ℕ → List CallLine → List Question
+of_calls every at [] = []
+of_calls every at (line ∷ lines) = if_so (is_plain (rule_of line) && is_first every line.name at) (Call at) ++ of_calls every (at + 1) lines
 
 -- of each family, counted from a number
 abbrev pub of_families : ℕ → List CallLine → List Question
@@ -139,6 +140,6 @@ other_questions = Ns Cgroup ∷ Ns Ipc ∷ Ns Net ∷ Ns Mnt ∷ Ns Pid ∷ Ns U
 
 -- all questions: of the rows, the plain calls, the families, of no table, of the 41 capabilities, the uids and the gids
 abbrev pub questions : calls.Table → Site → List Question
-questions calls site =
-    of_rows 0 site.rows ++ of_calls 0 calls.calls ++ of_families 0 calls.families ++ other_questions ++
+questions table site =
+    of_rows 0 site.rows ++ of_calls (calls.every_call table) 0 (calls.every_call table) ++ of_families 0 table.families ++ other_questions ++
     map Cap (count_from 0 41) ++ map Uid (uids_of site) ++ map Gid (gids_of site)

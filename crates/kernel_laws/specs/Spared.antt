@@ -1,6 +1,6 @@
 -- Runs that use CAP_SETUID, and CAP_SETGID, only where they may: of the two words the first says whether CAP_SETUID may be used, and
 -- the second whether CAP_SETGID may.
-use Rattle.std.specs.Prelude.{◌≡◌, Bool, true, List, Some}
+use Rattle.std.specs.Prelude.{◌≡◌, Bool, true, false, List, Some}
 use Rattle.std.specs.List.{AllByRecursion}
 use Rattle.cap_sets.specs.Sets.{has}
 use Rattle.linux_numbers.specs.Capabilities.{cap_setuid, cap_setgid}
@@ -8,7 +8,7 @@ use Rattle.kern_creds.specs.declared.creds.Creds.{Creds}
 use Rattle.kernel_calls.specs.declared.call.Call.{Call}
 use Rattle.kernel_calls.specs.Doing.{Doing, Does, asked_of}
 use Rattle.kernel_model.specs.Runs.{moments}
-use Rattle.kernel_model.specs.World.{World, living_of}
+use Rattle.kernel_model.specs.World.{World, living_of, is_newer}
 use Rattle.kernel_model.specs.declared.process.Process.{Process}
 use Rattle.kernel_laws.specs.Kinds.{asks, TakesUid, TakesGid}
 
@@ -19,9 +19,9 @@ Uses uids gids creds doing =
     (asks TakesUid doing ≡ true → has creds.effective cap_setuid ≡ true → uids ≡ true)
     × (asks TakesGid doing ≡ true → has creds.effective cap_setgid ≡ true → gids ≡ true)
 
--- whichever living process makes the call
+-- whichever living process of the first user namespace makes the call; in a newer one no call takes an id
 abbrev pub Spares : Bool → Bool → World → Call → Type 0
-Spares uids gids world call = (process : Process) (doing : Doing) → living_of world call.pid ≡ Some process → asked_of world.calls.calls call ≡ Does doing → Uses uids gids process.creds doing
+Spares uids gids world call = (process : Process) (doing : Doing) → living_of world call.pid ≡ Some process → is_newer process ≡ false → asked_of world.calls call ≡ Does doing → Uses uids gids process.creds doing
 
 -- each call of the run is such
 abbrev pub AllSpare : Bool → Bool → World → List Call → Type 0

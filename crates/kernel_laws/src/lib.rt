@@ -7,13 +7,11 @@
 ghost use Rattle.kernel_laws.specs.Blind.{BlindIsSound, ExposedAtOnce, ExposedByMount, ExposesByUnmounts};
 ghost use Rattle.kernel_laws.specs.FirstChoice.{FirstPasses, SettingsChoose};
 ghost use Rattle.kernel_laws.specs.Laws.{DenialIsSound, ListedAreAsked};
-ghost use Rattle.kernel_laws.specs.PlainCalls.{DeniedWhereStopped, ShownWherePassed, ShownIsNotDenied};
+ghost use Rattle.kernel_laws.specs.PlainCalls.{ShownIsNotDenied};
 ghost use Rattle.kernel_laws.specs.ReachLaws.{ReachByUnmounts, ReachOfTheTable};
 
-/// A plain call without a capability: denied or shown by what the launch's filters say of its number.
+/// What a list of calls shows is not denied.
 pub fn plain_calls()
-    ensures denied_where_stopped { DeniedWhereStopped }
-    ensures shown_where_passed { ShownWherePassed }
     ensures never_both { ShownIsNotDenied }
 {}
 

@@ -8,26 +8,30 @@ use Rattle.bpf_code.specs.Stack.{room_of}
 use Rattle.cap_sets.specs.Sets.{has}
 use Rattle.linux_numbers.specs.Errnos.{eperm, eacces, einval, enospc, enomem}
 use Rattle.linux_numbers.specs.Capabilities.{cap_sys_admin, cap_last_cap}
-use Rattle.linux_numbers.specs.Limits.{max_insns_per_path}
+use Rattle.linux_numbers.specs.Limits.{max_insns_per_path, no_id}
 use Rattle.kern_files.specs.Bits.{has_some}
 use Rattle.call_table.specs.declared.listed.CallLine.{CallLine}
 use Rattle.kern_creds.specs.declared.creds.Creds.{Creds}
 use Rattle.kern_creds.specs.Prctl.{after_drop_bounding, after_raise, after_lower, after_clear_ambient, after_set_keepcaps, after_set_no_new_privs}
-use Rattle.kern_mounts.specs.Split.{Table}
-use Rattle.kern_files.specs.MountCall.{after_mount}
-use Rattle.kern_files.specs.UmountCall.{umount_answer}
+use Rattle.kern_creds.specs.Setuid.{after_setuid, after_setgid}
+use Rattle.kern_creds.specs.Setresuid.{after_setresuid, after_setresgid}
+use Rattle.kern_creds.specs.Setgroups.{after_setgroups}
+use Rattle.kern_mounts.specs.Copying.{locked_copy, copied}
+use Rattle.kern_mounts.specs.Mounts.{Mounts as Table}
+use Rattle.kern_files.specs.MountsCall.{mounts_after_mount, mounts_umount_answer}
 use Rattle.kernel_calls.specs.declared.call.Call.{Call}
 use Rattle.kernel_calls.specs.Doing as d
 use Rattle.kernel_calls.specs.Doing.{Doing}
 use Rattle.kernel_model.specs.declared.process.Process.{Process}
 use Rattle.kernel_model.specs.declared.reply.Reply.{Reply}
 use Rattle.kernel_model.specs.Effects as f
-use Rattle.kernel_model.specs.Effects.{Effect, Host, Caller, thread_flag, newns, newuser, other_spaces, no_spaces, effect_of, looks, creds_effect, table_effect, with_cap, with_cap_of, with_admin, socket_effect, clone_effect, unshare_effect, is_set_effect, ambient_effect, no_new_privs_effect, keepcaps_effect, prctl_effect, push_effect, seccomp_effect}
-use Rattle.kernel_model.specs.World.{World, living_of, of_number, table_or, table_of, with_process, with_table, with_child, with_copy, moved_to, ended, host_of, caller_of}
+use Rattle.kernel_model.specs.Effects.{Effect, Host, Caller, thread_flag, newns, newuser, other_spaces, no_spaces, effect_of, looks, creds_effect, table_effect, with_cap, with_cap_of, with_admin, socket_effect, clone_effect, unshare_effect, is_set_effect, ambient_effect, no_new_privs_effect, keepcaps_effect, prctl_effect, push_effect, seccomp_effect, first_alone, socketcall_effect}
+use Rattle.kernel_model.specs.World.{World, living_of, of_number, table_or, mounts_of, with_process, with_table, with_child, with_copy, moved_to, ended, host_of, caller_of, owner_of, with_user, entered_by}
 use Rattle.kernel_model.specs.Step.{step, most_processes, most_namespaces}
 use Rattle.kernel_model.specs.StepCases as case
 use Rattle.kernel_model.specs.StepCases.{StepCase, EffectCase}
-use Rattle.kernel_model.specs.Worlds.{HasSpace, IsRooted, IsKernel}
+use Rattle.kern_mounts.proofs.Mounts.{locked_steps}
+use Rattle.kernel_model.specs.Worlds.{AreRooted, HasSpace, IsRooted, IsKernel}
 use Rattle.kernel_model.specs.Laws.{WorldsStay, ToldStays}
 use Rattle.kernel_model.proofs.Lists.{each-set, each-append, each-get, each-map, length-set, length-push}
 use Rattle.kernel_model.proofs.Places.{living_get}
@@ -46,6 +50,8 @@ Roots (f.SetCreds creds) = Unit {0}
 Roots (f.Push program) = Unit {0}
 Roots (f.Child own) = Unit {0}
 Roots f.OwnTable = Unit {0}
+Roots (f.UserChild own) = Unit {0}
+Roots (f.OwnUser own) = Unit {0}
 Roots f.End = Unit {0}
 
 pub record MakesRooted (effect : Effect) : Type 0 where
@@ -80,12 +86,32 @@ roots_cap_of : (cap : Option ℕ) (creds : Creds) (value : ℕ) → MakesRooted 
 roots_cap_of None creds value = gives value
 roots_cap_of (Some cap) creds value = roots_cap cap creds (f.Answer value) (gives value)
 
-roots_socket : (creds : Creds) (line : Option CallLine) → MakesRooted (socket_effect creds line)
-roots_socket creds None = refuses _
-roots_socket creds (Some line) = roots_cap_of line.cap creds 3
+roots_alone : (newer : Bool) (cap : Option ℕ) (creds : Creds) (value : ℕ) → MakesRooted (first_alone newer cap (with_cap_of cap creds (f.Answer value)))
+roots_alone false cap creds value = roots_cap_of cap creds value
+roots_alone true None creds value = gives value
+roots_alone true (Some cap) creds value = refuses eperm
+
+roots_socket : (newer : Bool) (creds : Creds) (line : Option CallLine) → MakesRooted (socket_effect newer creds line)
+roots_socket newer creds None = refuses _
+roots_socket newer creds (Some line) = roots_alone newer line.cap creds 3
+
+-- where ids are not mapped
+roots_ids : (real effective saved : ℕ) → MakesRooted (cond ((real == no_id && effective == no_id) && saved == no_id) (f.Answer 0) (f.Refuse einval))
+roots_ids real effective saved = roots_if ((real == no_id && effective == no_id) && saved == no_id) (f.Answer 0) (f.Refuse einval) (gives 0) (refuses einval)
+
+roots_socketcall : (newer : Bool) (creds : Creds) (operation : ℕ) (line : Option CallLine) → MakesRooted (socketcall_effect newer creds operation line)
+roots_socketcall newer creds operation line =
+    let other : Effect = cond (nat_le 2 operation && nat_le operation 20) (f.Answer 0) (f.Refuse einval) in
+    roots_if (operation == 1) (socket_effect newer creds line) other (roots_socket newer creds line) (roots_if (nat_le 2 operation && nat_le operation 20) (f.Answer 0) (f.Refuse einval) (gives 0) (refuses einval))
 
 child : (own : Bool) → MakesRooted (f.Child own)
 child own = record { rooted = tt }
+
+user_child : (own : Bool) → MakesRooted (f.UserChild own)
+user_child own = record { rooted = tt }
+
+own_user : (own : Bool) → MakesRooted (f.OwnUser own)
+own_user own = record { rooted = tt }
 
 own_table : MakesRooted f.OwnTable
 own_table = record { rooted = tt }
@@ -97,11 +123,11 @@ roots_clone creds flags = thread (has_some thread_flag flags)
     spaces true = roots_cap cap_sys_admin creds (f.Child (has_some newns flags)) (child (has_some newns flags))
     spaces false = child false
 
-    user : (b : Bool) → MakesRooted (cond b (f.Refuse enospc) (cond (has_some other_spaces flags) (with_admin creds (f.Child (has_some newns flags))) (f.Child false)))
-    user true = refuses enospc
+    user : (b : Bool) → MakesRooted (cond b (f.UserChild (has_some newns flags)) (cond (has_some other_spaces flags) (with_admin creds (f.Child (has_some newns flags))) (f.Child false)))
+    user true = user_child (has_some newns flags)
     user false = spaces (has_some other_spaces flags)
 
-    thread : (b : Bool) → MakesRooted (cond b (f.Refuse einval) (cond (has_some newuser flags) (f.Refuse enospc) (cond (has_some other_spaces flags) (with_admin creds (f.Child (has_some newns flags))) (f.Child false))))
+    thread : (b : Bool) → MakesRooted (cond b (f.Refuse einval) (cond (has_some newuser flags) (f.UserChild (has_some newns flags)) (cond (has_some other_spaces flags) (with_admin creds (f.Child (has_some newns flags))) (f.Child false))))
     thread true = refuses einval
     thread false = user (has_some newuser flags)
 
@@ -116,11 +142,11 @@ roots_unshare creds flags = outside (has_some no_spaces flags)
     spaces true = roots_cap cap_sys_admin creds (cond (has_some newns flags) f.OwnTable (f.Answer 0)) (table (has_some newns flags))
     spaces false = gives 0
 
-    user : (b : Bool) → MakesRooted (cond b (f.Refuse enospc) (cond (has_some other_spaces flags) (with_admin creds (cond (has_some newns flags) f.OwnTable (f.Answer 0))) (f.Answer 0)))
-    user true = refuses enospc
+    user : (b : Bool) → MakesRooted (cond b (f.OwnUser (has_some newns flags)) (cond (has_some other_spaces flags) (with_admin creds (cond (has_some newns flags) f.OwnTable (f.Answer 0))) (f.Answer 0)))
+    user true = own_user (has_some newns flags)
     user false = spaces (has_some other_spaces flags)
 
-    outside : (b : Bool) → MakesRooted (cond b (f.Refuse einval) (cond (has_some newuser flags) (f.Refuse enospc) (cond (has_some other_spaces flags) (with_admin creds (cond (has_some newns flags) f.OwnTable (f.Answer 0))) (f.Answer 0))))
+    outside : (b : Bool) → MakesRooted (cond b (f.Refuse einval) (cond (has_some newuser flags) (f.OwnUser (has_some newns flags)) (cond (has_some other_spaces flags) (with_admin creds (cond (has_some newns flags) f.OwnTable (f.Answer 0))) (f.Answer 0))))
     outside true = refuses einval
     outside false = user (has_some newuser flags)
 
@@ -211,25 +237,26 @@ roots_effect host caller (d.Protect protection) h = gives 0
 roots_effect host caller (d.Attach flags) h = gives 0
 roots_effect host caller (d.Schedule policy) h = roots_looks _
 roots_effect host caller (d.Personality persona) h = gives 0
-roots_effect host caller (d.Socket family) h = roots_socket caller.creds _
+roots_effect host caller (d.Socket family) h = roots_socket caller.newer caller.creds _
+roots_effect host caller (d.Socketcall operation family) h = roots_socketcall caller.newer caller.creds operation _
 roots_effect host caller d.Enter h = refuses _
 roots_effect host caller d.Fork h = child false
 roots_effect host caller (d.Clone flags) h = roots_clone caller.creds flags
 roots_effect host caller (d.Unshare flags) h = roots_unshare caller.creds flags
 roots_effect host caller d.Exit h = record { rooted = tt }
 roots_effect host caller (d.Mount source target flags) h =
-    roots_cap cap_sys_admin caller.creds (table_effect (after_mount host.rows caller.table source target flags)) (roots_table (after_mount host.rows caller.table source target flags) (λ next e. rooted_mount host.rows caller.table next source target flags h e))
+    roots_if caller.owns (with_admin caller.creds (table_effect (mounts_after_mount host.rows caller.table source target flags))) (f.Refuse eperm) (roots_cap cap_sys_admin caller.creds (table_effect (mounts_after_mount host.rows caller.table source target flags)) (roots_table (mounts_after_mount host.rows caller.table source target flags) (λ next e. rooted_mount host.rows caller.table next source target flags h e))) (refuses eperm)
 roots_effect host caller (d.Umount path flags) h =
-    roots_cap cap_sys_admin caller.creds (table_effect (umount_answer caller.table path flags)) (roots_table (umount_answer caller.table path flags) (λ next e. rooted_umount_call caller.table next path flags h e))
-roots_effect host caller (d.Setuid id) h = roots_creds _
-roots_effect host caller (d.Setgid id) h = roots_creds _
-roots_effect host caller (d.Setresuid real effective saved) h = roots_creds _
-roots_effect host caller (d.Setresgid real effective saved) h = roots_creds _
-roots_effect host caller (d.Setgroups ids) h = roots_creds _
+    roots_if caller.owns (with_admin caller.creds (table_effect (mounts_umount_answer caller.table path flags))) (f.Refuse eperm) (roots_cap cap_sys_admin caller.creds (table_effect (mounts_umount_answer caller.table path flags)) (roots_table (mounts_umount_answer caller.table path flags) (λ next e. rooted_umount_call caller.table next path flags h e))) (refuses eperm)
+roots_effect host caller (d.Setuid id) h = roots_if caller.newer (f.Refuse einval) (creds_effect (after_setuid caller.creds id)) (refuses einval) (roots_creds _)
+roots_effect host caller (d.Setgid id) h = roots_if caller.newer (f.Refuse einval) (creds_effect (after_setgid caller.creds id)) (refuses einval) (roots_creds _)
+roots_effect host caller (d.Setresuid real effective saved) h = roots_if caller.newer (cond ((real == no_id && effective == no_id) && saved == no_id) (f.Answer 0) (f.Refuse einval)) (creds_effect (after_setresuid caller.creds real effective saved)) (roots_ids real effective saved) (roots_creds _)
+roots_effect host caller (d.Setresgid real effective saved) h = roots_if caller.newer (cond ((real == no_id && effective == no_id) && saved == no_id) (f.Answer 0) (f.Refuse einval)) (creds_effect (after_setresgid caller.creds real effective saved)) (roots_ids real effective saved) (roots_creds _)
+roots_effect host caller (d.Setgroups ids) h = roots_if caller.newer (f.Refuse eperm) (creds_effect (after_setgroups caller.creds ids)) (refuses eperm) (roots_creds _)
 roots_effect host caller (d.Capset permitted effective inheritable) h = roots_creds _
 roots_effect host caller (d.Prctl option value third) h = roots_prctl caller.creds option value third
 roots_effect host caller (d.Seccomp operation flags bytes) h = roots_seccomp caller.creds caller.stack operation flags bytes
-roots_effect host caller (d.Plain cap) h = roots_cap_of cap caller.creds 0
+roots_effect host caller (d.Plain cap) h = roots_alone caller.newer cap caller.creds 0
 
 -- a process in its namespace, whatever else of it changes
 pub spaced : (count : ℕ) (process now : Process) → HasSpace count process → now.namespace ≡ process.namespace → HasSpace count now
@@ -267,22 +294,35 @@ kernel_child world child k room h = record {
   roots = k.roots;
 }
 
-kernel_copy : (world : World) (namespace : ℕ) → Kernel world → length world.tables < most_namespaces → IsRooted (table_of world namespace) → Kernel (with_copy world namespace)
-kernel_copy world namespace k room h =
-    let more = length-push world.tables (table_of world namespace) in
+-- a locked copy has its entries at the same places
+rooted_locked : (table : Table) → IsRooted table → IsRooted (locked_copy table)
+rooted_locked table h = subst AreRooted (sym (locked_steps table)) h
+
+rooted_copied : (locked : Bool) (table : Table) → IsRooted table → IsRooted (copied locked table)
+rooted_copied false table h = h
+rooted_copied true table h = rooted_locked table h
+
+kernel_copy : (world : World) (namespace user : ℕ) → Kernel world → length world.tables < most_namespaces → IsRooted (mounts_of world namespace) → Kernel (with_copy world namespace user)
+kernel_copy world namespace user k room h =
+    let copy = copied (not (owner_of world namespace == user)) (mounts_of world namespace) in
+    let more = length-push world.tables copy in
     record {
       few_processes = k.few_processes;
       few_namespaces = subst (λ (n : ℕ). n ≤ most_namespaces) (sym more) (let fits : length world.tables + 1 ≤ most_namespaces = omega (arith, room) in fits);
       spaces = subst (λ (n : ℕ). AllByRecursion (HasSpace n) world.processes) (sym more) (each-map (HasSpace (length world.tables)) (HasSpace (length world.tables + 1)) world.processes (more_space (length world.tables)) k.spaces);
-      roots = each-append IsRooted world.tables (table_of world namespace ∷ []) k.roots (h, tt);
+      roots = each-append IsRooted world.tables (copy ∷ []) k.roots (rooted_copied (not (owner_of world namespace == user)) (mounts_of world namespace) h, tt);
     }
 
 -- the process in the new namespace
-moved_space : (world : World) (process : Process) → HasSpace (length (with_copy world process.namespace).tables) (moved_to process (length world.tables))
-moved_space world process =
-    subst (λ (n : ℕ). HasSpace n (moved_to process (length world.tables))) (sym (length-push world.tables (table_of world process.namespace))) (new_space (length world.tables) process)
+moved_space : (world : World) (namespace user : ℕ) (process : Process) → HasSpace (length (with_copy world namespace user).tables) (moved_to process (length world.tables))
+moved_space world namespace user process =
+    subst (λ (n : ℕ). HasSpace n (moved_to process (length world.tables))) (sym (length-push world.tables (copied (not (owner_of world namespace == user)) (mounts_of world namespace)))) (new_space (length world.tables) process)
 
-kernel_effect : (world : World) (pid : ℕ) (process : Process) (effect : Effect) (out : Reply × World) → Kernel world → HasSpace (length world.tables) process → IsRooted (table_of world process.namespace) → MakesRooted effect
+-- one user namespace more
+kernel_user : (world : World) → Kernel world → Kernel (with_user world)
+kernel_user world k = k
+
+kernel_effect : (world : World) (pid : ℕ) (process : Process) (effect : Effect) (out : Reply × World) → Kernel world → HasSpace (length world.tables) process → IsRooted (mounts_of world process.namespace) → MakesRooted effect
     → EffectCase world pid process effect out → Kernel out.1
 kernel_effect world pid process effect out k h t r (case.refuses errno) = k
 kernel_effect world pid process effect out k h t r (case.answers value) = k
@@ -294,10 +334,19 @@ kernel_effect world pid process effect out k h t r (case.no_process_left own ful
 kernel_effect world pid process effect out k h t r (case.shares room) = kernel_child world process k room h
 kernel_effect world pid process effect out k h t r (case.no_namespace_for_child room full) = k
 kernel_effect world pid process effect out k h t r (case.gives_copy room space) =
-    kernel_child (with_copy world process.namespace) (moved_to process (length world.tables)) (kernel_copy world process.namespace k space t) room (moved_space world process)
+    kernel_child (with_copy world process.namespace process.user) (moved_to process (length world.tables)) (kernel_copy world process.namespace process.user k space t) room (moved_space world process.namespace process.user process)
 kernel_effect world pid process effect out k h t r (case.no_namespace_left full) = k
 kernel_effect world pid process effect out k h t r (case.moves space) =
-    kernel_process (with_copy world process.namespace) pid (moved_to process (length world.tables)) (kernel_copy world process.namespace k space t) (moved_space world process)
+    kernel_process (with_copy world process.namespace process.user) pid (moved_to process (length world.tables)) (kernel_copy world process.namespace process.user k space t) (moved_space world process.namespace process.user process)
+kernel_effect world pid process effect out k h t r (case.no_user_for_child own full) = k
+kernel_effect world pid process effect out k h t r (case.no_process_for_user own left full) = k
+kernel_effect world pid process effect out k h t r (case.gives_user left room) = kernel_child (with_user world) (entered_by process world.users) k room (spaced (length world.tables) process (entered_by process world.users) h refl)
+kernel_effect world pid process effect out k h t r (case.no_namespace_for_user left room full) = k
+kernel_effect world pid process effect out k h t r (case.gives_user_and_copy left room space) = kernel_child (with_copy (with_user world) process.namespace (world.users + 2)) (moved_to (entered_by process world.users) (length world.tables)) (kernel_copy (with_user world) process.namespace (world.users + 2) k space t) room (moved_space (with_user world) process.namespace (world.users + 2) (entered_by process world.users))
+kernel_effect world pid process effect out k h t r (case.no_user_left own full) = k
+kernel_effect world pid process effect out k h t r (case.enters left) = kernel_process (with_user world) pid (entered_by process world.users) k (spaced (length world.tables) process (entered_by process world.users) h refl)
+kernel_effect world pid process effect out k h t r (case.no_namespace_behind_user left full) = k
+kernel_effect world pid process effect out k h t r (case.enters_and_moves left space) = kernel_process (with_copy (with_user world) process.namespace (world.users + 2)) pid (moved_to (entered_by process world.users) (length world.tables)) (kernel_copy (with_user world) process.namespace (world.users + 2) k space t) (moved_space (with_user world) process.namespace (world.users + 2) (entered_by process world.users))
 kernel_effect world pid process effect out k h t r case.ends = kernel_process world pid (ended process) k (spaced (length world.tables) process (ended process) h refl)
 
 -- a process of a kernel has a table, and it is rooted
@@ -315,7 +364,7 @@ rooted_or tables number all one within = by (number - 1) (length tables) tables 
     by : (i n : ℕ) (xs : List Table) → (number == 0) ≡ false → i < n → n ≡ length xs → AllByRecursion IsRooted xs → IsRooted (table_or (cond (number == 0) None (slice_get xs i)))
     by i n xs zero_not lt is all = rw zero_not (get xs i (subst (λ (m : ℕ). i < m) is lt) all)
 
-pub rooted_table : (world : World) (process : Process) → Kernel world → HasSpace (length world.tables) process → IsRooted (table_of world process.namespace)
+pub rooted_table : (world : World) (process : Process) → Kernel world → HasSpace (length world.tables) process → IsRooted (mounts_of world process.namespace)
 rooted_table world process k h = rooted_or world.tables process.namespace k.roots h.numbered h.within
 
 pub living_space : (world : World) (pid : ℕ) (process : Process) → Kernel world → living_of world pid ≡ Some process → HasSpace (length world.tables) process
@@ -353,6 +402,15 @@ told_effect world pid process effect out (case.no_namespace_for_child room full)
 told_effect world pid process effect out (case.gives_copy room space) = (refl, refl)
 told_effect world pid process effect out (case.no_namespace_left full) = (refl, refl)
 told_effect world pid process effect out (case.moves space) = (refl, refl)
+told_effect world pid process effect out (case.no_user_for_child own full) = (refl, refl)
+told_effect world pid process effect out (case.no_process_for_user own left full) = (refl, refl)
+told_effect world pid process effect out (case.gives_user left room) = (refl, refl)
+told_effect world pid process effect out (case.no_namespace_for_user left room full) = (refl, refl)
+told_effect world pid process effect out (case.gives_user_and_copy left room space) = (refl, refl)
+told_effect world pid process effect out (case.no_user_left own full) = (refl, refl)
+told_effect world pid process effect out (case.enters left) = (refl, refl)
+told_effect world pid process effect out (case.no_namespace_behind_user left full) = (refl, refl)
+told_effect world pid process effect out (case.enters_and_moves left space) = (refl, refl)
 told_effect world pid process effect out case.ends = (refl, refl)
 
 told_case : (world : World) (call : Call) (out : Reply × World) → StepCase world call out → (out.1.calls ≡ world.calls) × (out.1.site ≡ world.site)

@@ -4,6 +4,7 @@ pub mod Places
 pub mod Cases
 pub mod Rooted
 pub mod Kernels
+pub mod Owners
 pub mod Oldest
 pub mod Sharing
 pub mod Lifts

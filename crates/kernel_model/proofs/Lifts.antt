@@ -1,29 +1,34 @@
 -- From what is done at a caller's place to the whole world.
-use Rattle.std.proofs.Common.{◌≡◌, ℕ, ◌<◌, ◌-◌, ◌+◌, Bool, true, false, [], ◌∷◌, ◌++◌, length, get_or, Some, Result, Ok, Err, refl, sym, ap, ◌∙◌, subst, arith}
-use Rattle.std.specs.Prelude.{◌||◌, slice_get, slice_set, IfOk, OnErr, IsOk}
+use Rattle.std.proofs.Common.{◌≡◌, ℕ, ◌<◌, ◌-◌, ◌+◌, Bool, true, false, [], ◌∷◌, ◌++◌, length, get_or, Some, Result, Ok, Err, refl, sym, ap, ◌∙◌, subst, arith, ◌≤◌, Option}
+use Rattle.std.specs.Prelude.{◌||◌, ◌==◌, nat_lt, slice_get, slice_set, IfOk, OnErr, IsOk}
 use Rattle.std.specs.List.{AllByRecursion}
+use Rattle.std.specs.Option.{option_map_or}
+use Rattle.std.proofs.lemmas.Option.{slice_get-get_or, slice_get_past}
+use Rattle.linux_numbers.specs.Errnos.{enosys}
+use Rattle.kernel_model.specs.declared.reply.Reply.TheVariants.{Refused}
 use Rattle.bpf_code.specs.declared.decision.Decision.{Decision}
 use Rattle.bpf_code.specs.declared.decision.Decision.TheVariants as decision
 use Rattle.bpf_code.specs.Stack.{decision_on}
 use Rattle.call_table.specs.Table as calls
+use Rattle.call_table.specs.Table.{Abi, abis, native, abi_at, arch_of}
 use Rattle.site_table.specs.Table.{Site}
-use Rattle.kern_mounts.specs.Split.{Table}
+use Rattle.kern_mounts.specs.Mounts.{Mounts as Table}
 use Rattle.kernel_calls.specs.declared.call.Call.{Call}
 use Rattle.kernel_calls.specs.Doing.{Doing, Does, asked_of}
 use Rattle.kernel_model.specs.declared.process.Process.{Process}
 use Rattle.kernel_model.specs.declared.reply.Reply.{Reply}
 use Rattle.kernel_model.specs.declared.reply.Reply.TheVariants as reply
 use Rattle.kernel_model.specs.declared.outcome.Outcome.{Outcome}
-use Rattle.kernel_model.specs.declared.outcome.Outcome.TheVariants.{Replied, MakesChild, MakesTable}
+use Rattle.kernel_model.specs.declared.outcome.Outcome.TheVariants.{Replied, MakesChild, MakesTable, MakesUserChild, MakesOwnUser}
 use Rattle.kernel_model.specs.Effects as f
 use Rattle.kernel_model.specs.Effects.{Effect, effect_of}
 use Rattle.kernel_model.specs.Memory.{asks_for_room, makes_one, takes_doing, takes_asked, takes_decided, takes_by, takes_memory}
 use Rattle.kernel_model.specs.Parts.{Parts, parts, caller_by, done_here, Left, UnlessReplied}
-use Rattle.kernel_model.specs.State.{State, world_of, host_by, place_of, AtPlace, Applies}
-use Rattle.kernel_model.specs.World.{World, table_of, table_or, host_of, caller_of, put_number, ended}
+use Rattle.kernel_model.specs.State.{State, world_of, host_by, place_of, AtPlace, Applies, AppliesAt}
+use Rattle.kernel_model.specs.World.{World, mounts_of, table_or, host_of, caller_of, put_number, ended, owner_or, of_number}
 use Rattle.kernel_model.specs.Worlds.{HasSpace, IsKernel}
 use Rattle.kernel_model.proofs.Kernels.{kernel_step, kernel_process, spaced, living_space}
-use Rattle.kernel_model.specs.Step.{applied, answered, decided, step, step_by, data_of}
+use Rattle.kernel_model.specs.Step.{applied, answered, decided, step, step_by, decision_by, decision_of}
 use Rattle.kernel_model.proofs.Lists.{set_same, set_or, get_same, get_some}
 use Rattle.kernel_model.proofs.Places.{has_table, stands}
 
@@ -33,7 +38,7 @@ if_ok P Q (Err error) h next = tt
 
 -- the state with the parts of a caller put back
 abbrev pub put_back : State → ℕ → ℕ → Parts → State
-put_back state place at new = record { processes = slice_set state.processes place new.process; tables = slice_set state.tables at new.table }
+put_back state place at new = record state { processes = slice_set state.processes place new.process; tables = slice_set state.tables at new.table }
 
 -- a caller stands at a place, and its table at another
 pub record Seat (state : State) (place at pid : ℕ) (process : Process) (table : Table) : Type 0 where
@@ -72,6 +77,8 @@ module _ (calls : calls.Table) (site : Site) (state : State) (place at pid : ℕ
   left_by (f.Push program) = with_reply (reply.Done 0) _ _ (one_process (record process { stack = process.stack ++ program ∷ [] }))
   left_by (f.Child own) = (refl, same)
   left_by f.OwnTable = (refl, same)
+  left_by (f.UserChild own) = (refl, same)
+  left_by (f.OwnUser own) = (refl, same)
   left_by f.End = with_reply (reply.Done 0) _ _ (one_process (ended process))
 
   -- what is done at the parts is what is left of the world
@@ -86,12 +93,16 @@ unless_done old (f.SetTable now) = tt
 unless_done old (f.Push program) = tt
 unless_done old (f.Child own) = refl
 unless_done old f.OwnTable = refl
+unless_done old (f.UserChild own) = refl
+unless_done old (f.OwnUser own) = refl
 unless_done old f.End = tt
 
 unless_map : {A B : Type 0} (outcome : Outcome) → UnlessReplied outcome A → (A → B) → UnlessReplied outcome B
 unless_map (Replied reply) h next = tt
 unless_map (MakesChild own) h next = next h
 unless_map MakesTable h next = next h
+unless_map (MakesUserChild own) h next = next h
+unless_map (MakesOwnUser own) h next = next h
 
 -- where something is to be made, the parts are put back as they were
 unless_there : (state : State) (place at : ℕ) (old now : Process) (table new : Table) (outcome : Outcome) (effect : Effect) → old ≡ get_or state.processes place old → table ≡ get_or state.tables at table
@@ -101,31 +112,32 @@ unless_there state place at old now table new outcome effect is has e =
     unless_map outcome same (λ p. ap (put_back state place at) p ∙ rw (set_or state.processes place old is, set_or state.tables at table has) refl)
 
 -- what the rules make of a caller and its table, in the place of both
-there_here : {E : Type 0} (calls : calls.Table) (site : Site) (state : State) (place at : ℕ) (old now : Process) (table new : Table) (doing : Doing) (result : Result Outcome E)
-    → old ≡ get_or state.processes place old → table ≡ get_or state.tables at table → at < length state.tables → AtPlace state place (λ pid process. at + 1 ≡ process.namespace)
-    → IfOk result (λ outcome. (outcome, parts now new) ≡ done_here (parts old table) (effect_of (host_by calls site) (caller_by old table) doing))
+there_here : {E : Type 0} (calls : calls.Table) (site : Site) (state : State) (place at : ℕ) (old now : Process) (table new : Table) (doing : Doing) (owns : Bool) (result : Result Outcome E)
+    → old ≡ get_or state.processes place old → table ≡ get_or state.tables at table → at < length state.tables → AtPlace state place (λ pid process. at + 1 ≡ process.namespace) → AtPlace state place (λ pid process. owns ≡ (owner_or (of_number state.owners process.namespace) == process.user))
+    → IfOk result (λ outcome. (outcome, parts now new) ≡ done_here (parts old table) (effect_of (host_by calls site) (caller_by old table owns) doing))
     → IfOk result (λ outcome. AtPlace state place (λ pid process. Left (world_of calls site state) pid process outcome (world_of calls site (put_back state place at (parts now new))) (effect_of (host_of (world_of calls site state)) (caller_of (world_of calls site state) process) doing)))
-there_here calls site state place at old now table new doing result is tis lt spaces h =
+there_here calls site state place at old now table new doing owns result is tis lt spaces home h =
     if_ok _ _ result h (λ outcome e pid process place_is stands.
     let same : old ≡ process = get_same state.processes place old process is stands in
     let has : slice_get state.tables at ≡ Some table = get_some state.tables at table lt tis in
     let space : at + 1 ≡ process.namespace = spaces pid process place_is stands in
-    let own : table_of (world_of calls site state) process.namespace ≡ table = ap table_or (has_table state.tables process at table space has) in
+    let own : mounts_of (world_of calls site state) process.namespace ≡ table = ap table_or (has_table state.tables process at table space has) in
     let seat : Seat state place at pid process table = record { place_is = place_is; stands = stands; space = space; has = has } in
-    let effect : effect_of (host_by calls site) (caller_by old table) doing ≡ effect_of (host_of (world_of calls site state)) (caller_of (world_of calls site state) process) doing =
-    ap (λ (p : Process). effect_of (host_by calls site) (caller_by p table) doing) same ∙ ap (λ (t : Table). effect_of (host_by calls site) (caller_by process t) doing) (sym own) in
+    let effect : effect_of (host_by calls site) (caller_by old table owns) doing ≡ effect_of (host_of (world_of calls site state)) (caller_of (world_of calls site state) process) doing =
+    ap (λ (p : Process). effect_of (host_by calls site) (caller_by p table owns) doing) same ∙ ap (λ (t : Table). effect_of (host_by calls site) (caller_by process t owns) doing) (sym own)
+    ∙ ap (λ (b : Bool). effect_of (host_by calls site) (caller_by process (mounts_of (world_of calls site state) process.namespace) b) doing) (home pid process place_is stands) in
     left calls site state place at pid process table seat (effect_of (host_of (world_of calls site state)) (caller_of (world_of calls site state) process) doing) outcome (parts now new)
-    (e ∙ ap (λ (p : Process). done_here (parts p table) (effect_of (host_by calls site) (caller_by old table) doing)) same ∙ ap (done_here (parts process table)) effect))
+    (e ∙ ap (λ (p : Process). done_here (parts p table) (effect_of (host_by calls site) (caller_by old table owns) doing)) same ∙ ap (done_here (parts process table)) effect))
 
 -- the same where the state is seen through its lists
-pub performed_there : {E : Type 0} (viewed state : State) → viewed ≡ state → (calls : calls.Table) (site : Site) (place at : ℕ) (old now : Process) (table new : Table) (doing : Doing) (result : Result Outcome E)
-    → old ≡ get_or viewed.processes place old → table ≡ get_or viewed.tables at table → at < length state.tables → AtPlace state place (λ pid process. at + 1 ≡ process.namespace)
-    → IfOk result (λ outcome. (outcome, parts now new) ≡ done_here (parts old table) (effect_of (host_by calls site) (caller_by old table) doing))
+pub performed_there : {E : Type 0} (viewed state : State) → viewed ≡ state → (calls : calls.Table) (site : Site) (place at : ℕ) (old now : Process) (table new : Table) (doing : Doing) (owns : Bool) (result : Result Outcome E)
+    → old ≡ get_or viewed.processes place old → table ≡ get_or viewed.tables at table → at < length state.tables → AtPlace state place (λ pid process. at + 1 ≡ process.namespace) → AtPlace state place (λ pid process. owns ≡ (owner_or (of_number state.owners process.namespace) == process.user))
+    → IfOk result (λ outcome. (outcome, parts now new) ≡ done_here (parts old table) (effect_of (host_by calls site) (caller_by old table owns) doing))
     → IfOk result (λ outcome. AtPlace state place (λ pid process. Left (world_of calls site state) pid process outcome (world_of calls site (put_back viewed place at (parts now new))) (effect_of (host_of (world_of calls site state)) (caller_of (world_of calls site state) process) doing)))
-performed_there viewed state v calls site place at old now table new doing result is tis lt spaces h =
+performed_there viewed state v calls site place at old now table new doing owns result is tis lt spaces home h =
     subst (λ (s : State). IfOk result (λ outcome. AtPlace state place (λ pid process. Left (world_of calls site state) pid process outcome (world_of calls site (put_back s place at (parts now new))) (effect_of (host_of (world_of calls site state)) (caller_of (world_of calls site state) process) doing))))
     (sym v)
-    (there_here calls site state place at old now table new doing result (subst (λ (s : State). old ≡ get_or s.processes place old) v is) (subst (λ (s : State). table ≡ get_or s.tables at table) v tis) lt spaces h)
+    (there_here calls site state place at old now table new doing owns result (subst (λ (s : State). old ≡ get_or s.processes place old) v is) (subst (λ (s : State). table ≡ get_or s.tables at table) v tis) lt spaces home h)
 
 pub stays_there : {E : Type 0} (viewed state : State) → viewed ≡ state → (place at : ℕ) (old now : Process) (table new : Table) (effect : Effect) (result : Result Outcome E)
     → old ≡ get_or viewed.processes place old → table ≡ get_or viewed.tables at table → IfOk result (λ outcome. (outcome, parts now new) ≡ done_here (parts old table) effect)
@@ -153,26 +165,42 @@ table_is state after calls site place effect outcome is h pid process place_is s
 
 -- what is made then is what the effect makes
 made_there : {E : Type 0} (state mid new : State) → mid ≡ state → (calls : calls.Table) (site : Site) (place : ℕ) (effect : Process → Effect) (one : Effect) (result : Result Reply E)
-    → AtPlace state place (λ pid process. effect process ≡ one) → IfOk result (λ r. Applies mid place one r new)
+    → AtPlace state place (λ pid process. effect process ≡ one) → IfOk result (λ r. AppliesAt site mid place one r new)
     → IfOk result (λ r. AtPlace state place (λ pid process. (r, world_of calls site new) ≡ applied (world_of calls site state) pid process (effect process)))
 made_there state mid new m calls site place effect one result is h =
     if_ok _ _ result h (λ r made pid process place_is stands.
-    let here : Applies state place one r new = subst (λ (s : State). Applies s place one r new) m made in
-    here calls site pid process place_is stands ∙ ap (applied (world_of calls site state) pid process) (sym (is pid process place_is stands)))
+    let here : AppliesAt site state place one r new = subst (λ (s : State). AppliesAt site s place one r new) m made in
+    here calls pid process place_is stands ∙ ap (applied (world_of calls site state) pid process) (sym (is pid process place_is stands)))
 
 pub child_made : {E : Type 0} (state mid new : State) (unless : Outcome) → (calls : calls.Table) (site : Site) (place : ℕ) (effect : Process → Effect) (own : Bool) (result : Result Reply E) → unless ≡ MakesChild own
     → UnlessReplied unless (mid ≡ state) → AtPlace state place (λ pid process. Left (world_of calls site state) pid process unless (world_of calls site mid) (effect process))
     → IfOk result (λ r. Applies mid place (f.Child own) r new)
     → IfOk result (λ r. AtPlace state place (λ pid process. (r, world_of calls site new) ≡ applied (world_of calls site state) pid process (effect process)))
 child_made state mid new unless calls site place effect own result is same h made =
-    made_there state mid new (subst (λ (o : Outcome). UnlessReplied o (mid ≡ state)) is same) calls site place effect (f.Child own) result (child_is state mid calls site place effect unless own is h) made
+    made_there state mid new (subst (λ (o : Outcome). UnlessReplied o (mid ≡ state)) is same) calls site place effect (f.Child own) result (child_is state mid calls site place effect unless own is h) (if_ok _ _ result made (λ r a calls. a calls site))
 
 pub table_made : {E : Type 0} (state mid new : State) (unless : Outcome) → (calls : calls.Table) (site : Site) (place : ℕ) (effect : Process → Effect) (result : Result Reply E) → unless ≡ MakesTable
     → UnlessReplied unless (mid ≡ state) → AtPlace state place (λ pid process. Left (world_of calls site state) pid process unless (world_of calls site mid) (effect process))
     → IfOk result (λ r. Applies mid place f.OwnTable r new)
     → IfOk result (λ r. AtPlace state place (λ pid process. (r, world_of calls site new) ≡ applied (world_of calls site state) pid process (effect process)))
 table_made state mid new unless calls site place effect result is same h made =
-    made_there state mid new (subst (λ (o : Outcome). UnlessReplied o (mid ≡ state)) is same) calls site place effect f.OwnTable result (table_is state mid calls site place effect unless is h) made
+    made_there state mid new (subst (λ (o : Outcome). UnlessReplied o (mid ≡ state)) is same) calls site place effect f.OwnTable result (table_is state mid calls site place effect unless is h) (if_ok _ _ result made (λ r a calls. a calls site))
+
+pub user_child_made : {E : Type 0} (state mid new : State) (unless : Outcome) → (calls : calls.Table) (site : Site) (place : ℕ) (effect : Process → Effect) (own : Bool) (result : Result Reply E) → unless ≡ MakesUserChild own
+    → UnlessReplied unless (mid ≡ state) → AtPlace state place (λ pid process. Left (world_of calls site state) pid process unless (world_of calls site mid) (effect process))
+    → IfOk result (λ r. AppliesAt site mid place (f.UserChild own) r new)
+    → IfOk result (λ r. AtPlace state place (λ pid process. (r, world_of calls site new) ≡ applied (world_of calls site state) pid process (effect process)))
+user_child_made state mid new unless calls site place effect own result is same h made =
+    made_there state mid new (subst (λ (o : Outcome). UnlessReplied o (mid ≡ state)) is same) calls site place effect (f.UserChild own) result
+    (λ pid process place_is stands. (subst (λ (o : Outcome). Left (world_of calls site state) pid process o (world_of calls site mid) (effect process)) is (h pid process place_is stands)).0) made
+
+pub own_user_made : {E : Type 0} (state mid new : State) (unless : Outcome) → (calls : calls.Table) (site : Site) (place : ℕ) (effect : Process → Effect) (own : Bool) (result : Result Reply E) → unless ≡ MakesOwnUser own
+    → UnlessReplied unless (mid ≡ state) → AtPlace state place (λ pid process. Left (world_of calls site state) pid process unless (world_of calls site mid) (effect process))
+    → IfOk result (λ r. AppliesAt site mid place (f.OwnUser own) r new)
+    → IfOk result (λ r. AtPlace state place (λ pid process. (r, world_of calls site new) ≡ applied (world_of calls site state) pid process (effect process)))
+own_user_made state mid new unless calls site place effect own result is same h made =
+    made_there state mid new (subst (λ (o : Outcome). UnlessReplied o (mid ≡ state)) is same) calls site place effect (f.OwnUser own) result
+    (λ pid process place_is stands. (subst (λ (o : Outcome). Left (world_of calls site state) pid process o (world_of calls site mid) (effect process)) is (h pid process place_is stands)).0) made
 
 -- and it needs no memory where the effect does not
 or_right : (a b : Bool) → (a || b) ≡ false → b ≡ false
@@ -182,59 +210,59 @@ or_right false b e = e
 pub child_ready : {E : Type 0} (state mid : State) (unless : Outcome) (calls : calls.Table) (site : Site) (place : ℕ) (doing : Doing) (own : Bool) (result : Result Reply E) → unless ≡ MakesChild own
     → UnlessReplied unless (mid ≡ state)
     → AtPlace state place (λ pid process. Left (world_of calls site state) pid process unless (world_of calls site mid) (effect_of (host_of (world_of calls site state)) (caller_of (world_of calls site state) process) doing))
-    → (makes_one (length mid.processes) (length mid.tables) (f.Child own) ≡ false → IsOk result)
+    → (makes_one false (length mid.processes) (length mid.tables) (f.Child own) ≡ false → IsOk result)
     → AtPlace state place (λ pid process. takes_doing (world_of calls site state) process doing ≡ false → IsOk result)
 child_ready state mid unless calls site place doing own result is same h ready pid process place_is stands none =
     let effect : Process → Effect = λ p. effect_of (host_of (world_of calls site state)) (caller_of (world_of calls site state) p) doing in
     let m : mid ≡ state = subst (λ (o : Outcome). UnlessReplied o (mid ≡ state)) is same in
     let one : effect process ≡ f.Child own = child_is state mid calls site place effect unless own is h pid process place_is stands in
-    let not_made : makes_one (length state.processes) (length state.tables) (effect process) ≡ false = or_right (asks_for_room doing) (makes_one (length state.processes) (length state.tables) (effect process)) none in
-    ready (subst (λ (s : State). makes_one (length s.processes) (length s.tables) (f.Child own) ≡ false) (sym m) (subst (λ (e : Effect). makes_one (length state.processes) (length state.tables) e ≡ false) one not_made))
+    let not_made : makes_one (nat_lt state.users site.user_namespaces) (length state.processes) (length state.tables) (effect process) ≡ false = or_right (asks_for_room doing) (makes_one (nat_lt state.users site.user_namespaces) (length state.processes) (length state.tables) (effect process)) none in
+    ready (subst (λ (s : State). makes_one false (length s.processes) (length s.tables) (f.Child own) ≡ false) (sym m) (subst (λ (e : Effect). makes_one (nat_lt state.users site.user_namespaces) (length state.processes) (length state.tables) e ≡ false) one not_made))
 
 pub table_ready : {E : Type 0} (state mid : State) (unless : Outcome) (calls : calls.Table) (site : Site) (place : ℕ) (doing : Doing) (result : Result Reply E) → unless ≡ MakesTable
     → UnlessReplied unless (mid ≡ state)
     → AtPlace state place (λ pid process. Left (world_of calls site state) pid process unless (world_of calls site mid) (effect_of (host_of (world_of calls site state)) (caller_of (world_of calls site state) process) doing))
-    → (makes_one (length mid.processes) (length mid.tables) f.OwnTable ≡ false → IsOk result)
+    → (makes_one false (length mid.processes) (length mid.tables) f.OwnTable ≡ false → IsOk result)
     → AtPlace state place (λ pid process. takes_doing (world_of calls site state) process doing ≡ false → IsOk result)
 table_ready state mid unless calls site place doing result is same h ready pid process place_is stands none =
     let effect : Process → Effect = λ p. effect_of (host_of (world_of calls site state)) (caller_of (world_of calls site state) p) doing in
     let m : mid ≡ state = subst (λ (o : Outcome). UnlessReplied o (mid ≡ state)) is same in
     let one : effect process ≡ f.OwnTable = table_is state mid calls site place effect unless is h pid process place_is stands in
-    let not_made : makes_one (length state.processes) (length state.tables) (effect process) ≡ false = or_right (asks_for_room doing) (makes_one (length state.processes) (length state.tables) (effect process)) none in
-    ready (subst (λ (s : State). makes_one (length s.processes) (length s.tables) f.OwnTable ≡ false) (sym m) (subst (λ (e : Effect). makes_one (length state.processes) (length state.tables) e ≡ false) one not_made))
+    let not_made : makes_one (nat_lt state.users site.user_namespaces) (length state.processes) (length state.tables) (effect process) ≡ false = or_right (asks_for_room doing) (makes_one (nat_lt state.users site.user_namespaces) (length state.processes) (length state.tables) (effect process)) none in
+    ready (subst (λ (s : State). makes_one false (length s.processes) (length s.tables) f.OwnTable ≡ false) (sym m) (subst (λ (e : Effect). makes_one (nat_lt state.users site.user_namespaces) (length state.processes) (length state.tables) e ≡ false) one not_made))
 
 -- the step of a call that is asked for
 pub step_is : {E : Type 0} (world after : World) (call : Call) (place : ℕ) (d : Decision) (doing : Doing) (result : Result Reply E) → place_of world.processes call.pid ≡ Some place
-    → ((pid : ℕ) (process : Process) → place ≡ pid - 1 → slice_get world.processes place ≡ Some process → d ≡ decision_on process.stack (data_of world call)) → d ≡ decision.Pass → asked_of world.calls.calls call ≡ Does doing
+    → ((pid : ℕ) (process : Process) → place ≡ pid - 1 → slice_get world.processes place ≡ Some process → d ≡ decision_of world call process) → d ≡ decision.Pass → asked_of world.calls call ≡ Does doing
     → IfOk result (λ r. (pid : ℕ) (process : Process) → place ≡ pid - 1 → slice_get world.processes place ≡ Some process → (r, after) ≡ applied world pid process (effect_of (host_of world) (caller_of world process) doing))
     → IfOk result (λ r. (r, after) ≡ step world call)
 step_is world after call place d doing result at is passes asked h =
     if_ok _ _ result h (λ r made.
     let who = stands world call.pid place at in
-    let decided_is : decision_on who.caller.stack (data_of world call) ≡ decision.Pass = sym (is call.pid who.caller who.place_is who.stands) ∙ passes in
+    let decided_is : decision_of world call who.caller ≡ decision.Pass = sym (is call.pid who.caller who.place_is who.stands) ∙ passes in
     made call.pid who.caller who.place_is who.stands
     ∙ sym (ap (step_by world call) who.lives ∙ ap (decided world call who.caller) decided_is ∙ ap (answered world call.pid who.caller) asked))
 
 pub step_ready : {E : Type 0} (world : World) (call : Call) (place : ℕ) (d : Decision) (doing : Doing) (result : Result Reply E) → place_of world.processes call.pid ≡ Some place
-    → ((pid : ℕ) (process : Process) → place ≡ pid - 1 → slice_get world.processes place ≡ Some process → d ≡ decision_on process.stack (data_of world call)) → d ≡ decision.Pass → asked_of world.calls.calls call ≡ Does doing
+    → ((pid : ℕ) (process : Process) → place ≡ pid - 1 → slice_get world.processes place ≡ Some process → d ≡ decision_of world call process) → d ≡ decision.Pass → asked_of world.calls call ≡ Does doing
     → ((pid : ℕ) (process : Process) → place ≡ pid - 1 → slice_get world.processes place ≡ Some process → takes_doing world process doing ≡ false → IsOk result)
     → takes_memory world call ≡ false → IsOk result
 step_ready world call place d doing result at is passes asked h none =
     let who = stands world call.pid place at in
-    let decided_is : decision_on who.caller.stack (data_of world call) ≡ decision.Pass = sym (is call.pid who.caller who.place_is who.stands) ∙ passes in
+    let decided_is : decision_of world call who.caller ≡ decision.Pass = sym (is call.pid who.caller who.place_is who.stands) ∙ passes in
     let takes : takes_memory world call ≡ takes_doing world who.caller doing = ap (takes_by world call) who.lives ∙ ap (takes_decided world call who.caller) decided_is ∙ ap (takes_asked world who.caller) asked in
     h call.pid who.caller who.place_is who.stands (sym takes ∙ none)
 
 -- the same of a world that is seen through its parts
 pub step_seen : {E : Type 0} (viewed world : World) → viewed ≡ world → (after : World) (call : Call) (place : ℕ) (d : Decision) (doing : Doing) (result : Result Reply E) → place_of viewed.processes call.pid ≡ Some place
-    → ((pid : ℕ) (process : Process) → place ≡ pid - 1 → slice_get viewed.processes place ≡ Some process → d ≡ decision_on process.stack (data_of viewed call)) → d ≡ decision.Pass → asked_of viewed.calls.calls call ≡ Does doing
+    → ((pid : ℕ) (process : Process) → place ≡ pid - 1 → slice_get viewed.processes place ≡ Some process → d ≡ decision_of viewed call process) → d ≡ decision.Pass → asked_of viewed.calls call ≡ Does doing
     → IfOk result (λ r. (pid : ℕ) (process : Process) → place ≡ pid - 1 → slice_get viewed.processes place ≡ Some process → (r, after) ≡ applied viewed pid process (effect_of (host_of viewed) (caller_of viewed process) doing))
     → IfOk result (λ r. (r, after) ≡ step world call)
 step_seen viewed world v after call place d doing result at is passes asked h =
     subst (λ (w : World). IfOk result (λ r. (r, after) ≡ step w call)) v (step_is viewed after call place d doing result at is passes asked h)
 
 pub ready_seen : {E : Type 0} (viewed world : World) → viewed ≡ world → (call : Call) (place : ℕ) (d : Decision) (doing : Doing) (result : Result Reply E) → place_of viewed.processes call.pid ≡ Some place
-    → ((pid : ℕ) (process : Process) → place ≡ pid - 1 → slice_get viewed.processes place ≡ Some process → d ≡ decision_on process.stack (data_of viewed call)) → d ≡ decision.Pass → asked_of viewed.calls.calls call ≡ Does doing
+    → ((pid : ℕ) (process : Process) → place ≡ pid - 1 → slice_get viewed.processes place ≡ Some process → d ≡ decision_of viewed call process) → d ≡ decision.Pass → asked_of viewed.calls call ≡ Does doing
     → ((pid : ℕ) (process : Process) → place ≡ pid - 1 → slice_get viewed.processes place ≡ Some process → takes_doing viewed process doing ≡ false → IsOk result)
     → takes_memory world call ≡ false → IsOk result
 ready_seen viewed world v call place d doing result at is passes asked h none =
@@ -257,12 +285,27 @@ kernel_ended calls site old new pid place at k h =
     let space = living_space world pid who.caller k who.lives in
     subst (λ (s : State). IsKernel s.processes s.tables) (sym (h pid who.caller who.place_is who.stands)) (kernel_process world pid (ended who.caller) k (spaced (length old.tables) who.caller (ended who.caller) space refl))
 
--- what the programs decide, with the architecture of the table
-pub decides_here : (state : State) (place : ℕ) (call : Call) (arch other : ℕ) (d : Decision) → arch ≡ other
+-- what the programs decide, with the architecture of the call's ABI
+in_abi : (table : calls.Table) (call : Call) (process : Process) → call.abi < length (abis table)
+    → decision_on process.stack (record { nr = call.nr; arch = arch_of table call.abi; ip = 0; args = call.args }) ≡ decision_by call process (abi_at table call.abi)
+in_abi table call process lt =
+    let found = slice_get-get_or (abis table) call.abi (native table) lt in
+    ap (λ (o : Option Abi). decision_on process.stack (record { nr = call.nr; arch = option_map_or (λ abi. abi.arch) o 0; ip = 0; args = call.args })) found ∙ sym (ap (decision_by call process) found)
+
+pub decides_here : (calls : calls.Table) (site : Site) (state : State) (place : ℕ) (call : Call) (arch : ℕ) (d : Decision) → call.abi < length (abis calls) → arch ≡ arch_of calls call.abi
     → AtPlace state place (λ pid process. d ≡ decision_on process.stack (record { nr = call.nr; arch = arch; ip = 0; args = call.args }))
-    → AtPlace state place (λ pid process. d ≡ decision_on process.stack (record { nr = call.nr; arch = other; ip = 0; args = call.args }))
-decides_here state place call arch other d e h =
-    subst (λ (a : ℕ). AtPlace state place (λ pid process. d ≡ decision_on process.stack (record { nr = call.nr; arch = a; ip = 0; args = call.args }))) e h
+    → AtPlace state place (λ pid process. d ≡ decision_of (world_of calls site state) call process)
+decides_here calls site state place call arch d lt e h pid process at stands =
+    h pid process at stands ∙ ap (λ (a : ℕ). decision_on process.stack (record { nr = call.nr; arch = a; ip = 0; args = call.args })) e ∙ in_abi calls call process lt
+
+-- an ABI that the table lacks
+pub no_abi : (table : calls.Table) (call : Call) (process : Process) → length (abis table) ≤ call.abi → decision_by call process (abi_at table call.abi) ≡ decision.Errno enosys
+no_abi table call process le = ap (decision_by call process) (slice_get_past (abis table) call.abi le)
+
+pub step_lacks_abi : (viewed world : World) → viewed ≡ world → (call : Call) (place : ℕ) → place_of viewed.processes call.pid ≡ Some place → length (abis viewed.calls) ≤ call.abi → (Refused enosys, world) ≡ step world call
+step_lacks_abi viewed world v call place at le =
+    let who = stands viewed call.pid place at in
+    subst (λ (w : World). (Refused enosys, w) ≡ step w call) v (sym (ap (step_by viewed call) who.lives ∙ ap (decided viewed call who.caller) (no_abi viewed.calls call who.caller le)))
 
 -- the effect of what the process at a place asks for
 abbrev pub effect_at : calls.Table → Site → State → Doing → Process → Effect
@@ -283,3 +326,36 @@ spaces_too mid state m h = subst (λ (s : State). AllByRecursion (HasSpace (leng
 pub stays_too : {T E : Type 0} (result : Result T E) (new mid state : State) → mid ≡ state → OnErr result (new ≡ mid) → OnErr result (new ≡ state)
 stays_too (Ok value) new mid state m h = tt
 stays_too (Err error) new mid state m h = h ∙ m
+
+pub user_child_same : {A : Type 0} (outcome : Outcome) (own : Bool) → outcome ≡ MakesUserChild own → UnlessReplied outcome A → A
+user_child_same {A} outcome own is h = let P : Outcome → Type 0 = λ o. UnlessReplied o A in subst P is h
+
+pub own_user_same : {A : Type 0} (outcome : Outcome) (own : Bool) → outcome ≡ MakesOwnUser own → UnlessReplied outcome A → A
+own_user_same {A} outcome own is h = let P : Outcome → Type 0 = λ o. UnlessReplied o A in subst P is h
+
+pub owned_too : (mid state : State) → mid ≡ state → length state.owners ≡ length state.tables → length mid.owners ≡ length mid.tables
+owned_too mid state m h = subst (λ (s : State). length s.owners ≡ length s.tables) (sym m) h
+
+pub user_child_ready : {E : Type 0} (state mid : State) (unless : Outcome) (calls : calls.Table) (site : Site) (place : ℕ) (doing : Doing) (own : Bool) (result : Result Reply E) → unless ≡ MakesUserChild own
+    → UnlessReplied unless (mid ≡ state)
+    → AtPlace state place (λ pid process. Left (world_of calls site state) pid process unless (world_of calls site mid) (effect_of (host_of (world_of calls site state)) (caller_of (world_of calls site state) process) doing))
+    → (makes_one (nat_lt mid.users site.user_namespaces) (length mid.processes) (length mid.tables) (f.UserChild own) ≡ false → IsOk result)
+    → AtPlace state place (λ pid process. takes_doing (world_of calls site state) process doing ≡ false → IsOk result)
+user_child_ready state mid unless calls site place doing own result is same h ready pid process place_is stands none =
+    let effect : Effect = effect_of (host_of (world_of calls site state)) (caller_of (world_of calls site state) process) doing in
+    let m : mid ≡ state = subst (λ (o : Outcome). UnlessReplied o (mid ≡ state)) is same in
+    let one : effect ≡ f.UserChild own = (subst (λ (o : Outcome). Left (world_of calls site state) pid process o (world_of calls site mid) effect) is (h pid process place_is stands)).0 in
+    let not_made : makes_one (nat_lt state.users site.user_namespaces) (length state.processes) (length state.tables) effect ≡ false = or_right (asks_for_room doing) (makes_one (nat_lt state.users site.user_namespaces) (length state.processes) (length state.tables) effect) none in
+    ready (subst (λ (s : State). makes_one (nat_lt s.users site.user_namespaces) (length s.processes) (length s.tables) (f.UserChild own) ≡ false) (sym m) (subst (λ (e : Effect). makes_one (nat_lt state.users site.user_namespaces) (length state.processes) (length state.tables) e ≡ false) one not_made))
+
+pub own_user_ready : {E : Type 0} (state mid : State) (unless : Outcome) (calls : calls.Table) (site : Site) (place : ℕ) (doing : Doing) (own : Bool) (result : Result Reply E) → unless ≡ MakesOwnUser own
+    → UnlessReplied unless (mid ≡ state)
+    → AtPlace state place (λ pid process. Left (world_of calls site state) pid process unless (world_of calls site mid) (effect_of (host_of (world_of calls site state)) (caller_of (world_of calls site state) process) doing))
+    → (makes_one (nat_lt mid.users site.user_namespaces) (length mid.processes) (length mid.tables) (f.OwnUser own) ≡ false → IsOk result)
+    → AtPlace state place (λ pid process. takes_doing (world_of calls site state) process doing ≡ false → IsOk result)
+own_user_ready state mid unless calls site place doing own result is same h ready pid process place_is stands none =
+    let effect : Effect = effect_of (host_of (world_of calls site state)) (caller_of (world_of calls site state) process) doing in
+    let m : mid ≡ state = subst (λ (o : Outcome). UnlessReplied o (mid ≡ state)) is same in
+    let one : effect ≡ f.OwnUser own = (subst (λ (o : Outcome). Left (world_of calls site state) pid process o (world_of calls site mid) effect) is (h pid process place_is stands)).0 in
+    let not_made : makes_one (nat_lt state.users site.user_namespaces) (length state.processes) (length state.tables) effect ≡ false = or_right (asks_for_room doing) (makes_one (nat_lt state.users site.user_namespaces) (length state.processes) (length state.tables) effect) none in
+    ready (subst (λ (s : State). makes_one (nat_lt s.users site.user_namespaces) (length s.processes) (length s.tables) (f.OwnUser own) ≡ false) (sym m) (subst (λ (e : Effect). makes_one (nat_lt state.users site.user_namespaces) (length state.processes) (length state.tables) e ≡ false) one not_made))

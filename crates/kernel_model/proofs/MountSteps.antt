@@ -1,70 +1,24 @@
 -- Mount steps: at the root, on a table, and in the world.
-use Rattle.std.proofs.Common.{◌≡◌, ℕ, zero, suc, ◌<◌, ◌-◌, ◌+◌, Bool, true, false, cond, List, [], ◌∷◌, length, get_or, Option, Some, Result, Ok, Err, refl, sym, ap, ◌∙◌, subst, arith}
+use Rattle.std.proofs.Common.{◌≡◌, ℕ, zero, suc, ◌<◌, ◌-◌, ◌+◌, true, List, [], ◌∷◌, length, get_or, Option, Some, Result, Ok, Err, refl, sym, ap, ◌∙◌, subst, arith}
 use Rattle.std.specs.Prelude.{slice_get, slice_set, OnErr, OnOk}
-use Rattle.std.specs.List.{AllByRecursion}
-use Rattle.abs_path.specs.Paths.{Path, is_root}
-use Rattle.abs_path.specs.Prefix.{is_prefix, is_same}
-use Rattle.linux_numbers.specs.Errnos.{einval}
+use Rattle.abs_path.specs.Paths.{is_root}
 use Rattle.linux_numbers.specs.Limits.{mount_max}
 use Rattle.call_table.specs.Table as calls
 use Rattle.site_table.specs.Table.{Site}
-use Rattle.kern_mounts.specs.declared.step.Flags.{Flags}
 use Rattle.kern_mounts.specs.declared.step.MountStep.{MountStep}
-use Rattle.kern_mounts.specs.Entry.{leads_to}
-use Rattle.kern_mounts.specs.Split.{Table, split_at, is_at}
-use Rattle.kern_mounts.specs.Remount.{remounted, after_remount}
-use Rattle.kern_mounts.proofs.Splits.{None_have, split_is}
-use Rattle.kernel_model.specs.World.{of_number, put_number, table_or, table_of}
-use Rattle.kernel_model.specs.Worlds.{IsRooted, IsKernel}
+use Rattle.kern_mounts.specs.Mounts.{Mounts as Table}
+use Rattle.kern_mounts.specs.MountsRemount.{with_root_flags}
+use Rattle.kernel_model.specs.World.{of_number, put_number, table_or, mounts_of}
+use Rattle.kernel_model.specs.Worlds.{IsKernel}
 use Rattle.kernel_model.specs.State.{State, world_of, place_of, AtPlace}
-use Rattle.kernel_model.specs.MountStep.{with_first_flags, with_step}
+use Rattle.kernel_model.specs.MountStep.{with_step}
 use Rattle.kernel_model.proofs.Lists.{get_some}
 use Rattle.kernel_model.proofs.Places.{has_table, stands}
 use Rattle.kernel_model.proofs.Rooted.{rooted_step}
 use Rattle.kernel_model.proofs.Kernels.{kernel_table, rooted_table, living_space}
 
--- no entry below the root leads to the root
-lower_leads : (place : Path) → is_root place ≡ false → is_prefix place [] ≡ false
-lower_leads [] low = cc
-lower_leads (part ∷ place) low = refl
-
-none_lead : (table : Table) → AllByRecursion (λ (entry : MountStep). is_root entry.place ≡ false) table → None_have (leads_to []) table
-none_lead [] all = tt
-none_lead (entry ∷ table) all = (lower_leads entry.place all.0, none_lead table all.1)
-
--- so `/` belongs to the first entry
-split_root : (first : MountStep) (table : Table) → first.place ≡ [] → AllByRecursion (λ (entry : MountStep). is_root entry.place ≡ false) table → split_at [] (first ∷ table) ≡ Some (record { earlier = []; entry = first; later = table })
-split_root first table root low =
-    let leads : leads_to [] first ≡ true = ap (λ (p : Path). is_prefix p []) root in
-    split_is (leads_to []) [] first table leads (none_lead table low)
-
-root_is : (place : Path) → is_root place ≡ true → place ≡ []
-root_is [] e = refl
-root_is (part ∷ place) e = cc
-
-remounted_root : (first : MountStep) (table : Table) (flags : Flags) → first.place ≡ [] → AllByRecursion (λ (entry : MountStep). is_root entry.place ≡ false) table → after_remount (first ∷ table) [] flags ≡ Ok (record first { flags = flags } ∷ table)
-remounted_root first table flags root low =
-    let at : is_at [] first ≡ true = ap (λ (p : Path). is_same p []) root in
-    ap (remounted [] flags) (split_root first table root low) ∙ by (is_at [] first) at
-  where
-    by : (b : Bool) → b ≡ true → ◌≡◌ {A = Result Table ℕ} (cond b (Ok (record first { flags = flags } ∷ table)) (Err einval)) (Ok (record first { flags = flags } ∷ table))
-    by true e = refl
-    by false e = cc
-
-pub root_remount : (table : Table) (place : Path) (flags : Flags) → IsRooted table → is_root place ≡ true → after_remount table place flags ≡ Ok (with_first_flags flags table)
-root_remount [] place flags h e = absurd h
-root_remount (first ∷ table) place flags h e = ap (λ (p : Path). after_remount (first ∷ table) p flags) (root_is place e) ∙ remounted_root first table flags h.0 h.1
-
-pub steps_at_root : (table new : Table) (step : MountStep) → IsRooted table → is_root step.place ≡ true → after_remount table step.place step.flags ≡ Ok new → new ≡ with_step table step
-steps_at_root table new step h e is =
-    let both : Ok new ≡ Ok (with_first_flags step.flags table) = sym is ∙ root_remount table step.place step.flags h e in
-    let same : new ≡ with_first_flags step.flags table = cc in
-    rw e same
-
-pub never_refused : (table : Table) (step : MountStep) (errno : ℕ) → IsRooted table → is_root step.place ≡ true → after_remount table step.place step.flags ≡ Err errno → ⊥
-never_refused table step errno h e is =
-    let both : Err errno ≡ Ok (with_first_flags step.flags table) = sym is ∙ root_remount table step.place step.flags h e in
-    cc
+pub steps_at_root : (table new : Table) (step : MountStep) → is_root step.place ≡ true → new ≡ with_root_flags step.flags table → new ≡ with_step table step
+steps_at_root table new step e h = rw e h
 
 some_at : {X : Type 0} (xs : List X) (i : ℕ) → i < length xs → (x : X) × (slice_get xs i ≡ Some x)
 some_at [] i lt = absurd (omega (arith, lt))
@@ -106,5 +60,5 @@ kernel_stepped calls site old new pid place step (Ok t) at k h s =
     let who = stands (world_of calls site old) pid place at in
     let space = living_space (world_of calls site old) pid who.caller k who.lives in
     let table = rooted_table (world_of calls site old) who.caller k space in
-    let after = kernel_table (world_of calls site old) who.caller.namespace (with_step (table_of (world_of calls site old) who.caller.namespace) step) k (rooted_step (table_of (world_of calls site old) who.caller.namespace) step table) in
+    let after = kernel_table (world_of calls site old) who.caller.namespace (with_step (mounts_of (world_of calls site old) who.caller.namespace) step) k (rooted_step (mounts_of (world_of calls site old) who.caller.namespace) step table) in
     subst (λ (s : State). IsKernel s.processes s.tables) (sym (h pid who.caller who.place_is who.stands)) after

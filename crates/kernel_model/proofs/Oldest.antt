@@ -5,7 +5,7 @@ use Rattle.kernel_calls.specs.declared.call.Call.{Call}
 use Rattle.kernel_model.specs.declared.process.Process.{Process}
 use Rattle.kernel_model.specs.declared.reply.Reply.{Reply}
 use Rattle.kernel_model.specs.Effects.{Effect, effect_of}
-use Rattle.kernel_model.specs.World.{World, living_of, moved_to, ended, host_of, caller_of}
+use Rattle.kernel_model.specs.World.{World, living_of, entered_by, moved_to, ended, host_of, caller_of}
 use Rattle.kernel_model.specs.Step.{step}
 use Rattle.kernel_model.specs.StepCases as case
 use Rattle.kernel_model.specs.StepCases.{StepCase, EffectCase}
@@ -32,6 +32,15 @@ oldest_effect programs world pid process effect out all h (case.no_namespace_for
 oldest_effect programs world pid process effect out all h (case.gives_copy room space) = each-append (StandsOn programs) world.processes (moved_to process (length world.tables) ∷ []) all (h, tt)
 oldest_effect programs world pid process effect out all h (case.no_namespace_left full) = all
 oldest_effect programs world pid process effect out all h (case.moves space) = each-set (StandsOn programs) world.processes (pid - 1) (moved_to process (length world.tables)) all h
+oldest_effect programs world pid process effect out all h (case.no_user_for_child own full) = all
+oldest_effect programs world pid process effect out all h (case.no_process_for_user own left full) = all
+oldest_effect programs world pid process effect out all h (case.gives_user left room) = each-append (StandsOn programs) world.processes (entered_by process world.users ∷ []) all (h, tt)
+oldest_effect programs world pid process effect out all h (case.no_namespace_for_user left room full) = all
+oldest_effect programs world pid process effect out all h (case.gives_user_and_copy left room space) = each-append (StandsOn programs) world.processes (moved_to (entered_by process world.users) (length world.tables) ∷ []) all (h, tt)
+oldest_effect programs world pid process effect out all h (case.no_user_left own full) = all
+oldest_effect programs world pid process effect out all h (case.enters left) = each-set (StandsOn programs) world.processes (pid - 1) (entered_by process world.users) all h
+oldest_effect programs world pid process effect out all h (case.no_namespace_behind_user left full) = all
+oldest_effect programs world pid process effect out all h (case.enters_and_moves left space) = each-set (StandsOn programs) world.processes (pid - 1) (moved_to (entered_by process world.users) (length world.tables)) all h
 oldest_effect programs world pid process effect out all h case.ends = each-set (StandsOn programs) world.processes (pid - 1) (ended process) all h
 
 -- who lives stands on them

@@ -3,7 +3,7 @@ use Rattle.std.proofs.Common.{◌≡◌, ℕ, List, Result, Ok, Err, refl}
 use Rattle.bpf_code.specs.declared.machine.Insn.{Insn}
 use Rattle.kern_creds.specs.declared.creds.Creds.{Creds}
 use Rattle.kern_creds.specs.Answer.{Becomes}
-use Rattle.kern_mounts.specs.Split.{Table}
+use Rattle.kern_mounts.specs.Mounts.{Mounts as Table}
 use Rattle.kernel_model.specs.declared.process.Process.{Process}
 use Rattle.kernel_model.specs.declared.reply.Reply.{Reply}
 use Rattle.kernel_model.specs.declared.outcome.Outcome.{Outcome}
@@ -25,6 +25,8 @@ answered old reply (f.SetTable table) e = absurd e
 answered old reply (f.Push program) e = absurd e
 answered old reply (f.Child own) e = absurd e
 answered old reply f.OwnTable e = absurd e
+answered old reply (f.UserChild own) e = absurd e
+answered old reply (f.OwnUser own) e = absurd e
 answered old reply f.End e = absurd e
 
 pub changed : (process : Process) (table : Table) (reply : Reply) (new : Creds) (effect : Effect) → Changes process.creds reply new effect
@@ -36,6 +38,8 @@ changed process table reply new (f.SetTable after) e = absurd e
 changed process table reply new (f.Push program) e = absurd e
 changed process table reply new (f.Child own) e = absurd e
 changed process table reply new f.OwnTable e = absurd e
+changed process table reply new (f.UserChild own) e = absurd e
+changed process table reply new (f.OwnUser own) e = absurd e
 changed process table reply new f.End e = absurd e
 
 pub became : (process : Process) (table : Table) (outcome : Outcome) (result : Result (Unit {0}) ℕ) (new : Creds) (answer : Result Creds ℕ)
@@ -53,6 +57,8 @@ mounted process table reply new (f.SetCreds creds) e = absurd e
 mounted process table reply new (f.Push program) e = absurd e
 mounted process table reply new (f.Child own) e = absurd e
 mounted process table reply new f.OwnTable e = absurd e
+mounted process table reply new (f.UserChild own) e = absurd e
+mounted process table reply new (f.OwnUser own) e = absurd e
 mounted process table reply new f.End e = absurd e
 
 pub pushed : (process : Process) (table : Table) (reply : Reply) (new : List (List Insn)) (effect : Effect) → Pushes process.stack reply new effect
@@ -64,4 +70,6 @@ pushed process table reply new (f.SetCreds creds) e = absurd e
 pushed process table reply new (f.SetTable after) e = absurd e
 pushed process table reply new (f.Child own) e = absurd e
 pushed process table reply new f.OwnTable e = absurd e
+pushed process table reply new (f.UserChild own) e = absurd e
+pushed process table reply new (f.OwnUser own) e = absurd e
 pushed process table reply new f.End e = absurd e

@@ -1,8 +1,8 @@
 -- Processes, living ones and their tables, by number and by place.
-use Rattle.std.proofs.Common.{◌≡◌, ℕ, ◌<◌, ◌-◌, ◌+◌, ◌==◌, Bool, true, false, cond, List, length, Option, Some, None, refl, sym, ap, ◌∙◌, subst, arith}
+use Rattle.std.proofs.Common.{◌≡◌, ℕ, zero, suc, ◌<◌, ◌-◌, ◌+◌, ◌==◌, Bool, true, false, cond, List, [], ◌∷◌, length, Option, Some, None, refl, sym, ap, ◌∙◌, subst, arith}
 use Rattle.std.specs.Prelude.{slice_get, option_map}
 use Rattle.std.specs.List.{AllByRecursion}
-use Rattle.kern_mounts.specs.Split.{Table}
+use Rattle.kern_mounts.specs.Mounts.{Mounts as Table}
 use Rattle.kernel_model.specs.declared.process.Process.{Process}
 use Rattle.kernel_model.specs.World.{World, of_number, process_of, living_of, if_alive}
 use Rattle.kernel_model.specs.State.{place_of}
@@ -81,6 +81,21 @@ absent_by world pid false n e = absent_found (if_alive (slice_get world.processe
 -- nobody lives where there is no place
 pub absent : (world : World) (pid : ℕ) → place_of world.processes pid ≡ None → living_of world pid ≡ None
 absent world pid e = absent_by world pid (pid == 0) refl e
+
+-- the thing of a number
+pub has_number : {X : Type 0} (xs : List X) (number at : ℕ) (x : X) → at + 1 ≡ number → slice_get xs at ≡ Some x → of_number xs number ≡ Some x
+has_number xs number at x is e =
+    let n : (number == 0) ≡ false = subst (λ (k : ℕ). (k == 0) ≡ false) is (positive at) in
+    let p : number - 1 ≡ at = omega (arith, is) in
+    get_number xs number x n (ap (slice_get xs) p ∙ e)
+  where
+    positive : (k : ℕ) → (k + 1 == 0) ≡ false
+    positive k = grind arith
+
+pub some_at : {X : Type 0} (xs : List X) (i : ℕ) → i < length xs → (x : X) × (slice_get xs i ≡ Some x)
+some_at [] i lt = absurd (omega (arith, lt))
+some_at (y ∷ ys) zero lt = (y, refl)
+some_at (y ∷ ys) (suc i) lt = let less : i < length ys = omega (arith, lt) in some_at ys i less
 
 -- the table of a process that is in a namespace
 pub has_table : (tables : List Table) (process : Process) (at : ℕ) (table : Table) → at + 1 ≡ process.namespace → slice_get tables at ≡ Some table → of_number tables process.namespace ≡ Some table

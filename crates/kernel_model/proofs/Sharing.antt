@@ -11,6 +11,8 @@ use Rattle.linux_numbers.specs.Capabilities.{cap_sys_admin}
 use Rattle.cap_sets.specs.Sets.{has}
 use Rattle.kern_creds.specs.declared.creds.Creds.{Creds}
 use Rattle.kern_files.specs.Bits.{has_some}
+use Rattle.kern_mounts.specs.Mounts.{Mounts as Table}
+use Rattle.kern_mounts.specs.Copying.{copied}
 use Rattle.kernel_calls.specs.declared.call.Call.{Call}
 use Rattle.kernel_calls.specs.Doing.{Doing, Does, Fork, Clone, Unshare, asked_of}
 use Rattle.kernel_model.specs.declared.process.Process.{Process}
@@ -18,8 +20,8 @@ use Rattle.kernel_model.specs.declared.reply.Reply.{Reply}
 use Rattle.kernel_model.specs.declared.reply.Reply.TheVariants as reply
 use Rattle.kernel_model.specs.Effects as f
 use Rattle.kernel_model.specs.Effects.{Effect, effect_of, with_admin, clone_effect, unshare_effect, thread_flag, newns, newuser, other_spaces, no_spaces}
-use Rattle.kernel_model.specs.World.{World, living_of, process_of, of_number, table_of, with_copy, moved_to, host_of, caller_of}
-use Rattle.kernel_model.specs.Step.{step, step_by, decided, answered, applied, data_of}
+use Rattle.kernel_model.specs.World.{World, living_of, process_of, of_number, mounts_of, with_copy, moved_to, host_of, caller_of, owner_of, owner_or}
+use Rattle.kernel_model.specs.Step.{step, step_by, decided, answered, applied, decision_of}
 use Rattle.kernel_model.specs.StepCases as case
 use Rattle.kernel_model.specs.StepCases.{EffectCase}
 use Rattle.kernel_model.specs.Laws.{IsForked, ForkShares, IsCloned, CloneGivesACopy, IsUnshared, UnshareGivesACopy}
@@ -28,17 +30,17 @@ use Rattle.kernel_model.proofs.Places.{number_get, get_number, living_made}
 use Rattle.kernel_model.proofs.Cases.{effect_case}
 
 -- a step that is done is what its effect comes to
-decided_done : (world : World) (call : Call) (process : Process) (doing : Doing) (value : ℕ) (d : Decision) → asked_of world.calls.calls call ≡ Does doing → (decided world call process d).0 ≡ reply.Done value
+decided_done : (world : World) (call : Call) (process : Process) (doing : Doing) (value : ℕ) (d : Decision) → asked_of world.calls call ≡ Does doing → (decided world call process d).0 ≡ reply.Done value
     → decided world call process d ≡ applied world call.pid process (effect_of (host_of world) (caller_of world process) doing)
 decided_done world call process doing value decision.Pass asked e = ap (answered world call.pid process) asked
 decided_done world call process doing value (decision.Errno errno) asked e = cc
 decided_done world call process doing value decision.Kill asked e = cc
 
-done_is : (world : World) (call : Call) (process : Process) (doing : Doing) (value : ℕ) → living_of world call.pid ≡ Some process → asked_of world.calls.calls call ≡ Does doing → (step world call).0 ≡ reply.Done value
+done_is : (world : World) (call : Call) (process : Process) (doing : Doing) (value : ℕ) → living_of world call.pid ≡ Some process → asked_of world.calls call ≡ Does doing → (step world call).0 ≡ reply.Done value
     → step world call ≡ applied world call.pid process (effect_of (host_of world) (caller_of world process) doing)
 done_is world call process doing value living asked e =
-    let lived : step world call ≡ decided world call process (decision_on process.stack (data_of world call)) = ap (step_by world call) living in
-    lived ∙ decided_done world call process doing value (decision_on process.stack (data_of world call)) asked (ap (λ (out : Reply × World). out.0) (sym lived) ∙ e)
+    let lived : step world call ≡ decided world call process (decision_of world call process) = ap (step_by world call) living in
+    lived ∙ decided_done world call process doing value (decision_of world call process) asked (ap (λ (out : Reply × World). out.0) (sym lived) ∙ e)
 
 -- what is behind the others has the next number
 last_number : {X : Type 0} (xs : List X) (x : X) → of_number (xs ++ x ∷ []) (length xs + 1) ≡ Some x
@@ -74,6 +76,15 @@ forked world pid process value effect out made is (case.no_namespace_for_child r
 forked world pid process value effect out made is (case.gives_copy room space) e = cc
 forked world pid process value effect out made is (case.no_namespace_left full) e = cc
 forked world pid process value effect out made is (case.moves space) e = cc
+forked world pid process value effect out made is (case.no_user_for_child own full) e = cc
+forked world pid process value effect out made is (case.no_process_for_user own left full) e = cc
+forked world pid process value effect out made is (case.gives_user left room) e = cc
+forked world pid process value effect out made is (case.no_namespace_for_user left room full) e = cc
+forked world pid process value effect out made is (case.gives_user_and_copy left room space) e = cc
+forked world pid process value effect out made is (case.no_user_left own full) e = cc
+forked world pid process value effect out made is (case.enters left) e = cc
+forked world pid process value effect out made is (case.no_namespace_behind_user left full) e = cc
+forked world pid process value effect out made is (case.enters_and_moves left space) e = cc
 forked world pid process value effect out made is case.ends e = cc
 
 pub fork_shares : ForkShares
@@ -82,8 +93,12 @@ fork_shares world call process value living asked e =
     let after = forked world call.pid process value (f.Child false) (applied world call.pid process (f.Child false)) (living_made world call.pid process living) refl (effect_case world call.pid process (f.Child false)) (ap (λ (out : Reply × World). out.0) (sym is) ∙ e) in
     subst (λ (out : Reply × World). IsForked world call.pid process value out.1) (sym is) after
 
-cloned : (world : World) (pid : ℕ) (process : Process) (value : ℕ) (effect : Effect) (out : Reply × World) → process_of world pid ≡ Some process → effect ≡ f.Child true → EffectCase world pid process effect out → out.0 ≡ reply.Done value → IsCloned world pid process value out.1
-cloned world pid process value effect out made is (case.gives_copy room space) e =
+-- the table that a process's new namespace has
+abbrev copy_of : World → Process → Table
+copy_of world process = copied (not (owner_of world process.namespace == process.user)) (mounts_of world process.namespace)
+
+cloned : (world : World) (numbers : length world.owners ≡ length world.tables) (pid : ℕ) (process : Process) (value : ℕ) (effect : Effect) (out : Reply × World) → process_of world pid ≡ Some process → effect ≡ f.Child true → EffectCase world pid process effect out → out.0 ≡ reply.Done value → IsCloned world pid process value out.1
+cloned world numbers pid process value effect out made is (case.gives_copy room space) e =
     let number : value ≡ length world.processes + 1 = cc in
     let child = moved_to process (length world.tables) in
     record {
@@ -91,40 +106,63 @@ cloned world pid process value effect out made is (case.gives_copy room space) e
       child = ap (λ (n : ℕ). of_number (world.processes ++ child ∷ []) n) number ∙ last_number world.processes child;
       number = number;
       own_table = own world process;
-      count = length-push world.tables (table_of world process.namespace);
+      owner = home world process numbers;
+      count = length-push world.tables (copy_of world process);
     }
   where
-    own : (world : World) (process : Process) → table_of (with_copy world process.namespace) (length world.tables + 1) ≡ table_of world process.namespace
-    own world process = rw (last_number world.tables (table_of world process.namespace)) refl
-cloned world pid process value effect out made is (case.refuses errno) e = cc
-cloned world pid process value effect out made is (case.answers other) e = cc
-cloned world pid process value effect out made is (case.takes_creds creds) e = cc
-cloned world pid process value effect out made is (case.takes_table table) e = cc
-cloned world pid process value effect out made is (case.takes_program program) e = cc
-cloned world pid process value effect out made is (case.no_process_left own full) e = cc
-cloned world pid process value effect out made is (case.shares room) e = cc
-cloned world pid process value effect out made is (case.no_namespace_for_child room full) e = cc
-cloned world pid process value effect out made is (case.no_namespace_left full) e = cc
-cloned world pid process value effect out made is (case.moves space) e = cc
-cloned world pid process value effect out made is case.ends e = cc
+    own : (world : World) (process : Process) → mounts_of (with_copy world process.namespace process.user) (length world.tables + 1) ≡ copy_of world process
+    own world process = rw (last_number world.tables (copy_of world process)) refl
 
-unshared : (world : World) (pid : ℕ) (process : Process) (value : ℕ) (effect : Effect) (out : Reply × World) → process_of world pid ≡ Some process → effect ≡ f.OwnTable → EffectCase world pid process effect out → out.0 ≡ reply.Done value → IsUnshared world pid process out.1
-unshared world pid process value effect out made is (case.moves space) e = record {
+    home : (world : World) (process : Process) → length world.owners ≡ length world.tables → owner_of (with_copy world process.namespace process.user) (length world.tables + 1) ≡ process.user
+    home world process numbers = ap (λ (n : ℕ). owner_or (of_number (world.owners ++ process.user ∷ []) (n + 1))) (sym numbers) ∙ ap owner_or (last_number world.owners process.user)
+cloned world numbers pid process value effect out made is (case.refuses errno) e = cc
+cloned world numbers pid process value effect out made is (case.answers other) e = cc
+cloned world numbers pid process value effect out made is (case.takes_creds creds) e = cc
+cloned world numbers pid process value effect out made is (case.takes_table table) e = cc
+cloned world numbers pid process value effect out made is (case.takes_program program) e = cc
+cloned world numbers pid process value effect out made is (case.no_process_left own full) e = cc
+cloned world numbers pid process value effect out made is (case.shares room) e = cc
+cloned world numbers pid process value effect out made is (case.no_namespace_for_child room full) e = cc
+cloned world numbers pid process value effect out made is (case.no_namespace_left full) e = cc
+cloned world numbers pid process value effect out made is (case.moves space) e = cc
+cloned world numbers pid process value effect out made is (case.no_user_for_child own full) e = cc
+cloned world numbers pid process value effect out made is (case.no_process_for_user own left full) e = cc
+cloned world numbers pid process value effect out made is (case.gives_user left room) e = cc
+cloned world numbers pid process value effect out made is (case.no_namespace_for_user left room full) e = cc
+cloned world numbers pid process value effect out made is (case.gives_user_and_copy left room space) e = cc
+cloned world numbers pid process value effect out made is (case.no_user_left own full) e = cc
+cloned world numbers pid process value effect out made is (case.enters left) e = cc
+cloned world numbers pid process value effect out made is (case.no_namespace_behind_user left full) e = cc
+cloned world numbers pid process value effect out made is (case.enters_and_moves left space) e = cc
+cloned world numbers pid process value effect out made is case.ends e = cc
+
+unshared : (world : World) (numbers : length world.owners ≡ length world.tables) (pid : ℕ) (process : Process) (value : ℕ) (effect : Effect) (out : Reply × World) → process_of world pid ≡ Some process → effect ≡ f.OwnTable → EffectCase world pid process effect out → out.0 ≡ reply.Done value → IsUnshared world pid process out.1
+unshared world numbers pid process value effect out made is (case.moves space) e = record {
   caller = set_number world.processes pid (moved_to process (length world.tables)) process made;
-  own_table = rw (last_number world.tables (table_of world process.namespace)) refl;
-  count = length-push world.tables (table_of world process.namespace);
+  own_table = rw (last_number world.tables (copy_of world process)) refl;
+  owner = ap (λ (n : ℕ). owner_or (of_number (world.owners ++ process.user ∷ []) (n + 1))) (sym numbers) ∙ ap owner_or (last_number world.owners process.user);
+  count = length-push world.tables (copy_of world process);
 }
-unshared world pid process value effect out made is (case.gives_copy room space) e = cc
-unshared world pid process value effect out made is (case.refuses errno) e = cc
-unshared world pid process value effect out made is (case.answers other) e = cc
-unshared world pid process value effect out made is (case.takes_creds creds) e = cc
-unshared world pid process value effect out made is (case.takes_table table) e = cc
-unshared world pid process value effect out made is (case.takes_program program) e = cc
-unshared world pid process value effect out made is (case.no_process_left own full) e = cc
-unshared world pid process value effect out made is (case.shares room) e = cc
-unshared world pid process value effect out made is (case.no_namespace_for_child room full) e = cc
-unshared world pid process value effect out made is (case.no_namespace_left full) e = cc
-unshared world pid process value effect out made is case.ends e = cc
+unshared world numbers pid process value effect out made is (case.gives_copy room space) e = cc
+unshared world numbers pid process value effect out made is (case.refuses errno) e = cc
+unshared world numbers pid process value effect out made is (case.answers other) e = cc
+unshared world numbers pid process value effect out made is (case.takes_creds creds) e = cc
+unshared world numbers pid process value effect out made is (case.takes_table table) e = cc
+unshared world numbers pid process value effect out made is (case.takes_program program) e = cc
+unshared world numbers pid process value effect out made is (case.no_process_left own full) e = cc
+unshared world numbers pid process value effect out made is (case.shares room) e = cc
+unshared world numbers pid process value effect out made is (case.no_namespace_for_child room full) e = cc
+unshared world numbers pid process value effect out made is (case.no_namespace_left full) e = cc
+unshared world numbers pid process value effect out made is (case.no_user_for_child own full) e = cc
+unshared world numbers pid process value effect out made is (case.no_process_for_user own left full) e = cc
+unshared world numbers pid process value effect out made is (case.gives_user left room) e = cc
+unshared world numbers pid process value effect out made is (case.no_namespace_for_user left room full) e = cc
+unshared world numbers pid process value effect out made is (case.gives_user_and_copy left room space) e = cc
+unshared world numbers pid process value effect out made is (case.no_user_left own full) e = cc
+unshared world numbers pid process value effect out made is (case.enters left) e = cc
+unshared world numbers pid process value effect out made is (case.no_namespace_behind_user left full) e = cc
+unshared world numbers pid process value effect out made is (case.enters_and_moves left space) e = cc
+unshared world numbers pid process value effect out made is case.ends e = cc
 
 -- clone and unshare refuse, or make what CLONE_NEWNS asks for: it is one of the six namespaces
 data Asks (effect : Effect) : Effect → Type 0 where
@@ -152,54 +190,54 @@ asks_admin : (creds : Creds) (effect : Effect) (b : Bool) → Asks effect (cond 
 asks_admin creds effect true = asks
 asks_admin creds effect false = refuses eperm
 
-clone_asks : (creds : Creds) (flags : ℕ) → has_some newns flags ≡ true → Asks (f.Child true) (clone_effect creds flags)
-clone_asks creds flags e = thread (has_some thread_flag flags)
+clone_asks : (creds : Creds) (flags : ℕ) → has_some newuser flags ≡ false → has_some newns flags ≡ true → Asks (f.Child true) (clone_effect creds flags)
+clone_asks creds flags none e = thread (has_some thread_flag flags)
   where
     spaces : (b own : Bool) → b ≡ true → own ≡ true → Asks (f.Child true) (cond b (with_admin creds (f.Child own)) (f.Child false))
     spaces true true s o = asks_admin creds (f.Child true) (has creds.effective cap_sys_admin)
     spaces true false s o = cc
     spaces false own s o = cc
 
-    user : (b : Bool) → Asks (f.Child true) (cond b (f.Refuse enospc) (cond (has_some other_spaces flags) (with_admin creds (f.Child (has_some newns flags))) (f.Child false)))
-    user true = refuses enospc
-    user false = spaces (has_some other_spaces flags) (has_some newns flags) (newns_is_other flags e) e
+    user : (b : Bool) → b ≡ false → Asks (f.Child true) (cond b (f.UserChild (has_some newns flags)) (cond (has_some other_spaces flags) (with_admin creds (f.Child (has_some newns flags))) (f.Child false)))
+    user true n = cc
+    user false n = spaces (has_some other_spaces flags) (has_some newns flags) (newns_is_other flags e) e
 
-    thread : (b : Bool) → Asks (f.Child true) (cond b (f.Refuse einval) (cond (has_some newuser flags) (f.Refuse enospc) (cond (has_some other_spaces flags) (with_admin creds (f.Child (has_some newns flags))) (f.Child false))))
+    thread : (b : Bool) → Asks (f.Child true) (cond b (f.Refuse einval) (cond (has_some newuser flags) (f.UserChild (has_some newns flags)) (cond (has_some other_spaces flags) (with_admin creds (f.Child (has_some newns flags))) (f.Child false))))
     thread true = refuses einval
-    thread false = user (has_some newuser flags)
+    thread false = user (has_some newuser flags) none
 
-unshare_asks : (creds : Creds) (flags : ℕ) → has_some newns flags ≡ true → Asks f.OwnTable (unshare_effect creds flags)
-unshare_asks creds flags e = outside (has_some no_spaces flags)
+unshare_asks : (creds : Creds) (flags : ℕ) → has_some newuser flags ≡ false → has_some newns flags ≡ true → Asks f.OwnTable (unshare_effect creds flags)
+unshare_asks creds flags none e = outside (has_some no_spaces flags)
   where
     spaces : (b own : Bool) → b ≡ true → own ≡ true → Asks f.OwnTable (cond b (with_admin creds (cond own f.OwnTable (f.Answer 0))) (f.Answer 0))
     spaces true true s o = asks_admin creds f.OwnTable (has creds.effective cap_sys_admin)
     spaces true false s o = cc
     spaces false own s o = cc
 
-    user : (b : Bool) → Asks f.OwnTable (cond b (f.Refuse enospc) (cond (has_some other_spaces flags) (with_admin creds (cond (has_some newns flags) f.OwnTable (f.Answer 0))) (f.Answer 0)))
-    user true = refuses enospc
-    user false = spaces (has_some other_spaces flags) (has_some newns flags) (newns_is_other flags e) e
+    user : (b : Bool) → b ≡ false → Asks f.OwnTable (cond b (f.OwnUser (has_some newns flags)) (cond (has_some other_spaces flags) (with_admin creds (cond (has_some newns flags) f.OwnTable (f.Answer 0))) (f.Answer 0)))
+    user true n = cc
+    user false n = spaces (has_some other_spaces flags) (has_some newns flags) (newns_is_other flags e) e
 
-    outside : (b : Bool) → Asks f.OwnTable (cond b (f.Refuse einval) (cond (has_some newuser flags) (f.Refuse enospc) (cond (has_some other_spaces flags) (with_admin creds (cond (has_some newns flags) f.OwnTable (f.Answer 0))) (f.Answer 0))))
+    outside : (b : Bool) → Asks f.OwnTable (cond b (f.Refuse einval) (cond (has_some newuser flags) (f.OwnUser (has_some newns flags)) (cond (has_some other_spaces flags) (with_admin creds (cond (has_some newns flags) f.OwnTable (f.Answer 0))) (f.Answer 0))))
     outside true = refuses einval
-    outside false = user (has_some newuser flags)
+    outside false = user (has_some newuser flags) none
 
-cloned_by : (world : World) (pid : ℕ) (process : Process) (value : ℕ) (effect : Effect) → process_of world pid ≡ Some process → Asks (f.Child true) effect → (applied world pid process effect).0 ≡ reply.Done value → IsCloned world pid process value (applied world pid process effect).1
-cloned_by world pid process value effect made (refuses errno) e = cc
-cloned_by world pid process value effect made asks e = cloned world pid process value (f.Child true) (applied world pid process (f.Child true)) made refl (effect_case world pid process (f.Child true)) e
+cloned_by : (world : World) (numbers : length world.owners ≡ length world.tables) (pid : ℕ) (process : Process) (value : ℕ) (effect : Effect) → process_of world pid ≡ Some process → Asks (f.Child true) effect → (applied world pid process effect).0 ≡ reply.Done value → IsCloned world pid process value (applied world pid process effect).1
+cloned_by world numbers pid process value effect made (refuses errno) e = cc
+cloned_by world numbers pid process value effect made asks e = cloned world numbers pid process value (f.Child true) (applied world pid process (f.Child true)) made refl (effect_case world pid process (f.Child true)) e
 
 pub clone_gives_a_copy : CloneGivesACopy
-clone_gives_a_copy world call process flags value living asked own e =
+clone_gives_a_copy world call process flags value numbers living asked none own e =
     let is = done_is world call process (Clone flags) value living asked e in
     subst (λ (out : Reply × World). IsCloned world call.pid process value out.1) (sym is)
-    (cloned_by world call.pid process value (clone_effect process.creds flags) (living_made world call.pid process living) (clone_asks process.creds flags own) (ap (λ (out : Reply × World). out.0) (sym is) ∙ e))
+    (cloned_by world numbers call.pid process value (clone_effect process.creds flags) (living_made world call.pid process living) (clone_asks process.creds flags none own) (ap (λ (out : Reply × World). out.0) (sym is) ∙ e))
 
-unshared_by : (world : World) (pid : ℕ) (process : Process) (value : ℕ) (effect : Effect) → process_of world pid ≡ Some process → Asks f.OwnTable effect → (applied world pid process effect).0 ≡ reply.Done value → IsUnshared world pid process (applied world pid process effect).1
-unshared_by world pid process value effect made (refuses errno) e = cc
-unshared_by world pid process value effect made asks e = unshared world pid process value f.OwnTable (applied world pid process f.OwnTable) made refl (effect_case world pid process f.OwnTable) e
+unshared_by : (world : World) (numbers : length world.owners ≡ length world.tables) (pid : ℕ) (process : Process) (value : ℕ) (effect : Effect) → process_of world pid ≡ Some process → Asks f.OwnTable effect → (applied world pid process effect).0 ≡ reply.Done value → IsUnshared world pid process (applied world pid process effect).1
+unshared_by world numbers pid process value effect made (refuses errno) e = cc
+unshared_by world numbers pid process value effect made asks e = unshared world numbers pid process value f.OwnTable (applied world pid process f.OwnTable) made refl (effect_case world pid process f.OwnTable) e
 
 pub unshare_gives_a_copy : UnshareGivesACopy
-unshare_gives_a_copy world call process flags value living asked own e =
+unshare_gives_a_copy world call process flags value numbers living asked none own e =
     let is = done_is world call process (Unshare flags) value living asked e in
     subst (λ (out : Reply × World). IsUnshared world call.pid process out.1) (sym is)
-    (unshared_by world call.pid process value (unshare_effect process.creds flags) (living_made world call.pid process living) (unshare_asks process.creds flags own) (ap (λ (out : Reply × World). out.0) (sym is) ∙ e))
+    (unshared_by world numbers call.pid process value (unshare_effect process.creds flags) (living_made world call.pid process living) (unshare_asks process.creds flags none own) (ap (λ (out : Reply × World). out.0) (sym is) ∙ e))

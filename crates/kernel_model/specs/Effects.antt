@@ -1,13 +1,13 @@
 -- What a call comes to, said of the calling process and its mount table alone: its rule, with the errors in their order.
-use Rattle.std.specs.Prelude.{ℕ, ◌+◌, ◌==◌, ◌&&◌, ◌||◌, not, nat_lt, nat_le, Bool, false, List, length, Option, Some, None, Result, Ok, Err, if◌then◌else◌}
+use Rattle.std.specs.Prelude.{ℕ, ◌+◌, ◌==◌, ◌&&◌, ◌||◌, not, nat_lt, nat_le, Bool, true, false, List, length, Option, Some, None, Result, Ok, Err, if◌then◌else◌}
 use Rattle.bpf_code.specs.declared.machine.Insn.{Insn}
 use Rattle.bpf_code.specs.ProgramOf.{program_of}
 use Rattle.bpf_code.specs.Stack.{room_of}
 use Rattle.cap_sets.specs.Sets.{has}
 use Rattle.abs_path.specs.Paths.{Path}
-use Rattle.linux_numbers.specs.Errnos.{eperm, ebadf, eacces, einval, enospc, enomem, eafnosupport}
+use Rattle.linux_numbers.specs.Errnos.{eperm, ebadf, eacces, einval, enomem, eafnosupport}
 use Rattle.linux_numbers.specs.Capabilities.{cap_sys_admin, cap_last_cap}
-use Rattle.linux_numbers.specs.Limits.{max_insns_per_path}
+use Rattle.linux_numbers.specs.Limits.{max_insns_per_path, no_id}
 use Rattle.call_table.specs.declared.listed.CallLine.{CallLine}
 use Rattle.call_table.specs.Lookups.{numbered}
 use Rattle.site_table.specs.declared.row.Row.{Row}
@@ -18,13 +18,12 @@ use Rattle.kern_creds.specs.Setgroups.{after_setgroups}
 use Rattle.kern_creds.specs.Capset.{after_capset}
 use Rattle.kern_creds.specs.Prctl.{after_drop_bounding, after_raise, after_lower, after_clear_ambient, after_set_keepcaps, after_set_no_new_privs}
 use Rattle.kern_mounts.specs.Finds.{finds}
-use Rattle.kern_mounts.specs.Split.{Table}
+use Rattle.kern_mounts.specs.Mounts.{Mounts as Table, steps_of}
 use Rattle.kern_files.specs.Bits.{has_some}
 use Rattle.kern_files.specs.Looking.{flags_at, see_answer, write_answer, open_answer}
-use Rattle.kern_files.specs.Executing.{exec_answer}
-use Rattle.kern_files.specs.MountCall.{after_mount}
-use Rattle.kern_files.specs.UmountCall.{umount_answer}
-use Rattle.kernel_calls.specs.Doing.{Doing, See, Open, Create, Truncate, Execve, SetMode, Map, Protect, Attach, Schedule, Personality, Socket, Enter, Fork, Clone, Unshare, Exit, Mount, Umount, Setuid, Setgid, Setresuid, Setresgid, Setgroups, Capset, Prctl, Seccomp, Plain}
+use Rattle.kern_files.specs.Executing.{exec_answer_in}
+use Rattle.kernel_calls.specs.Doing.{Doing, See, Open, Create, Truncate, Execve, SetMode, Map, Protect, Attach, Schedule, Personality, Socket, Enter, Fork, Clone, Unshare, Exit, Mount, Umount, Setuid, Setgid, Setresuid, Setresgid, Setgroups, Capset, Prctl, Seccomp, Plain, Socketcall}
+use Rattle.kern_files.specs.MountsCall.{mounts_after_mount, mounts_umount_answer}
 
 pub data Effect : Type 0 where
   -- an errno, and nothing changes
@@ -41,6 +40,11 @@ pub data Effect : Type 0 where
   Child : Bool → Effect
   -- 0, and the caller is in a namespace of its own, if there is room for one
   OwnTable : Effect
+  -- a copy of the caller in a user namespace of its own, if there is room for one and for a process; in a mount namespace of its
+  -- own, too, where true
+  UserChild : Bool → Effect
+  -- 0, and the caller is in a user namespace of its own, if there is room for one; in a mount namespace of its own, too, where true
+  OwnUser : Bool → Effect
   -- 0, and the caller ends
   End : Effect
 
@@ -49,6 +53,10 @@ pub record Caller : Type 0 where
   pub creds : Creds
   pub stack : List (List Insn)
   pub table : Table
+  -- it is in another user namespace than the first
+  pub newer : Bool
+  -- its mount namespace belongs to its user namespace
+  pub owns : Bool
 
 -- what a kernel is told: the rows of the host, and the families of sockets
 pub record Host : Type 0 where
@@ -82,6 +90,29 @@ with_cap_of (Some cap) creds effect = with_cap cap creds effect
 abbrev pub with_admin : Creds → Effect → Effect
 with_admin creds effect = with_cap cap_sys_admin creds effect
 
+-- a capability counts for what belongs to the first user namespace there alone, user_namespaces(7), "Capabilities"
+abbrev pub first_alone : Bool → Option ℕ → Effect → Effect
+first_alone false cap effect = effect
+first_alone true None effect = effect
+first_alone true (Some cap) effect = Refuse eperm
+
+-- and for mounts of a mount namespace in the user namespace that it belongs to
+abbrev pub with_own : Bool → Effect → Effect
+with_own owns effect = if owns then effect else Refuse eperm
+
+-- setuid(2), setgid(2) and the like in a newer user namespace, whose ids are not mapped: EINVAL
+abbrev pub with_mapped : Bool → Effect → Effect
+with_mapped newer effect = if newer then Refuse einval else effect
+
+-- setresuid(2) and setresgid(2) there leave alone an id that is -1
+abbrev pub with_mapped_ids : Bool → ℕ → ℕ → ℕ → Effect → Effect
+with_mapped_ids newer real effective saved effect =
+    if newer then (if (real == no_id && effective == no_id) && saved == no_id then Answer 0 else Refuse einval) else effect
+
+-- setgroups(2) is refused there, where /proc/pid/setgroups is not written
+abbrev pub with_groups : Bool → Effect → Effect
+with_groups newer effect = if newer then Refuse eperm else effect
+
 -- sched(7): SCHED_OTHER, SCHED_FIFO, SCHED_RR, SCHED_BATCH and SCHED_IDLE, which are 0 to 3 and 5
 abbrev pub is_policy : ℕ → Bool
 is_policy policy = nat_lt policy 4 || policy == 5
@@ -92,9 +123,17 @@ schedule_answer policy = if is_policy policy then Ok 0 else Err einval
 
 -- socket(2): EAFNOSUPPORT of a family that the table lacks; else the family's capability is asked for, and the value is 3, the
 -- first descriptor behind the three standard ones
-abbrev pub socket_effect : Creds → Option CallLine → Effect
-socket_effect creds None = Refuse eafnosupport
-socket_effect creds (Some line) = with_cap_of line.cap creds (Answer 3)
+abbrev pub socket_effect : Bool → Creds → Option CallLine → Effect
+socket_effect newer creds None = Refuse eafnosupport
+socket_effect newer creds (Some line) = first_alone newer line.cap (with_cap_of line.cap creds (Answer 3))
+
+-- socketcall(2): SYS_SOCKET, which is 1, is as socket(2); the other operations, from SYS_BIND, which is 2, to SYS_SENDMMSG, which is
+-- 20, are done; EINVAL of any other
+abbrev pub socketcall_effect : Bool → Creds → ℕ → Option CallLine → Effect
+socketcall_effect newer creds operation line =
+    if operation == 1 then socket_effect newer creds line
+    else if nat_le 2 operation && nat_le operation 20 then Answer 0
+    else Refuse einval
 
 -- CLONE_THREAD: the child is a thread of the caller
 abbrev pub thread_flag : ℕ
@@ -117,11 +156,12 @@ other_spaces = 0x6e02_0000
 abbrev pub no_spaces : ℕ
 no_spaces = 0x81fd_ffff
 
--- clone(2): threads are not modelled (EINVAL), nor are user namespaces (ENOSPC); every other namespace asks for CAP_SYS_ADMIN
+-- clone(2): threads are not modelled (EINVAL); a user namespace is made first, and gives what other namespaces ask for; without one
+-- they ask for CAP_SYS_ADMIN
 abbrev pub clone_effect : Creds → ℕ → Effect
 clone_effect creds flags =
     if has_some thread_flag flags then Refuse einval
-    else if has_some newuser flags then Refuse enospc
+    else if has_some newuser flags then UserChild (has_some newns flags)
     else if has_some other_spaces flags then with_admin creds (Child (has_some newns flags))
     else Child false
 
@@ -129,7 +169,7 @@ clone_effect creds flags =
 abbrev pub unshare_effect : Creds → ℕ → Effect
 unshare_effect creds flags =
     if has_some no_spaces flags then Refuse einval
-    else if has_some newuser flags then Refuse enospc
+    else if has_some newuser flags then OwnUser (has_some newns flags)
     else if has_some other_spaces flags then with_admin creds (if has_some newns flags then OwnTable else Answer 0)
     else Answer 0
 
@@ -181,31 +221,32 @@ seccomp_effect creds stack operation flags bytes =
 
 -- what a call that the caller's programs let through comes to, by what it asks for
 abbrev pub effect_of : Host → Caller → Doing → Effect
-effect_of host caller (See path) = looks (see_answer 0 (finds host.rows caller.table path))
-effect_of host caller (Open flags path) = looks (open_answer flags (flags_at caller.table path) (finds host.rows caller.table path))
-effect_of host caller (Create path) = looks (write_answer 3 (flags_at caller.table path) (finds host.rows caller.table path))
-effect_of host caller (Truncate path) = looks (write_answer 0 (flags_at caller.table path) (finds host.rows caller.table path))
-effect_of host caller (Execve path) = creds_effect (exec_answer caller.creds (flags_at caller.table path) (finds host.rows caller.table path))
+effect_of host caller (See path) = looks (see_answer 0 (finds host.rows (steps_of caller.table) path))
+effect_of host caller (Open flags path) = looks (open_answer flags (flags_at (steps_of caller.table) path) (finds host.rows (steps_of caller.table) path))
+effect_of host caller (Create path) = looks (write_answer 3 (flags_at (steps_of caller.table) path) (finds host.rows (steps_of caller.table) path))
+effect_of host caller (Truncate path) = looks (write_answer 0 (flags_at (steps_of caller.table) path) (finds host.rows (steps_of caller.table) path))
+effect_of host caller (Execve path) = creds_effect (exec_answer_in caller.newer caller.creds (flags_at (steps_of caller.table) path) (finds host.rows (steps_of caller.table) path))
 effect_of host caller (SetMode mode) = Answer 0
 effect_of host caller (Map protection) = Answer 0
 effect_of host caller (Protect protection) = Answer 0
 effect_of host caller (Attach flags) = Answer 0
 effect_of host caller (Schedule policy) = looks (schedule_answer policy)
 effect_of host caller (Personality persona) = Answer 0
-effect_of host caller (Socket family) = socket_effect caller.creds (numbered family host.families)
+effect_of host caller (Socket family) = socket_effect caller.newer caller.creds (numbered family host.families)
+effect_of host caller (Socketcall operation family) = socketcall_effect caller.newer caller.creds operation (numbered family host.families)
 effect_of host caller Enter = Refuse ebadf
 effect_of host caller Fork = Child false
 effect_of host caller (Clone flags) = clone_effect caller.creds flags
 effect_of host caller (Unshare flags) = unshare_effect caller.creds flags
 effect_of host caller Exit = End
-effect_of host caller (Mount source target flags) = with_admin caller.creds (table_effect (after_mount host.rows caller.table source target flags))
-effect_of host caller (Umount path flags) = with_admin caller.creds (table_effect (umount_answer caller.table path flags))
-effect_of host caller (Setuid id) = creds_effect (after_setuid caller.creds id)
-effect_of host caller (Setgid id) = creds_effect (after_setgid caller.creds id)
-effect_of host caller (Setresuid real effective saved) = creds_effect (after_setresuid caller.creds real effective saved)
-effect_of host caller (Setresgid real effective saved) = creds_effect (after_setresgid caller.creds real effective saved)
-effect_of host caller (Setgroups ids) = creds_effect (after_setgroups caller.creds ids)
+effect_of host caller (Mount source target flags) = with_own caller.owns (with_admin caller.creds (table_effect (mounts_after_mount host.rows caller.table source target flags)))
+effect_of host caller (Umount path flags) = with_own caller.owns (with_admin caller.creds (table_effect (mounts_umount_answer caller.table path flags)))
+effect_of host caller (Setuid id) = with_mapped caller.newer (creds_effect (after_setuid caller.creds id))
+effect_of host caller (Setgid id) = with_mapped caller.newer (creds_effect (after_setgid caller.creds id))
+effect_of host caller (Setresuid real effective saved) = with_mapped_ids caller.newer real effective saved (creds_effect (after_setresuid caller.creds real effective saved))
+effect_of host caller (Setresgid real effective saved) = with_mapped_ids caller.newer real effective saved (creds_effect (after_setresgid caller.creds real effective saved))
+effect_of host caller (Setgroups ids) = with_groups caller.newer (creds_effect (after_setgroups caller.creds ids))
 effect_of host caller (Capset permitted effective inheritable) = creds_effect (after_capset caller.creds permitted effective inheritable)
 effect_of host caller (Prctl option value third) = prctl_effect caller.creds option value third
 effect_of host caller (Seccomp operation flags bytes) = seccomp_effect caller.creds caller.stack operation flags bytes
-effect_of host caller (Plain cap) = with_cap_of cap caller.creds (Answer 0)
+effect_of host caller (Plain cap) = first_alone caller.newer cap (with_cap_of cap caller.creds (Answer 0))

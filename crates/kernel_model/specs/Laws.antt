@@ -1,15 +1,16 @@
 -- Laws of all worlds, all calls and all runs.
-use Rattle.std.specs.Prelude.{◌≡◌, ℕ, ◌+◌, ◌++◌, true, List, length, Some}
+use Rattle.std.specs.Prelude.{◌≡◌, ℕ, ◌+◌, ◌++◌, ◌==◌, not, true, false, List, length, Some}
 use Rattle.std.specs.List.{AllByRecursion}
 use Rattle.bpf_code.specs.declared.machine.Insn.{Insn}
 use Rattle.kern_files.specs.Bits.{has_some}
+use Rattle.kern_mounts.specs.Copying.{copied}
 use Rattle.kernel_calls.specs.declared.call.Call.{Call}
 use Rattle.kernel_calls.specs.Doing.{Does, Fork, Clone, Unshare, asked_of}
 use Rattle.kernel_model.specs.declared.reply.Reply.{Reply}
 use Rattle.kernel_model.specs.declared.reply.Reply.TheVariants.{Done, Refused, Killed}
 use Rattle.kernel_model.specs.declared.process.Process.{Process}
-use Rattle.kernel_model.specs.Effects.{newns}
-use Rattle.kernel_model.specs.World.{World, living_of, process_of, table_of, with_process, ended}
+use Rattle.kernel_model.specs.Effects.{newns, newuser}
+use Rattle.kernel_model.specs.World.{World, living_of, process_of, mounts_of, with_process, ended, owner_of}
 use Rattle.kernel_model.specs.Step.{step}
 use Rattle.kernel_model.specs.StepCases.{StepCase}
 use Rattle.kernel_model.specs.Runs.{run}
@@ -59,29 +60,32 @@ pub record IsForked (world : World) (pid : ℕ) (process : Process) (value : ℕ
 
 abbrev pub ForkShares : Type 0
 ForkShares = (world : World) (call : Call) (process : Process) (value : ℕ)
-    → living_of world call.pid ≡ Some process → asked_of world.calls.calls call ≡ Does Fork → (step world call).0 ≡ Done value
+    → living_of world call.pid ≡ Some process → asked_of world.calls call ≡ Does Fork → (step world call).0 ≡ Done value
     → IsForked world call.pid process value (step world call).1
 
--- after clone(2) with CLONE_NEWNS the child is as its parent but for its namespace, which is a new one with an equal table
+-- after clone(2) with CLONE_NEWNS alone the child is as its parent but for its namespace, which is a new one of its user namespace,
+-- with an equal table where the parent's belonged to that, too, and with a locked one otherwise
 pub record IsCloned (world : World) (pid : ℕ) (process : Process) (value : ℕ) (after : World) : Type 0 where
   pub parent : process_of after pid ≡ Some process
   pub child : process_of after value ≡ Some (record process { namespace = length world.tables + 1 })
   pub number : value ≡ length world.processes + 1
-  pub own_table : table_of after (length world.tables + 1) ≡ table_of world process.namespace
+  pub own_table : mounts_of after (length world.tables + 1) ≡ copied (not (owner_of world process.namespace == process.user)) (mounts_of world process.namespace)
+  pub owner : owner_of after (length world.tables + 1) ≡ process.user
   pub count : length after.tables ≡ length world.tables + 1
 
 abbrev pub CloneGivesACopy : Type 0
-CloneGivesACopy = (world : World) (call : Call) (process : Process) (flags value : ℕ)
-    → living_of world call.pid ≡ Some process → asked_of world.calls.calls call ≡ Does (Clone flags) → has_some newns flags ≡ true → (step world call).0 ≡ Done value
+CloneGivesACopy = (world : World) (call : Call) (process : Process) (flags value : ℕ) → length world.owners ≡ length world.tables
+    → living_of world call.pid ≡ Some process → asked_of world.calls call ≡ Does (Clone flags) → has_some newuser flags ≡ false → has_some newns flags ≡ true → (step world call).0 ≡ Done value
     → IsCloned world call.pid process value (step world call).1
 
--- after unshare(2) with CLONE_NEWNS the caller is as before but for its namespace, which is a new one with an equal table
+-- after unshare(2) with CLONE_NEWNS alone the caller is as before but for its namespace, which is a new one as after clone(2)
 pub record IsUnshared (world : World) (pid : ℕ) (process : Process) (after : World) : Type 0 where
   pub caller : process_of after pid ≡ Some (record process { namespace = length world.tables + 1 })
-  pub own_table : table_of after (length world.tables + 1) ≡ table_of world process.namespace
+  pub own_table : mounts_of after (length world.tables + 1) ≡ copied (not (owner_of world process.namespace == process.user)) (mounts_of world process.namespace)
+  pub owner : owner_of after (length world.tables + 1) ≡ process.user
   pub count : length after.tables ≡ length world.tables + 1
 
 abbrev pub UnshareGivesACopy : Type 0
-UnshareGivesACopy = (world : World) (call : Call) (process : Process) (flags value : ℕ)
-    → living_of world call.pid ≡ Some process → asked_of world.calls.calls call ≡ Does (Unshare flags) → has_some newns flags ≡ true → (step world call).0 ≡ Done value
+UnshareGivesACopy = (world : World) (call : Call) (process : Process) (flags value : ℕ) → length world.owners ≡ length world.tables
+    → living_of world call.pid ≡ Some process → asked_of world.calls call ≡ Does (Unshare flags) → has_some newuser flags ≡ false → has_some newns flags ≡ true → (step world call).0 ≡ Done value
     → IsUnshared world call.pid process (step world call).1

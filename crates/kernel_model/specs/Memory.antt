@@ -3,15 +3,14 @@
 use Rattle.std.specs.Prelude.{ℕ, ◌&&◌, ◌||◌, not, nat_lt, Bool, true, false, length, Option, Some, None}
 use Rattle.bpf_code.specs.declared.decision.Decision.{Decision}
 use Rattle.bpf_code.specs.declared.decision.Decision.TheVariants as decision
-use Rattle.bpf_code.specs.Stack.{decision_on}
 use Rattle.kern_files.specs.Bits.{has_all}
 use Rattle.kern_files.specs.MountCall.{ms_remount_bind}
 use Rattle.kernel_calls.specs.declared.call.Call.{Call}
 use Rattle.kernel_calls.specs.Doing.{Doing, Mount, Setgroups, Seccomp, Asked, Lacking, Misformed, Does, asked_of}
 use Rattle.kernel_model.specs.declared.process.Process.{Process}
-use Rattle.kernel_model.specs.Effects.{Effect, Refuse, Answer, SetCreds, SetTable, Push, Child, OwnTable, End, effect_of}
+use Rattle.kernel_model.specs.Effects.{Effect, Refuse, Answer, SetCreds, SetTable, Push, Child, OwnTable, UserChild, OwnUser, End, effect_of}
 use Rattle.kernel_model.specs.World.{World, living_of, host_of, caller_of}
-use Rattle.kernel_model.specs.Step.{most_processes, most_namespaces, data_of}
+use Rattle.kernel_model.specs.Step.{most_processes, most_namespaces, has_user_left, decision_of}
 
 -- a mount, a program or a list of groups is asked for
 abbrev pub asks_for_room : Doing → Bool
@@ -20,19 +19,21 @@ asks_for_room (Setgroups ids) = true
 asks_for_room (Seccomp operation flags bytes) = true
 asks_for_room doing = false
 
--- a process or a namespace is made: there is room for it among so many processes and namespaces
-abbrev pub makes_one : ℕ → ℕ → Effect → Bool
-makes_one processes namespaces (Child own) = nat_lt processes most_processes && (not own || nat_lt namespaces most_namespaces)
-makes_one processes namespaces OwnTable = nat_lt namespaces most_namespaces
-makes_one processes namespaces (Refuse errno) = false
-makes_one processes namespaces (Answer value) = false
-makes_one processes namespaces (SetCreds creds) = false
-makes_one processes namespaces (SetTable table) = false
-makes_one processes namespaces (Push program) = false
-makes_one processes namespaces End = false
+-- a process or a mount namespace is made: there is room for it among so many, and for a user namespace where one is made, too
+abbrev pub makes_one : Bool → ℕ → ℕ → Effect → Bool
+makes_one user processes namespaces (Child own) = nat_lt processes most_processes && (not own || nat_lt namespaces most_namespaces)
+makes_one user processes namespaces OwnTable = nat_lt namespaces most_namespaces
+makes_one user processes namespaces (UserChild own) = user && (nat_lt processes most_processes && (not own || nat_lt namespaces most_namespaces))
+makes_one user processes namespaces (OwnUser own) = user && (own && nat_lt namespaces most_namespaces)
+makes_one user processes namespaces (Refuse errno) = false
+makes_one user processes namespaces (Answer value) = false
+makes_one user processes namespaces (SetCreds creds) = false
+makes_one user processes namespaces (SetTable table) = false
+makes_one user processes namespaces (Push program) = false
+makes_one user processes namespaces End = false
 
 abbrev pub takes_doing : World → Process → Doing → Bool
-takes_doing world process doing = asks_for_room doing || makes_one (length world.processes) (length world.tables) (effect_of (host_of world) (caller_of world process) doing)
+takes_doing world process doing = asks_for_room doing || makes_one (has_user_left world) (length world.processes) (length world.tables) (effect_of (host_of world) (caller_of world process) doing)
 
 abbrev pub takes_asked : World → Process → Asked → Bool
 takes_asked world process Lacking = false
@@ -41,13 +42,13 @@ takes_asked world process (Does doing) = takes_doing world process doing
 
 -- what the caller's programs do not let through takes none
 abbrev pub takes_decided : World → Call → Process → Decision → Bool
-takes_decided world call process decision.Pass = takes_asked world process (asked_of world.calls.calls call)
+takes_decided world call process decision.Pass = takes_asked world process (asked_of world.calls call)
 takes_decided world call process (decision.Errno errno) = false
 takes_decided world call process decision.Kill = false
 
 abbrev pub takes_by : World → Call → Option Process → Bool
 takes_by world call None = false
-takes_by world call (Some process) = takes_decided world call process (decision_on process.stack (data_of world call))
+takes_by world call (Some process) = takes_decided world call process (decision_of world call process)
 
 -- the call may need memory
 abbrev pub takes_memory : World → Call → Bool

@@ -3,23 +3,18 @@
 use Rattle.std.specs.Prelude.{ℕ, ◌<◌, [], ◌∷◌, ◌++◌, length, Option, Some, None, if◌then◌else◌}
 use Rattle.abs_path.specs.Paths.{is_root}
 use Rattle.linux_numbers.specs.Limits.{mount_max}
-use Rattle.kern_mounts.specs.declared.step.Flags.{Flags}
 use Rattle.kern_mounts.specs.declared.step.MountStep.{MountStep}
-use Rattle.kern_mounts.specs.Split.{Table}
+use Rattle.kern_mounts.specs.Mounts.{Mounts as Table, plain}
+use Rattle.kern_mounts.specs.MountsRemount.{with_root_flags}
 use Rattle.kernel_model.specs.declared.process.Process.{Process}
-use Rattle.kernel_model.specs.World.{World, living_of, table_of, with_table}
-
--- the table, whose first entry has these flags
-abbrev pub with_first_flags : Flags → Table → Table
-with_first_flags flags [] = []
-with_first_flags flags (first ∷ table) = record first { flags = flags } ∷ table
+use Rattle.kernel_model.specs.World.{World, living_of, mounts_of, with_table}
 
 abbrev pub with_step : Table → MountStep → Table
-with_step table step = if is_root step.place then with_first_flags step.flags table else table ++ step ∷ []
+with_step table step = if is_root step.place then with_root_flags step.flags table else table ++ plain step ∷ []
 
 abbrev pub stepped_by : World → MountStep → Option Process → World
 stepped_by world step None = world
-stepped_by world step (Some process) = with_table world process.namespace (with_step (table_of world process.namespace) step)
+stepped_by world step (Some process) = with_table world process.namespace (with_step (mounts_of world process.namespace) step)
 
 -- the world after a mount step of the living process with this number
 abbrev pub after_mount_step : World → ℕ → MountStep → World
@@ -28,7 +23,7 @@ after_mount_step world pid step = stepped_by world step (living_of world pid)
 -- the process lives, and its table has room for an entry
 abbrev pub HasRoom : World → Option Process → Type 0
 HasRoom world None = ⊥
-HasRoom world (Some process) = length (table_of world process.namespace) < mount_max
+HasRoom world (Some process) = length (mounts_of world process.namespace) < mount_max
 
 abbrev pub CanStep : World → ℕ → Type 0
 CanStep world pid = HasRoom world (living_of world pid)

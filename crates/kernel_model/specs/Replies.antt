@@ -2,10 +2,10 @@
 use Rattle.std.specs.Prelude.{◌≡◌, ℕ, List, [], ◌∷◌, ◌++◌, Result, Ok, Err}
 use Rattle.bpf_code.specs.declared.machine.Insn.{Insn}
 use Rattle.kern_creds.specs.declared.creds.Creds.{Creds}
-use Rattle.kern_mounts.specs.Split.{Table}
+use Rattle.kern_mounts.specs.Mounts.{Mounts as Table}
 use Rattle.kernel_model.specs.declared.reply.Reply.{Reply}
 use Rattle.kernel_model.specs.declared.reply.Reply.TheVariants.{Done, Refused}
-use Rattle.kernel_model.specs.Effects.{Effect, Refuse, Answer, SetCreds, SetTable, Push, Child, OwnTable, End}
+use Rattle.kernel_model.specs.Effects.{Effect, Refuse, Answer, SetCreds, SetTable, Push, Child, OwnTable, UserChild, OwnUser, End}
 
 abbrev pub value_reply : Result ℕ ℕ → Reply
 value_reply (Ok value) = Done value
@@ -24,6 +24,8 @@ Answers reply (SetTable table) = ⊥
 Answers reply (Push program) = ⊥
 Answers reply (Child own) = ⊥
 Answers reply OwnTable = ⊥
+Answers reply (UserChild own) = ⊥
+Answers reply (OwnUser own) = ⊥
 Answers reply End = ⊥
 
 -- the reply to a call with this effect, and what the old credentials become
@@ -35,6 +37,8 @@ Changes old reply new (SetTable table) = ⊥
 Changes old reply new (Push program) = ⊥
 Changes old reply new (Child own) = ⊥
 Changes old reply new OwnTable = ⊥
+Changes old reply new (UserChild own) = ⊥
+Changes old reply new (OwnUser own) = ⊥
 Changes old reply new End = ⊥
 
 -- and what the old table becomes
@@ -46,6 +50,8 @@ Mounts old reply new (SetCreds creds) = ⊥
 Mounts old reply new (Push program) = ⊥
 Mounts old reply new (Child own) = ⊥
 Mounts old reply new OwnTable = ⊥
+Mounts old reply new (UserChild own) = ⊥
+Mounts old reply new (OwnUser own) = ⊥
 Mounts old reply new End = ⊥
 
 -- and what the old programs become
@@ -57,4 +63,6 @@ Pushes old reply new (SetCreds creds) = ⊥
 Pushes old reply new (SetTable table) = ⊥
 Pushes old reply new (Child own) = ⊥
 Pushes old reply new OwnTable = ⊥
+Pushes old reply new (UserChild own) = ⊥
+Pushes old reply new (OwnUser own) = ⊥
 Pushes old reply new End = ⊥

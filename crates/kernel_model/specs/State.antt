@@ -1,8 +1,9 @@
 -- The processes and mount tables that were made, apart from what the kernel is told.
-use Rattle.std.specs.Prelude.{◌≡◌, ℕ, ◌-◌, ◌==◌, if◌then◌else◌, List, slice_get, Option, Some, None, option_map}
+use Rattle.std.specs.Prelude.{◌≡◌, ℕ, ◌-◌, ◌==◌, ◌<◌, not, if◌then◌else◌, List, slice_get, Option, Some, None, option_map}
 use Rattle.call_table.specs.Table as calls
 use Rattle.site_table.specs.Table.{Site, row_at}
-use Rattle.kern_mounts.specs.Split.{Table}
+use Rattle.kern_mounts.specs.Copying.{copied}
+use Rattle.kern_mounts.specs.Mounts.{Mounts as Table}
 use Rattle.kernel_model.specs.declared.process.Process.{Process}
 use Rattle.kernel_model.specs.declared.reply.Reply.{Reply}
 use Rattle.kernel_model.specs.declared.told.Told.{Told}
@@ -15,9 +16,11 @@ use Rattle.kernel_model.specs.Step.{applied}
 pub record State : Type 0 where
   pub processes : List Process
   pub tables : List Table
+  pub owners : List ℕ
+  pub users : ℕ
 
 abbrev pub world_of : calls.Table → Site → State → World
-world_of calls site state = record { calls = calls; site = site; processes = state.processes; tables = state.tables }
+world_of calls site state = record { calls = calls; site = site; processes = state.processes; tables = state.tables; owners = state.owners; users = state.users }
 
 abbrev pub world_with : Told → State → World
 world_with told state = world_of told.calls.now told.site.now state
@@ -43,3 +46,15 @@ AtPlace state place Fact = (pid : ℕ) (process : Process) → place ≡ pid - 1
 -- with this effect, whatever the kernel is told
 abbrev pub Applies : State → ℕ → Effect → Reply → State → Type 0
 Applies old place effect reply new = (calls : calls.Table) (site : Site) → AtPlace old place (λ pid process. (reply, world_of calls site new) ≡ applied (world_of calls site old) pid process effect)
+
+-- the same where the kernel is told this site
+abbrev pub AppliesAt : Site → State → ℕ → Effect → Reply → State → Type 0
+AppliesAt site old place effect reply new = (calls : calls.Table) → AtPlace old place (λ pid process. (reply, world_of calls site new) ≡ applied (world_of calls site old) pid process effect)
+
+-- and where it allows one more user namespace
+abbrev pub AppliesUser : State → ℕ → Effect → Reply → State → Type 0
+AppliesUser old place effect reply new = (site : Site) → old.users < site.user_namespaces → AppliesAt site old place effect reply new
+
+-- a copy of the table at a place for a user namespace
+abbrev pub IsCopyFor : State → ℕ → ℕ → Table → Type 0
+IsCopyFor state at user table = (own : Table) (owner : ℕ) → slice_get state.tables at ≡ Some own → slice_get state.owners at ≡ Some owner → table ≡ copied (not (owner == user)) own

@@ -5,13 +5,14 @@ use Rattle.bpf_code.specs.declared.decision.Decision.{Decision}
 use Rattle.bpf_code.specs.declared.decision.Decision.TheVariants as decision
 use Rattle.bpf_code.specs.Stack.{decision_on}
 use Rattle.linux_numbers.specs.Errnos.{esrch, eagain, efault, enospc, enosys}
+use Rattle.call_table.specs.Table.{Abi, abi_at, arch_of}
 use Rattle.kernel_calls.specs.declared.call.Call.{Call}
 use Rattle.kernel_calls.specs.Doing.{Asked, Lacking, Misformed, Does, asked_of}
 use Rattle.kernel_model.specs.declared.reply.Reply.{Reply}
 use Rattle.kernel_model.specs.declared.reply.Reply.TheVariants.{Done, Refused, Killed}
 use Rattle.kernel_model.specs.declared.process.Process.{Process}
-use Rattle.kernel_model.specs.Effects.{Effect, Refuse, Answer, SetCreds, SetTable, Push, Child, OwnTable, End, effect_of}
-use Rattle.kernel_model.specs.World.{World, living_of, with_process, with_table, with_child, with_copy, moved_to, ended, host_of, caller_of}
+use Rattle.kernel_model.specs.Effects.{Effect, Refuse, Answer, SetCreds, SetTable, Push, Child, OwnTable, UserChild, OwnUser, End, effect_of}
+use Rattle.kernel_model.specs.World.{World, living_of, with_process, with_table, with_child, with_copy, with_user, entered_by, moved_to, ended, host_of, caller_of}
 
 -- at most 1,024 processes are made in a world, those that ended among them
 abbrev pub most_processes : ℕ
@@ -23,14 +24,30 @@ most_namespaces = 64
 
 -- fork(2): the child is as the caller, in the caller's namespace; clone(2) with CLONE_NEWNS: in a namespace of its own, whose
 -- table is a copy of the caller's; ENOSPC where no namespace is left. The value is the child's number
-abbrev pub child_of : World → Process → Bool → Reply × World
-child_of world process false = (Done (length world.processes + 1), with_child world process)
-child_of world process true =
+abbrev pub child_in : World → World → Process → Bool → Reply × World
+child_in old world child false = (Done (length world.processes + 1), with_child world child)
+child_in old world child true =
     if nat_lt (length world.tables) most_namespaces
-    then (Done (length world.processes + 1), with_child (with_copy world process.namespace) (moved_to process (length world.tables)))
-    else (Refused enospc, world)
+    then (Done (length world.processes + 1), with_child (with_copy world child.namespace child.user) (moved_to child (length world.tables)))
+    else (Refused enospc, old)
 
--- what an effect makes of the world, and the reply: EAGAIN where no process is left, ENOSPC where no namespace is
+abbrev pub child_of : World → Process → Bool → Reply × World
+child_of world process own = child_in world world process own
+
+-- the process, in a mount namespace of its own where that is asked for
+abbrev pub moved_in : World → World → ℕ → Process → Bool → Reply × World
+moved_in old world pid process false = (Done 0, with_process world pid process)
+moved_in old world pid process true =
+    if nat_lt (length world.tables) most_namespaces
+    then (Done 0, with_process (with_copy world process.namespace process.user) pid (moved_to process (length world.tables)))
+    else (Refused enospc, old)
+
+-- one more user namespace may be made, user_namespaces(7)
+abbrev pub has_user_left : World → Bool
+has_user_left world = nat_lt world.users world.site.user_namespaces
+
+-- what an effect makes of the world, and the reply: EAGAIN where no process is left, ENOSPC where no namespace is; a refusal
+-- changes nothing
 abbrev pub applied : World → ℕ → Process → Effect → Reply × World
 applied world pid process (Refuse errno) = (Refused errno, world)
 applied world pid process (Answer value) = (Done value, world)
@@ -38,10 +55,13 @@ applied world pid process (SetCreds creds) = (Done 0, with_process world pid (re
 applied world pid process (SetTable table) = (Done 0, with_table world process.namespace table)
 applied world pid process (Push program) = (Done 0, with_process world pid (record process { stack = process.stack ++ program ∷ [] }))
 applied world pid process (Child own) = if nat_lt (length world.processes) most_processes then child_of world process own else (Refused eagain, world)
-applied world pid process OwnTable =
-    if nat_lt (length world.tables) most_namespaces
-    then (Done 0, with_process (with_copy world process.namespace) pid (moved_to process (length world.tables)))
+applied world pid process OwnTable = moved_in world world pid process true
+applied world pid process (UserChild own) =
+    if has_user_left world
+    then (if nat_lt (length world.processes) most_processes then child_in world (with_user world) (entered_by process world.users) own else (Refused eagain, world))
     else (Refused enospc, world)
+applied world pid process (OwnUser own) =
+    if has_user_left world then moved_in world (with_user world) pid (entered_by process world.users) own else (Refused enospc, world)
 applied world pid process End = (Done 0, with_process world pid (ended process))
 
 -- ENOSYS where the kernel lacks the call, then EFAULT where the payload is not of its form, then the call's rule
@@ -50,21 +70,29 @@ answered world pid process Lacking = (Refused enosys, world)
 answered world pid process Misformed = (Refused efault, world)
 answered world pid process (Does doing) = applied world pid process (effect_of (host_of world) (caller_of world process) doing)
 
--- what the stack is asked, struct seccomp_data of seccomp(2): the number, the table's architecture, no instruction pointer and
--- the six words
+-- what the stack is asked, struct seccomp_data of seccomp(2): the number, the architecture of the call's ABI, no instruction
+-- pointer and the six words
 abbrev pub data_of : World → Call → CallData
-data_of world call = record { nr = call.nr; arch = world.calls.arch; ip = 0; args = call.args }
+data_of world call = record { nr = call.nr; arch = arch_of world.calls call.abi; ip = 0; args = call.args }
+
+-- ENOSYS where the table lacks the ABI; else the stack decides
+abbrev pub decision_by : Call → Process → Option Abi → Decision
+decision_by call process None = decision.Errno enosys
+decision_by call process (Some abi) = decision_on process.stack (record { nr = call.nr; arch = abi.arch; ip = 0; args = call.args })
+
+abbrev pub decision_of : World → Call → Process → Decision
+decision_of world call process = decision_by call process (abi_at world.calls call.abi)
 
 -- what the stack lets through is looked at; an errno of the stack answers the call; or the caller is killed
 abbrev pub decided : World → Call → Process → Decision → Reply × World
-decided world call process decision.Pass = answered world call.pid process (asked_of world.calls.calls call)
+decided world call process decision.Pass = answered world call.pid process (asked_of world.calls call)
 decided world call process (decision.Errno errno) = (Refused errno, world)
 decided world call process decision.Kill = (Killed, with_process world call.pid (ended process))
 
 -- ESRCH where no living process makes the call
 abbrev pub step_by : World → Call → Option Process → Reply × World
 step_by world call None = (Refused esrch, world)
-step_by world call (Some process) = decided world call process (decision_on process.stack (data_of world call))
+step_by world call (Some process) = decided world call process (decision_of world call process)
 
 abbrev pub step : World → Call → Reply × World
 step world call = step_by world call (living_of world call.pid)

@@ -1,10 +1,12 @@
 -- A world of the kernel: processes that share mount tables.
-use Rattle.std.specs.Prelude.{ℕ, ◌+◌, ◌-◌, ◌==◌, true, false, List, [], ◌∷◌, ◌++◌, slice_get, slice_set, Option, Some, None, if◌then◌else◌}
+use Rattle.std.specs.Prelude.{ℕ, ◌+◌, ◌-◌, ◌==◌, not, Bool, true, false, List, [], ◌∷◌, ◌++◌, slice_get, slice_set, Option, Some, None, if◌then◌else◌}
 use Rattle.call_table.specs.Table as calls
 use Rattle.site_table.specs.Table.{Site, row_at}
 use Rattle.kern_creds.specs.Start as creds
-use Rattle.kern_mounts.specs.Table as mounts
-use Rattle.kern_mounts.specs.Split.{Table}
+use Rattle.kern_creds.specs.Enter.{entered}
+use Rattle.kern_mounts.specs.Copying.{copied}
+use Rattle.kern_mounts.specs.Split as entries
+use Rattle.kern_mounts.specs.Mounts.{Mounts as Table, steps_of, first_mounts}
 use Rattle.kernel_model.specs.declared.process.Process.{Process}
 use Rattle.kernel_model.specs.Effects.{Caller, Host}
 
@@ -14,6 +16,9 @@ pub record World : Type 0 where
   pub site : Site
   pub processes : List Process
   pub tables : List Table
+  -- the user namespace that each mount namespace belongs to, and how many user namespaces were made beside the first
+  pub owners : List ℕ
+  pub users : ℕ
 
 -- things numbered from 1
 abbrev pub of_number : {X : Type 0} → List X → ℕ → Option X
@@ -38,9 +43,13 @@ abbrev pub table_or : Option Table → Table
 table_or None = []
 table_or (Some table) = table
 
--- the mount table of a namespace, mount_namespaces(7)
-abbrev pub table_of : World → ℕ → Table
-table_of world namespace = table_or (of_number world.tables namespace)
+-- the mounts of a namespace, mount_namespaces(7)
+abbrev pub mounts_of : World → ℕ → Table
+mounts_of world namespace = table_or (of_number world.tables namespace)
+
+-- their entries, on which paths are looked up
+abbrev pub table_of : World → ℕ → entries.Table
+table_of world namespace = steps_of (mounts_of world namespace)
 
 abbrev pub with_process : World → ℕ → Process → World
 with_process world pid process = record world { processes = put_number world.processes pid process }
@@ -56,25 +65,54 @@ ended process = record process { alive = false }
 abbrev pub host_of : World → Host
 host_of world = record { rows = row_at world.site.rows; families = world.calls.families }
 
+-- the user namespace that a mount namespace belongs to
+abbrev pub owner_or : Option ℕ → ℕ
+owner_or None = 0
+owner_or (Some user) = user
+
+abbrev pub owner_of : World → ℕ → ℕ
+owner_of world namespace = owner_or (of_number world.owners namespace)
+
+-- the process is in another user namespace than the first
+abbrev pub is_newer : Process → Bool
+is_newer process = not (process.user == 1)
+
 -- the process and its table, as a rule sees them
 abbrev pub caller_of : World → Process → Caller
-caller_of world process = record { creds = process.creds; stack = process.stack; table = table_of world process.namespace }
+caller_of world process = record {
+  creds = process.creds;
+  stack = process.stack;
+  table = mounts_of world process.namespace;
+  newer = is_newer process;
+  owns = owner_of world process.namespace == process.user;
+}
 
 -- one process more
 abbrev pub with_child : World → Process → World
 with_child world child = record world { processes = world.processes ++ child ∷ [] }
 
--- one namespace more, with the table of this one
-abbrev pub with_copy : World → ℕ → World
-with_copy world namespace = record world { tables = world.tables ++ table_of world namespace ∷ [] }
+-- one namespace more, which belongs to this user namespace, with the table of another one
+abbrev pub with_copy : World → ℕ → ℕ → World
+with_copy world namespace user = record world {
+  tables = world.tables ++ copied (not (owner_of world namespace == user)) (mounts_of world namespace) ∷ [];
+  owners = world.owners ++ user ∷ [];
+}
+
+-- one user namespace more
+abbrev pub with_user : World → World
+with_user world = record world { users = world.users + 1 }
+
+-- the process in the newest of so many user namespaces beside the first, and one more
+abbrev pub entered_by : Process → ℕ → Process
+entered_by process users = record process { creds = entered process.creds; user = users + 2 }
 
 -- the process in the newest of so many namespaces and one more
 abbrev pub moved_to : Process → ℕ → Process
 moved_to process count = record process { namespace = count + 1 }
 
--- process 1 alone, as the kernel starts it: root, without programs, in the first namespace
+-- process 1 alone, as the kernel starts it: root, without programs, in the first mount namespace and the first user namespace
 abbrev pub first_process : Process
-first_process = record { creds = creds.start; stack = []; namespace = 1; alive = true }
+first_process = record { creds = creds.start; stack = []; namespace = 1; user = 1; alive = true }
 
 abbrev pub start_world : calls.Table → Site → World
-start_world calls site = record { calls = calls; site = site; processes = first_process ∷ []; tables = mounts.start ∷ [] }
+start_world calls site = record { calls = calls; site = site; processes = first_process ∷ []; tables = first_mounts ∷ []; owners = 1 ∷ []; users = 0 }

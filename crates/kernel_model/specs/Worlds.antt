@@ -2,7 +2,8 @@
 use Rattle.std.specs.Prelude.{◌≡◌, ℕ, ◌≤◌, false, List, [], ◌∷◌, length}
 use Rattle.std.specs.List.{AllByRecursion}
 use Rattle.abs_path.specs.Paths.{is_root}
-use Rattle.kern_mounts.specs.Split.{Table}
+use Rattle.kern_mounts.specs.Split as entries
+use Rattle.kern_mounts.specs.Mounts.{Mounts as Table, steps_of}
 use Rattle.kernel_model.specs.declared.process.Process.{Process}
 use Rattle.kernel_model.specs.Step.{most_processes, most_namespaces}
 
@@ -11,10 +12,14 @@ pub record HasSpace (count : ℕ) (process : Process) : Type 0 where
   pub numbered : 1 ≤ process.namespace
   pub within : process.namespace ≤ count
 
--- the first entry of the table is at `/`, and no other is
+-- the first entry is at `/`, and no other is
+abbrev pub AreRooted : entries.Table → Type 0
+AreRooted [] = ⊥
+AreRooted (first ∷ table) = (first.place ≡ []) × AllByRecursion (λ entry. is_root entry.place ≡ false) table
+
+-- the first mount is at `/`, and no other is
 abbrev pub IsRooted : Table → Type 0
-IsRooted [] = ⊥
-IsRooted (first ∷ table) = (first.place ≡ []) × AllByRecursion (λ entry. is_root entry.place ≡ false) table
+IsRooted mounts = AreRooted (steps_of mounts)
 
 pub record IsKernel (processes : List Process) (tables : List Table) : Type 0 where
   pub few_processes : length processes ≤ most_processes

@@ -28,6 +28,7 @@ impl State {
     ) -> Result<Outcome, AllocError>
         requires there { place < length self.old.processes }
         requires spaces { AllByRecursion (HasSpace (length self.old.tables)) self.old.processes }
+        requires owned { length self.old.owners ≡ length self.old.tables }
         ensures performs { IfOk result (λ outcome. AtPlace self.old place (λ pid process.
             Left (world_with told.now self.old) pid process outcome (world_with told.now self.new)
             (effect_in (world_with told.now self.old) process (seen doing.now)))) }
@@ -36,11 +37,13 @@ impl State {
         ensures stays { OnErr result (self.new ≡ self.old) }
     {
         let at = self.table_place(place);
+        let owns = self.owners[at] == self.processes[place].user;
         perform(
             alloc,
             told,
             &mut self.processes[place],
             &mut self.tables[at],
+            owns,
             doing,
         )
     }
@@ -55,6 +58,7 @@ impl State {
     ) -> Result<Reply, AllocError>
         requires there { place < length self.old.processes }
         requires spaces { AllByRecursion (HasSpace (length self.old.tables)) self.old.processes }
+        requires owned { length self.old.owners ≡ length self.old.tables }
         ensures performs { IfOk result (λ reply. AtPlace self.old place (λ pid process.
             (reply, world_with told.now self.new) ≡ applied (world_with told.now self.old) pid process
             (effect_in (world_with told.now self.old) process (seen doing.now)))) }
@@ -65,6 +69,8 @@ impl State {
             Outcome::Replied(reply) => Ok(reply),
             Outcome::MakesChild(own) => self.make_child(place, own),
             Outcome::MakesTable => self.make_table(place),
+            Outcome::MakesUserChild(own) => self.make_user_child(told, place, own),
+            Outcome::MakesOwnUser(own) => self.make_own_user(told, place, own),
         }
     }
 }

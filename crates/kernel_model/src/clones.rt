@@ -7,7 +7,7 @@ use crate::outcome::Outcome;
 use crate::reply::Reply;
 use kern_creds::Creds;
 use linux_numbers::capabilities::CAP_SYS_ADMIN;
-use linux_numbers::errnos::{EINVAL, ENOSPC, EPERM};
+use linux_numbers::errnos::{EINVAL, EPERM};
 
 // CLONE_THREAD: the child is a thread of the caller.
 const CLONE_THREAD: u32 = 0x1_0000;
@@ -24,7 +24,7 @@ const OTHER_SPACES: u32 = 0x6e02_0000;
 // The bits of no namespace.
 const NO_SPACES: u32 = !(OTHER_SPACES | CLONE_NEWUSER);
 
-/// clone(2): EINVAL of a thread, ENOSPC of a user namespace, EPERM of another namespace without CAP_SYS_ADMIN.
+/// clone(2): EINVAL of a thread, EPERM of a namespace without a user namespace and without CAP_SYS_ADMIN.
 pub(crate) fn clone(creds: &Creds, flags: u32) -> Outcome
     ensures { Leaves result (clone_effect creds.now flags) }
 {
@@ -32,7 +32,7 @@ pub(crate) fn clone(creds: &Creds, flags: u32) -> Outcome
         return Outcome::Replied(Reply::Refused(EINVAL));
     }
     if flags & CLONE_NEWUSER != 0 {
-        return Outcome::Replied(Reply::Refused(ENOSPC));
+        return Outcome::MakesUserChild(flags & CLONE_NEWNS != 0);
     }
     if flags & OTHER_SPACES == 0 {
         return Outcome::MakesChild(false);
@@ -43,7 +43,7 @@ pub(crate) fn clone(creds: &Creds, flags: u32) -> Outcome
     Outcome::MakesChild(flags & CLONE_NEWNS != 0)
 }
 
-/// unshare(2): EINVAL of a flag of no namespace, ENOSPC of a user namespace, EPERM of another without CAP_SYS_ADMIN.
+/// unshare(2): EINVAL of a flag of no namespace, EPERM of one without a user namespace and without CAP_SYS_ADMIN.
 pub(crate) fn unshare(creds: &Creds, flags: u32) -> Outcome
     ensures { Leaves result (unshare_effect creds.now flags) }
 {
@@ -51,7 +51,7 @@ pub(crate) fn unshare(creds: &Creds, flags: u32) -> Outcome
         return Outcome::Replied(Reply::Refused(EINVAL));
     }
     if flags & CLONE_NEWUSER != 0 {
-        return Outcome::Replied(Reply::Refused(ENOSPC));
+        return Outcome::MakesOwnUser(flags & CLONE_NEWNS != 0);
     }
     if flags & OTHER_SPACES == 0 {
         return Outcome::Replied(Reply::Done(0));

@@ -1,12 +1,13 @@
-//! Calls that change nothing: stat(2) and its like, open(2), creat(2), truncate(2), socket(2), sched_setscheduler(2), and
-//! those of which nothing is asked but a capability. None takes memory.
+//! Calls that change nothing: stat(2) and its like, open(2), creat(2), truncate(2), socket(2), socketcall(2),
+//! sched_setscheduler(2), and those of which nothing is asked but a capability. None takes memory.
 
 ghost use Rattle.std.specs.Prelude.{◌≡◌, option_copied};
 ghost use Rattle.call_table.specs.Lookups.{numbered};
 ghost use Rattle.site_table.specs.Table.{row_at};
 ghost use Rattle.kern_mounts.specs.Finds.{finds};
+ghost use Rattle.kern_mounts.specs.Mounts.{steps_of};
 ghost use Rattle.kern_files.specs.Looking.{flags_at, valued, see_answer, write_answer, open_answer};
-ghost use Rattle.kernel_model.specs.Effects.{Answer, schedule_answer, socket_effect, with_cap_of};
+ghost use Rattle.kernel_model.specs.Effects.{Answer, schedule_answer, socket_effect, with_cap_of, first_alone, socketcall_effect};
 ghost use Rattle.kernel_model.specs.Replies.{Answers, value_reply};
 
 use crate::reply::{Reply, value_reply};
@@ -20,6 +21,14 @@ use linux_numbers::errnos::{EAFNOSUPPORT, EINVAL, EPERM};
 
 // The first descriptor behind the three standard ones.
 const DESCRIPTOR: u64 = 3;
+
+// The operation of socketcall(2) that makes a socket, linux/net.h.
+const SYS_SOCKET: u32 = 1;
+
+// The first and the last of its other operations.
+const SYS_BIND: u32 = 2;
+
+const SYS_SENDMMSG: u32 = 20;
 
 // SCHED_OTHER, SCHED_FIFO, SCHED_RR, SCHED_BATCH and SCHED_IDLE, sched(7).
 const POLICIES: [u32; 5] = [0, 1, 2, 3, 5];
@@ -37,39 +46,50 @@ fn done(value: u64, outcome: Result<(), u32>) -> Reply
 impl<'a> Told<'a> {
     /// stat(2), access(2) and their like: the path is found.
     pub fn see(&self, table: &MountTable, path: &AbsPath) -> Reply
-        ensures { result ≡ value_reply (see_answer 0 (finds (row_at self.now.site.now.rows) table.now path.now)) }
+        ensures { result ≡ value_reply (see_answer 0 (finds (row_at self.now.site.now.rows) (steps_of table.now) path.now)) }
     {
         done(0, see(table, self.site, path))
     }
 
     /// open(2) and openat(2), for what the flags say.
     pub fn open(&self, table: &MountTable, path: &AbsPath, flags: u32) -> Reply
-        ensures { result ≡ value_reply (open_answer flags (flags_at table.now path.now) (finds (row_at self.now.site.now.rows) table.now path.now)) }
+        ensures { result ≡ value_reply (open_answer flags (flags_at (steps_of table.now) path.now) (finds (row_at self.now.site.now.rows) (steps_of table.now) path.now)) }
     {
         value_reply(open_file(table, self.site, path, flags))
     }
 
     /// creat(2) of a file that is there: it is opened for writing.
     pub fn create(&self, table: &MountTable, path: &AbsPath) -> Reply
-        ensures { result ≡ value_reply (write_answer 3 (flags_at table.now path.now) (finds (row_at self.now.site.now.rows) table.now path.now)) }
+        ensures { result ≡ value_reply (write_answer 3 (flags_at (steps_of table.now) path.now) (finds (row_at self.now.site.now.rows) (steps_of table.now) path.now)) }
     {
         done(DESCRIPTOR, write_file(table, self.site, path))
     }
 
     /// truncate(2).
     pub fn truncate(&self, table: &MountTable, path: &AbsPath) -> Reply
-        ensures { result ≡ value_reply (write_answer 0 (flags_at table.now path.now) (finds (row_at self.now.site.now.rows) table.now path.now)) }
+        ensures { result ≡ value_reply (write_answer 0 (flags_at (steps_of table.now) path.now) (finds (row_at self.now.site.now.rows) (steps_of table.now) path.now)) }
     {
         done(0, write_file(table, self.site, path))
     }
 
     /// socket(2): EAFNOSUPPORT of a family that the table lacks, EPERM without the family's capability.
-    pub fn socket(&self, creds: &Creds, family: u32) -> Reply
-        ensures { Answers result (socket_effect creds.now (numbered family self.now.calls.now.families)) }
+    pub fn socket(&self, creds: &Creds, newer: bool, family: u32) -> Reply
+        ensures { Answers result (socket_effect newer creds.now (numbered family self.now.calls.now.families)) }
     {
         match family_of(self.calls, family) {
             None => Reply::Refused(EAFNOSUPPORT),
-            Some(line) => with_cap_of(line.cap, creds, DESCRIPTOR),
+            Some(line) => with_cap_of(line.cap, creds, newer, DESCRIPTOR),
+        }
+    }
+
+    /// socketcall(2): as socket(2) for SYS_SOCKET, and EINVAL of an operation that there is not.
+    pub fn socketcall(&self, creds: &Creds, newer: bool, operation: u32, family: u32) -> Reply
+        ensures { Answers result (socketcall_effect newer creds.now operation (numbered family self.now.calls.now.families)) }
+    {
+        match operation {
+            SYS_SOCKET => self.socket(creds, newer, family),
+            SYS_BIND..=SYS_SENDMMSG => Reply::Done(0),
+            _ => Reply::Refused(EINVAL),
         }
     }
 }
@@ -87,12 +107,13 @@ fn family_of(calls: &CallTable, number: u32) -> Option<&CallLine>
     line_numbered(calls.families(), number)
 }
 
-/// A call that asks for a capability, if for any, and has this value: EPERM where the capability is not effective.
-pub(crate) fn with_cap_of(cap: Option<u8>, creds: &Creds, value: u64) -> Reply
-    ensures { Answers result (with_cap_of cap creds.now (Answer value)) }
+/// A call that asks for a capability, if for any, and has this value: EPERM where the capability is not effective in the first user
+/// namespace.
+pub(crate) fn with_cap_of(cap: Option<u8>, creds: &Creds, newer: bool, value: u64) -> Reply
+    ensures { Answers result (first_alone newer cap (with_cap_of cap creds.now (Answer value))) }
 {
     match cap {
-        Some(cap) if !creds.effective().contains(cap) => Reply::Refused(EPERM),
+        Some(cap) if newer || !creds.effective().contains(cap) => Reply::Refused(EPERM),
         _ => Reply::Done(value),
     }
 }

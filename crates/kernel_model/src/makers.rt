@@ -1,16 +1,20 @@
-//! The calls that make processes and mount namespaces: fork(2), clone(2), unshare(2).
+//! The calls that make processes, mount namespaces and user namespaces: fork(2), clone(2), unshare(2).
 
-ghost use Rattle.std.specs.Prelude.{◌≡◌, ◌<◌, true, false, length, IfOk, IsOk, OnOk, OnErr};
+ghost use Rattle.std.specs.Prelude.{◌≡◌, ◌<◌, nat_lt, true, false, length, IfOk, IsOk, OnOk, OnErr};
 ghost use Rattle.std.specs.List.{AllByRecursion};
-ghost use Rattle.kernel_model.specs.Effects.{Child, OwnTable};
+ghost use Rattle.site_table.specs.Ids.{most_spaces};
+ghost use Rattle.kernel_model.specs.Effects.{Child, OwnTable, UserChild, OwnUser};
 ghost use Rattle.kernel_model.specs.Memory.{makes_one};
-ghost use Rattle.kernel_model.specs.State.{Applies};
+ghost use Rattle.kernel_model.specs.State.{Applies, AppliesAt, AppliesUser, IsCopyFor, AtPlace};
 ghost use Rattle.kernel_model.specs.Step.{most_processes, most_namespaces};
+ghost use Rattle.kernel_model.specs.World.{put_number, entered_by};
 ghost use Rattle.kernel_model.specs.Worlds.{HasSpace};
 ghost use Rattle.kernel_model.specs.declared.reply.Reply.TheVariants.{Done};
 
 use crate::reply::Reply;
 use crate::state::State;
+use crate::told::Told;
+use kern_mounts::MountTable;
 use linux_numbers::errnos::{EAGAIN, ENOSPC};
 use std::alloc::AllocError;
 
@@ -21,6 +25,19 @@ const MAX_PROCESSES: usize = 1_024;
 const MAX_NAMESPACES: usize = 64;
 
 impl State {
+    // A copy of the table at this place for a user namespace: locked where its own namespace belongs to another one.
+    fn table_for(&self, at: usize, user: u32) -> Result<MountTable, AllocError>
+        requires there { at < length self.now.tables }
+        requires owned { length self.now.owners ≡ length self.now.tables }
+        ensures copies { IfOk result (λ table. IsCopyFor self.now at user table) }
+    {
+        if self.owners[at] == user {
+            self.tables[at].copy()
+        } else {
+            self.tables[at].copy_locked()
+        }
+    }
+
     // A copy of the process at this place, in its namespace.
     fn make_sharing(&mut self, place: usize) -> Result<Reply, AllocError>
         requires there { place < length self.old.processes }
@@ -33,23 +50,29 @@ impl State {
         Ok(Reply::Done(self.processes.len() as u64))
     }
 
-    // A copy of the process at this place, in a namespace of its own with an equal table.
+    // A copy of the process at this place, in a namespace of its own with a copy of the table.
     fn make_apart(&mut self, place: usize) -> Result<Reply, AllocError>
         requires there { place < length self.old.processes }
         requires spaces { AllByRecursion (HasSpace (length self.old.tables)) self.old.processes }
+        requires owned { length self.old.owners ≡ length self.old.tables }
         requires room { length self.old.processes < most_processes }
         requires space { length self.old.tables < most_namespaces }
         ensures makes { IfOk result (λ reply. Applies self.old place (Child true) reply self.new) }
         ensures stays { OnErr result (self.new ≡ self.old) }
     {
         let at = self.table_place(place);
+        let user = self.processes[place].user;
+        let table = self.table_for(at, user)?;
         self.tables.reserve(1)?;
+        self.owners.reserve(1)?;
         let mut child = self.processes[place].copy()?;
-        let table = self.tables[at].copy()?;
         child.namespace = self.tables.len() as u32 + 1;
         self.processes.push(child)?;
         match self.tables.push(table) {
-            Ok(()) => return Ok(Reply::Done(self.processes.len() as u64)),
+            Ok(()) => match self.owners.push(user) {
+                Ok(()) => return Ok(Reply::Done(self.processes.len() as u64)),
+                Err(_) => unreachable!(),
+            },
             Err(_) => unreachable!(),
         }
     }
@@ -58,8 +81,9 @@ impl State {
     pub fn make_child(&mut self, place: usize, own: bool) -> Result<Reply, AllocError>
         requires there { place < length self.old.processes }
         requires spaces { AllByRecursion (HasSpace (length self.old.tables)) self.old.processes }
+        requires owned { length self.old.owners ≡ length self.old.tables }
         ensures makes { IfOk result (λ reply. Applies self.old place (Child own) reply self.new) }
-        ensures needs_no_memory { makes_one (length self.old.processes) (length self.old.tables) (Child own) ≡ false → IsOk result }
+        ensures needs_no_memory { makes_one false (length self.old.processes) (length self.old.tables) (Child own) ≡ false → IsOk result }
         ensures stays { OnErr result (self.new ≡ self.old) }
     {
         if self.processes.len() >= MAX_PROCESSES {
@@ -74,33 +98,189 @@ impl State {
         self.make_apart(place)
     }
 
-    // A namespace with an equal table, and the process at this place in it.
+    // A namespace with a copy of the table, and the process at this place in it.
     fn move_apart(&mut self, place: usize) -> Result<(), AllocError>
         requires there { place < length self.old.processes }
         requires spaces { AllByRecursion (HasSpace (length self.old.tables)) self.old.processes }
+        requires owned { length self.old.owners ≡ length self.old.tables }
         requires space { length self.old.tables < most_namespaces }
         ensures moves { OnOk result (Applies self.old place OwnTable (Done 0) self.new) }
         ensures stays { OnErr result (self.new ≡ self.old) }
     {
         let at = self.table_place(place);
-        let table = self.tables[at].copy()?;
+        let user = self.processes[place].user;
+        let table = self.table_for(at, user)?;
+        self.owners.reserve(1)?;
         self.tables.push(table)?;
-        self.processes[place].namespace = self.tables.len() as u32;
-        Ok(())
+        match self.owners.push(user) {
+            Ok(()) => {
+                self.processes[place].namespace = self.tables.len() as u32;
+                return Ok(());
+            }
+            Err(_) => unreachable!(),
+        }
     }
 
-    /// A namespace with an equal table, if there is room, and the process at this place in it.
+    /// A namespace with a copy of the table, if there is room, and the process at this place in it.
     pub fn make_table(&mut self, place: usize) -> Result<Reply, AllocError>
         requires there { place < length self.old.processes }
         requires spaces { AllByRecursion (HasSpace (length self.old.tables)) self.old.processes }
+        requires owned { length self.old.owners ≡ length self.old.tables }
         ensures makes { IfOk result (λ reply. Applies self.old place OwnTable reply self.new) }
-        ensures needs_no_memory { makes_one (length self.old.processes) (length self.old.tables) OwnTable ≡ false → IsOk result }
+        ensures needs_no_memory { makes_one false (length self.old.processes) (length self.old.tables) OwnTable ≡ false → IsOk result }
         ensures stays { OnErr result (self.new ≡ self.old) }
     {
         if self.tables.len() >= MAX_NAMESPACES {
             return Ok(Reply::Refused(ENOSPC));
         }
         self.move_apart(place)?;
+        Ok(Reply::Done(0))
+    }
+
+    // A copy of the process at this place in a user namespace of its own, in the same mount namespace.
+    fn make_user_sharing(&mut self, place: usize) -> Result<Reply, AllocError>
+        requires there { place < length self.old.processes }
+        requires few { self.old.users < most_spaces }
+        requires room { length self.old.processes < most_processes }
+        ensures makes { IfOk result (λ reply. AppliesUser self.old place (UserChild false) reply self.new) }
+        ensures stays { OnErr result (self.new ≡ self.old) }
+    {
+        let mut child = self.processes[place].copy()?;
+        child.user = self.users + 2;
+        child.creds.enter();
+        self.processes.push(child)?;
+        self.users += 1;
+        Ok(Reply::Done(self.processes.len() as u64))
+    }
+
+    // A copy of the process at this place in a user namespace of its own, which a mount namespace of its own belongs to.
+    fn make_user_apart(&mut self, place: usize) -> Result<Reply, AllocError>
+        requires there { place < length self.old.processes }
+        requires spaces { AllByRecursion (HasSpace (length self.old.tables)) self.old.processes }
+        requires owned { length self.old.owners ≡ length self.old.tables }
+        requires few { self.old.users < most_spaces }
+        requires room { length self.old.processes < most_processes }
+        requires space { length self.old.tables < most_namespaces }
+        ensures makes { IfOk result (λ reply. AppliesUser self.old place (UserChild true) reply self.new) }
+        ensures stays { OnErr result (self.new ≡ self.old) }
+    {
+        let at = self.table_place(place);
+        let user = self.users + 2;
+        let table = self.table_for(at, user)?;
+        self.tables.reserve(1)?;
+        self.owners.reserve(1)?;
+        let mut child = self.processes[place].copy()?;
+        child.user = user;
+        child.creds.enter();
+        child.namespace = self.tables.len() as u32 + 1;
+        self.processes.push(child)?;
+        self.users += 1;
+        match self.tables.push(table) {
+            Ok(()) => match self.owners.push(user) {
+                Ok(()) => return Ok(Reply::Done(self.processes.len() as u64)),
+                Err(_) => unreachable!(),
+            },
+            Err(_) => unreachable!(),
+        }
+    }
+
+    /// A copy of the process at this place in a user namespace of its own, if there is room: in a mount namespace of its own, too,
+    /// where that is asked for.
+    pub fn make_user_child(
+        &mut self,
+        told: &Told<'_>,
+        place: usize,
+        own: bool,
+    ) -> Result<Reply, AllocError>
+        requires there { place < length self.old.processes }
+        requires spaces { AllByRecursion (HasSpace (length self.old.tables)) self.old.processes }
+        requires owned { length self.old.owners ≡ length self.old.tables }
+        ensures makes { IfOk result (λ reply. AppliesAt told.now.site.now self.old place (UserChild own) reply self.new) }
+        ensures needs_no_memory { makes_one (nat_lt self.old.users told.now.site.now.user_namespaces) (length self.old.processes) (length self.old.tables) (UserChild own) ≡ false → IsOk result }
+        ensures stays { OnErr result (self.new ≡ self.old) }
+    {
+        if self.users >= told.site.user_namespaces() {
+            return Ok(Reply::Refused(ENOSPC));
+        }
+        if self.processes.len() >= MAX_PROCESSES {
+            return Ok(Reply::Refused(EAGAIN));
+        }
+        if !own {
+            return self.make_user_sharing(place);
+        }
+        if self.tables.len() >= MAX_NAMESPACES {
+            return Ok(Reply::Refused(ENOSPC));
+        }
+        self.make_user_apart(place)
+    }
+
+    // The process at this place is in a user namespace of its own, and in the same mount namespace.
+    fn enter(&mut self, place: usize)
+        requires there { place < length self.old.processes }
+        requires few { self.old.users < most_spaces }
+        ensures { AppliesUser self.old place (OwnUser false) (Done 0) self.new }
+    {
+        let user = self.users + 2;
+        let process = &mut self.processes[place];
+        process.user = user;
+        process.creds.enter();
+        self.users += 1;
+    }
+
+    // The process at this place is in a user namespace of its own, which a mount namespace of its own belongs to.
+    fn enter_apart(&mut self, place: usize) -> Result<(), AllocError>
+        requires there { place < length self.old.processes }
+        requires spaces { AllByRecursion (HasSpace (length self.old.tables)) self.old.processes }
+        requires owned { length self.old.owners ≡ length self.old.tables }
+        requires few { self.old.users < most_spaces }
+        requires space { length self.old.tables < most_namespaces }
+        ensures moves { OnOk result (AppliesUser self.old place (OwnUser true) (Done 0) self.new) }
+        ensures stays { OnErr result (self.new ≡ self.old) }
+    {
+        let at = self.table_place(place);
+        let user = self.users + 2;
+        let table = self.table_for(at, user)?;
+        self.owners.reserve(1)?;
+        self.tables.push(table)?;
+        match self.owners.push(user) {
+            Ok(()) => {
+                let process = &mut self.processes[place];
+                process.user = user;
+                process.creds.enter();
+                process.namespace = self.tables.len() as u32;
+                self.users += 1;
+                return Ok(());
+            }
+            Err(_) => unreachable!(),
+        }
+    }
+
+    /// The process at this place in a user namespace of its own, if there is room: in a mount namespace of its own, too, where that
+    /// is asked for.
+    pub fn make_own_user(
+        &mut self,
+        told: &Told<'_>,
+        place: usize,
+        own: bool,
+    ) -> Result<Reply, AllocError>
+        requires there { place < length self.old.processes }
+        requires spaces { AllByRecursion (HasSpace (length self.old.tables)) self.old.processes }
+        requires owned { length self.old.owners ≡ length self.old.tables }
+        ensures makes { IfOk result (λ reply. AppliesAt told.now.site.now self.old place (OwnUser own) reply self.new) }
+        ensures needs_no_memory { makes_one (nat_lt self.old.users told.now.site.now.user_namespaces) (length self.old.processes) (length self.old.tables) (OwnUser own) ≡ false → IsOk result }
+        ensures stays { OnErr result (self.new ≡ self.old) }
+    {
+        if self.users >= told.site.user_namespaces() {
+            return Ok(Reply::Refused(ENOSPC));
+        }
+        if !own {
+            self.enter(place);
+            return Ok(Reply::Done(0));
+        }
+        if self.tables.len() >= MAX_NAMESPACES {
+            return Ok(Reply::Refused(ENOSPC));
+        }
+        self.enter_apart(place)?;
         Ok(Reply::Done(0))
     }
 }

@@ -3,9 +3,9 @@
 ghost use Rattle.std.specs.Prelude.{◌≡◌, true, IfOk, IsOk, OnErr};
 ghost use Rattle.site_table.specs.Table.{row_at};
 ghost use Rattle.kern_files.specs.Bits.{has_all};
-ghost use Rattle.kern_files.specs.MountCall.{after_mount, ms_remount_bind};
-ghost use Rattle.kern_files.specs.UmountCall.{umount_answer};
-ghost use Rattle.kernel_model.specs.Effects.{table_effect, with_admin};
+ghost use Rattle.kern_files.specs.MountCall.{ms_remount_bind};
+ghost use Rattle.kernel_model.specs.Effects.{table_effect, with_admin, with_own};
+ghost use Rattle.kern_files.specs.MountsCall.{mounts_after_mount, mounts_umount_answer};
 ghost use Rattle.kernel_model.specs.Replies.{Mounts};
 
 use crate::reply::{Reply, zero_reply};
@@ -23,16 +23,17 @@ impl<'a> Told<'a> {
         &self,
         alloc: Global,
         creds: &Creds,
+        owns: bool,
         table: &mut MountTable,
         source: &AbsPath,
         target: &AbsPath,
         flags: u32,
     ) -> Result<Reply, AllocError>
-        ensures mounts { IfOk result (λ reply. Mounts table.old reply table.new (with_admin creds.now (table_effect (after_mount (row_at self.now.site.now.rows) table.old source.now target.now flags)))) }
+        ensures mounts { IfOk result (λ reply. Mounts table.old reply table.new (with_own owns (with_admin creds.now (table_effect (mounts_after_mount (row_at self.now.site.now.rows) table.old source.now target.now flags))))) }
         ensures remount_takes_no_memory { has_all ms_remount_bind flags ≡ true → IsOk result }
         ensures stays { OnErr result (table.new ≡ table.old) }
     {
-        if !creds.effective().contains(CAP_SYS_ADMIN) {
+        if !owns || !creds.effective().contains(CAP_SYS_ADMIN) {
             return Ok(Reply::Refused(EPERM));
         }
         match kern_files::mount(alloc, table, self.site, source, target, flags) {
@@ -44,10 +45,16 @@ impl<'a> Told<'a> {
 }
 
 /// umount2(2).
-pub(crate) fn umount(creds: &Creds, table: &mut MountTable, path: &AbsPath, flags: u32) -> Reply
-    ensures { Mounts table.old result table.new (with_admin creds.now (table_effect (umount_answer table.old path.now flags))) }
+pub(crate) fn umount(
+    creds: &Creds,
+    owns: bool,
+    table: &mut MountTable,
+    path: &AbsPath,
+    flags: u32,
+) -> Reply
+    ensures { Mounts table.old result table.new (with_own owns (with_admin creds.now (table_effect (mounts_umount_answer table.old path.now flags)))) }
 {
-    if !creds.effective().contains(CAP_SYS_ADMIN) {
+    if !owns || !creds.effective().contains(CAP_SYS_ADMIN) {
         return Reply::Refused(EPERM);
     }
     zero_reply(kern_files::umount(table, path, flags))

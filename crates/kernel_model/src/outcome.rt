@@ -11,4 +11,8 @@ pub(crate) enum Outcome {
     MakesChild(bool),
     /// The caller is to be moved to a namespace of its own.
     MakesTable,
+    /// A copy of the caller is to be made in a user namespace of its own, and in a mount namespace of its own where true.
+    MakesUserChild(bool),
+    /// The caller is to be moved to a user namespace of its own, and to a mount namespace of its own where true.
+    MakesOwnUser(bool),
 }

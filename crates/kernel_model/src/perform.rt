@@ -1,11 +1,11 @@
 //! The rules of all calls, on the caller and its table alone.
 
-ghost use Rattle.std.specs.Prelude.{◌≡◌, false, IfOk, IsOk, OnErr};
+ghost use Rattle.std.specs.Prelude.{◌≡◌, true, false, IfOk, IsOk, OnErr};
 ghost use Rattle.kernel_calls.specs.Seen.{seen};
-ghost use Rattle.kernel_model.specs.Effects.{effect_of};
+ghost use Rattle.kernel_model.specs.Effects.{effect_of, Answer, with_mapped_ids};
 ghost use Rattle.kernel_model.specs.Memory.{asks_for_room};
 ghost use Rattle.kernel_model.specs.Parts.{parts, caller_by, done_here};
-ghost use Rattle.kernel_model.specs.Replies.{zero_reply};
+ghost use Rattle.kernel_model.specs.Replies.{zero_reply, Answers};
 ghost use Rattle.kernel_model.specs.State.{host_with};
 ghost use Rattle.kernel_model.specs.World.{ended};
 ghost use Rattle.kernel_model.specs.declared.outcome.Outcome.TheVariants.{Replied};
@@ -24,8 +24,14 @@ use crate::seccomp::seccomp;
 use crate::told::Told;
 use kern_mounts::MountTable;
 use kernel_calls::Doing;
-use linux_numbers::errnos::EBADF;
+use linux_numbers::errnos::{EBADF, EINVAL};
 use std::alloc::{AllocError, Global};
+
+// The number of the first user namespace.
+const FIRST_USER: u32 = 1;
+
+// The id that is none, setresuid(2).
+const NO_ID: u32 = 4_294_967_295;
 
 // Of a call without a value of its own nothing is left.
 fn left(outcome: Result<(), u32>) -> Outcome
@@ -43,6 +49,17 @@ fn end(caller: &mut Process) -> Outcome
     Replied(Reply::Done(0))
 }
 
+// setresuid(2) and setresgid(2) where ids are not mapped: an id that is -1 stays, and there is no other.
+fn unmapped(real: u32, effective: u32, saved: u32) -> Reply
+    ensures { Answers result (with_mapped_ids true real effective saved (Answer 0)) }
+{
+    if real == NO_ID && effective == NO_ID && saved == NO_ID {
+        Reply::Done(0)
+    } else {
+        Reply::Refused(EINVAL)
+    }
+}
+
 /// Does what a call asks for, as far as it is the caller and its table that change.
 #[tactic(auto, using(crate::proofs::Outcomes::looked, crate::proofs::Outcomes::answered, crate::proofs::Outcomes::changed, crate::proofs::Outcomes::became, crate::proofs::Outcomes::mounted, crate::proofs::Outcomes::pushed))]
 pub(crate) fn perform(
@@ -50,41 +67,49 @@ pub(crate) fn perform(
     told: &Told<'_>,
     caller: &mut Process,
     table: &mut MountTable,
+    owns: bool,
     doing: &Doing<'_>,
 ) -> Result<Outcome, AllocError>
     ensures performs { IfOk result (λ outcome. (outcome, parts caller.new table.new)
-        ≡ done_here (parts caller.old table.old) (effect_of (host_with told.now) (caller_by caller.old table.old) (seen doing.now))) }
+        ≡ done_here (parts caller.old table.old) (effect_of (host_with told.now) (caller_by caller.old table.old owns) (seen doing.now))) }
     ensures needs_no_memory { asks_for_room (seen doing.now) ≡ false → IsOk result }
     ensures stays_the_caller { OnErr result (caller.new ≡ caller.old) }
     ensures stays_the_table { OnErr result (table.new ≡ table.old) }
 {
+    let newer = caller.user != FIRST_USER;
     match *doing {
         Doing::See(path) => Ok(Replied(told.see(table, path))),
         Doing::Open(flags, path) => Ok(Replied(told.open(table, path, flags))),
         Doing::Create(path) => Ok(Replied(told.create(table, path))),
         Doing::Truncate(path) => Ok(Replied(told.truncate(table, path))),
-        Doing::Execve(path) => Ok(left(told.execute(&mut caller.creds, table, path))),
+        Doing::Execve(path) => Ok(left(told.execute(&mut caller.creds, newer, table, path))),
         Doing::SetMode(_)
         | Doing::Map(_)
         | Doing::Protect(_)
         | Doing::Attach(_)
         | Doing::Personality(_) => Ok(Replied(Reply::Done(0))),
         Doing::Schedule(policy) => Ok(Replied(schedule(policy))),
-        Doing::Socket(family) => Ok(Replied(told.socket(&caller.creds, family))),
+        Doing::Socket(family) => Ok(Replied(told.socket(&caller.creds, newer, family))),
+        Doing::Socketcall(operation, family) => {
+            Ok(Replied(told.socketcall(&caller.creds, newer, operation, family)))
+        }
         Doing::Enter => Ok(Replied(Reply::Refused(EBADF))),
         Doing::Fork => Ok(MakesChild(false)),
         Doing::Clone(flags) => Ok(clone(&caller.creds, flags)),
         Doing::Unshare(flags) => Ok(unshare(&caller.creds, flags)),
         Doing::Exit => Ok(end(caller)),
         Doing::Mount(source, target, flags) => {
-            Ok(Replied(told.mount(alloc, &caller.creds, table, source, target, flags)?))
+            Ok(Replied(told.mount(alloc, &caller.creds, owns, table, source, target, flags)?))
         }
-        Doing::Umount(path, flags) => Ok(Replied(umount(&caller.creds, table, path, flags))),
+        Doing::Umount(path, flags) => Ok(Replied(umount(&caller.creds, owns, table, path, flags))),
+        Doing::Setuid(_) | Doing::Setgid(_) if newer => Ok(Replied(Reply::Refused(EINVAL))),
+        Doing::Setresuid(real, effective, saved) | Doing::Setresgid(real, effective, saved)
+            if newer => { Ok(Replied(unmapped(real, effective, saved))) }
         Doing::Setuid(id) => Ok(left(caller.creds.setuid(id))),
         Doing::Setgid(id) => Ok(left(caller.creds.setgid(id))),
         Doing::Setresuid(ruid, euid, suid) => Ok(left(caller.creds.setresuid(ruid, euid, suid))),
         Doing::Setresgid(rgid, egid, sgid) => Ok(left(caller.creds.setresgid(rgid, egid, sgid))),
-        Doing::Setgroups(ids) => Ok(Replied(setgroups(&mut caller.creds, ids)?)),
+        Doing::Setgroups(ids) => Ok(Replied(setgroups(&mut caller.creds, newer, ids)?)),
         Doing::Capset(permitted, effective, inheritable) => {
             Ok(left(caller.creds.capset(permitted, effective, inheritable)))
         }
@@ -95,6 +120,6 @@ pub(crate) fn perform(
             let stack = &mut caller.stack;
             Ok(Replied(seccomp(alloc, &caller.creds, stack, operation, flags, bytes)?))
         }
-        Doing::Plain(cap) => Ok(Replied(with_cap_of(cap, &caller.creds, 0))),
+        Doing::Plain(cap) => Ok(Replied(with_cap_of(cap, &caller.creds, newer, 0))),
     }
 }

@@ -16,6 +16,8 @@ pub struct Process {
     pub stack: Stack,
     /// The number of its mount namespace, from 1, mount_namespaces(7).
     pub namespace: u32,
+    /// The number of its user namespace, from 1, user_namespaces(7).
+    pub user: u32,
     /// Whether it lives.
     pub alive: bool,
 }
@@ -29,6 +31,7 @@ impl Process {
             creds: Creds::start(alloc),
             stack: Stack::new(alloc),
             namespace: 1,
+            user: 1,
             alive: true,
         }
     }
@@ -41,6 +44,7 @@ impl Process {
             creds: self.creds.copy()?,
             stack: self.stack.copy()?,
             namespace: self.namespace,
+            user: self.user,
             alive: self.alive,
         })
     }

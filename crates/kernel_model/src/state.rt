@@ -4,7 +4,7 @@ ghost use Rattle.std.specs.Prelude.{◌≡◌, ◌∷◌, [], ◌<◌, ◌-◌, 
 ghost use Rattle.std.specs.List.{AllByRecursion};
 ghost use Rattle.bpf_code.specs.Stack.{decision_on};
 ghost use Rattle.bpf_code.specs.declared.machine.CallData.{CallData};
-ghost use Rattle.kern_mounts.specs.Table.{start};
+ghost use Rattle.kern_mounts.specs.Mounts.{first_mounts};
 ghost use Rattle.kernel_model.specs.State.{State, place_of, AtPlace};
 ghost use Rattle.kernel_model.specs.World.{of_number, first_process, put_number, ended};
 ghost use Rattle.kernel_model.specs.Worlds.{HasSpace};
@@ -20,6 +20,10 @@ use std::marker::Model;
 pub(crate) struct State {
     pub(crate) processes: Vec<Process>,
     pub(crate) tables: Vec<MountTable>,
+    /// The user namespace that each mount namespace belongs to.
+    pub(crate) owners: Vec<u32>,
+    /// How many user namespaces were made beside the first.
+    pub(crate) users: u32,
 }
 
 impl Model for State {
@@ -27,19 +31,26 @@ impl Model for State {
 
     ghost Value = { State };
 
-    ghost view = { λ state. record { processes = state.processes.items; tables = state.tables.items } };
+    ghost view = { λ state. record { processes = state.processes.items; tables = state.tables.items; owners = state.owners.items; users = state.users } };
 }
 
 impl State {
     /// The first process and the host's table.
     pub fn first(alloc: Global) -> Result<State, AllocError>
-        ensures { IfOk result (λ state. state ≡ record { processes = first_process ∷ []; tables = start ∷ [] }) }
+        ensures { IfOk result (λ state. state ≡ record { processes = first_process ∷ []; tables = first_mounts ∷ []; owners = 1 ∷ []; users = 0 }) }
     {
         let mut processes = Vec::new(alloc);
         processes.push(Process::first(alloc))?;
         let mut tables = Vec::new(alloc);
         tables.push(MountTable::new(alloc)?)?;
-        Ok(State { processes, tables })
+        let mut owners = Vec::new(alloc);
+        owners.push(1)?;
+        Ok(State {
+            processes,
+            tables,
+            owners,
+            users: 0,
+        })
     }
 
     /// The process with this number, whether it lives or not.
@@ -59,6 +70,16 @@ impl State {
         match namespace.checked_sub(1) {
             None => None,
             Some(place) => self.tables.get(place as usize),
+        }
+    }
+
+    /// The user namespace that the mount namespace with this number belongs to.
+    pub fn owner(&self, namespace: u32) -> Option<u32>
+        ensures { result ≡ of_number self.now.owners namespace }
+    {
+        match namespace.checked_sub(1) {
+            None => None,
+            Some(place) => self.owners.get(place as usize).copied(),
         }
     }
 

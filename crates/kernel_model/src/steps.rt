@@ -51,10 +51,8 @@ pub(crate) fn mount_step(
     ensures stays { OnErr result (table.new ≡ table.old) }
 {
     if step.place.is_root() {
-        match table.remount(&step.place, step.flags) {
-            Ok(()) => return Ok(()),
-            Err(_) => unreachable!(),
-        }
+        table.set_root_flags(step.flags);
+        return Ok(());
     }
     match table.push(copy_of(alloc, step)?) {
         Ok(()) => return Ok(()),

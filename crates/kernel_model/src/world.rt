@@ -33,8 +33,8 @@ pub struct World<'a> {
 }
 
 impl<'a> Model for World<'a> {
-    ghost use Rattle.std.specs.Prelude.{◌≡◌, map};
-    ghost use Rattle.kernel_calls.specs.Rules.{rule_of};
+    ghost use Rattle.std.specs.Prelude.{◌≡◌, length};
+    ghost use Rattle.kernel_calls.specs.Rules.{rules_of};
     ghost use Rattle.kernel_model.specs.State.{world_of};
     ghost use Rattle.kernel_model.specs.World.{World};
     ghost use Rattle.kernel_model.specs.Worlds.{IsKernel};
@@ -43,7 +43,7 @@ impl<'a> Model for World<'a> {
 
     ghost view = { λ world. world_of world.told.calls.now world.told.site.now world.state };
 
-    ghost invariant = { λ world. (world.rules ≡ map rule_of world.told.calls.now.calls) × IsKernel world.state.processes world.state.tables };
+    ghost invariant = { λ world. (world.rules ≡ rules_of world.told.calls.now) × IsKernel world.state.processes world.state.tables × (length world.state.owners ≡ length world.state.tables) };
 }
 
 impl<'a> World<'a> {
@@ -64,9 +64,10 @@ impl<'a> World<'a> {
 
     /// One call of one process, and its reply.
     ///
-    /// A process that does not live is refused with ESRCH. Then its programs decide, seccomp(2). Then a call that the table or
-    /// the kernel lacks is refused with ENOSYS, and a payload that is not of the call's form with EFAULT. Then the call's rule
-    /// answers, which is its manual page's. A refused call changes nothing. Where memory runs out the world stays as it was.
+    /// A process that does not live is refused with ESRCH, and an ABI that the table lacks with ENOSYS. Then its programs decide,
+    /// seccomp(2). Then a call that the ABI or the kernel lacks is refused with ENOSYS, and a payload that is not of the call's
+    /// form with EFAULT. Then the call's rule answers, which is its manual page's. A refused call changes nothing. Where memory
+    /// runs out the world stays as it was.
     pub fn step(&mut self, alloc: Global, call: &Call) -> Result<Reply, AllocError>
         ensures makes_the_step { IfOk result (λ reply. (reply, self.new) ≡ step self.old call.now) }
         ensures needs_no_memory { takes_memory self.old call.now ≡ false → IsOk result }
@@ -75,9 +76,12 @@ impl<'a> World<'a> {
         let Some(place) = self.state.living_place(call.pid) else {
             return Ok(Reply::Refused(ESRCH));
         };
+        if call.abi >= self.told.calls.abis() {
+            return Ok(Reply::Refused(ENOSYS));
+        }
         let input = CallData {
             nr: call.nr,
-            arch: self.told.calls.arch(),
+            arch: self.told.calls.arch_of(call.abi),
             ip: 0,
             args: call.args,
         };
@@ -126,6 +130,13 @@ impl<'a> World<'a> {
         ensures table_of_the_number { option_map (λ table. table.now) result ≡ of_number self.now.tables namespace }
     {
         self.state.table(namespace)
+    }
+
+    /// The user namespace that the mount namespace with this number belongs to, user_namespaces(7).
+    pub fn owner(&self, namespace: u32) -> Option<u32>
+        ensures owner_of_the_number { result ≡ of_number self.now.owners namespace }
+    {
+        self.state.owner(namespace)
     }
 
     /// The calls and families that the kernel is told.

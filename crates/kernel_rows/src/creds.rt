@@ -108,14 +108,14 @@ fn make_small(creds: &mut Creds, call: &[&str]) -> Result<(), u32> {
         ["setresgid", real, effective, saved] => {
             creds.setresgid(number32(real), number32(effective), number32(saved))
         }
-        ["exec", owner, group, caps, effective, nosuid] => {
+        ["exec", owner, group, caps, effective, nosuid, newer @ ..] => {
             let file = FileCreds {
                 setuid: id_or_none(owner),
                 setgid: id_or_none(group),
                 caps: set(caps),
                 effective: *effective == "effective",
             };
-            creds.exec(&file, *nosuid == "nosuid")
+            creds.exec(&file, *nosuid == "nosuid", !newer.is_empty())
         }
         other => change_sets(creds, other),
     }
@@ -139,6 +139,7 @@ fn mark(creds: &mut Creds, call: &[&str]) -> Result<(), u32> {
         ["clear"] => creds.clear_ambient(),
         ["keepcaps", on] => creds.set_keepcaps(number(on) == 1),
         ["no_new_privs"] => creds.set_no_new_privs(),
+        ["enter"] => creds.enter(),
         _ => return Err(ENOSYS),
     }
     Ok(())

@@ -55,6 +55,11 @@ pub fn answer(alloc: Global, table: &mut MountTable, row: &[&str]) -> Result<Str
             *table = copy;
             length(alloc, table)
         }
+        ["copy locked"] => {
+            let copy = table.copy_locked()?;
+            *table = copy;
+            length(alloc, table)
+        }
         _ => said(alloc, "no row"),
     }
 }
@@ -124,7 +129,11 @@ fn push_many(alloc: Global, table: &mut MountTable, count: u64) -> Result<String
 
 fn entry(alloc: Global, table: &MountTable, at: usize) -> Result<String, AllocError> {
     if at < table.len() {
-        shown(alloc, table.entry(at))
+        let step = shown(alloc, table.entry(at))?;
+        let locked = if table.locked(at) { ", locked" } else { "" };
+        let kept = flag_words(alloc, table.kept(at))?;
+        let keeps = if kept.is_empty() { "" } else { ", keeps" };
+        format!(in alloc; "{step}{locked}{keeps}{kept}")
     } else {
         said(alloc, "none")
     }
@@ -142,13 +151,16 @@ pub fn what_shown(what: &What) -> &str {
 
 fn shown(alloc: Global, step: &MountStep) -> Result<String, AllocError> {
     let what = what_shown(&step.what);
-    let read_only = if step.flags.read_only { " ro" } else { "" };
-    let no_exec = if step.flags.no_exec { " noexec" } else { "" };
-    let no_suid = if step.flags.no_suid { " nosuid" } else { "" };
-    format!(in alloc;
-        "{}: {what}{read_only}{no_exec}{no_suid}",
-        step.place.text()
-    )
+    let flags = flag_words(alloc, step.flags)?;
+    format!(in alloc; "{}: {what}{flags}", step.place.text())
+}
+
+// The words of flags, a space before each.
+fn flag_words(alloc: Global, flags: Flags) -> Result<String, AllocError> {
+    let read_only = if flags.read_only { " ro" } else { "" };
+    let no_exec = if flags.no_exec { " noexec" } else { "" };
+    let no_suid = if flags.no_suid { " nosuid" } else { "" };
+    format!(in alloc; "{read_only}{no_exec}{no_suid}")
 }
 
 fn resolve(alloc: Global, table: &MountTable, path: &str) -> Result<String, AllocError> {

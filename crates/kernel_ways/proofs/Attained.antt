@@ -22,7 +22,7 @@ use Rattle.kernel_laws.specs.Questions.{ToExec}
 use Rattle.kernel_laws.specs.Reach.{Power, Nowise, Unmounting, Mounting, reaches}
 use Rattle.kernel_ways.specs.Offers.{Offers}
 use Rattle.kernel_ways.specs.Taking.{id_call, sets_call}
-use Rattle.kernel_ways.specs.Ways.{Way, here, by_creds}
+use Rattle.kernel_ways.specs.Ways.{place_of, Way, here, by_creds}
 use Rattle.kernel_ways.proofs.Solo.{way_join}
 use Rattle.kernel_ways.proofs.Avoiding.{Avoids, avoid_one, avoid_join}
 use Rattle.kernel_ways.proofs.Lines.{some_line}
@@ -217,7 +217,7 @@ module _ (launch : Launch) (l : IsLaunched launch) (o : Offers launch) where
         let small : common < 2 ^ 41 = let P : ℕ → Type 0 = λ s. cut target.caps s < 2 ^ 41 in subst P (sym b.bounding) (common_small target.caps launch.creds.bounding o.bounding) in
         let inh : creds.inheritable < 2 ^ 41 = let P : ℕ → Type 0 = λ s. s < 2 ^ 41 in subst P (sym b.inheritable) o.inheritable in
         let line = some_line launch l SetsCaps z in
-        let own_call = sets_call line.line.number common common creds.inheritable in
+        let own_call = sets_call (place_of line.line) common common creds.inheritable in
         let set = capset_call launch o after table line common common creds.inheritable small small inh (gains.may_take creds (marks_of target) (off_of creds b)) in
         record {
           calls = ran.call ∷ own_call ∷ [];
@@ -254,7 +254,7 @@ module _ (launch : Launch) (l : IsLaunched launch) (o : Offers launch) where
         → has launch.creds.bounding number ≡ true → Gained false from start table number
     root_gains from creds start table number calls no_gid way basis h target r like s own =
         let line = some_line launch l TakesUid s in
-        let own_call = id_call line.line.number line.own 0 in
+        let own_call = id_call (place_of line.line) line.own 0 in
         let change = uid_call launch o creds table 0 (omega arith) line h in
         let after = zeroed creds in
         let b = basis_uids launch creds (all_of 0) basis in

@@ -11,12 +11,12 @@ use Rattle.kern_mounts.specs.Split.{Table}
 use Rattle.kernel_ways.specs.Ways.{Makes}
 
 abbrev pub AvoidsOne : Launch → Kind → Call → Type 0
-AvoidsOne launch kind call = (doing : Doing) → asked_of launch.calls.calls call ≡ Does doing → asks kind doing ≡ false
+AvoidsOne launch kind call = (doing : Doing) → asked_of launch.calls call ≡ Does doing → asks kind doing ≡ false
 
 abbrev pub Avoids : Launch → Kind → List Call → Type 0
 Avoids launch kind calls = AllByRecursion (AvoidsOne launch kind) calls
 
-same_doing : (launch : Launch) (call : Call) (one other : Doing) → asked_of launch.calls.calls call ≡ Does one → asked_of launch.calls.calls call ≡ Does other → one ≡ other
+same_doing : (launch : Launch) (call : Call) (one other : Doing) → asked_of launch.calls call ≡ Does one → asked_of launch.calls call ≡ Does other → one ≡ other
 same_doing launch call one other e g = cc
 
 pub avoid_one : (launch : Launch) (creds : Creds) (table : Table) (doing : Doing) (call : Call) (effect : Effect) → Makes launch creds table doing call effect → (kind : Kind) → asks kind doing ≡ false → AvoidsOne launch kind call

@@ -18,6 +18,8 @@ use Rattle.kern_mounts.specs.Bind.{bound, bound_entry, object_at, after_bind}
 use Rattle.kern_mounts.specs.Entry.{leads_to, entry_of}
 use Rattle.kern_mounts.specs.Finds.{finds, host_place, host_place_by}
 use Rattle.kern_mounts.specs.Launch.{BeginsAtRoot, HasShortPlace, proc}
+use Rattle.kern_mounts.specs.Mounts.{steps_of}
+use Rattle.kern_mounts.proofs.Plain.{steps_plain}
 use Rattle.kern_mounts.specs.Split.{Table, Split, split_at}
 use Rattle.kern_mounts.specs.Unmounts.{IsOrdered, IsPart}
 use Rattle.kern_mounts.specs.declared.step.MountStep.{MountStep}
@@ -151,8 +153,8 @@ record Sees (folder : Path) (table : Table) : Type 0 where
 
 sees_exposes : (launch : Launch) (creds : Creds) (table : Table) (world : World) → IsSolo launch creds table world → (folder : Path) → Sees folder table → Exposes folder world
 sees_exposes launch creds table world s folder sees =
-    let own : World = solo_world launch creds s.namespace s.tables in
-    let table_is : table_of own s.namespace ≡ table = ap (λ b. table_or (cond b None (slice_get s.tables (s.namespace - 1)))) s.numbered ∙ ap table_or s.own in
+    let own : World = solo_world launch creds s.namespace s.tables s.owners in
+    let table_is : table_of own s.namespace ≡ table = ap (λ b. steps_of (table_or (cond b None (slice_get s.tables (s.namespace - 1))))) s.numbered ∙ ap (λ o. steps_of (table_or o)) s.own ∙ steps_plain table in
     subst (λ (w : World). Exposes folder w) (sym s.is) (record {
       pid = 1;
       process = solo_process launch creds s.namespace;

@@ -1,5 +1,5 @@
 -- The calls that expose a row, by name: each is done, and then a path finds it.
-use Rattle.std.proofs.Common.{◌≡◌, ℕ, true, List, [], ◌∷◌, ◌++◌, Some, None, Ok, refl, cond, ap, ◌∙◌, sym, subst, arith, ◌<◌}
+use Rattle.std.proofs.Common.{◌≡◌, map, ℕ, true, List, [], ◌∷◌, ◌++◌, Some, None, Ok, refl, cond, ap, ◌∙◌, sym, subst, arith, ◌<◌}
 use Rattle.std.specs.Prelude.{◌^◌, ◌%◌, ◌-◌, slice_get}
 use Rattle.std.specs.List.{AllByRecursion}
 use Rattle.abs_path.specs.Paths.{Path}
@@ -13,6 +13,9 @@ use Rattle.kern_creds.specs.declared.creds.Creds.{Creds}
 use Rattle.kern_mounts.specs.Entry.{leads_to, entry_of}
 use Rattle.kern_mounts.specs.Finds.{found_at, found_by, row_or_nothing}
 use Rattle.kern_mounts.specs.Launch.{HasShortPlace, proc}
+use Rattle.kern_mounts.specs.Answer.{plain_answer}
+use Rattle.kern_mounts.specs.Mounts.{plain, steps_of}
+use Rattle.kern_mounts.proofs.Plain.{steps_plain}
 use Rattle.kern_mounts.specs.Split.{Table, Split, split_at}
 use Rattle.kern_mounts.specs.Table.{StartsAtRoot}
 use Rattle.kern_mounts.specs.Umount.{after_umount}
@@ -45,7 +48,7 @@ use Rattle.kernel_ways.specs.Exposures.{CanMount, FindsAt, UnmountsShowRow, TwoM
 use Rattle.kernel_ways.specs.Offers.{Offers}
 use Rattle.kernel_ways.specs.Showing.{IsDoneTo}
 use Rattle.kernel_ways.specs.Uncovering.{covering, Detaches, still, then_one, umount_call, umount_calls, mount_call, mount_calls}
-use Rattle.kernel_ways.specs.Ways.{Way, here, by_table, Makes, solo_process}
+use Rattle.kernel_ways.specs.Ways.{Way, here, by_table, Makes, solo_process, CallAt, passes_at}
 use Rattle.kernel_ways.proofs.Lines.{make, six, zeros}
 use Rattle.kernel_ways.proofs.Showing.{ways_are_done, served_is_solo}
 use Rattle.kernel_ways.proofs.Uncovering.{uncovered}
@@ -54,7 +57,7 @@ ordered_after : (earlier : Table) (entry : MountStep) (later : Table) → IsOrde
 ordered_after [] entry later h = h.0
 ordered_after (head ∷ earlier) entry later h = ordered_after earlier entry later h.1
 
-module _ (launch : Launch) (o : Offers launch) (creds : Creds) (nr : ℕ) where
+module _ (launch : Launch) (o : Offers launch) (creds : Creds) (nr : CallAt) where
   -- ---- umount2
   detach_words : AreWords (one_word 1 mnt_detach)
   detach_words = six 0 2 0 0 (omega arith) (omega arith) (omega arith) (omega arith)
@@ -67,20 +70,20 @@ module _ (launch : Launch) (o : Offers launch) (creds : Creds) (nr : ℕ) where
       let all : AllByRecursion HasShortPlace (split.earlier ++ c ∷ split.later) = subst (AllByRecursion HasShortPlace) is.whole short in
       let place : HasShortPlace c = append_all HasShortPlace split.earlier c split.later all in
       let named : IsPath c.place = record { normal = place.normal; short = omega (arith, place.short) } in
-      let through : passes launch nr (one_word 1 mnt_detach) = o.alike nr (Known known.Umount) no_words (one_word 1 mnt_detach) can.number zeros detach_words can.follows refl can.through in
-      let makes : Makes launch creds table (d.Umount c.place 2) (umount_call nr c.place) (SetTable next) =
-      make launch creds table nr (Known known.Umount) (one_word 1 mnt_detach) (OnePath c.place) (d.Umount c.place 2) (SetTable next) can.number detach_words named can.follows refl through
-      (ap (λ b. cond b (table_effect (after_umount table c.place true)) (Refuse eperm)) can.admin ∙ ap table_effect e) in
+      let through : passes_at launch nr (one_word 1 mnt_detach) = o.alike nr (Known known.Umount) no_words (one_word 1 mnt_detach) can.number zeros detach_words can.follows refl can.through in
+      let makes : Makes launch creds table (d.Umount c.place 2) (umount_call nr c.place) (SetTable (map plain next)) =
+      make launch creds table nr (Known known.Umount) (one_word 1 mnt_detach) (OnePath c.place) (d.Umount c.place 2) (SetTable (map plain next)) can.number detach_words named can.follows refl through
+      (ap (λ b. cond b (table_effect (plain_answer (after_umount table c.place true))) (Refuse eperm)) can.admin ∙ ap (λ answer. table_effect (plain_answer answer)) e) in
       let part = trims c.place true table next top e in
       by_table (umount_call nr c.place) makes (unmounts_way can path more (trimmed_top part top) (part_all HasShortPlace (trimmed_part part) short))
 
   -- ---- mount
-  mount_makes : CanMount launch creds known.Mount nr → (table now : Table) (flags : ℕ) → flags < 2 ^ 32 → after_mount (row_at launch.site.rows) table [] proc flags ≡ Ok now → Makes launch creds table (d.Mount [] proc flags) (mount_call nr [] proc flags) (SetTable now)
+  mount_makes : CanMount launch creds known.Mount nr → (table now : Table) (flags : ℕ) → flags < 2 ^ 32 → after_mount (row_at launch.site.rows) table [] proc flags ≡ Ok now → Makes launch creds table (d.Mount [] proc flags) (mount_call nr [] proc flags) (SetTable (map plain now))
   mount_makes can table now flags small e =
       let words : AreWords (one_word 3 flags) = six 0 0 0 flags (omega arith) (omega arith) (omega arith) small in
-      let through : passes launch nr (one_word 3 flags) = o.alike nr (Known known.Mount) no_words (one_word 3 flags) can.number zeros words can.follows refl can.through in
-      make launch creds table nr (Known known.Mount) (one_word 3 flags) (TwoPaths [] proc) (d.Mount [] proc flags) (SetTable now) can.number words (root_named, proc_named) can.follows (ap (λ w. Some (d.Mount [] proc w)) (low flags small)) through
-      (ap (λ b. cond b (table_effect (after_mount (row_at launch.site.rows) table [] proc flags)) (Refuse eperm)) can.admin ∙ ap table_effect e)
+      let through : passes_at launch nr (one_word 3 flags) = o.alike nr (Known known.Mount) no_words (one_word 3 flags) can.number zeros words can.follows refl can.through in
+      make launch creds table nr (Known known.Mount) (one_word 3 flags) (TwoPaths [] proc) (d.Mount [] proc flags) (SetTable (map plain now)) can.number words (root_named, proc_named) can.follows (ap (λ w. Some (d.Mount [] proc w)) (low flags small)) through
+      (ap (λ b. cond b (table_effect (plain_answer (after_mount (row_at launch.site.rows) table [] proc flags))) (Refuse eperm)) can.admin ∙ ap (λ answer. table_effect (plain_answer answer)) e)
     where
       low : (n : ℕ) → n < 2 ^ 32 → n % 2 ^ 32 ≡ n
       low n h = omega (arith, h)
@@ -132,7 +135,7 @@ found_alone launch creds table world calls path target wish told d found =
     let s = d.solo in
     let process : Process = solo_process launch creds s.namespace in
     let own : table_of (run world calls) s.namespace ≡ table =
-    ap (λ (w : World). table_of w s.namespace) s.is ∙ ap (λ b. table_or (cond b None (slice_get s.tables (s.namespace - 1)))) s.numbered ∙ ap table_or s.own in
+    ap (λ (w : World). table_of w s.namespace) s.is ∙ ap (λ b. steps_of (table_or (cond b None (slice_get s.tables (s.namespace - 1))))) s.numbered ∙ ap (λ o. steps_of (table_or o)) s.own ∙ steps_plain table in
     record {
       fit = d.fit;
       done = d.done;

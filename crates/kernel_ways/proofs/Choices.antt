@@ -19,6 +19,7 @@ pub data Choice : Kind → Rule → List ℕ → Type 0 where
   execs : Choice (k.ForPath q.ToExec) (rule.Known known.Execve) no_words
   plain : (number : Option ℕ) → Choice k.PlainCall (rule.Plain number) no_words
   socket : (family : ℕ) → Choice (k.ForFamily family) (rule.Known known.Socket) (one_word 0 family)
+  socketcall : (family : ℕ) → Choice (k.ForFamily family) (rule.Known known.Socketcall) (one_word 0 1)
   unshare : (space : Space) → Choice (k.ForSpace space) (rule.Known known.Unshare) (one_word 0 (flag_of space))
   clone : (space : Space) → Choice (k.ForSpace space) (rule.Known known.Clone) (one_word 0 (flag_of space))
   maps : Choice k.MapsWx (rule.Known known.Map) (one_word 2 6)
@@ -48,6 +49,7 @@ of_words (k.ForPath q.ToWrite) (rule.Known known.Truncate) args = as_asked trunc
 of_words (k.ForPath q.ToExec) (rule.Known known.Execve) args = as_asked execs
 of_words k.PlainCall (rule.Plain number) args = as_asked (plain number)
 of_words (k.ForFamily family) (rule.Known known.Socket) args = as_asked (socket family)
+of_words (k.ForFamily family) (rule.Known known.Socketcall) args = as_asked (socketcall family)
 of_words (k.ForSpace space) (rule.Known known.Unshare) args = as_asked (unshare space)
 of_words (k.ForSpace space) (rule.Known known.Clone) args = as_asked (clone space)
 of_words k.MapsWx (rule.Known known.Map) args = as_asked maps

@@ -16,10 +16,10 @@ use Rattle.kern_creds.specs.Prctl.{after_drop_bounding, after_raise, after_lower
 use Rattle.kern_creds.specs.Setgroups.{after_setgroups}
 use Rattle.kern_creds.specs.Setresuid.{after_setresuid, after_setresgid}
 use Rattle.kern_creds.specs.Setuid.{after_setuid, after_setgid}
-use Rattle.kern_files.specs.Executing.{exec_answer}
+use Rattle.kern_files.specs.Executing.{exec_answer_in}
 use Rattle.kern_files.specs.Looking.{flags_at, see_answer, write_answer, open_answer}
-use Rattle.kern_files.specs.MountCall.{after_mount}
-use Rattle.kern_files.specs.UmountCall.{umount_answer}
+use Rattle.kern_files.specs.MountsCall.{mounts_after_mount, mounts_umount_answer}
+use Rattle.kern_mounts.specs.Mounts.{Mounts as Mounts', steps_of}
 use Rattle.kern_mounts.specs.Finds.{finds}
 use Rattle.kern_mounts.specs.Split.{Table}
 use Rattle.kernel_calls.specs.Doing as d
@@ -31,12 +31,12 @@ use Rattle.kernel_calls.specs.declared.payload.Payload.TheVariants.{Nothing, One
 use Rattle.kernel_calls.specs.declared.rule.Rule.{Rule}
 use Rattle.kernel_calls.specs.declared.rule.Rule.TheVariants.{Known}
 use Rattle.kernel_model.specs.Effects as f
-use Rattle.kernel_model.specs.Effects.{Effect, Host, Caller, looks, creds_effect, table_effect, with_cap_of, with_admin, schedule_answer, socket_effect, is_set_effect, ambient_effect, no_new_privs_effect, keepcaps_effect, prctl_effect, push_effect, seccomp_effect, effect_of}
+use Rattle.kernel_model.specs.Effects.{Effect, Host, Caller, looks, creds_effect, table_effect, with_cap_of, with_admin, first_alone, schedule_answer, socket_effect, is_set_effect, ambient_effect, no_new_privs_effect, keepcaps_effect, prctl_effect, push_effect, seccomp_effect, effect_of, socketcall_effect}
 use Rattle.kernel_model.specs.MountStep.{with_step, stepped_by}
 use Rattle.kernel_model.specs.Step.{step}
 use Rattle.kernel_model.specs.StepCases as case
 use Rattle.kernel_model.specs.StepCases.{EffectCase, StepCase}
-use Rattle.kernel_model.specs.World.{World, living_of, table_of, host_of, caller_of, start_world}
+use Rattle.kernel_model.specs.World.{World, living_of, mounts_of, host_of, caller_of, start_world, owner_of}
 use Rattle.kernel_model.specs.declared.process.Process.{Process}
 use Rattle.kernel_model.specs.declared.reply.Reply.{Reply}
 use Rattle.kernel_model.proofs.Cases.{steps_by_cases}
@@ -48,7 +48,8 @@ use Rattle.launcher.specs.Launches.{HasLaunchCalls}
 use Rattle.launcher.proofs.Leading.{Leads, leads_parts}
 use Rattle.linux_numbers.specs.Capabilities.{cap_sys_admin, cap_last_cap}
 use Rattle.linux_numbers.specs.Errnos.{eperm, eacces, einval, enomem}
-use Rattle.linux_numbers.specs.Limits.{max_insns_per_path}
+use Rattle.linux_numbers.specs.Limits.{max_insns_per_path, no_id}
+use Rattle.kern_mounts.specs.Copying.{copied}
 use Rattle.site_table.specs.Table.{Site}
 
 -- clone(2) and unshare(2), which alone make namespaces
@@ -61,6 +62,8 @@ parts _ = false
 abbrev Stays : Effect → Type 0
 Stays (f.Child own) = own ≡ false
 Stays f.OwnTable = ⊥
+Stays (f.UserChild own) = own ≡ false
+Stays (f.OwnUser own) = own ≡ false
 Stays _ = Unit {0}
 
 stays_looks : (r : Result ℕ ℕ) → Stays (looks r)
@@ -71,7 +74,7 @@ stays_creds : (r : Result Creds ℕ) → Stays (creds_effect r)
 stays_creds (Ok creds) = tt
 stays_creds (Err errno) = tt
 
-stays_table : (r : Result Table ℕ) → Stays (table_effect r)
+stays_table : (r : Result Mounts' ℕ) → Stays (table_effect r)
 stays_table (Ok table) = tt
 stays_table (Err errno) = tt
 
@@ -83,15 +86,28 @@ stays_cap : (o : Option ℕ) (creds : Creds) (value : ℕ) → Stays (with_cap_o
 stays_cap None creds value = tt
 stays_cap (Some number) creds value = either (has creds.effective number) (f.Answer value) (f.Refuse eperm) tt tt
 
-stays_socket : (creds : Creds) (o : Option CallLine) → Stays (socket_effect creds o)
-stays_socket creds None = tt
-stays_socket creds (Some line) = stays_cap line.cap creds 3
+stays_alone : (newer : Bool) (o : Option ℕ) (creds : Creds) (value : ℕ) → Stays (first_alone newer o (with_cap_of o creds (f.Answer value)))
+stays_alone false o creds value = stays_cap o creds value
+stays_alone true None creds value = tt
+stays_alone true (Some number) creds value = tt
+
+stays_socket : (newer : Bool) (creds : Creds) (o : Option CallLine) → Stays (socket_effect newer creds o)
+stays_socket newer creds None = tt
+stays_socket newer creds (Some line) = stays_alone newer line.cap creds 3
+
+stays_ids : (real effective saved : ℕ) → Stays (cond ((eqb real no_id && eqb effective no_id) && eqb saved no_id) (f.Answer 0) (f.Refuse einval))
+stays_ids real effective saved = either ((eqb real no_id && eqb effective no_id) && eqb saved no_id) (f.Answer 0) (f.Refuse einval) tt tt
+
+stays_socketcall : (newer : Bool) (creds : Creds) (operation : ℕ) (o : Option CallLine) → Stays (socketcall_effect newer creds operation o)
+stays_socketcall newer creds operation o =
+    let other : Effect = cond (nat_le 2 operation && nat_le operation 20) (f.Answer 0) (f.Refuse einval) in
+    either (eqb operation 1) (socket_effect newer creds o) other (stays_socket newer creds o) (either (nat_le 2 operation && nat_le operation 20) (f.Answer 0) (f.Refuse einval) tt tt)
 
 stays_push : (stack : List (List Insn)) (o : Option (List Insn)) → Stays (push_effect stack o)
 stays_push stack None = tt
 stays_push stack (Some program) = either (nat_le (room_of stack + length program) max_insns_per_path) (f.Push program) (f.Refuse enomem) tt tt
 
-stays_admin : (creds : Creds) (r : Result Table ℕ) → Stays (with_admin creds (table_effect r))
+stays_admin : (creds : Creds) (r : Result Mounts' ℕ) → Stays (with_admin creds (table_effect r))
 stays_admin creds r = either (has creds.effective cap_sys_admin) (table_effect r) (f.Refuse eperm) (stays_table r) tt
 
 stays_ambient : (creds : Creds) (operation cap' : ℕ) → Stays (ambient_effect creds operation cap')
@@ -128,34 +144,35 @@ stays_seccomp creds stack operation flags code =
     either (not (eqb operation 1 && eqb flags 0)) (f.Refuse einval) allowed tt (either (not (creds.no_new_privs || has creds.effective cap_sys_admin)) (f.Refuse eacces) pushed tt (stays_push stack (program_of code)))
 
 effect_stays : (host : Host) (caller : Caller) (doing : Doing) → parts doing ≡ false → Stays (effect_of host caller doing)
-effect_stays host caller (d.See path) e = stays_looks (see_answer 0 (finds host.rows caller.table path))
-effect_stays host caller (d.Open flags path) e = stays_looks (open_answer flags (flags_at caller.table path) (finds host.rows caller.table path))
-effect_stays host caller (d.Create path) e = stays_looks (write_answer 3 (flags_at caller.table path) (finds host.rows caller.table path))
-effect_stays host caller (d.Truncate path) e = stays_looks (write_answer 0 (flags_at caller.table path) (finds host.rows caller.table path))
-effect_stays host caller (d.Execve path) e = stays_creds (exec_answer caller.creds (flags_at caller.table path) (finds host.rows caller.table path))
+effect_stays host caller (d.See path) e = stays_looks (see_answer 0 (finds host.rows (steps_of caller.table) path))
+effect_stays host caller (d.Open flags path) e = stays_looks (open_answer flags (flags_at (steps_of caller.table) path) (finds host.rows (steps_of caller.table) path))
+effect_stays host caller (d.Create path) e = stays_looks (write_answer 3 (flags_at (steps_of caller.table) path) (finds host.rows (steps_of caller.table) path))
+effect_stays host caller (d.Truncate path) e = stays_looks (write_answer 0 (flags_at (steps_of caller.table) path) (finds host.rows (steps_of caller.table) path))
+effect_stays host caller (d.Execve path) e = stays_creds (exec_answer_in caller.newer caller.creds (flags_at (steps_of caller.table) path) (finds host.rows (steps_of caller.table) path))
 effect_stays host caller (d.SetMode mode) e = tt
 effect_stays host caller (d.Map protection) e = tt
 effect_stays host caller (d.Protect protection) e = tt
 effect_stays host caller (d.Attach flags) e = tt
 effect_stays host caller (d.Schedule policy) e = stays_looks (schedule_answer policy)
 effect_stays host caller (d.Personality persona) e = tt
-effect_stays host caller (d.Socket family) e = stays_socket caller.creds (numbered family host.families)
+effect_stays host caller (d.Socket family) e = stays_socket caller.newer caller.creds (numbered family host.families)
+effect_stays host caller (d.Socketcall operation family) e = stays_socketcall caller.newer caller.creds operation (numbered family host.families)
 effect_stays host caller d.Enter e = tt
 effect_stays host caller d.Fork e = refl
 effect_stays host caller (d.Clone flags) e = cc
 effect_stays host caller (d.Unshare flags) e = cc
 effect_stays host caller d.Exit e = tt
-effect_stays host caller (d.Mount source target flags) e = stays_admin caller.creds (after_mount host.rows caller.table source target flags)
-effect_stays host caller (d.Umount path flags) e = stays_admin caller.creds (umount_answer caller.table path flags)
-effect_stays host caller (d.Setuid id) e = stays_creds (after_setuid caller.creds id)
-effect_stays host caller (d.Setgid id) e = stays_creds (after_setgid caller.creds id)
-effect_stays host caller (d.Setresuid real effective saved) e = stays_creds (after_setresuid caller.creds real effective saved)
-effect_stays host caller (d.Setresgid real effective saved) e = stays_creds (after_setresgid caller.creds real effective saved)
-effect_stays host caller (d.Setgroups ids) e = stays_creds (after_setgroups caller.creds ids)
+effect_stays host caller (d.Mount source target flags) e = either caller.owns (with_admin caller.creds (table_effect (mounts_after_mount host.rows caller.table source target flags))) (f.Refuse eperm) (stays_admin caller.creds (mounts_after_mount host.rows caller.table source target flags)) tt
+effect_stays host caller (d.Umount path flags) e = either caller.owns (with_admin caller.creds (table_effect (mounts_umount_answer caller.table path flags))) (f.Refuse eperm) (stays_admin caller.creds (mounts_umount_answer caller.table path flags)) tt
+effect_stays host caller (d.Setuid id) e = either caller.newer (f.Refuse einval) (creds_effect (after_setuid caller.creds id)) tt (stays_creds (after_setuid caller.creds id))
+effect_stays host caller (d.Setgid id) e = either caller.newer (f.Refuse einval) (creds_effect (after_setgid caller.creds id)) tt (stays_creds (after_setgid caller.creds id))
+effect_stays host caller (d.Setresuid real effective saved) e = either caller.newer (cond ((eqb real no_id && eqb effective no_id) && eqb saved no_id) (f.Answer 0) (f.Refuse einval)) (creds_effect (after_setresuid caller.creds real effective saved)) (stays_ids real effective saved) (stays_creds (after_setresuid caller.creds real effective saved))
+effect_stays host caller (d.Setresgid real effective saved) e = either caller.newer (cond ((eqb real no_id && eqb effective no_id) && eqb saved no_id) (f.Answer 0) (f.Refuse einval)) (creds_effect (after_setresgid caller.creds real effective saved)) (stays_ids real effective saved) (stays_creds (after_setresgid caller.creds real effective saved))
+effect_stays host caller (d.Setgroups ids) e = either caller.newer (f.Refuse eperm) (creds_effect (after_setgroups caller.creds ids)) tt (stays_creds (after_setgroups caller.creds ids))
 effect_stays host caller (d.Capset permitted effective inheritable) e = stays_creds (after_capset caller.creds permitted effective inheritable)
 effect_stays host caller (d.Prctl option value third) e = stays_prctl caller.creds option value third
 effect_stays host caller (d.Seccomp operation flags code) e = stays_seccomp caller.creds caller.stack operation flags code
-effect_stays host caller (d.Plain cap') e = stays_cap cap' caller.creds 0
+effect_stays host caller (d.Plain cap') e = stays_alone caller.newer cap' caller.creds 0
 
 -- ---- a step
 module _ (world : World) where
@@ -171,6 +188,15 @@ module _ (world : World) where
   effect_count (case.gives_copy few room) h = cc
   effect_count (case.no_namespace_left full) h = refl
   effect_count (case.moves room) h = absurd h
+  effect_count (case.no_user_for_child own full) h = refl
+  effect_count (case.no_process_for_user own left full) h = refl
+  effect_count (case.gives_user left room) h = refl
+  effect_count (case.no_namespace_for_user left room full) h = refl
+  effect_count (case.gives_user_and_copy left room space) h = cc
+  effect_count (case.no_user_left own full) h = refl
+  effect_count (case.enters left) h = refl
+  effect_count (case.no_namespace_behind_user left full) h = refl
+  effect_count (case.enters_and_moves left space) h = cc
   effect_count case.ends h = refl
 
   effect_more : {pid : ℕ} {process : Process} {effect : Effect} {out : Reply × World} → EffectCase world pid process effect out → length out.1.tables ≤ length world.tables + 1
@@ -182,12 +208,21 @@ module _ (world : World) where
   effect_more (case.no_process_left own full) = omega arith
   effect_more (case.shares few) = omega arith
   effect_more (case.no_namespace_for_child few full) = omega arith
-  effect_more {process = process} (case.gives_copy few room) = let e = length-push world.tables (table_of world process.namespace) in omega (arith, e)
+  effect_more {process = process} (case.gives_copy few room) = let e = length-push world.tables (copied (not (eqb (owner_of world process.namespace) process.user)) (mounts_of world process.namespace)) in omega (arith, e)
   effect_more (case.no_namespace_left full) = omega arith
-  effect_more {process = process} (case.moves room) = let e = length-push world.tables (table_of world process.namespace) in omega (arith, e)
+  effect_more {process = process} (case.moves room) = let e = length-push world.tables (copied (not (eqb (owner_of world process.namespace) process.user)) (mounts_of world process.namespace)) in omega (arith, e)
+  effect_more (case.no_user_for_child own full) = omega arith
+  effect_more (case.no_process_for_user own left full) = omega arith
+  effect_more (case.gives_user left room) = omega arith
+  effect_more (case.no_namespace_for_user left room full) = omega arith
+  effect_more {process = process} (case.gives_user_and_copy left room space) = let e = length-push world.tables (copied (not (eqb (owner_of world process.namespace) (world.users + 2))) (mounts_of world process.namespace)) in omega (arith, e)
+  effect_more (case.no_user_left own full) = omega arith
+  effect_more (case.enters left) = omega arith
+  effect_more (case.no_namespace_behind_user left full) = omega arith
+  effect_more {process = process} (case.enters_and_moves left space) = let e = length-push world.tables (copied (not (eqb (owner_of world process.namespace) (world.users + 2))) (mounts_of world process.namespace)) in omega (arith, e)
   effect_more case.ends = omega arith
 
-  case_count : {call : Call} {out : Reply × World} → StepCase world call out → ((doing : Doing) → asked_of world.calls.calls call ≡ Does doing → parts doing ≡ false) → length out.1.tables ≡ length world.tables
+  case_count : {call : Call} {out : Reply × World} → StepCase world call out → ((doing : Doing) → asked_of world.calls call ≡ Does doing → parts doing ≡ false) → length out.1.tables ≡ length world.tables
   case_count (case.absent e) h = refl
   case_count (case.filtered process errno e g) h = refl
   case_count (case.killed process e g) h = refl
@@ -207,7 +242,7 @@ module _ (world : World) where
 module _ (table : calls.Table) where
   -- a step that makes no namespace
   abbrev IsQuiet : LaunchStep → Type 0
-  IsQuiet (Makes call) = (doing : Doing) → asked_of table.calls call ≡ Does doing → parts doing ≡ false
+  IsQuiet (Makes call) = (doing : Doing) → asked_of table call ≡ Does doing → parts doing ≡ false
   IsQuiet (Mounts entry) = Unit {0}
 
   abbrev AreQuiet : List LaunchStep → Type 0
@@ -222,12 +257,12 @@ module _ (table : calls.Table) where
       by (Some process) = refl
 
   quiet_step : (world : World) (own : LaunchStep) → world.calls ≡ table → IsQuiet own → length (launch_step world own).1.tables ≡ length world.tables
-  quiet_step world (Makes call) is quiet = case_count world (steps_by_cases world call) (λ doing e. quiet doing (ap (λ (t : calls.Table). asked_of t.calls call) (sym is) ∙ e))
+  quiet_step world (Makes call) is quiet = case_count world (steps_by_cases world call) (λ doing e. quiet doing (ap (λ (t : calls.Table). asked_of t call) (sym is) ∙ e))
   quiet_step world (Mounts entry) is quiet = by (living_of world 1)
     where
       by : (o : Option Process) → length (stepped_by world entry o).tables ≡ length world.tables
       by None = refl
-      by (Some process) = length-set world.tables (process.namespace - 1) (with_step (table_of world process.namespace) entry)
+      by (Some process) = length-set world.tables (process.namespace - 1) (with_step (mounts_of world process.namespace) entry)
 
   quiet_steps : (world last : World) (steps : List LaunchStep) → world.calls ≡ table → AreQuiet steps → Leads world steps last → length last.tables ≡ length world.tables
   quiet_steps world last [] is quiet l = ap (λ (w : World). length w.tables) (sym l)
@@ -240,7 +275,7 @@ module _ (table : calls.Table) where
   -- calls by their names
   quiet_call : (name args : List ℕ) (payload : Payload) (rule : Rule) (doing : Doing) → rule_at table.calls (number_of table.calls name) ≡ Some rule → doing_by rule args payload ≡ Some doing → parts doing ≡ false → IsQuiet (Makes (first_call table.calls name args payload))
   quiet_call name args payload rule doing at is off other e =
-      let own : asked_of table.calls (first_call table.calls name args payload) ≡ Does doing = ap (λ (r : Option Rule). asked_by r (first_call table.calls name args payload)) at ∙ ap asked_if is in
+      let own : asked_of table (first_call table.calls name args payload) ≡ Does doing = ap (λ (r : Option Rule). asked_by r (first_call table.calls name args payload)) at ∙ ap asked_if is in
       let same : doing ≡ other = does_same doing other (sym own ∙ e) in
       ap parts (sym same) ∙ off
     where

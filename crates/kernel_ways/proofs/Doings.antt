@@ -30,7 +30,7 @@ use Rattle.kernel_laws.specs.Kinds.{AreWords, no_words, one_word}
 use Rattle.kernel_laws.specs.Launched.{Launch, passes}
 use Rattle.kernel_laws.specs.Questions.{Wish, ToSee, ToRead, ToWrite, ToExec}
 use Rattle.kernel_laws.specs.Reach.{fits}
-use Rattle.kernel_ways.specs.Ways.{Makes, host_at, caller_at}
+use Rattle.kernel_ways.specs.Ways.{effect_on, Makes, host_at, caller_at, place_of, CallAt, IsCallAt, rule_there, passes_at}
 use Rattle.kernel_ways.proofs.Choices as choices
 use Rattle.kernel_ways.proofs.Lines.{Line, choice_of, make, six, zeros, first_by}
 use Rattle.kernel_ways.specs.Showing.{IsDoable}
@@ -60,8 +60,8 @@ module _ (launch : Launch) (creds : Creds) (table : Table) where
     seen value = ap (λ x. looks (see_answer value x)) found
 
     -- a call by the path alone that changes nothing
-    by_path : (nr : ℕ) (own : Rule) (args : List ℕ) (doing : Doing) (value : ℕ) (wish : Wish) → nr < 2 ^ 32 → AreWords args → rule_at launch.calls.calls nr ≡ Some own → passes launch nr args
-        → d.doing_by own args (pay.OnePath path) ≡ Some doing → path_for wish doing ≡ Some path → effect_of (host_at launch) (caller_at launch creds table) doing ≡ f.Answer value → PathCall wish path (first_by nr args (pay.OnePath path))
+    by_path : (nr : CallAt) (own : Rule) (args : List ℕ) (doing : Doing) (value : ℕ) (wish : Wish) → IsCallAt nr → AreWords args → rule_there launch nr ≡ Some own → passes_at launch nr args
+        → d.doing_by own args (pay.OnePath path) ≡ Some doing → path_for wish doing ≡ Some path → effect_on (host_at launch) (caller_at launch creds table) table doing ≡ f.Answer value → PathCall wish path (first_by nr args (pay.OnePath path))
     by_path nr own args doing value wish n w at t is wanted e = record {
       doing = doing;
       effect = f.Answer value;
@@ -70,18 +70,18 @@ module _ (launch : Launch) (creds : Creds) (table : Table) where
       wanted = wanted;
     }
 
-    see_by : {own : Rule} {args : List ℕ} → (nr : ℕ) → nr < 2 ^ 32 → rule_at launch.calls.calls nr ≡ Some own → passes launch nr args → choices.Choice (k.ForPath ToSee) own args → PathCall ToSee path (first_by nr args (pay.OnePath path))
+    see_by : {own : Rule} {args : List ℕ} → (nr : CallAt) → IsCallAt nr → rule_there launch nr ≡ Some own → passes_at launch nr args → choices.Choice (k.ForPath ToSee) own args → PathCall ToSee path (first_by nr args (pay.OnePath path))
     see_by nr n at t choices.sees = by_path nr (rule.Known known.See) no_words (d.See path) 0 ToSee n zeros at t refl refl (seen 0)
 
-    pub see_path : (line : Line launch (k.ForPath ToSee)) → PathCall ToSee path (first_by line.line.number line.args (pay.OnePath path))
-    see_path line = see_by line.line.number line.number line.at line.through (choice_of line)
+    pub see_path : (line : Line launch (k.ForPath ToSee)) → PathCall ToSee path (first_by (place_of line.line) line.args (pay.OnePath path))
+    see_path line = see_by (place_of line.line) line.number line.at line.through (choice_of line)
 
-    read_by : {own : Rule} {args : List ℕ} → (nr : ℕ) → nr < 2 ^ 32 → rule_at launch.calls.calls nr ≡ Some own → passes launch nr args → choices.Choice (k.ForPath ToRead) own args → PathCall ToRead path (first_by nr args (pay.OnePath path))
+    read_by : {own : Rule} {args : List ℕ} → (nr : CallAt) → IsCallAt nr → rule_there launch nr ≡ Some own → passes_at launch nr args → choices.Choice (k.ForPath ToRead) own args → PathCall ToRead path (first_by nr args (pay.OnePath path))
     read_by nr n at t (choices.reads argument.Second) = by_path nr (rule.Known (known.Open argument.Second)) no_words (d.Open 0 path) 3 ToRead n zeros at t refl refl (seen 3)
     read_by nr n at t (choices.reads argument.Third) = by_path nr (rule.Known (known.Open argument.Third)) no_words (d.Open 0 path) 3 ToRead n zeros at t refl refl (seen 3)
 
-    pub read_path : (line : Line launch (k.ForPath ToRead)) → PathCall ToRead path (first_by line.line.number line.args (pay.OnePath path))
-    read_path line = read_by line.line.number line.number line.at line.through (choice_of line)
+    pub read_path : (line : Line launch (k.ForPath ToRead)) → PathCall ToRead path (first_by (place_of line.line) line.args (pay.OnePath path))
+    read_path line = read_by (place_of line.line) line.number line.at line.through (choice_of line)
 
     module _ (file : is_dir target.kind ≡ false) (writes : fits ToWrite (flags_at table path) ≡ true) where
       pub written : (value : ℕ) → looks (write_answer value (flags_at table path) (finds rows table path)) ≡ f.Answer value
@@ -92,7 +92,7 @@ module _ (launch : Launch) (creds : Creds) (table : Table) where
           by false true g h = cc
           by true b g h = cc
 
-      write_by : {own : Rule} {args : List ℕ} → (nr : ℕ) → nr < 2 ^ 32 → rule_at launch.calls.calls nr ≡ Some own → passes launch nr args → choices.Choice (k.ForPath ToWrite) own args → PathCall ToWrite path (first_by nr args (pay.OnePath path))
+      write_by : {own : Rule} {args : List ℕ} → (nr : CallAt) → IsCallAt nr → rule_there launch nr ≡ Some own → passes_at launch nr args → choices.Choice (k.ForPath ToWrite) own args → PathCall ToWrite path (first_by nr args (pay.OnePath path))
       write_by nr n at t (choices.opens argument.Second) =
           by_path nr (rule.Known (known.Open argument.Second)) (one_word 1 1) (d.Open 1 path) 3 ToWrite n (six 0 1 0 0 (omega arith) (omega arith) (omega arith) (omega arith)) at t refl refl (written 3)
       write_by nr n at t (choices.opens argument.Third) =
@@ -100,8 +100,8 @@ module _ (launch : Launch) (creds : Creds) (table : Table) where
       write_by nr n at t choices.creates = by_path nr (rule.Known known.Create) no_words (d.Create path) 3 ToWrite n zeros at t refl refl (written 3)
       write_by nr n at t choices.truncates = by_path nr (rule.Known known.Truncate) no_words (d.Truncate path) 0 ToWrite n zeros at t refl refl (written 0)
 
-      pub write_path : (line : Line launch (k.ForPath ToWrite)) → PathCall ToWrite path (first_by line.line.number line.args (pay.OnePath path))
-      write_path line = write_by line.line.number line.number line.at line.through (choice_of line)
+      pub write_path : (line : Line launch (k.ForPath ToWrite)) → PathCall ToWrite path (first_by (place_of line.line) line.args (pay.OnePath path))
+      write_path line = write_by (place_of line.line) line.number line.at line.through (choice_of line)
 
     module _ (exe : is_exe target.kind ≡ true) (runs : fits ToExec (flags_at table path) ≡ true) (admitted : is_refused creds (marks_of target) (flags_at table path).no_suid ≡ false) where
       abbrev pub after_run : Creds
@@ -116,9 +116,9 @@ module _ (launch : Launch) (creds : Creds) (table : Table) where
           by true true g h = cc
           by false b g h = cc
 
-      exec_by : {own : Rule} {args : List ℕ} → (nr : ℕ) → nr < 2 ^ 32 → rule_at launch.calls.calls nr ≡ Some own → passes launch nr args → choices.Choice (k.ForPath ToExec) own args → Makes launch creds table (d.Execve path) (first_by nr args (pay.OnePath path)) (SetCreds after_run)
+      exec_by : {own : Rule} {args : List ℕ} → (nr : CallAt) → IsCallAt nr → rule_there launch nr ≡ Some own → passes_at launch nr args → choices.Choice (k.ForPath ToExec) own args → Makes launch creds table (d.Execve path) (first_by nr args (pay.OnePath path)) (SetCreds after_run)
       exec_by nr n at t choices.execs = make launch creds table nr (rule.Known known.Execve) no_words (pay.OnePath path) (d.Execve path) (SetCreds after_run) n zeros fit at refl t exec_is
 
       -- its call
-      pub exec_path : (line : Line launch (k.ForPath ToExec)) → Makes launch creds table (d.Execve path) (first_by line.line.number line.args (pay.OnePath path)) (SetCreds after_run)
-      exec_path line = exec_by line.line.number line.number line.at line.through (choice_of line)
+      pub exec_path : (line : Line launch (k.ForPath ToExec)) → Makes launch creds table (d.Execve path) (first_by (place_of line.line) line.args (pay.OnePath path)) (SetCreds after_run)
+      exec_path line = exec_by (place_of line.line) line.number line.at line.through (choice_of line)

@@ -1,10 +1,11 @@
 -- Each question of the list is put to what it is about.
 use Rattle.std.proofs.Common.{◌≡◌, ℕ, Bool, true, false, List, [], ◌∷◌, ◌++◌, Option, Some, None, refl, ap, ◌∙◌, sym, subst, cond, eqb, append_assoc, length, length-append, ◌≤◌, arith}
-use Rattle.std.specs.Prelude.{map, not, slice_get, nat_lt, ◌+◌, IfSome}
+use Rattle.std.specs.Prelude.{map, not, slice_get, nat_lt, ◌+◌, IfSome, ◌&&◌}
 use Rattle.std.specs.List.{AllByRecursion}
 use Rattle.std.proofs.lemmas.Bool.{not-true}
 use Rattle.call_table.specs.declared.listed.CallLine.{CallLine}
 use Rattle.call_table.specs.Table as calls
+use Rattle.call_table.specs.Members.{is_first}
 use Rattle.site_table.specs.declared.row.Row.{Row}
 use Rattle.site_table.specs.declared.accounts.User.{User}
 use Rattle.site_table.specs.declared.accounts.Group.{Group}
@@ -66,9 +67,11 @@ module _ (table : calls.Table) (site : Site) (ids : IsSite site) where
       )
       (subst P count (rows_fit (front ++ row ∷ []) rows next))
 
-  calls_fit : (at : ℕ) (lines : List CallLine) → AllFit (of_calls at lines)
-  calls_fit at [] = tt
-  calls_fit at (line ∷ lines) = each-append (IsFit site) (if_so (is_plain (rule_of line)) (Call at)) (of_calls (at + 1) lines) (fit_if (is_plain (rule_of line)) (Call at) (λ e. tt)) (calls_fit (at + 1) lines)
+  calls_fit : (every : List CallLine) (at : ℕ) (lines : List CallLine) → AllFit (of_calls every at lines)
+  calls_fit every at [] = tt
+  calls_fit every at (line ∷ lines) =
+      let asked = is_plain (rule_of line) && is_first every line.name at in
+      each-append (IsFit site) (if_so asked (Call at)) (of_calls every (at + 1) lines) (fit_if asked (Call at) (λ e. tt)) (calls_fit every (at + 1) lines)
 
   families_fit : (at : ℕ) (lines : List CallLine) → AllFit (of_families at lines)
   families_fit at [] = tt
@@ -141,12 +144,12 @@ module _ (table : calls.Table) (site : Site) (ids : IsSite site) where
 
   pub all_fit : AllFit (questions table site)
   all_fit =
-      let one : List Question = of_rows 0 site.rows ++ of_calls 0 table.calls in
+      let one : List Question = of_rows 0 site.rows ++ of_calls (calls.every_call table) 0 (calls.every_call table) in
       let two : List Question = one ++ of_families 0 table.families in
       let three : List Question = two ++ other_questions in
       let four : List Question = three ++ map Cap (count_from 0 41) in
       let five : List Question = four ++ map Uid (uids_of site) in
-      let h = each-append (IsFit site) (of_rows 0 site.rows) (of_calls 0 table.calls) (rows_fit [] site.rows refl) (calls_fit 0 table.calls) in
+      let h = each-append (IsFit site) (of_rows 0 site.rows) (of_calls (calls.every_call table) 0 (calls.every_call table)) (rows_fit [] site.rows refl) (calls_fit (calls.every_call table) 0 (calls.every_call table)) in
       let h = each-append (IsFit site) one (of_families 0 table.families) h (families_fit 0 table.families) in
       let h = each-append (IsFit site) two other_questions h others_fit in
       let h = each-append (IsFit site) three (map Cap (count_from 0 41)) h (caps_fit (count_from 0 41)) in

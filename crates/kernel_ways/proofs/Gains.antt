@@ -28,7 +28,7 @@ use Rattle.kernel_laws.specs.Questions.{ToExec}
 use Rattle.reach_paths.specs.Finding.{FindsRow}
 use Rattle.kernel_laws.proofs.KeptExec.{above_if}
 use Rattle.kernel_ways.specs.Offers.{Offers}
-use Rattle.kernel_ways.specs.Ways.{Makes}
+use Rattle.kernel_ways.specs.Ways.{place_of, Makes}
 use Rattle.kernel_ways.proofs.Doings.{exec_path}
 use Rattle.kernel_ways.proofs.Lines.{Line, first_by, some_line}
 use Rattle.kernel_ways.proofs.Rows.{IsKnown}
@@ -101,13 +101,13 @@ common_small caps bounding h = omega (arith, and_le_r caps bounding, h)
 -- ---- its call
 module _ (launch : Launch) (l : IsLaunched launch) (o : Offers launch) where
   -- by a line that execve follows
-  pub runs_by : (line : Line launch (ForPath ToExec)) (creds : Creds) (table : Table) (target : Row) → creds.bounding ≡ launch.creds.bounding → (r : Runnable launch table target) → Makes launch creds table (d.Execve r.found.path) (first_by line.line.number line.args (pay.OnePath r.found.path)) (SetCreds (exec_done creds (marks_of target) false))
+  pub runs_by : (line : Line launch (ForPath ToExec)) (creds : Creds) (table : Table) (target : Row) → creds.bounding ≡ launch.creds.bounding → (r : Runnable launch table target) → Makes launch creds table (d.Execve r.found.path) (first_by (place_of line.line) line.args (pay.OnePath r.found.path)) (SetCreds (exec_done creds (marks_of target) false))
   runs_by line creds table target bounding r =
       let path = r.found.path in
       let admitted : is_refused creds (marks_of target) (flags_at table path).no_suid ≡ false =
       ap (λ b. is_refused creds (marks_of target) b) r.suid ∙ ap (λ s. target.effective && not (within target.caps s)) bounding ∙ r.free in
       let x = exec_path launch creds table path r.found.can_be_named target r.found.is_found r.exe r.found.is_allowed admitted line in
-      let P : Bool → Type 0 = λ b. Makes launch creds table (d.Execve path) (first_by line.line.number line.args (pay.OnePath path)) (SetCreds (exec_done creds (marks_of target) b)) in subst P r.suid x
+      let P : Bool → Type 0 = λ b. Makes launch creds table (d.Execve path) (first_by (place_of line.line) line.args (pay.OnePath path)) (SetCreds (exec_done creds (marks_of target) b)) in subst P r.suid x
 
   pub record Ran (creds : Creds) (table : Table) (target : Row) : Type 0 where
     pub call : Call
@@ -117,4 +117,4 @@ module _ (launch : Launch) (l : IsLaunched launch) (o : Offers launch) where
   pub runs : (creds : Creds) (table : Table) (target : Row) → creds.bounding ≡ launch.creds.bounding → Runnable launch table target → Ran creds table target
   runs creds table target bounding r =
       let line = some_line launch l (ForPath ToExec) o.execs in
-      record { call = first_by line.line.number line.args (pay.OnePath r.found.path); path = r.found.path; makes = runs_by line creds table target bounding r }
+      record { call = first_by (place_of line.line) line.args (pay.OnePath r.found.path); path = r.found.path; makes = runs_by line creds table target bounding r }

@@ -21,7 +21,7 @@ use Rattle.kernel_laws.specs.Reach.{Power, Nowise, Unmounting, Mounting}
 use Rattle.kernel_laws.proofs.Bound.{any_listed}
 use Rattle.kernel_ways.specs.Offers.{Offers}
 use Rattle.kernel_ways.specs.Taking.{id_call}
-use Rattle.kernel_ways.specs.Ways.{Way, here, by_creds}
+use Rattle.kernel_ways.specs.Ways.{place_of, Way, here, by_creds}
 use Rattle.kernel_ways.proofs.Solo.{way_join}
 use Rattle.kernel_ways.proofs.Lines.{some_line}
 use Rattle.kernel_ways.proofs.Privileged.{uid_call, gid_call}
@@ -147,7 +147,7 @@ module _ (launch : Launch) (l : IsLaunched launch) (o : Offers launch) where
         let x = attained launch l o 7 h in
         let g = x.1 in
         let line = some_line launch l TakesUid s in
-        let own_call = id_call line.line.number line.own id in
+        let own_call = id_call (place_of line.line) line.own id in
         let change = uid_call launch o g.creds x.0 id small line g.holds in
         record {
           calls = g.calls ++ (own_call ∷ []);
@@ -170,7 +170,7 @@ module _ (launch : Launch) (l : IsLaunched launch) (o : Offers launch) where
         let x = attained launch l o 6 h in
         let g = x.1 in
         let line = some_line launch l TakesGid s in
-        let own_call = id_call line.line.number line.own id in
+        let own_call = id_call (place_of line.line) line.own id in
         let change = gid_call launch o g.creds x.0 id small line g.holds in
         record {
           calls = g.calls ++ (own_call ∷ []);

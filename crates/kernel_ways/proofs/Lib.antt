@@ -12,6 +12,8 @@ pub mod Attained
 pub mod Starts
 pub mod Showing
 pub mod Ids
+pub mod Entering
+pub mod InUser
 pub mod Shown
 pub mod Exact
 pub mod FitQuestions

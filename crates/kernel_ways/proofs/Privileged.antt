@@ -1,5 +1,5 @@
 -- Calls that change mount tables, ids and capability sets.
-use Rattle.std.proofs.Common.{◌≡◌, ℕ, Bool, true, false, List, [], ◌∷◌, Some, Result, Ok, Err, refl, ap, ◌∙◌, cond, arith, ◌<◌, ◌≤◌, inl, inr, eqb}
+use Rattle.std.proofs.Common.{◌≡◌, map, ℕ, Bool, true, false, List, [], ◌∷◌, Some, Result, Ok, Err, refl, ap, ◌∙◌, cond, arith, ◌<◌, ◌≤◌, inl, inr, eqb}
 use Rattle.std.specs.Prelude.{◌^◌, ◌%◌}
 use Rattle.std.proofs.lemmas.Bool.{eq-eqb, or_left}
 use Rattle.std.proofs.lemmas.Bool.Decides.{nat_tests}
@@ -22,6 +22,8 @@ use Rattle.kernel_laws.specs.Kinds as k
 use Rattle.kernel_laws.specs.Kinds.{AreWords, no_words, asks}
 use Rattle.kernel_laws.specs.Launched.{Launch, passes}
 use Rattle.kern_files.specs.MountCall.{after_mount}
+use Rattle.kern_mounts.specs.Answer.{plain_answer}
+use Rattle.kern_mounts.specs.Mounts.{plain}
 use Rattle.kern_mounts.specs.Split.{Table}
 use Rattle.kern_mounts.specs.Umount.{after_umount}
 use Rattle.kernel_calls.specs.declared.rule.Rule.TheVariants as rule
@@ -30,7 +32,7 @@ use Rattle.kernel_calls.specs.declared.rule.Rule.{Rule}
 use Rattle.kernel_calls.specs.Rules.{rule_at}
 use Rattle.kernel_ways.specs.Offers.{Offers, is_unlooked}
 use Rattle.kernel_ways.specs.Taking.{id_call, sets_call}
-use Rattle.kernel_ways.specs.Ways.{Makes}
+use Rattle.kernel_ways.specs.Ways.{place_of, Makes, CallAt, IsCallAt, rule_there, passes_at}
 use Rattle.kernel_ways.proofs.Choices as choices
 use Rattle.kernel_ways.proofs.Lines.{Line, choice_of, make, six, zeros, first_by}
 
@@ -44,7 +46,7 @@ module _ (launch : Launch) (o : Offers launch) (creds : Creds) (table : Table) w
   pub record TableCall (now : Table) : Type 0 where
     pub call : Call
     pub doing : Doing
-    pub makes : Makes launch creds table doing call (SetTable now)
+    pub makes : Makes launch creds table doing call (SetTable (map plain now))
     pub no_uid : asks k.TakesUid doing ≡ false
     pub no_gid : asks k.TakesGid doing ≡ false
 
@@ -59,7 +61,7 @@ module _ (launch : Launch) (o : Offers launch) (creds : Creds) (table : Table) w
     pub makes : Makes launch creds table doing call (SetCreds now)
 
   -- other words of a call that no filter looks at
-  pub other : (nr : ℕ) (own : Rule) (args : List ℕ) → nr < 2 ^ 32 → AreWords args → rule_at launch.calls.calls nr ≡ Some own → is_unlooked own ≡ true → passes launch nr no_words → passes launch nr args
+  pub other : (nr : CallAt) (own : Rule) (args : List ℕ) → IsCallAt nr → AreWords args → rule_there launch nr ≡ Some own → is_unlooked own ≡ true → passes_at launch nr no_words → passes_at launch nr args
   other nr own args n w at u t = o.alike nr own no_words args n zeros w at u t
 
   module _ (admin : has creds.effective 21 ≡ true) where
@@ -67,15 +69,15 @@ module _ (launch : Launch) (o : Offers launch) (creds : Creds) (table : Table) w
     flag_of true = 2
     flag_of false = 0
 
-    umount_by : {own : Rule} {args : List ℕ} → (nr : ℕ) → nr < 2 ^ 32 → rule_at launch.calls.calls nr ≡ Some own → passes launch nr args → choices.Choice k.RemovesMounts own args
+    umount_by : {own : Rule} {args : List ℕ} → (nr : CallAt) → IsCallAt nr → rule_there launch nr ≡ Some own → passes_at launch nr args → choices.Choice k.RemovesMounts own args
         → (path : Path) → IsPath path → (detach : Bool) (now : Table) → after_umount table path detach ≡ Ok now → TableCall now
     umount_by nr n at t choices.unmounts path fit true now e =
         let w = six 0 2 0 0 (omega arith) (omega arith) (omega arith) (omega arith) in
         record {
           call = first_by nr (0 ∷ 2 ∷ 0 ∷ 0 ∷ 0 ∷ 0 ∷ []) (pay.OnePath path);
           doing = d.Umount path 2;
-          makes = make launch creds table nr (rule.Known known.Umount) (0 ∷ 2 ∷ 0 ∷ 0 ∷ 0 ∷ 0 ∷ []) (pay.OnePath path) (d.Umount path 2) (SetTable now) n w fit at refl (other nr (rule.Known known.Umount) (0 ∷ 2 ∷ 0 ∷ 0 ∷ 0 ∷ 0 ∷ []) n w at refl t)
-              (ap (λ b. cond b (table_effect (after_umount table path true)) (f.Refuse 1)) admin ∙ ap table_effect e);
+          makes = make launch creds table nr (rule.Known known.Umount) (0 ∷ 2 ∷ 0 ∷ 0 ∷ 0 ∷ 0 ∷ []) (pay.OnePath path) (d.Umount path 2) (SetTable (map plain now)) n w fit at refl (other nr (rule.Known known.Umount) (0 ∷ 2 ∷ 0 ∷ 0 ∷ 0 ∷ 0 ∷ []) n w at refl t)
+              (ap (λ b. cond b (table_effect (plain_answer (after_umount table path true))) (f.Refuse 1)) admin ∙ ap (λ answer. table_effect (plain_answer answer)) e);
           no_uid = refl;
           no_gid = refl;
         }
@@ -83,33 +85,33 @@ module _ (launch : Launch) (o : Offers launch) (creds : Creds) (table : Table) w
         record {
           call = first_by nr no_words (pay.OnePath path);
           doing = d.Umount path 0;
-          makes = make launch creds table nr (rule.Known known.Umount) no_words (pay.OnePath path) (d.Umount path 0) (SetTable now) n zeros fit at refl t
-              (ap (λ b. cond b (table_effect (after_umount table path false)) (f.Refuse 1)) admin ∙ ap table_effect e);
+          makes = make launch creds table nr (rule.Known known.Umount) no_words (pay.OnePath path) (d.Umount path 0) (SetTable (map plain now)) n zeros fit at refl t
+              (ap (λ b. cond b (table_effect (plain_answer (after_umount table path false))) (f.Refuse 1)) admin ∙ ap (λ answer. table_effect (plain_answer answer)) e);
           no_uid = refl;
           no_gid = refl;
         }
 
     pub umount_call : Line launch k.RemovesMounts → (path : Path) → IsPath path → (detach : Bool) (now : Table) → after_umount table path detach ≡ Ok now → TableCall now
-    umount_call line = umount_by line.line.number line.number line.at line.through (choice_of line)
+    umount_call line = umount_by (place_of line.line) line.number line.at line.through (choice_of line)
 
-    mount_by : {own : Rule} {args : List ℕ} → (nr : ℕ) → nr < 2 ^ 32 → rule_at launch.calls.calls nr ≡ Some own → passes launch nr args → choices.Choice k.ChangesMounts own args
+    mount_by : {own : Rule} {args : List ℕ} → (nr : CallAt) → IsCallAt nr → rule_there launch nr ≡ Some own → passes_at launch nr args → choices.Choice k.ChangesMounts own args
         → (source target : Path) → IsPath source → IsPath target → (flags : ℕ) → flags < 2 ^ 32 → (now : Table) → after_mount (row_at launch.site.rows) table source target flags ≡ Ok now → TableCall now
     mount_by nr n at t choices.mounts source target s g flags small now e =
         let w = six 0 0 0 flags (omega arith) (omega arith) (omega arith) small in
         record {
           call = first_by nr (0 ∷ 0 ∷ 0 ∷ flags ∷ 0 ∷ 0 ∷ []) (pay.TwoPaths source target);
           doing = d.Mount source target flags;
-          makes = make launch creds table nr (rule.Known known.Mount) (0 ∷ 0 ∷ 0 ∷ flags ∷ 0 ∷ 0 ∷ []) (pay.TwoPaths source target) (d.Mount source target flags) (SetTable now) n w (s, g) at (ap (λ w. Some (d.Mount source target w)) (low flags small))
+          makes = make launch creds table nr (rule.Known known.Mount) (0 ∷ 0 ∷ 0 ∷ flags ∷ 0 ∷ 0 ∷ []) (pay.TwoPaths source target) (d.Mount source target flags) (SetTable (map plain now)) n w (s, g) at (ap (λ w. Some (d.Mount source target w)) (low flags small))
               (other nr (rule.Known known.Mount) (0 ∷ 0 ∷ 0 ∷ flags ∷ 0 ∷ 0 ∷ []) n w at refl t)
-              (ap (λ b. cond b (table_effect (after_mount (row_at launch.site.rows) table source target flags)) (f.Refuse 1)) admin ∙ ap table_effect e);
+              (ap (λ b. cond b (table_effect (plain_answer (after_mount (row_at launch.site.rows) table source target flags))) (f.Refuse 1)) admin ∙ ap (λ answer. table_effect (plain_answer answer)) e);
           no_uid = refl;
           no_gid = refl;
         }
 
     pub mount_call : Line launch k.ChangesMounts → (source target : Path) → IsPath source → IsPath target → (flags : ℕ) → flags < 2 ^ 32 → (now : Table) → after_mount (row_at launch.site.rows) table source target flags ≡ Ok now → TableCall now
-    mount_call line = mount_by line.line.number line.number line.at line.through (choice_of line)
+    mount_call line = mount_by (place_of line.line) line.number line.at line.through (choice_of line)
 
-  capset_by : {own : Rule} {args : List ℕ} → (nr : ℕ) → nr < 2 ^ 32 → rule_at launch.calls.calls nr ≡ Some own → passes launch nr args → choices.Choice k.SetsCaps own args
+  capset_by : {own : Rule} {args : List ℕ} → (nr : CallAt) → IsCallAt nr → rule_there launch nr ≡ Some own → passes_at launch nr args → choices.Choice k.SetsCaps own args
       → (p e i : ℕ) → p < 2 ^ 41 → e < 2 ^ 41 → i < 2 ^ 41 → may_capset creds p e i ≡ true → CredsCall true (with_sets creds p e i) (sets_call nr p e i)
   capset_by nr n at t choices.capset p e i hp he hi may = record {
     doing = d.Capset p e i;
@@ -119,15 +121,15 @@ module _ (launch : Launch) (o : Offers launch) (creds : Creds) (table : Table) w
     no_gid = refl;
   }
 
-  pub capset_call : (line : Line launch k.SetsCaps) (p e i : ℕ) → p < 2 ^ 41 → e < 2 ^ 41 → i < 2 ^ 41 → may_capset creds p e i ≡ true → CredsCall true (with_sets creds p e i) (sets_call line.line.number p e i)
-  capset_call line = capset_by line.line.number line.number line.at line.through (choice_of line)
+  pub capset_call : (line : Line launch k.SetsCaps) (p e i : ℕ) → p < 2 ^ 41 → e < 2 ^ 41 → i < 2 ^ 41 → may_capset creds p e i ≡ true → CredsCall true (with_sets creds p e i) (sets_call (place_of line.line) p e i)
+  capset_call line = capset_by (place_of line.line) line.number line.at line.through (choice_of line)
 
   -- all three ids by the capability
   module _ (id : ℕ) (small : id ≤ 4294967294) where
     word : id < 2 ^ 32
     word = omega (arith, small)
 
-    uid_by : {own : Rule} {args : List ℕ} → (nr : ℕ) → nr < 2 ^ 32 → rule_at launch.calls.calls nr ≡ Some own → passes launch nr args → choices.Choice k.TakesUid own args → has creds.effective 7 ≡ true → CredsCall false (with_uids creds (all_of id)) (id_call nr own id)
+    uid_by : {own : Rule} {args : List ℕ} → (nr : CallAt) → IsCallAt nr → rule_there launch nr ≡ Some own → passes_at launch nr args → choices.Choice k.TakesUid own args → has creds.effective 7 ≡ true → CredsCall false (with_uids creds (all_of id)) (id_call nr own id)
     uid_by nr n at t choices.setuid h =
         let w = six id 0 0 0 word (omega arith) (omega arith) (omega arith) in
         record {
@@ -147,15 +149,15 @@ module _ (launch : Launch) (o : Offers launch) (creds : Creds) (table : Table) w
           no_gid = refl;
         }
 
-    pub uid_call : (line : Line launch k.TakesUid) → has creds.effective 7 ≡ true → CredsCall false (with_uids creds (all_of id)) (id_call line.line.number line.own id)
-    uid_call line = uid_by line.line.number line.number line.at line.through (choice_of line)
+    pub uid_call : (line : Line launch k.TakesUid) → has creds.effective 7 ≡ true → CredsCall false (with_uids creds (all_of id)) (id_call (place_of line.line) line.own id)
+    uid_call line = uid_by (place_of line.line) line.number line.at line.through (choice_of line)
 
     pub record GidCall (call : Call) : Type 0 where
       pub now : Creds
       pub change : GroupCall now call
       pub has_gid : HasGid id now
 
-    gid_by : {own : Rule} {args : List ℕ} → (nr : ℕ) → nr < 2 ^ 32 → rule_at launch.calls.calls nr ≡ Some own → passes launch nr args → choices.Choice k.TakesGid own args → has creds.effective 6 ≡ true → GidCall (id_call nr own id)
+    gid_by : {own : Rule} {args : List ℕ} → (nr : CallAt) → IsCallAt nr → rule_there launch nr ≡ Some own → passes_at launch nr args → choices.Choice k.TakesGid own args → has creds.effective 6 ≡ true → GidCall (id_call nr own id)
     gid_by nr n at t choices.setgid h =
         let w = six id 0 0 0 word (omega arith) (omega arith) (omega arith) in
         record {
@@ -188,5 +190,5 @@ module _ (launch : Launch) (o : Offers launch) (creds : Creds) (table : Table) w
           has_gid = inr (or_left (eqb id id) false (eq-eqb id id refl));
         }
 
-    pub gid_call : (line : Line launch k.TakesGid) → has creds.effective 6 ≡ true → GidCall (id_call line.line.number line.own id)
-    gid_call line = gid_by line.line.number line.number line.at line.through (choice_of line)
+    pub gid_call : (line : Line launch k.TakesGid) → has creds.effective 6 ≡ true → GidCall (id_call (place_of line.line) line.own id)
+    gid_call line = gid_by (place_of line.line) line.number line.at line.through (choice_of line)

@@ -1,6 +1,6 @@
 -- The last step of a launch runs the program; and with what the launch keeps, the launched world is served.
-use Rattle.std.proofs.Common.{◌≡◌, ℕ, Bool, true, false, cond, codes, List, [], ◌∷◌, ◌++◌, Option, Some, Result, Ok, Err, refl, ap, ◌∙◌, sym, subst, ◌<◌, arith, eqb, append-nil}
-use Rattle.std.specs.Prelude.{◌^◌, ◌&&◌, not, All}
+use Rattle.std.proofs.Common.{◌≡◌, map, ℕ, Bool, true, false, cond, codes, List, [], ◌∷◌, ◌++◌, Option, Some, Result, Ok, Err, refl, ap, ◌∙◌, sym, subst, ◌<◌, arith, eqb, append-nil}
+use Rattle.std.specs.Prelude.{◌^◌, ◌&&◌, not, All, length}
 use Rattle.std.specs.List.{AllByRecursion}
 use Rattle.std.proofs.lemmas.List.Elements.{recursion_from_All}
 use Rattle.std.specs.Int.RustNames.{bit_and}
@@ -29,6 +29,7 @@ use Rattle.kern_creds.specs.declared.creds.Creds.{Creds}
 use Rattle.kern_creds.specs.Exec.{is_privileged, is_refused, exec_done}
 use Rattle.kern_mounts.specs.Finds.{Found, row, empty_directory, nothing, finds}
 use Rattle.kern_mounts.specs.Launch.{CanBeMounted}
+use Rattle.kern_mounts.specs.Mounts.{Mounts as MountList, plain}
 use Rattle.kern_mounts.specs.Split.{Table}
 use Rattle.kern_mounts.specs.declared.step.Flags.{Flags}
 use Rattle.kern_files.specs.Executing.{marks_of, executed, exec_answer}
@@ -43,7 +44,7 @@ use Rattle.kernel_calls.specs.declared.rule.Rule.{Rule}
 use Rattle.kernel_calls.specs.declared.rule.Rule.TheVariants.{Known}
 use Rattle.kernel_model.specs.Effects.{Effect, SetCreds, creds_effect}
 use Rattle.kernel_model.specs.Runs.{IsDone}
-use Rattle.kernel_model.specs.Step.{step, applied, decided}
+use Rattle.kernel_model.specs.Step.{most_namespaces, step, applied, decided}
 use Rattle.kernel_model.specs.World.{World, start_world, of_number}
 use Rattle.kernel_model.specs.declared.process.Process.{Process}
 use Rattle.kernel_model.specs.declared.reply.Reply.{Reply}
@@ -75,6 +76,9 @@ use Rattle.kernel_ways.proofs.Counting.{few_tables}
 use Rattle.kernel_ways.proofs.Lines.{zeros}
 use Rattle.kernel_ways.proofs.Rows.{known_found}
 use Rattle.kernel_ways.proofs.Unlooked.{settings_pass_alike}
+use Rattle.kernel_ways.specs.Ways.{CallAt, IsCallAt, rule_there, passes_at}
+use Rattle.launcher.specs.Alike.{HasWordArchs}
+use Rattle.launcher.proofs.TwoAbis.{archs_differ}
 
 module _ (table : calls.Table) (site : Site) where
   -- ---- an execve that is done
@@ -83,7 +87,7 @@ module _ (table : calls.Table) (site : Site) where
   passed world call process (decision.Errno errno) done = absurd done
   passed world call process decision.Kill done = absurd done
 
-  module _ (creds : Creds) (stack : List (List Insn)) (namespace : ℕ) (tables : List Table) where
+  module _ (creds : Creds) (stack : List (List Insn)) (namespace : ℕ) (tables : List MountList) where
     abbrev own_world : World
     own_world = solo table site creds stack namespace tables
 
@@ -142,10 +146,10 @@ module _ (table : calls.Table) (site : Site) where
     pub record Ends (Q : Creds → Type 0) (stack : List (List Insn)) (last : World) : Type 0 where
       pub before : Creds
       pub ready : Q before
-      pub through : decision_on stack (data_at (launched_with before stack) (number_of table.calls (codes "execve")) no_words) ≡ decision.Pass
+      pub through : decision_on stack (data_at (launched_with before stack) 0 (number_of table.calls (codes "execve")) no_words) ≡ decision.Pass
       pub namespace : ℕ
-      pub tables : List Table
-      pub own : of_number tables namespace ≡ Some plan
+      pub tables : List MountList
+      pub own : of_number tables namespace ≡ Some (map plain plan)
       pub ran : Ran before stack namespace tables (flags_at plan program) (finds (row_at site.rows) plan program)
       pub is : launch_of last ≡ launched_with ran.after stack
 
@@ -166,7 +170,7 @@ module _ (table : calls.Table) (site : Site) where
         record {
           before = at.creds;
           ready = at.as_asked;
-          through = passed own exec_call process (decision_on stack (data_at (launched_with at.creds stack) exec_call.nr no_words)) done;
+          through = passed own exec_call process (decision_on stack (data_at (launched_with at.creds stack) 0 exec_call.nr no_words)) done;
           namespace = at.namespace;
           tables = at.tables;
           own = at.own;
@@ -214,13 +218,13 @@ small_set set h =
 -- ---- the facts
 module _ (launch : Launch) (l : IsLaunched launch) (whole : IsWhole launch.calls) (site : IsSite launch.site) (can : CanBeMounted (site_host launch.site) launch.table) where
   -- execve with the words 0 passes, so some line lets it
-  execs : (nr : ℕ) → rule_at launch.calls.calls nr ≡ Some (Known known.Execve) → passes launch nr no_words → lets launch (ForPath ToExec) ≡ true
+  execs : (nr : ℕ) → rule_at launch.calls.calls nr ≡ Some (Known known.Execve) → passes launch 0 nr no_words → lets launch (ForPath ToExec) ≡ true
   execs nr at through =
-      let call : Call = record { pid = 1; nr = nr; args = no_words; payload = OnePath [] } in
-      let small = small_number launch.calls.calls nr (Known known.Execve) l.calls_in_range at in
-      let fit : IsCall call = record { pid = omega arith; nr = small; count = zeros.count; args = zeros.each; payload = record { normal = refl; short = omega arith } } in
-      let asks : asked_of launch.calls.calls call ≡ Does (d.Execve []) = ap (λ (r : Option Rule). asked_by r call) at in
-      let through' : decision_on (launch.stack ++ []) (data_at launch nr no_words) ≡ decision.Pass = ap (λ s. decision_on s (data_at launch nr no_words)) (append-nil launch.stack) ∙ through in
+      let call : Call = record { pid = 1; abi = 0; nr = nr; args = no_words; payload = OnePath [] } in
+      let small = small_number launch.calls.calls nr (Known known.Execve) (l.calls_in_range 0) at in
+      let fit : IsCall call = record { pid = omega arith; abi = omega arith; nr = small; count = zeros.count; args = zeros.each; payload = record { normal = refl; short = omega arith } } in
+      let asks : asked_of launch.calls call ≡ Does (d.Execve []) = ap (λ (r : Option Rule). asked_by r call) at in
+      let through' : decision_on (launch.stack ++ []) (data_at launch 0 nr no_words) ≡ decision.Pass = ap (λ s. decision_on s (data_at launch 0 nr no_words)) (append-nil launch.stack) ∙ through in
       (lets_through launch l).kinds [] call (d.Execve []) fit through' asks (ForPath ToExec) refl
 
   -- a path that finds a program finds it by a path that can be named
@@ -242,7 +246,9 @@ read_means settings table (bytes ∷ programs) (code ∷ stack) read each = (eac
 
 -- the facts of the world that a launch leaves
 record Facts (launch : Launch) (path : Path) (last : World) : Type 0 where
-  served : IsServedWorld last
+  launched : IsLaunchedWorld last
+  few : length last.tables < most_namespaces
+  offers : Offers (launch_of last)
   is : launch_of last ≡ launch
   program : Row
   found : finds (row_at launch.site.rows) launch.table path ≡ row program
@@ -250,7 +256,7 @@ record Facts (launch : Launch) (path : Path) (last : World) : Type 0 where
   leave : (flags_at launch.table path).no_exec ≡ false
   plain : is_privileged (marks_of program) ≡ false
 
-module _ (settings : FilterSettings) (table : calls.Table) (site : Site) (wanted : Wanted) (plan : Table) (last : World) (steps : ℕ) (whole : IsWhole table) (arch : table.arch < 2 ^ 32) (is : IsSite site) (refusing : AreRefusing settings) (can : CanBeMounted (site_host site) plan) (small : wanted.uid < no_id) (meant : AllByRecursion (IsMeant settings table) wanted.programs) (e : launch table site wanted plan ≡ Launched last steps) where
+module _ (settings : FilterSettings) (table : calls.Table) (site : Site) (wanted : Wanted) (plan : Table) (last : World) (steps : ℕ) (whole : IsWhole table) (arch : HasWordArchs table) (is : IsSite site) (refusing : AreRefusing settings) (can : CanBeMounted (site_host site) plan) (small : wanted.uid < no_id) (meant : AllByRecursion (IsMeant settings table) wanted.programs) (e : launch table site wanted plan ≡ Launched last steps) where
   facts_by : (b : Bool) → is_privileged_row (finds (row_at site.rows) plan wanted.program) ≡ b
       → cond b (PrivilegedProgram wanted.program) (launch_from (start_world table site) (launch_steps table.calls wanted plan) 0) ≡ Launched last steps → (own : Launch) × Facts own wanted.program last
   facts_by true priv e' = cc
@@ -272,16 +278,18 @@ module _ (settings : FilterSettings) (table : calls.Table) (site : Site) (wanted
         execs = execs own launched whole is can (number_of table.calls (codes "execve")) calls'.execve x.ends.through;
         bounding = small_set ran'.after.bounding bounded;
         inheritable = small_set ran'.after.inheritable (within_through ran'.after.inheritable ran'.after.bounding all launched.inheritable_bounding bounded);
-        alike = settings_pass_alike own settings arch (read_means settings table wanted.programs x.stack x.read meant) launched.plain;
+        alike = settings_pass_alike own settings arch (archs_differ table whole.sound) (read_means settings table wanted.programs x.stack x.read meant) launched.plain;
       } in
       let few = few_tables table calls' wanted site plan last l in
-      (own, record { served = record { launched = world; few = omega (arith, few); offers = subst Offers (sym x.ends.is) offers }; is = x.ends.is; program = ran'.program; found = ran'.is; exe = ran'.exe; leave = ran'.leave; plain = plain })
+      (own, record { launched = world; few = omega (arith, few); offers = subst Offers (sym x.ends.is) offers; is = x.ends.is; program = ran'.program; found = ran'.is; exe = ran'.exe; leave = ran'.leave; plain = plain })
 
   facts : (own : Launch) × Facts own wanted.program last
   facts = facts_by (is_privileged_row (finds (row_at site.rows) plan wanted.program)) refl e
 
 pub launched_is_served : LaunchedIsServed
-launched_is_served settings table site wanted plan last steps whole arch is refusing can small meant e = (facts settings table site wanted plan last steps whole arch is refusing can small meant e).1.served
+launched_is_served settings table site wanted plan last steps whole arch is refusing can small meant e =
+    let f = (facts settings table site wanted plan last steps whole arch is refusing can small meant e).1 in
+    record { launched = f.launched; few = f.few; offers = f.offers }
 
 pub launched_runs_program : LaunchedRunsProgram
 launched_runs_program settings table site wanted plan last steps whole arch is refusing can small meant named e =

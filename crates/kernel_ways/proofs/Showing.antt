@@ -1,5 +1,5 @@
 -- A way shows what its last call answers, or what its credentials have.
-use Rattle.std.proofs.Common.{◌≡◌, ℕ, true, ap, sym, subst}
+use Rattle.std.proofs.Common.{◌≡◌, ℕ, true, refl, ap, sym, subst}
 use Rattle.cap_sets.specs.Sets.{has}
 use Rattle.call_table.specs.Table as calls
 use Rattle.kern_creds.specs.declared.creds.Creds.{Creds}
@@ -28,7 +28,7 @@ module _ (launch : Launch) (creds : Creds) (table : Table) (world : World) (solo
 
   pub reached : (question : Question) (doing : Doing) (call : Call) (effect : Effect) → Makes launch creds table doing call effect → Answers launch table question call doing → IsDone (step world call).0 → Reaches question (moment_at world call)
   reached (q.ByPath wish place) doing call effect m a done = reaches_row launch creds table world solo wish place a.1 a.3 doing call effect m a.0 a.2 a.4 done
-  reached (q.Call place) doing call effect m a done = reaches_call launch creds table world solo place a.0 a.1 call a.2 done
+  reached (q.Call place) doing call effect m a done = reaches_call launch creds table world solo place a.0 a.1 a.2 call a.3 a.4 done
   reached (q.Socket place) doing call effect m a done = family_reached place doing call effect m a done
   reached (q.Ns space) doing call effect m a done = performs launch creds table world solo (asks_space space) doing call effect m a done
   reached q.MapWx doing call effect m a done = performs launch creds table world solo asks_map doing call effect m a done
@@ -42,9 +42,9 @@ module _ (launch : Launch) (creds : Creds) (table : Table) (world : World) (solo
   reached (q.Gid id) doing call effect m a done = absurd a
 
   pub held : (question : Question) → HaveAsked question creds → Holds question world
-  held (q.Cap number) h = holds launch creds table world solo (λ own. has own.effective number ≡ true) h
-  held (q.Uid id) h = holds launch creds table world solo (λ own. own.uids.effective ≡ id) h
-  held (q.Gid id) h = holds launch creds table world solo (HasGid id) h
+  held (q.Cap number) h = holds launch creds table world solo (λ process. (has process.creds.effective number ≡ true) × (process.user ≡ 1)) (h, refl)
+  held (q.Uid id) h = holds launch creds table world solo (λ process. process.creds.uids.effective ≡ id) h
+  held (q.Gid id) h = holds launch creds table world solo (λ process. HasGid id process.creds) h
   held question h = absurd h
 
 pub calls_show : CallsShow

@@ -1,17 +1,19 @@
 -- What the ceiling leaves open is shown by a list of calls.
-use Rattle.std.proofs.Common.{◌≡◌, ℕ, Bool, true, false, List, [], ◌∷◌, ◌++◌, Option, Some, None, refl, ap, ◌∙◌, sym, subst, arith}
-use Rattle.std.specs.Prelude.{slice_get, not, ◌&&◌}
-use Rattle.std.proofs.lemmas.Bool.{and_parts, not-true, eq-eqb}
+use Rattle.std.proofs.Common.{◌≡◌, ℕ, Bool, true, false, List, [], ◌∷◌, ◌++◌, Option, Some, None, refl, ap, ◌∙◌, sym, subst, arith, inl, inr, zero, suc}
+use Rattle.std.specs.Prelude.{slice_get, not, nat_lt, ◌&&◌, ◌||◌}
+use Rattle.std.proofs.lemmas.Slice.Eq.{bytes_eq-Decides}
+use Rattle.std.proofs.lemmas.Bool.{and_parts, or_cases, not-true, eq-eqb}
 use Rattle.abs_path.specs.Paths.{Path}
 use Rattle.cap_sets.specs.Sets.{has, within}
 use Rattle.call_table.specs.declared.listed.CallLine.{CallLine}
 use Rattle.call_table.specs.Lookups.{numbered}
 use Rattle.site_table.specs.declared.row.Row.{Row}
-use Rattle.site_table.specs.Table.{row_at}
+use Rattle.std.specs.List.{AllByRecursion}
+use Rattle.site_table.specs.Table.{IsRowOf, row_at}
 use Rattle.kern_creds.specs.declared.creds.Creds.{Creds}
 use Rattle.kern_creds.specs.Exec.{exec_done, is_refused}
 use Rattle.kern_mounts.specs.Finds.{row, finds}
-use Rattle.kernel_laws.specs.Bound.{is_barred, is_to_exec, is_mounting, is_user, can_reach, can_have_cap, can_have_for, if_listed, caps_at, power_of, ceiling, is_open}
+use Rattle.kernel_laws.specs.Bound.{is_barred, is_to_exec, is_mounting, is_user, can_reach, can_have_cap, can_have_for, if_listed, caps_at, power_of, ceiling, is_open, is_call_open}
 use Rattle.kernel_calls.specs.declared.call.Call.{Call}
 use Rattle.kernel_calls.specs.Calls.{IsPath}
 use Rattle.kernel_laws.specs.Denied.{asks_space, asks_family, is_family}
@@ -23,7 +25,7 @@ use Rattle.kern_files.specs.Looking.{flags_at}
 use Rattle.kern_files.specs.Executing.{marks_of}
 use Rattle.kernel_laws.specs.Kinds as k
 use Rattle.kernel_laws.specs.Kinds.{Kind}
-use Rattle.kernel_laws.specs.Launched.{Launch, IsLaunched, launch_of, lets, lets_line}
+use Rattle.kernel_laws.specs.Launched.{Launch, IsLaunched, launch_of, lets, lets_line, can_make_user}
 use Rattle.site_table.specs.Kinds.{is_dir, is_exe}
 use Rattle.kern_mounts.specs.Split.{Table}
 use Rattle.kernel_laws.specs.Questions as q
@@ -37,9 +39,9 @@ use Rattle.kernel_laws.proofs.Filters.{at_position}
 use Rattle.kernel_ways.specs.Laws.{IsFit, IsServedWorld, IsShown, OpenIsShown}
 use Rattle.kernel_ways.specs.Offers.{Offers}
 use Rattle.kernel_ways.specs.Showing.{Answers}
-use Rattle.kernel_ways.specs.Ways.{Way, here, IsSolo}
+use Rattle.kernel_ways.specs.Ways.{place_of, Way, here, IsSolo}
 use Rattle.kernel_ways.proofs.Solo.{way_join}
-use Rattle.kernel_ways.proofs.Lines.{Line, first_by, low_number, some_line, line_at}
+use Rattle.kernel_ways.proofs.Lines.{same_rule, Line, first_by, low_number, some_line, line_at, any_at, of_abi}
 use Rattle.kernel_ways.proofs.Doings.{PathCall, Performed, see_path, read_path, write_path, exec_path}
 use Rattle.kernel_ways.proofs.Performing as performing
 use Rattle.kernel_ways.proofs.Performing.{CapAtHand, is_free}
@@ -49,11 +51,22 @@ use Rattle.kernel_ways.proofs.Attained.{Gained, attained, admin_gained}
 use Rattle.kernel_ways.proofs.Ids.{powered, uid_taken, gid_taken}
 use Rattle.kernel_ways.proofs.Gains.{Basis}
 use Rattle.kernel_ways.proofs.Showing.{calls_show, creds_show}
-use Rattle.kernel_ways.proofs.Starts.{starts_solo}
+use Rattle.kernel_ways.proofs.Starts.{starts_solo, performs}
+use Rattle.call_table.specs.Table.{every_call, calls_in}
+use Rattle.std.specs.List.{list_any}
+use Rattle.std.specs.Str.{bytes_eq}
+use Rattle.kernel_ways.proofs.Entering.{calls_show_inside}
+use Rattle.kernel_ways.proofs.InUser.{enters, own_space, exec_inside}
+use Rattle.cap_sets.specs.Sets.{all, IsWithin}
 
 -- a remount without set-id bits, mount(2)
 abbrev unmarked : ℕ
 unmarked = 4130
+
+at_place : {X : Type 0} (P : X → Type 0) (xs : List X) (at : ℕ) (x : X) → AllByRecursion P xs → slice_get xs at ≡ Some x → P x
+at_place P [] at x all e = cc
+at_place P (y ∷ xs) zero x all e = let same : y ≡ x = cc in subst P same all.0
+at_place P (y ∷ xs) (suc at) x all e = at_place P xs at x all.1 e
 
 module _ (world : World) (launch : Launch) (l : IsLaunched launch) (o : Offers launch) (s : IsSolo launch launch.creds launch.table world) where
   -- ---- rows
@@ -63,7 +76,7 @@ module _ (world : World) (launch : Launch) (l : IsLaunched launch) (o : Offers l
       (calls ++ call ∷ [], calls_show launch launch.creds creds launch.table now world calls (q.ByPath wish place) c.doing call c.effect s way c.makes c.doable (path, target, c.wanted, listed, found))
 
   exec_call : (creds : Creds) (now : Table) (path : Path) → IsPath path → (target : Row) → finds (row_at launch.site.rows) now path ≡ row target → is_exe target.kind ≡ true → fits ToExec (flags_at now path) ≡ true
-      → is_refused creds (marks_of target) (flags_at now path).no_suid ≡ false → (line : Line launch (k.ForPath ToExec)) → PathCall launch creds now ToExec path (first_by line.line.number line.args (pay.OnePath path))
+      → is_refused creds (marks_of target) (flags_at now path).no_suid ≡ false → (line : Line launch (k.ForPath ToExec)) → PathCall launch creds now ToExec path (first_by (place_of line.line) line.args (pay.OnePath path))
   exec_call creds now path fit target found exe runs admitted line =
       let x = exec_path launch creds now path fit target found exe runs admitted line in
       record { doing = d.Execve path; effect = SetCreds (exec_done creds (marks_of target) (flags_at now path).no_suid); makes = x; doable = tt; wanted = refl }
@@ -72,6 +85,9 @@ module _ (world : World) (launch : Launch) (l : IsLaunched launch) (o : Offers l
   module _ (place : ℕ) (target : Row) (listed : slice_get launch.site.rows place ≡ Some target) where
     abbrev rows : Path → Option Row
     rows = row_at launch.site.rows
+
+    known_caps : (own : Row) → slice_get launch.site.rows place ≡ Some own → IsWithin own.caps all
+    known_caps own e = (at_place (IsRowOf launch.site.rows) launch.site.rows place own o.site.each_row e).known_caps
 
     own_known : IsKnown launch.site target
     own_known = known_at launch.site o.site place target listed
@@ -121,24 +137,34 @@ module _ (world : World) (launch : Launch) (l : IsLaunched launch) (o : Offers l
         let admitted : is_refused g.creds (marks_of target) (flags_at two.now path).no_suid ≡ false = ap (λ f. is_refused g.creds (marks_of target) f.no_suid) below.flags_are in
         by_path ToExec place target listed g.creds two.now (way_join g.way two.way) path below.is_found (exec_call g.creds two.now path below.can_be_named target below.is_found exe allowed admitted (some_line launch l (k.ForPath ToExec) passes))
 
+    -- or in a user namespace of its own, where the bounding set is full
+    shown_inside : lets launch (k.ForPath ToExec) ≡ true → is_exe target.kind ≡ true → can_make_user launch ≡ true → Led ToExec → IsShown world (q.ByPath ToExec place)
+    shown_inside passes exe user x =
+        let both = and_parts (nat_lt 0 launch.site.user_namespaces) (lets launch (k.ForSpace q.User)) user in
+        let first = enters launch both.0 x.creds x.now (some_line launch l (k.ForSpace q.User) both.1) in
+        let m = exec_inside launch x.creds x.now first.pid first.small x.found.path x.found.can_be_named target x.found.is_found exe x.found.is_allowed (known_caps target listed) (some_line launch l (k.ForPath ToExec) passes) in
+        (_, calls_show_inside launch launch.creds x.creds launch.table x.now world x.calls (q.ByPath ToExec place) first.pid _ _ (d.Execve x.found.path) _ s x.way first.makes.fit first.inside m tt (x.found.path, target, refl, listed, x.found.is_found))
+
     can_parts : (wish : Wish) → can_reach launch (power_of launch) wish target ≡ true
-        → (lets launch (k.ForPath wish) ≡ true) × (reaches (power_of launch) launch.table target.path wish ≡ true) × (((is_to_exec wish && not (is_mounting (power_of launch))) && is_barred launch target) ≡ false)
+        → (lets launch (k.ForPath wish) ≡ true) × (reaches (power_of launch) launch.table target.path wish ≡ true) × ((((is_to_exec wish && not (is_mounting (power_of launch))) && is_barred launch target) && not (can_make_user launch)) ≡ false)
     can_parts wish e =
-        let both = and_parts (lets launch (k.ForPath wish) && reaches (power_of launch) launch.table target.path wish) (not ((is_to_exec wish && not (is_mounting (power_of launch))) && is_barred launch target)) e in
+        let both = and_parts (lets launch (k.ForPath wish) && reaches (power_of launch) launch.table target.path wish) (not (((is_to_exec wish && not (is_mounting (power_of launch))) && is_barred launch target) && not (can_make_user launch))) e in
         let inner = and_parts (lets launch (k.ForPath wish)) (reaches (power_of launch) launch.table target.path wish) both.0 in
-        (inner.0, inner.1, not-true ((is_to_exec wish && not (is_mounting (power_of launch))) && is_barred launch target) both.1)
+        (inner.0, inner.1, not-true (((is_to_exec wish && not (is_mounting (power_of launch))) && is_barred launch target) && not (can_make_user launch)) both.1)
 
     pub shown_row : (wish : Wish) → IsFit launch.site (q.ByPath wish place) → can_reach launch (power_of launch) wish target ≡ true → IsShown world (q.ByPath wish place)
     shown_row ToSee fit e = let p = can_parts ToSee e in shown_see p.0 (led ToSee p.1)
     shown_row ToRead fit e = let p = can_parts ToRead e in shown_read p.0 (led ToRead p.1)
     shown_row ToWrite fit e = let p = can_parts ToWrite e in shown_write p.0 (fit target listed) (led ToWrite p.1)
-    shown_row ToExec fit e = let p = can_parts ToExec e in by p.0 p.1 (is_barred launch target) refl (power_of launch) refl p.2
+    shown_row ToExec fit e = let p = can_parts ToExec e in by p.0 p.1 (is_barred launch target) refl (power_of launch) refl (can_make_user launch) refl p.2
       where
-        by : lets launch (k.ForPath ToExec) ≡ true → reaches (power_of launch) launch.table target.path ToExec ≡ true → (b : Bool) → is_barred launch target ≡ b → (power : Power) → power_of launch ≡ power → (not (is_mounting power) && b) ≡ false → IsShown world (q.ByPath ToExec place)
-        by passes r false f power g e = shown_exec passes (fit target listed) f (led ToExec r)
-        by passes r true f Mounting g e = shown_unmarked passes (fit target listed) g
-        by passes r true f Unmounting g e = cc
-        by passes r true f Nowise g e = cc
+        by : lets launch (k.ForPath ToExec) ≡ true → reaches (power_of launch) launch.table target.path ToExec ≡ true → (b : Bool) → is_barred launch target ≡ b → (power : Power) → power_of launch ≡ power → (make : Bool) → can_make_user launch ≡ make → ((not (is_mounting power) && b) && not make) ≡ false → IsShown world (q.ByPath ToExec place)
+        by passes r false f power g make u e = shown_exec passes (fit target listed) f (led ToExec r)
+        by passes r true f Mounting g make u e = shown_unmarked passes (fit target listed) g
+        by passes r true f Unmounting g true u e = shown_inside passes (fit target listed) u (led ToExec r)
+        by passes r true f Nowise g true u e = shown_inside passes (fit target listed) u (led ToExec r)
+        by passes r true f Unmounting g false u e = cc
+        by passes r true f Nowise g false u e = cc
 
   -- ---- what needs a capability, or none
   pub record Having (number : Option ℕ) : Type 0 where
@@ -159,22 +185,46 @@ module _ (world : World) (launch : Launch) (l : IsLaunched launch) (o : Offers l
   shown_free : (question : Question) (kind : Kind) → is_free kind ≡ true → ((call : Call) (x : Performed launch launch.creds launch.table (k.asks kind) call) → Answers launch launch.table question call x.doing) → lets launch kind ≡ true → IsShown world question
   shown_free question kind h answers e = let x = performing.free launch launch.creds launch.table kind h (some_line launch l kind e) in by_performed question (k.asks kind) launch.creds launch.table here x (answers _ x)
 
+  -- a user namespace itself
+  shown_user : can_make_user launch ≡ true → IsShown world (q.Ns q.User)
+  shown_user user =
+      let both = and_parts (nat_lt 0 launch.site.user_namespaces) (lets launch (k.ForSpace q.User)) user in
+      let line = some_line launch l (k.ForSpace q.User) both.1 in
+      let first = enters launch both.0 launch.creds launch.table line in
+      let call = first_by (place_of line.line) line.args pay.Nothing in
+      let done = (first.inside world s).0 in
+      (call ∷ [], record { fit = (first.makes.fit, tt); done = (done, tt); last = inl (performs launch launch.creds launch.table world s (asks_space q.User) first.doing call first.effect first.makes first.such done) })
+
+  -- another one, in a user namespace of its own
+  shown_within : (space : Space) → is_user space ≡ false → lets launch (k.ForSpace space) ≡ true → can_make_user launch ≡ true → IsShown world (q.Ns space)
+  shown_within space u e user =
+      let both = and_parts (nat_lt 0 launch.site.user_namespaces) (lets launch (k.ForSpace q.User)) user in
+      let first = enters launch both.0 launch.creds launch.table (some_line launch l (k.ForSpace q.User) both.1) in
+      let x = own_space launch launch.creds launch.table first.pid first.small space u (some_line launch l (k.ForSpace space) e) in
+      (_, calls_show_inside launch launch.creds launch.creds launch.table launch.table world [] (q.Ns space) first.pid _ _ x.doing x.effect s here first.makes.fit first.inside x.makes x.doable x.such)
+
   shown_space : (space : Space) → is_user space ≡ false → lets launch (k.ForSpace space) ≡ true → has (ceiling launch).effective 21 ≡ true → IsShown world (q.Ns space)
   shown_space space u e h =
       let w = having (Some 21) h in
       let x = performing.own_space launch w.creds w.now w.can space u (some_line launch l (k.ForSpace space) e) in
       by_performed (q.Ns space) (asks_space space) w.creds w.now w.way x x.such
 
-  shown_call : (place : ℕ) (line : CallLine) → slice_get launch.calls.calls place ≡ Some line → lets_line launch k.PlainCall line ≡ true → can_have_for (ceiling launch) (rule_of line) ≡ true → IsShown world (q.Call place)
+  shown_call : (place : ℕ) (line : CallLine) → slice_get (every_call launch.calls) place ≡ Some line → list_any (λ other. bytes_eq line.name other.name && lets_line launch k.PlainCall other) (every_call launch.calls) ≡ true → can_have_for (ceiling launch) (rule_of line) ≡ true → IsShown world (q.Call place)
   shown_call place line listed e h =
-      let own = line_at launch l k.PlainCall place line listed e in
+      let other = any_at (λ other. bytes_eq line.name other.name && lets_line launch k.PlainCall other) (every_call launch.calls) e in
+      let such = and_parts (bytes_eq line.name other.1.name) (lets_line launch k.PlainCall other.1) other.3 in
+      let name : line.name ≡ other.1.name = (bytes_eq-Decides line.name other.1.name).0 such.0 in
+      let own = line_at launch l k.PlainCall other.0 other.1 other.2 such.1 in
+      let there = of_abi launch l other.0 other.1 other.2 in
+      let lines = calls_in launch.calls other.1.abi in
+      let found : numbered other.1.number lines ≡ Some other.1 = at_position lines other.1.number there.at other.1 (l.calls_once other.1.abi there.at other.1 there.listed) there.listed in
       let r = performing.plain_rule launch launch.creds launch.table own.0 in
-      let cap' : can_have_cap (ceiling launch) r.0 ≡ true = ap (can_have_for (ceiling launch)) (sym r.1) ∙ ap (λ (c : CallLine). can_have_for (ceiling launch) (rule_of c)) own.1 ∙ h in
+      let cap' : can_have_cap (ceiling launch) r.0 ≡ true = ap (can_have_for (ceiling launch)) (sym r.1) ∙ ap (λ (c : CallLine). can_have_for (ceiling launch) (rule_of c)) own.1 ∙ ap (can_have_for (ceiling launch)) (sym (same_rule launch l place other.0 line other.1 listed other.2 name)) ∙ h in
       let w = having r.0 cap' in
       let can = subst (performing.can_for launch w.creds w.now) (sym r.1) w.can in
       let x = performing.plain launch w.creds w.now own.0 can in
-      let number : own.0.line.number ≡ line.number = ap (λ (c : CallLine). c.number) own.1 in
-      by_performed (q.Call place) k.asks_plain w.creds w.now w.way x (line, listed, number)
+      let called : numbered own.0.line.number (calls_in launch.calls own.0.line.abi) ≡ Some other.1 = ap (λ (c : CallLine). numbered c.number (calls_in launch.calls c.abi)) own.1 ∙ found in
+      by_performed (q.Call place) k.asks_plain w.creds w.now w.way x (line, listed, other.1, called, name)
 
   shown_socket : (place : ℕ) (line : CallLine) → slice_get launch.calls.families place ≡ Some line → lets launch (k.ForFamily line.number) ≡ true → can_have_cap (ceiling launch) line.cap ≡ true → IsShown world (q.Socket place)
   shown_socket place line listed e h =
@@ -182,7 +232,7 @@ module _ (world : World) (launch : Launch) (l : IsLaunched launch) (o : Offers l
       let found : numbered line.number launch.calls.families ≡ Some line = at_position launch.calls.families line.number place line (l.families_once place line listed) listed in
       let p : Doing → Bool = asks_family launch.calls.families place in
       let such : p (d.Socket line.number) ≡ true = ap (λ (c : Option CallLine). is_family c line.number) listed ∙ eq-eqb line.number line.number refl in
-      let x = performing.socket launch w.creds w.now line (low_number launch.calls.families o.calls.families.in_range place line listed) (some_line launch l (k.ForFamily line.number) e) found w.can p such in
+      let x = performing.socket launch w.creds w.now line (low_number launch.calls.families o.calls.families.in_range place line listed) (some_line launch l (k.ForFamily line.number) e) found w.can p such such in
       by_performed (q.Socket place) p w.creds w.now w.way x x.such
 
   -- ---- each question
@@ -193,20 +243,34 @@ module _ (world : World) (launch : Launch) (l : IsLaunched launch) (o : Offers l
   pub cap_shown : (number : ℕ) (end : Table) → Gained launch l o false launch.creds launch.table end number → IsShown world (q.Cap number)
   cap_shown number end g = (g.calls, creds_show launch launch.creds g.creds launch.table end world g.calls (q.Cap number) s g.way g.holds)
 
+  other : (space : Space) → is_user space ≡ false → (lets launch (k.ForSpace space) && (has (ceiling launch).effective 21 || can_make_user launch)) ≡ true → IsShown world (q.Ns space)
+  other space u e =
+      let both = and_parts (lets launch (k.ForSpace space)) (has (ceiling launch).effective 21 || can_make_user launch) e in
+      elim (or_cases (has (ceiling launch).effective 21) (can_make_user launch) both.1) [
+        | inl admin ↦ shown_space space u both.0 admin
+        | inr user ↦ shown_within space u both.0 user
+      ]
+
+  shown_ns : (space : Space) → is_open launch (q.Ns space) ≡ true → IsShown world (q.Ns space)
+  shown_ns q.User e = shown_user e
+  shown_ns q.Cgroup e = other q.Cgroup refl e
+  shown_ns q.Ipc e = other q.Ipc refl e
+  shown_ns q.Net e = other q.Net refl e
+  shown_ns q.Mnt e = other q.Mnt refl e
+  shown_ns q.Pid e = other q.Pid refl e
+  shown_ns q.Uts e = other q.Uts refl e
+
   pub shown : (question : Question) → IsFit launch.site question → is_open launch question ≡ true → IsShown world question
   shown (q.ByPath wish place) fit e = let x = listed_is (can_reach launch (power_of launch) wish) (slice_get launch.site.rows place) e in shown_row place x.0 x.1 wish fit x.2
   shown (q.Call place) fit e =
-      let x = listed_is (λ line. lets_line launch k.PlainCall line && can_have_for (ceiling launch) (rule_of line)) (slice_get launch.calls.calls place) e in
-      let both = and_parts (lets_line launch k.PlainCall x.0) (can_have_for (ceiling launch) (rule_of x.0)) x.2 in
+      let x = listed_is (is_call_open launch (ceiling launch)) (slice_get (every_call launch.calls) place) e in
+      let both = and_parts (list_any (λ other. bytes_eq x.0.name other.name && lets_line launch k.PlainCall other) (every_call launch.calls)) (can_have_for (ceiling launch) (rule_of x.0)) x.2 in
       shown_call place x.0 x.1 both.0 both.1
   shown (q.Socket place) fit e =
       let x = listed_is (λ line. lets launch (k.ForFamily line.number) && can_have_cap (ceiling launch) line.cap) (slice_get launch.calls.families place) e in
       let both = and_parts (lets launch (k.ForFamily x.0.number)) (can_have_cap (ceiling launch) x.0.cap) x.2 in
       shown_socket place x.0 x.1 both.0 both.1
-  shown (q.Ns space) fit e =
-      let both = and_parts (not (is_user space)) (lets launch (k.ForSpace space) && has (ceiling launch).effective 21) e in
-      let more = and_parts (lets launch (k.ForSpace space)) (has (ceiling launch).effective 21) both.1 in
-      shown_space space (not-true (is_user space) both.0) more.0 more.1
+  shown (q.Ns space) fit e = shown_ns space e
   shown q.MapWx fit e = shown_free q.MapWx k.MapsWx refl (λ call x. x.such) e
   shown q.ProtectX fit e = shown_free q.ProtectX k.ProtectsX refl (λ call x. x.such) e
   shown q.ShmX fit e = shown_free q.ShmX k.AttachesX refl (λ call x. x.such) e

@@ -1,24 +1,70 @@
 -- What a way gives is shown by its calls.
-use Rattle.std.proofs.Common.{◌≡◌, ℕ, true, false, List, [], ◌∷◌, ◌++◌, Some, None, refl, ap, ◌∙◌, sym, subst, cond, length, eqb, zero, suc, inl, inr}
+use Rattle.std.proofs.Common.{◌≡◌, ℕ, true, false, List, [], ◌∷◌, ◌++◌, Some, None, refl, ap, ◌∙◌, sym, subst, cond, length, eqb, zero, suc, inl, inr, map, Option}
 use Rattle.std.specs.Prelude.{slice_get, slice_set, nat_lt, ◌-◌}
 use Rattle.kern_creds.specs.declared.creds.Creds.{Creds}
 use Rattle.kernel_calls.specs.declared.call.Call.{Call}
 use Rattle.kernel_calls.specs.Calls.{IsCall, AreCalls}
 use Rattle.kernel_laws.specs.Denied.{LastIs, Shows, Reaches, Holds}
-use Rattle.kernel_calls.specs.Doing.{Doing}
+use Rattle.kernel_calls.specs.Doing.{Doing, Does, asked_by, asked_of}
+use Rattle.kernel_calls.specs.Rules.{rule_at}
+use Rattle.call_table.specs.Table.{Abi, abi_at}
+use Rattle.bpf_code.specs.Stack.{decision_on}
+use Rattle.bpf_code.specs.declared.decision.Decision.TheVariants.{Pass}
+use Rattle.std.specs.Option.{option_map_or}
+use Rattle.kernel_calls.specs.Doing as d
 use Rattle.kernel_model.specs.Effects as f
-use Rattle.kernel_model.specs.Effects.{Effect, SetCreds, SetTable, effect_of}
-use Rattle.kernel_laws.specs.Launched.{Launch}
+use Rattle.kernel_model.specs.Effects.{Effect, Host, SetCreds, SetTable, effect_of, looks, creds_effect, table_effect, with_admin, Caller}
+use Rattle.kernel_laws.specs.Launched.{Launch, data_at}
+use Rattle.bpf_code.specs.declared.machine.Insn.{Insn}
+use Rattle.kern_mounts.specs.Mounts.{Mounts, plain, steps_of}
+use Rattle.kern_mounts.specs.Finds.{finds}
+use Rattle.kern_mounts.proofs.Plain.{steps_plain}
+use Rattle.kern_files.proofs.MountsCall.{mount_entries, umount_answer_entries}
+use Rattle.kern_files.specs.Executing.{exec_answer}
+use Rattle.kern_files.specs.Looking.{flags_at, see_answer, write_answer, open_answer}
 use Rattle.kern_mounts.specs.Split.{Table}
 use Rattle.kernel_laws.specs.Questions.{Question}
 use Rattle.kernel_model.specs.Runs.{Moment, moment_at, moments, run, IsDone, AllDone}
-use Rattle.kernel_model.specs.World.{World, of_number, if_alive, table_or, table_of}
+use Rattle.kernel_model.specs.World.{World, of_number, if_alive, table_or, mounts_of, owner_or, owner_of}
 use Rattle.kernel_model.specs.declared.process.Process.{Process}
 use Rattle.kernel_model.specs.declared.reply.Reply.{Reply}
-use Rattle.kernel_model.specs.Step.{most_namespaces, step, step_by, decided, answered, applied}
+use Rattle.kernel_model.specs.Step.{most_namespaces, step, step_by, decision_by, decided, answered, applied}
 use Rattle.reach_paths.proofs.Processes.{put_own}
 use Rattle.kernel_ways.specs.Showing.{IsDoable}
-use Rattle.kernel_ways.specs.Ways.{IsSolo, Way, here, by_creds, by_table, Makes, solo_world, solo_process, host_at, caller_at}
+use Rattle.kernel_ways.specs.Ways.{effect_on, IsSolo, Way, here, by_creds, by_table, Makes, solo_world, solo_process, host_at}
+
+-- by the entries alone, of a table that is not locked and keeps nothing
+effect_by : (host : Host) (creds : Creds) (stack : List (List Insn)) (table : Table) (doing : Doing)
+    → effect_of host (record { creds = creds; stack = stack; table = map plain table; newer = false; owns = true }) doing ≡ effect_on host (record { creds = creds; stack = stack; table = map plain table; newer = false; owns = true }) table doing
+effect_by host creds stack table (d.See path) = ap (λ (t : Table). looks (see_answer 0 (finds host.rows t path))) (steps_plain table)
+effect_by host creds stack table (d.Open flags path) = ap (λ (t : Table). looks (open_answer flags (flags_at t path) (finds host.rows t path))) (steps_plain table)
+effect_by host creds stack table (d.Create path) = ap (λ (t : Table). looks (write_answer 3 (flags_at t path) (finds host.rows t path))) (steps_plain table)
+effect_by host creds stack table (d.Truncate path) = ap (λ (t : Table). looks (write_answer 0 (flags_at t path) (finds host.rows t path))) (steps_plain table)
+effect_by host creds stack table (d.Execve path) = ap (λ (t : Table). creds_effect (exec_answer creds (flags_at t path) (finds host.rows t path))) (steps_plain table)
+effect_by host creds stack table (d.Mount source target flags) = ap (λ answer. with_admin creds (table_effect answer)) (mount_entries host.rows table source target flags)
+effect_by host creds stack table (d.Umount path flags) = ap (λ answer. with_admin creds (table_effect answer)) (umount_answer_entries table path flags)
+effect_by host creds stack table (d.SetMode mode) = refl
+effect_by host creds stack table (d.Map protection) = refl
+effect_by host creds stack table (d.Protect protection) = refl
+effect_by host creds stack table (d.Attach flags) = refl
+effect_by host creds stack table (d.Schedule policy) = refl
+effect_by host creds stack table (d.Personality persona) = refl
+effect_by host creds stack table (d.Socket family) = refl
+effect_by host creds stack table (d.Socketcall operation family) = refl
+effect_by host creds stack table d.Enter = refl
+effect_by host creds stack table d.Fork = refl
+effect_by host creds stack table (d.Clone flags) = refl
+effect_by host creds stack table (d.Unshare flags) = refl
+effect_by host creds stack table d.Exit = refl
+effect_by host creds stack table (d.Setuid id) = refl
+effect_by host creds stack table (d.Setgid id) = refl
+effect_by host creds stack table (d.Setresuid r e s) = refl
+effect_by host creds stack table (d.Setresgid r e s) = refl
+effect_by host creds stack table (d.Setgroups ids) = refl
+effect_by host creds stack table (d.Capset p e i) = refl
+effect_by host creds stack table (d.Prctl option value third) = refl
+effect_by host creds stack table (d.Seccomp operation flags bytes) = refl
+effect_by host creds stack table (d.Plain cap) = refl
 
 pub way_join : {launch : Launch} {a b c : Creds} {s t u : Table} {xs ys : List Call} → Way launch a s xs b t → Way launch b t ys c u → Way launch a s (xs ++ ys) c u
 way_join here q = q
@@ -30,24 +76,42 @@ put_length [] i y = refl
 put_length (z ∷ xs) zero y = refl
 put_length (z ∷ xs) (suc i) y = ap suc (put_length xs i y)
 
-module _ (launch : Launch) (creds : Creds) (table : Table) (namespace : ℕ) (tables : List Table) (numbered : eqb namespace 0 ≡ false) (own : slice_get tables (namespace - 1) ≡ Some table) (few : nat_lt (length tables) most_namespaces ≡ true) (doing : Doing) (call : Call) (effect : Effect) (m : Makes launch creds table doing call effect) where
+-- a call that its ABI has, and whose data pass, is let through
+pub let_pass : (launch : Launch) (call : Call) (process : Process) (doing : Doing) → asked_of launch.calls call ≡ Does doing → decision_on process.stack (data_at launch call.abi call.nr call.args) ≡ Pass
+    → decision_by call process (abi_at launch.calls call.abi) ≡ Pass
+let_pass launch call process doing asks through = by (abi_at launch.calls call.abi) refl
+  where
+    by : (o : Option Abi) → abi_at launch.calls call.abi ≡ o → decision_by call process (abi_at launch.calls call.abi) ≡ Pass
+    by None e = let none : asked_by (rule_at [] call.nr) call ≡ Does doing = ap (λ (o : Option Abi). asked_by (rule_at (option_map_or (λ found. found.calls) o []) call.nr) call) (sym e) ∙ asks in cc
+    by (Some abi) e =
+        ap (decision_by call process) e
+        ∙ ap (λ (o : Option Abi). decision_on process.stack (record { nr = call.nr; arch = option_map_or (λ found. found.arch) o 0; ip = 0; args = call.args })) (sym e) ∙ through
+
+module _ (launch : Launch) (creds : Creds) (table : Table) (namespace : ℕ) (tables : List Mounts) (owners : List ℕ) (numbered : eqb namespace 0 ≡ false) (own : slice_get tables (namespace - 1) ≡ Some (map plain table)) (home : slice_get owners (namespace - 1) ≡ Some 1) (few : nat_lt (length tables) most_namespaces ≡ true) (doing : Doing) (call : Call) (effect : Effect) (m : Makes launch creds table doing call effect) where
   abbrev own_world : World
-  own_world = solo_world launch creds namespace tables
+  own_world = solo_world launch creds namespace tables owners
 
   abbrev own_process : Process
   own_process = solo_process launch creds namespace
 
-  table_is : table_of own_world namespace ≡ table
-  table_is = ap (λ b. table_or (cond b None (slice_get tables (namespace - 1)))) numbered ∙ ap table_or own
+  pub mounts_are : mounts_of own_world namespace ≡ map plain table
+  mounts_are = ap (λ b. table_or (cond b None (slice_get tables (namespace - 1)))) numbered ∙ ap table_or own
 
-  steps : step own_world call ≡ applied own_world 1 own_process effect
+  owner_is : owner_of own_world namespace ≡ 1
+  owner_is = ap (λ b. owner_or (cond b None (slice_get owners (namespace - 1)))) numbered ∙ ap owner_or home
+
+  abbrev caller_with : Mounts → ℕ → Caller
+  caller_with t o = record { creds = creds; stack = launch.stack; table = t; newer = false; owns = eqb o 1 }
+
+  pub steps : step own_world call ≡ applied own_world 1 own_process effect
   steps =
       ap (λ (pid : ℕ). step_by own_world call (if_alive (of_number (own_process ∷ []) pid))) m.first
-      ∙ ap (decided own_world call own_process) m.through
+      ∙ ap (decided own_world call own_process) (let_pass launch call own_process doing m.asks m.through)
       ∙ ap (answered own_world call.pid own_process) m.asks
-      ∙ ap (λ (pid : ℕ). applied own_world pid own_process (effect_of (host_at launch) (caller_at launch creds (table_of own_world namespace)) doing)) m.first
-      ∙ ap (λ (t : Table). applied own_world 1 own_process (effect_of (host_at launch) (caller_at launch creds t) doing)) table_is
-      ∙ ap (applied own_world 1 own_process) m.comes_to
+      ∙ ap (λ (pid : ℕ). applied own_world pid own_process (effect_of (host_at launch) (caller_with (mounts_of own_world namespace) (owner_of own_world namespace)) doing)) m.first
+      ∙ ap (λ (t : Mounts). applied own_world 1 own_process (effect_of (host_at launch) (caller_with t (owner_of own_world namespace)) doing)) mounts_are
+      ∙ ap (λ (o : ℕ). applied own_world 1 own_process (effect_of (host_at launch) (caller_with (map plain table) o) doing)) owner_is
+      ∙ ap (applied own_world 1 own_process) (effect_by (host_at launch) creds launch.stack table doing ∙ m.comes_to)
 
   done_by : (e : Effect) → IsDoable e → IsDone (applied own_world 1 own_process e).0
   done_by (f.Refuse errno) h = absurd h
@@ -58,6 +122,8 @@ module _ (launch : Launch) (creds : Creds) (table : Table) (namespace : ℕ) (ta
   done_by (f.Child false) h = tt
   done_by (f.Child true) h = rw few tt
   done_by f.OwnTable h = rw few tt
+  done_by (f.UserChild own) h = absurd h
+  done_by (f.OwnUser own) h = absurd h
   done_by f.End h = tt
 
   is_done : IsDoable effect → IsDone (step own_world call).0
@@ -65,23 +131,25 @@ module _ (launch : Launch) (creds : Creds) (table : Table) (namespace : ℕ) (ta
 
 module _ (launch : Launch) (creds : Creds) (table : Table) (world : World) (s : IsSolo launch creds table world) (doing : Doing) (call : Call) where
   pub solo_done : (effect : Effect) → Makes launch creds table doing call effect → IsDoable effect → IsDone (step world call).0
-  solo_done effect m h = let P : World → Type 0 = λ w. IsDone (step w call).0 in subst P (sym s.is) (is_done launch creds table s.namespace s.tables s.numbered s.own s.few doing call effect m h)
+  solo_done effect m h = let P : World → Type 0 = λ w. IsDone (step w call).0 in subst P (sym s.is) (is_done launch creds table s.namespace s.tables s.owners s.numbered s.own s.home s.few doing call effect m h)
 
   pub solo_creds : (now : Creds) → Makes launch creds table doing call (SetCreds now) → IsSolo launch now table (step world call).1
   solo_creds now m =
-      let is = ap (λ (w : World). (step w call).1) s.is ∙ ap (λ (r : Reply × World). r.1) (steps launch creds table s.namespace s.tables s.numbered s.own s.few doing call (SetCreds now) m) in
-      record { namespace = s.namespace; tables = s.tables; is = is; numbered = s.numbered; own = s.own; few = s.few }
+      let is = ap (λ (w : World). (step w call).1) s.is ∙ ap (λ (r : Reply × World). r.1) (steps launch creds table s.namespace s.tables s.owners s.numbered s.own s.home s.few doing call (SetCreds now) m) in
+      record { namespace = s.namespace; tables = s.tables; owners = s.owners; is = is; numbered = s.numbered; own = s.own; home = s.home; few = s.few }
 
-  pub solo_table : (now : Table) → Makes launch creds table doing call (SetTable now) → IsSolo launch creds now (step world call).1
+  pub solo_table : (now : Table) → Makes launch creds table doing call (SetTable (map plain now)) → IsSolo launch creds now (step world call).1
   solo_table now m =
-      let is = ap (λ (w : World). (step w call).1) s.is ∙ ap (λ (r : Reply × World). r.1) (steps launch creds table s.namespace s.tables s.numbered s.own s.few doing call (SetTable now) m) in
+      let is = ap (λ (w : World). (step w call).1) s.is ∙ ap (λ (r : Reply × World). r.1) (steps launch creds table s.namespace s.tables s.owners s.numbered s.own s.home s.few doing call (SetTable (map plain now)) m) in
       record {
         namespace = s.namespace;
-        tables = slice_set s.tables (s.namespace - 1) now;
+        tables = slice_set s.tables (s.namespace - 1) (map plain now);
+        owners = s.owners;
         is = is;
         numbered = s.numbered;
-        own = put_own s.tables (s.namespace - 1) table now s.own;
-        few = ap (λ n. nat_lt n most_namespaces) (put_length s.tables (s.namespace - 1) now) ∙ s.few;
+        home = s.home;
+        own = put_own s.tables (s.namespace - 1) (map plain table) (map plain now) s.own;
+        few = ap (λ n. nat_lt n most_namespaces) (put_length s.tables (s.namespace - 1) (map plain now)) ∙ s.few;
       }
 
 pub record WayRuns (launch : Launch) (creds : Creds) (table : Table) (world : World) (list : List Call) : Type 0 where
@@ -99,16 +167,16 @@ way_runs {launch = launch} (by_table call m more) world s =
     record { fit = (m.fit, rest.fit); done = (solo_done launch _ _ world s _ call _ m tt, rest.done); solo = rest.solo }
 
 -- ---- one call behind a way
-run_behind : (world : World) (xs : List Call) (call : Call) (P : Moment → Type 0) → P (moment_at (run world xs) call) → LastIs P (moments world (xs ++ call ∷ []))
+pub run_behind : (world : World) (xs : List Call) (call : Call) (P : Moment → Type 0) → P (moment_at (run world xs) call) → LastIs P (moments world (xs ++ call ∷ []))
 run_behind world [] call P h = h
 run_behind world (x ∷ []) call P h = h
 run_behind world (x ∷ y ∷ xs) call P h = run_behind (step world x).1 (y ∷ xs) call P h
 
-done_behind : (world : World) (xs : List Call) (call : Call) → AllDone (moments world xs) → IsDone (step (run world xs) call).0 → AllDone (moments world (xs ++ call ∷ []))
+pub done_behind : (world : World) (xs : List Call) (call : Call) → AllDone (moments world xs) → IsDone (step (run world xs) call).0 → AllDone (moments world (xs ++ call ∷ []))
 done_behind world [] call h d = (d, tt)
 done_behind world (x ∷ xs) call h d = (h.0, done_behind (step world x).1 xs call h.1 d)
 
-fit_behind : (xs : List Call) (call : Call) → AreCalls xs → IsCall call → AreCalls (xs ++ call ∷ [])
+pub fit_behind : (xs : List Call) (call : Call) → AreCalls xs → IsCall call → AreCalls (xs ++ call ∷ [])
 fit_behind [] call h d = (d, tt)
 fit_behind (x ∷ xs) call h d = (h.0, fit_behind xs call h.1 d)
 

@@ -5,9 +5,11 @@ use Rattle.cap_sets.specs.Sets.{has}
 use Rattle.kernel_calls.specs.declared.call.Call.{Call}
 use Rattle.kernel_calls.specs.Calls.{AreCalls}
 use Rattle.kernel_laws.specs.Bound.{caps_by, any_by, power_using, bounds_by}
-use Rattle.kernel_laws.specs.Ceiling.{AreHeld}
+use Rattle.kernel_laws.specs.Ceiling.{AreHeld, IsStable}
+use Rattle.kernel_laws.specs.Reach.{Power}
+use Rattle.kern_mounts.specs.Mounts.{Mounts}
 use Rattle.kernel_laws.specs.Kinds.{TakesUid, TakesGid}
-use Rattle.kernel_laws.specs.Launched.{lets, launch_of, IsLaunchedWorld}
+use Rattle.kernel_laws.specs.Launched.{Launch, lets, launch_of, IsLaunchedWorld}
 use Rattle.kernel_laws.specs.Spared.{AllSpare}
 use Rattle.kernel_model.specs.Runs.{run}
 use Rattle.kernel_model.specs.World.{World}
@@ -17,12 +19,19 @@ use Rattle.kernel_laws.proofs.Held.{start_held, uid_within, gid_within}
 use Rattle.kernel_laws.proofs.Runs.{spared_run}
 use Rattle.kernel_ways.specs.Spared.{uids_of, gids_of, SparedIdsAreBounded}
 
+-- what tables newer user namespaces have does not matter
+abbrev Any : Mounts → Type 0
+Any mounts = Unit {0}
+
+any_stable : (launch : Launch) (power : Power) → IsStable launch power Any
+any_stable launch power = record { begins = λ table h. tt; copies = λ table h. tt; mounts = λ table now source target flags h e. tt; unmounts = λ table now path flags h e. tt }
+
 all_held : (world : World) → IsLaunchedWorld world → (uids gids : Bool) (list : List Call) → AreCalls list → AllSpare uids gids world list
-    → AreHeld (launch_of world) (power_using (launch_of world) uids) (bounds_by (launch_of world) uids gids (power_using (launch_of world) uids)) (run world list)
+    → AreHeld (launch_of world) (power_using (launch_of world) uids) (bounds_by (launch_of world) uids gids (power_using (launch_of world) uids)) Any (run world list)
 all_held world s uids gids list fit spare =
     let launch = launch_of world in
     let power = power_using launch uids in
-    spared_run launch power (bounds_by launch uids gids power) (lets_through launch s.launched) uids gids (is_closed launch uids gids s.launched) list world fit spare (start_held world s uids gids power)
+    spared_run launch power (bounds_by launch uids gids power) Any (lets_through launch s.launched) (any_stable launch power) uids gids (is_closed launch uids gids s.launched) list world fit spare (start_held world s uids gids power Any)
 
 never : (number effective : ℕ) (rest : Bool) → (any_by false number effective || rest) ≡ true → rest ≡ true
 never number effective rest h = by (has effective number) h
@@ -40,7 +49,7 @@ ids_are_bounded world s =
     let power = power_using launch uids in
     record {
       uids = λ id off list fit spare x.
-          let on = never 7 (caps_by launch false spared) (uids_of launch id) (uid_within launch spared (bounds_by launch false gids spared) (run world list) (all_held world s.launched false gids list fit spare) id x) in cc;
+          let on = never 7 (caps_by launch false spared) (uids_of launch id) (uid_within launch spared (bounds_by launch false gids spared) Any (run world list) (all_held world s.launched false gids list fit spare) id x) in cc;
       gids = λ id off list fit spare x.
-          let on = never 6 (caps_by launch uids power) (gids_of launch id) (gid_within launch power (bounds_by launch uids false power) (run world list) (all_held world s.launched uids false list fit spare) id x) in cc;
+          let on = never 6 (caps_by launch uids power) (gids_of launch id) (gid_within launch power (bounds_by launch uids false power) Any (run world list) (all_held world s.launched uids false list fit spare) id x) in cc;
     }

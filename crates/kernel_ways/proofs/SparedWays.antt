@@ -32,10 +32,10 @@ use Rattle.kernel_ways.proofs.Solo.{solo_creds, solo_table}
 
 module _ (launch : Launch) (l : IsLaunched launch) (uids gids : Bool) where
   -- what passes may be used, where that is what may be used
-  lets_for : {creds : Creds} {table : Table} {own : Doing} {call : Call} {effect : Effect} → Makes launch creds table own call effect → (doing : Doing) → asked_of launch.calls.calls call ≡ Does doing
+  lets_for : {creds : Creds} {table : Table} {own : Doing} {call : Call} {effect : Effect} → Makes launch creds table own call effect → (doing : Doing) → asked_of launch.calls call ≡ Does doing
       → (asks TakesUid doing ≡ true → lets launch TakesUid ≡ true) × (asks TakesGid doing ≡ true → lets launch TakesGid ≡ true)
   lets_for {call = call} m doing e =
-      let through : decision_on (launch.stack ++ []) (data_at launch call.nr call.args) ≡ decision.Pass = ap (λ (s : List (List Insn)). decision_on s (data_at launch call.nr call.args)) (append-nil launch.stack) ∙ m.through in
+      let through : decision_on (launch.stack ++ []) (data_at launch call.abi call.nr call.args) ≡ decision.Pass = ap (λ (s : List (List Insn)). decision_on s (data_at launch call.abi call.nr call.args)) (append-nil launch.stack) ∙ m.through in
       ((λ h. (lets_through launch l).kinds [] call doing m.fit through e TakesUid h), (λ h. (lets_through launch l).kinds [] call doing m.fit through e TakesGid h))
 
   abbrev Uids : List Call → Type 0
@@ -52,16 +52,16 @@ module _ (launch : Launch) (l : IsLaunched launch) (uids gids : Bool) where
   may kind lets' own h (inr off) k = cc
 
   spare_one : {creds : Creds} {table : Table} {own : Doing} {call : Call} {effect : Effect} → Makes launch creds table own call effect → One call → (world : World) → IsSolo launch creds table world → Spares uids gids world call
-  spare_one {call = call} m one world s process doing lives e =
-      let same : asked_of launch.calls.calls call ≡ Does doing = ap (λ (w : World). asked_of w.calls.calls call) (sym s.is) ∙ e in
+  spare_one {call = call} m one world s process doing lives first e =
+      let same : asked_of launch.calls call ≡ Does doing = ap (λ (w : World). asked_of w.calls call) (sym s.is) ∙ e in
       let h = lets_for m doing same in
       ((λ k c. may (asks TakesUid doing) (lets launch TakesUid) uids h.0 (by_uid same one.0) k), (λ k c. may (asks TakesGid doing) (lets launch TakesGid) gids h.1 (by_gid same one.1) k))
     where
-      by_uid : asked_of launch.calls.calls call ≡ Does doing → (lets launch TakesUid ≡ uids) ⊎ AvoidsOne launch TakesUid call → (lets launch TakesUid ≡ uids) ⊎ (asks TakesUid doing ≡ false)
+      by_uid : asked_of launch.calls call ≡ Does doing → (lets launch TakesUid ≡ uids) ⊎ AvoidsOne launch TakesUid call → (lets launch TakesUid ≡ uids) ⊎ (asks TakesUid doing ≡ false)
       by_uid e (inl h) = inl h
       by_uid e (inr h) = inr (h doing e)
 
-      by_gid : asked_of launch.calls.calls call ≡ Does doing → (lets launch TakesGid ≡ gids) ⊎ AvoidsOne launch TakesGid call → (lets launch TakesGid ≡ gids) ⊎ (asks TakesGid doing ≡ false)
+      by_gid : asked_of launch.calls call ≡ Does doing → (lets launch TakesGid ≡ gids) ⊎ AvoidsOne launch TakesGid call → (lets launch TakesGid ≡ gids) ⊎ (asks TakesGid doing ≡ false)
       by_gid e (inl h) = inl h
       by_gid e (inr h) = inr (h doing e)
 

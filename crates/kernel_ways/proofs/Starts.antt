@@ -1,8 +1,10 @@
 -- The launched world has one process, and what that process reaches answers questions.
-use Rattle.std.proofs.Common.{◌≡◌, ℕ, Bool, true, false, List, [], ◌∷◌, Some, None, refl, ap, ◌∙◌, sym, subst, cond, length, eqb, arith}
+use Rattle.std.proofs.Common.{◌≡◌, map, ℕ, Bool, true, false, List, [], ◌∷◌, Some, None, refl, ap, ◌∙◌, sym, subst, cond, length, eqb, arith}
 use Rattle.std.specs.Prelude.{slice_get, ◌<◌, ◌-◌}
 use Rattle.std.proofs.lemmas.Bool.Decides.{nat_tests}
 use Rattle.abs_path.specs.Paths.{Path}
+use Rattle.call_table.specs.Lookups.{numbered}
+use Rattle.call_table.specs.Table.{calls_in, every_call}
 use Rattle.call_table.specs.declared.listed.CallLine.{CallLine}
 use Rattle.site_table.specs.declared.row.Row.{Row}
 use Rattle.site_table.specs.Table.{row_at}
@@ -13,27 +15,33 @@ use Rattle.kernel_laws.specs.Denied.{path_for, ReachesRow, ReachesCall, Performs
 use Rattle.kernel_calls.specs.Doing.{Doing}
 use Rattle.kernel_model.specs.Effects.{Effect}
 use Rattle.kernel_laws.specs.Launched.{Launch, IsLaunchedWorld, launch_of, first_of}
+use Rattle.kern_mounts.specs.Mounts.{Mounts, plain, steps_of}
+use Rattle.kern_mounts.proofs.Plain.{steps_plain, plain_again}
 use Rattle.kern_mounts.specs.Split.{Table}
 use Rattle.kernel_laws.specs.Questions.{Wish}
 use Rattle.kernel_model.specs.Runs.{moment_at, IsDone}
-use Rattle.kernel_model.specs.World.{World, process_of, table_of, table_or}
+use Rattle.kernel_model.specs.World.{World, process_of, mounts_of, table_of, table_or}
 use Rattle.kernel_model.specs.declared.process.Process.{Process}
 use Rattle.kernel_model.specs.Step.{most_namespaces, step}
 use Rattle.kernel_ways.specs.Ways.{IsSolo, Makes, solo_world, solo_process}
 
-some_of : (tables : List Table) (namespace : ℕ) (table : Table) (b : Bool) → eqb namespace 0 ≡ b → cond b None (slice_get tables (namespace - 1)) ≡ Some table → (eqb namespace 0 ≡ false) × (slice_get tables (namespace - 1) ≡ Some table)
+some_of : {X : Type 0} (tables : List X) (namespace : ℕ) (table : X) (b : Bool) → eqb namespace 0 ≡ b → cond b None (slice_get tables (namespace - 1)) ≡ Some table → (eqb namespace 0 ≡ false) × (slice_get tables (namespace - 1) ≡ Some table)
 some_of tables namespace table true n e = cc
 some_of tables namespace table false n e = (n, e)
 
 pub starts_solo : (world : World) → IsLaunchedWorld world → length world.tables < most_namespaces → IsSolo (launch_of world) (launch_of world).creds (launch_of world).table world
 starts_solo world s few =
     let first = first_of world in
-    let whole : first ≡ solo_process (launch_of world) first.creds first.namespace = ap (λ (b : Bool). record first { alive = b }) s.lives in
-    let both = some_of world.tables first.namespace (table_of world first.namespace) (eqb first.namespace 0) refl s.own in
+    let whole : first ≡ solo_process (launch_of world) first.creds first.namespace = ap (λ (b : Bool). record first { alive = b }) s.lives ∙ ap (λ (u : ℕ). record first { user = u; alive = true }) s.user in
+    let home = some_of {X = ℕ} world.owners first.namespace 1 (eqb first.namespace 0) refl s.home in
+    let both = some_of world.tables first.namespace (map plain (table_of world first.namespace)) (eqb first.namespace 0) refl (s.own ∙ ap (λ (t : Mounts). Some t) (sym (plain_again (mounts_of world first.namespace) s.plain))) in
     record {
       namespace = first.namespace;
       tables = world.tables;
-      is = ap (λ (ps : List Process). record world { processes = ps }) (s.alone ∙ ap (λ (p : Process). p ∷ []) whole);
+      owners = world.owners;
+      is = ap (λ (ps : List Process). record world { processes = ps }) (s.alone ∙ ap (λ (p : Process). p ∷ []) whole)
+          ∙ ap (λ (u : ℕ). record world { processes = solo_process (launch_of world) first.creds first.namespace ∷ []; users = u }) s.no_users;
+      home = home.1;
       numbered = both.0;
       own = both.1;
       few = grind (arith, nat_tests, few);
@@ -41,12 +49,12 @@ starts_solo world s few =
 
 module _ (launch : Launch) (creds : Creds) (table : Table) (world : World) (s : IsSolo launch creds table world) where
   abbrev own_world : World
-  own_world = solo_world launch creds s.namespace s.tables
+  own_world = solo_world launch creds s.namespace s.tables s.owners
 
   table_is : table_of own_world s.namespace ≡ table
-  table_is = ap (λ b. table_or (cond b None (slice_get s.tables (s.namespace - 1)))) s.numbered ∙ ap table_or s.own
+  table_is = ap (λ b. steps_of (table_or (cond b None (slice_get s.tables (s.namespace - 1))))) s.numbered ∙ ap (λ o. steps_of (table_or o)) s.own ∙ steps_plain table
 
-  pub holds : (P : Creds → Type 0) → P creds → SomeLiving P world
+  pub holds : (P : Process → Type 0) → P (solo_process launch creds s.namespace) → SomeLiving P world
   holds P h =
       let Q : World → Type 0 = λ w. SomeLiving P w in
       subst Q (sym s.is) (record { pid = 1; process = solo_process launch creds s.namespace; lives = refl; has = h })
@@ -73,7 +81,7 @@ module _ (launch : Launch) (creds : Creds) (table : Table) (world : World) (s : 
       let Q : World → Type 0 = λ w. IsDone (step w call).0 → Performs p (moment_at w call) in
       subst Q (sym s.is) (λ done. record { done = done; doing = doing; is = m.asks; such = such })
 
-  pub reaches_call : (place : ℕ) (line : CallLine) → slice_get launch.calls.calls place ≡ Some line → (call : Call) → call.nr ≡ line.number → IsDone (step world call).0 → ReachesCall place (moment_at world call)
-  reaches_call place line listed call same =
+  pub reaches_call : (place : ℕ) (line : CallLine) → slice_get (every_call launch.calls) place ≡ Some line → (called : CallLine) (call : Call) → numbered call.nr (calls_in launch.calls call.abi) ≡ Some called → line.name ≡ called.name → IsDone (step world call).0 → ReachesCall place (moment_at world call)
+  reaches_call place line listed called call found same =
       let Q : World → Type 0 = λ w. IsDone (step w call).0 → ReachesCall place (moment_at w call) in
-      subst Q (sym s.is) (λ done. record { done = done; line = line; listed = listed; same = same })
+      subst Q (sym s.is) (λ done. record { done = done; line = line; listed = listed; called = called; found = found; same = same })

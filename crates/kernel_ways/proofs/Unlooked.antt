@@ -1,9 +1,9 @@
 -- Filters of settings look at no words of execve(2), of the calls that mount, and of those that set ids or capabilities.
-use Rattle.std.proofs.Common.{◌≡◌, ℕ, Bool, true, false, cond, codes, List, [], ◌∷◌, Option, Some, refl, ap, ◌∙◌, sym, arith}
+use Rattle.std.proofs.Common.{◌≡◌, ℕ, Bool, true, false, cond, codes, List, [], ◌∷◌, Option, Some, refl, ap, ◌∙◌, sym, arith, eqb}
 use Rattle.std.specs.List.{AllByRecursion}
 use Rattle.std.specs.Option.{option_map_or}
 use Rattle.std.specs.Str.{bytes_eq}
-use Rattle.std.proofs.lemmas.Bool.{eq-eqb}
+use Rattle.std.proofs.lemmas.Bool.{eqb-true, eq-eqb}
 use Rattle.bpf_code.specs.declared.machine.Insn.{Insn}
 use Rattle.bpf_code.specs.declared.machine.CallData.{CallData}
 use Rattle.bpf_code.specs.declared.decision.Decision.TheVariants as decision
@@ -40,6 +40,8 @@ use Rattle.kernel_laws.proofs.Filters.{HasRule, has_rule}
 use Rattle.kernel_laws.proofs.Programs.{stack_passes}
 use Rattle.kernel_ways.specs.Launching.{SettingsPassAlike}
 use Rattle.kernel_ways.specs.Offers.{is_unlooked}
+use Rattle.kernel_ways.specs.Ways.{CallAt}
+use Rattle.kernel_laws.proofs.SettingsChoose.{at_line, at_other, is_there, same_abi}
 
 module _ (line : CallLine) (rule : Rule) (is : rule_of line ≡ Some rule) (unlooked : is_unlooked rule ≡ true) where
   -- such a line has no name of another rule
@@ -105,6 +107,7 @@ module _ (line : CallLine) (rule : Rule) (is : rule_of line ≡ Some rule) (unlo
   named_alike filter.Suid settings table one other = ap (λ b. unless_refused 1 b) (mode_free one ∙ sym (mode_free other))
   named_alike filter.Namespaces settings table one other = ap (λ b. unless_refused 1 b) (namespace_free settings.namespaces one ∙ sym (namespace_free settings.namespaces other))
   named_alike filter.Personality settings table one other = ap (λ b. unless_refused 1 b) (personality_free one ∙ sym (personality_free other))
+  named_alike filter.Archs settings table one other = refl
   named_alike filter.Hostname settings table one other = refl
   named_alike filter.Modules settings table one other = refl
   named_alike filter.Logs settings table one other = refl
@@ -112,29 +115,36 @@ module _ (line : CallLine) (rule : Rule) (is : rule_of line ≡ Some rule) (unlo
   named_alike filter.Devices settings table one other = refl
   named_alike filter.Calls settings table one other = refl
 
--- what a program answers to a call of a line
-at_line : (settings : FilterSettings) (launch : Launch) (own : FilterName) (nr : ℕ) (args : List ℕ) (line : CallLine) → numbered nr launch.calls.calls ≡ Some line
-    → wanted_action own settings launch.calls (data_at launch nr args) ≡ named_action own settings launch.calls line.name (data_at launch nr args)
-at_line settings launch own nr args line found =
-    ap (λ b. cond b (option_map_or (λ call. named_action own settings launch.calls call.name (data_at launch nr args)) (numbered nr launch.calls.calls) (unnamed_action own settings)) KillProcess) (eq-eqb launch.calls.arch launch.calls.arch refl)
-    ∙ ap (λ o. option_map_or (λ call. named_action own settings launch.calls call.name (data_at launch nr args)) o (unnamed_action own settings)) found
-
 pub settings_pass_alike : SettingsPassAlike
-settings_pass_alike launch settings arch each plain nr rule args other few fit fit' at unlooked p =
-    let one : IsCallData (data_at launch nr args) = record { nr = few; arch = arch; ip = omega arith; count = fit.count; args = fit.each } in
-    let two : IsCallData (data_at launch nr other) = record { nr = few; arch = arch; ip = omega arith; count = fit'.count; args = fit'.each } in
-    let h = has_rule launch.calls.calls nr rule at in
-    stack_passes launch.stack (data_at launch nr args) (data_at launch nr other) (plain (data_at launch nr args) one) (plain (data_at launch nr other) two) (all_of one two h launch.stack each) p
+settings_pass_alike launch settings arch differ each plain nr rule args other few fit fit' at unlooked p =
+    let one : IsCallData (data_at launch nr.abi nr.nr args) = record { nr = few.number; arch = arch nr.abi; ip = omega arith; count = fit.count; args = fit.each } in
+    let two : IsCallData (data_at launch nr.abi nr.nr other) = record { nr = few.number; arch = arch nr.abi; ip = omega arith; count = fit'.count; args = fit'.each } in
+    let h = has_rule (calls.calls_in launch.calls nr.abi) nr.nr rule at in
+    stack_passes launch.stack (data_at launch nr.abi nr.nr args) (data_at launch nr.abi nr.nr other) (plain (data_at launch nr.abi nr.nr args) one) (plain (data_at launch nr.abi nr.nr other) two) (all_of one two h launch.stack each) p
   where
-    all_of : IsCallData (data_at launch nr args) → IsCallData (data_at launch nr other) → HasRule launch.calls.calls nr rule → (programs : List (List Insn)) → AllByRecursion (Means settings launch.calls) programs
-        → AllByRecursion (λ (code : List Insn). decision_of (answer_of code (data_at launch nr args)) ≡ decision.Pass → decision_of (answer_of code (data_at launch nr other)) ≡ decision.Pass) programs
+    own_line : IsCallData (data_at launch nr.abi nr.nr args) → IsCallData (data_at launch nr.abi nr.nr other) → HasRule (calls.calls_in launch.calls nr.abi) nr.nr rule → (code : List Insn) (m : Means settings launch.calls code) → nr.abi ≡ m.abi
+        → decision_of (answer_of code (data_at launch nr.abi nr.nr args)) ≡ decision.Pass → decision_of (answer_of code (data_at launch nr.abi nr.nr other)) ≡ decision.Pass
+    own_line one two h code m same e =
+        let before = m.answers (data_at launch nr.abi nr.nr args) one ∙ ap word_of (ap (λ own. wanted_action m.filter settings launch.calls own (data_at launch nr.abi nr.nr args)) (sym same) ∙ at_line settings launch m.filter nr.abi nr.nr args h.line h.found) in
+        let after = m.answers (data_at launch nr.abi nr.nr other) two ∙ ap word_of (ap (λ own. wanted_action m.filter settings launch.calls own (data_at launch nr.abi nr.nr other)) (sym same) ∙ at_line settings launch m.filter nr.abi nr.nr other h.line h.found) in
+        let alike = named_alike h.line rule h.is unlooked m.filter settings launch.calls (data_at launch nr.abi nr.nr args) (data_at launch nr.abi nr.nr other) in
+        ap decision_of after ∙ ap (λ a. decision_of (word_of a)) (sym alike) ∙ ap decision_of (sym before) ∙ e
+
+    either : IsCallData (data_at launch nr.abi nr.nr args) → IsCallData (data_at launch nr.abi nr.nr other) → HasRule (calls.calls_in launch.calls nr.abi) nr.nr rule → (code : List Insn) (m : Means settings launch.calls code)
+        → (b : Bool) → eqb (calls.arch_of launch.calls nr.abi) (calls.arch_of launch.calls m.abi) ≡ b → decision_of (answer_of code (data_at launch nr.abi nr.nr args)) ≡ decision.Pass → decision_of (answer_of code (data_at launch nr.abi nr.nr other)) ≡ decision.Pass
+    either one two h code m true same e =
+        let own = is_there launch.calls nr.abi nr.nr h.line h.found (calls.abi_at launch.calls nr.abi) refl in
+        let archs : own.0.arch ≡ m.found.arch = ap (λ (o : Option calls.Abi). option_map_or (λ found. found.arch) o 0) (sym own.1) ∙ eqb-true (calls.arch_of launch.calls nr.abi) (calls.arch_of launch.calls m.abi) same ∙ ap (λ (o : Option calls.Abi). option_map_or (λ found. found.arch) o 0) m.there in
+        own_line one two h code m (same_abi (calls.native launch.calls) launch.calls.second differ nr.abi m.abi own.0 m.found own.1 m.there archs) e
+    either one two h code m false differs e =
+        let before = m.answers (data_at launch nr.abi nr.nr args) one ∙ ap word_of (at_other settings launch m.filter m.abi nr.abi nr.nr args differs) in
+        let after = m.answers (data_at launch nr.abi nr.nr other) two ∙ ap word_of (at_other settings launch m.filter m.abi nr.abi nr.nr other differs) in
+        ap decision_of (after ∙ sym before) ∙ e
+
+    all_of : IsCallData (data_at launch nr.abi nr.nr args) → IsCallData (data_at launch nr.abi nr.nr other) → HasRule (calls.calls_in launch.calls nr.abi) nr.nr rule → (programs : List (List Insn)) → AllByRecursion (Means settings launch.calls) programs
+        → AllByRecursion (λ (code : List Insn). decision_of (answer_of code (data_at launch nr.abi nr.nr args)) ≡ decision.Pass → decision_of (answer_of code (data_at launch nr.abi nr.nr other)) ≡ decision.Pass) programs
     all_of one two h [] each = tt
     all_of one two h (code ∷ programs) each = (
-      λ e.
-          let m = each.0 in
-          let before = m.answers (data_at launch nr args) one ∙ ap word_of (at_line settings launch m.filter nr args h.line h.found) in
-          let after = m.answers (data_at launch nr other) two ∙ ap word_of (at_line settings launch m.filter nr other h.line h.found) in
-          let same = named_alike h.line rule h.is unlooked m.filter settings launch.calls (data_at launch nr args) (data_at launch nr other) in
-          ap decision_of after ∙ ap (λ a. decision_of (word_of a)) (sym same) ∙ ap decision_of (sym before) ∙ e,
+      λ e. either one two h code each.0 (eqb (calls.arch_of launch.calls nr.abi) (calls.arch_of launch.calls each.0.abi)) refl e,
       all_of one two h programs each.1,
     )

@@ -1,6 +1,7 @@
 pub mod Offers
 pub mod Laws
 pub mod Ways
+pub mod Entering
 pub mod Showing
 pub mod Uncovering
 pub mod Taking

@@ -17,6 +17,7 @@ use Rattle.kernel_laws.specs.Kinds.{ForPath, AreWords}
 use Rattle.kernel_laws.specs.Launched.{Launch, passes, lets}
 use Rattle.kernel_laws.specs.Questions.{ToExec}
 use Rattle.reach_paths.specs.Finding.{dirs_of, FindsRow}
+use Rattle.kernel_ways.specs.Ways.{CallAt, IsCallAt, rule_there, passes_at}
 
 -- execve(2), the calls that mount, and those that set ids or capabilities: no setting of systemd.exec(5) filters them by their words
 abbrev pub is_unlooked : Rule → Bool
@@ -33,8 +34,8 @@ is_unlooked rule = false
 
 -- what the filters let through with some words they let through with any
 abbrev pub PassesAlike : Launch → Type 0
-PassesAlike launch = (nr : ℕ) (rule : Rule) (args other : List ℕ) → nr < 2 ^ 32 → AreWords args → AreWords other → rule_at launch.calls.calls nr ≡ Some rule → is_unlooked rule ≡ true
-    → passes launch nr args → passes launch nr other
+PassesAlike launch = (nr : CallAt) (rule : Rule) (args other : List ℕ) → IsCallAt nr → AreWords args → AreWords other → rule_there launch nr ≡ Some rule → is_unlooked rule ≡ true
+    → passes_at launch nr args → passes_at launch nr other
 
 -- the program that the launch ran: a row without set-id bits and capabilities, which a path of the launched table finds
 pub record HasProgram (launch : Launch) : Type 0 where

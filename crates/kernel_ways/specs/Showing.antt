@@ -3,6 +3,8 @@
 use Rattle.std.specs.Prelude.{◌≡◌, true, List, [], ◌∷◌, ◌++◌, slice_get, Some}
 use Rattle.abs_path.specs.Paths.{Path}
 use Rattle.cap_sets.specs.Sets.{has}
+use Rattle.call_table.specs.Lookups.{numbered}
+use Rattle.call_table.specs.Table.{calls_in, every_call}
 use Rattle.call_table.specs.declared.listed.CallLine.{CallLine}
 use Rattle.site_table.specs.declared.row.Row.{Row}
 use Rattle.site_table.specs.Table.{row_at}
@@ -11,7 +13,7 @@ use Rattle.kern_mounts.specs.Finds.{row, finds}
 use Rattle.kern_mounts.specs.Split.{Table}
 use Rattle.kernel_calls.specs.declared.call.Call as call
 use Rattle.kernel_calls.specs.Doing.{Doing}
-use Rattle.kernel_model.specs.Effects.{Effect, Refuse, Answer, SetCreds, SetTable, Push, Child, OwnTable, End}
+use Rattle.kernel_model.specs.Effects.{Effect, Refuse, Answer, SetCreds, SetTable, Push, Child, OwnTable, UserChild, OwnUser, End}
 use Rattle.kernel_calls.specs.Calls.{AreCalls}
 use Rattle.kernel_model.specs.Runs.{moments, run, AllDone}
 use Rattle.kernel_model.specs.World.{World}
@@ -21,7 +23,8 @@ use Rattle.kernel_laws.specs.Questions.{Question, ByPath, Call, Socket, Ns, MapW
 use Rattle.kernel_ways.specs.Laws.{IsServedWorld}
 use Rattle.kernel_ways.specs.Ways.{Way, IsSolo, Makes}
 
--- the effect is no refusal: one process alone, which has room for another and for a namespace, gets it done
+-- the effect is no refusal and makes no user namespace: one process alone, which has room for another and for a mount namespace, gets
+-- it done
 abbrev pub IsDoable : Effect → Type 0
 IsDoable (Refuse errno) = ⊥
 IsDoable (Answer value) = Unit {0}
@@ -30,14 +33,16 @@ IsDoable (SetTable table) = Unit {0}
 IsDoable (Push program) = Unit {0}
 IsDoable (Child own) = Unit {0}
 IsDoable OwnTable = Unit {0}
+IsDoable (UserChild own) = ⊥
+IsDoable (OwnUser own) = ⊥
 IsDoable End = Unit {0}
 
 -- such a call, which asks for this, answers the question once it is done: a path of the mount table finds the row of that place, the
--- number is that of the call of that place, or it asks for such a thing
+-- number is that of a call of the name at that place, or it asks for such a thing
 abbrev pub Answers : Launch → Table → Question → call.Call → Doing → Type 0
 Answers launch table (ByPath wish place) call doing =
     (path : Path) × (target : Row) × (path_for wish doing ≡ Some path) × (slice_get launch.site.rows place ≡ Some target) × (finds (row_at launch.site.rows) table path ≡ row target)
-Answers launch table (Call place) call doing = (line : CallLine) × (slice_get launch.calls.calls place ≡ Some line) × (call.nr ≡ line.number)
+Answers launch table (Call place) call doing = (line : CallLine) × (slice_get (every_call launch.calls) place ≡ Some line) × (called : CallLine) × (numbered call.nr (calls_in launch.calls call.abi) ≡ Some called) × (line.name ≡ called.name)
 Answers launch table (Socket place) call doing = asks_family launch.calls.families place doing ≡ true
 Answers launch table (Ns space) call doing = asks_space space doing ≡ true
 Answers launch table MapWx call doing = asks_map doing ≡ true

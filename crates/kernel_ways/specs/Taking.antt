@@ -7,6 +7,7 @@ use Rattle.kernel_calls.specs.declared.payload.Payload.TheVariants.{Nothing, Ids
 use Rattle.kernel_calls.specs.declared.rule.Rule.{Rule}
 use Rattle.kernel_calls.specs.declared.rule.Rule.TheVariants.{Known}
 use Rattle.kernel_laws.specs.Kinds.{no_words}
+use Rattle.kernel_ways.specs.Ways.{CallAt}
 
 -- setresuid(2) and setresgid(2) take three ids, setgroups(2) a list of them, setuid(2) and setgid(2) one
 abbrev pub id_words : Rule → ℕ → List ℕ
@@ -20,9 +21,9 @@ id_payload (Known Setgroups) id = Ids (id ∷ [])
 id_payload rule id = Nothing
 
 -- the call of this number and rule that takes the id
-abbrev pub id_call : ℕ → Rule → ℕ → Call
-id_call nr rule id = record { pid = 1; nr = nr; args = id_words rule id; payload = id_payload rule id }
+abbrev pub id_call : CallAt → Rule → ℕ → Call
+id_call nr rule id = record { pid = 1; abi = nr.abi; nr = nr.nr; args = id_words rule id; payload = id_payload rule id }
 
 -- capset(2): the permitted, the effective and the inheritable set
-abbrev pub sets_call : ℕ → ℕ → ℕ → ℕ → Call
-sets_call nr permitted effective inheritable = record { pid = 1; nr = nr; args = no_words; payload = Sets permitted effective inheritable }
+abbrev pub sets_call : CallAt → ℕ → ℕ → ℕ → Call
+sets_call nr permitted effective inheritable = record { pid = 1; abi = nr.abi; nr = nr.nr; args = no_words; payload = Sets permitted effective inheritable }

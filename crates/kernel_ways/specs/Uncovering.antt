@@ -10,6 +10,7 @@ use Rattle.kern_files.specs.UmountCall.{mnt_detach}
 use Rattle.kernel_calls.specs.declared.call.Call.{Call}
 use Rattle.kernel_calls.specs.declared.payload.Payload.TheVariants.{OnePath, TwoPaths}
 use Rattle.kernel_laws.specs.Kinds.{one_word}
+use Rattle.kernel_ways.specs.Ways.{CallAt}
 use Rattle.kernel_laws.specs.Questions.{if_so}
 
 -- the places of the entries whose places lead to the path, the last entry's first: of what stands behind an entry to whose place the
@@ -26,16 +27,16 @@ pub data Detaches (path : Path) : Table → List Path → Table → Type 0 where
       → Detaches path next places last → Detaches path table (split.entry.place ∷ places) last
 
 -- umount2(2) by process 1 of each place, by its number in the table: the flags are argument 1
-abbrev pub umount_call : ℕ → Path → Call
-umount_call nr place = record { pid = 1; nr = nr; args = one_word 1 mnt_detach; payload = OnePath place }
+abbrev pub umount_call : CallAt → Path → Call
+umount_call nr place = record { pid = 1; abi = nr.abi; nr = nr.nr; args = one_word 1 mnt_detach; payload = OnePath place }
 
-abbrev pub umount_calls : ℕ → List Path → List Call
+abbrev pub umount_calls : CallAt → List Path → List Call
 umount_calls nr places = map (umount_call nr) places
 
 -- mount(2) by process 1: the flags are argument 3
-abbrev pub mount_call : ℕ → Path → Path → ℕ → Call
-mount_call nr source target flags = record { pid = 1; nr = nr; args = one_word 3 flags; payload = TwoPaths source target }
+abbrev pub mount_call : CallAt → Path → Path → ℕ → Call
+mount_call nr source target flags = record { pid = 1; abi = nr.abi; nr = nr.nr; args = one_word 3 flags; payload = TwoPaths source target }
 
 -- `/` is bound at the folder of the processes, and given these flags there
-abbrev pub mount_calls : ℕ → ℕ → List Call
+abbrev pub mount_calls : CallAt → ℕ → List Call
 mount_calls nr flags = mount_call nr [] proc ms_bind ∷ mount_call nr [] proc flags ∷ []

@@ -1,32 +1,45 @@
 -- Ways: lists of calls of process 1 alone, each of which is done, that change its credentials or its mount table.
-use Rattle.std.specs.Prelude.{◌≡◌, ℕ, ◌-◌, ◌==◌, nat_lt, true, false, List, [], ◌∷◌, length, Some, slice_get}
+use Rattle.std.specs.Prelude.{◌≡◌, ℕ, ◌-◌, ◌==◌, nat_lt, true, false, List, [], ◌∷◌, length, Some, slice_get, map, ◌<◌, ◌^◌, Option}
 use Rattle.site_table.specs.Table.{row_at}
 use Rattle.kern_creds.specs.declared.creds.Creds.{Creds}
+use Rattle.kern_mounts.specs.Answer.{plain_answer}
+use Rattle.kern_mounts.specs.Finds.{finds}
+use Rattle.kern_mounts.specs.Mounts.{Mounts, plain}
 use Rattle.kern_mounts.specs.Split.{Table}
+use Rattle.kern_files.specs.Executing.{exec_answer}
+use Rattle.kern_files.specs.Looking.{flags_at, see_answer, write_answer, open_answer}
+use Rattle.kern_files.specs.MountCall.{after_mount}
+use Rattle.kern_files.specs.UmountCall.{umount_answer}
 use Rattle.kernel_calls.specs.declared.call.Call.{Call}
+use Rattle.call_table.specs.Table.{calls_in}
+use Rattle.call_table.specs.declared.listed.CallLine.{CallLine}
 use Rattle.kernel_calls.specs.Calls.{IsCall}
-use Rattle.kernel_calls.specs.Doing.{Doing, Does, asked_of}
-use Rattle.kernel_model.specs.Effects.{Effect, SetCreds, SetTable, Host, Caller, effect_of}
+use Rattle.kernel_calls.specs.Rules.{rule_at}
+use Rattle.kernel_calls.specs.declared.rule.Rule.{Rule}
+use Rattle.kernel_calls.specs.Doing.{Doing, See, Open, Create, Truncate, Execve, Mount, Umount, Does, asked_of}
+use Rattle.kernel_model.specs.Effects.{Effect, SetCreds, SetTable, Host, Caller, effect_of, looks, creds_effect, table_effect, with_admin}
 use Rattle.kernel_model.specs.Step.{most_namespaces}
 use Rattle.kernel_model.specs.World.{World}
 use Rattle.kernel_model.specs.declared.process.Process.{Process}
 use Rattle.kernel_laws.specs.Launched.{Launch, passes}
 
--- process 1, with the filters of the launch
+-- process 1, with the filters of the launch, in the first user namespace
 abbrev pub solo_process : Launch → Creds → ℕ → Process
-solo_process launch creds namespace = record { creds = creds; stack = launch.stack; namespace = namespace; alive = true }
+solo_process launch creds namespace = record { creds = creds; stack = launch.stack; namespace = namespace; user = 1; alive = true }
 
-abbrev pub solo_world : Launch → Creds → ℕ → List Table → World
-solo_world launch creds namespace tables = record { calls = launch.calls; site = launch.site; processes = solo_process launch creds namespace ∷ []; tables = tables }
+abbrev pub solo_world : Launch → Creds → ℕ → List Mounts → List ℕ → World
+solo_world launch creds namespace tables owners = record { calls = launch.calls; site = launch.site; processes = solo_process launch creds namespace ∷ []; tables = tables; owners = owners; users = 0 }
 
--- process 1 lives alone, with these credentials, the filters of the launch and this mount table; and there is room for one more
--- mount namespace
+-- process 1 lives alone in the first user namespace, with these credentials, the filters of the launch and this mount table; and there
+-- is room for one more mount namespace
 pub record IsSolo (launch : Launch) (creds : Creds) (table : Table) (world : World) : Type 0 where
   pub namespace : ℕ
-  pub tables : List Table
-  pub is : world ≡ solo_world launch creds namespace tables
+  pub tables : List Mounts
+  pub owners : List ℕ
+  pub is : world ≡ solo_world launch creds namespace tables owners
   pub numbered : (namespace == 0) ≡ false
-  pub own : slice_get tables (namespace - 1) ≡ Some table
+  pub own : slice_get tables (namespace - 1) ≡ Some (map plain table)
+  pub home : slice_get owners (namespace - 1) ≡ Some 1
   pub few : nat_lt (length tables) most_namespaces ≡ true
 
 -- what the kernel was told, and what process 1 has, as a rule sees them
@@ -34,20 +47,49 @@ abbrev pub host_at : Launch → Host
 host_at launch = record { rows = row_at launch.site.rows; families = launch.calls.families }
 
 abbrev pub caller_at : Launch → Creds → Table → Caller
-caller_at launch creds table = record { creds = creds; stack = launch.stack; table = table }
+caller_at launch creds table = record { creds = creds; stack = launch.stack; table = map plain table; newer = false; owns = true }
+
+-- what a call comes to, by the entries of the caller's table alone
+abbrev pub effect_on : Host → Caller → Table → Doing → Effect
+effect_on host caller table (See path) = looks (see_answer 0 (finds host.rows table path))
+effect_on host caller table (Open flags path) = looks (open_answer flags (flags_at table path) (finds host.rows table path))
+effect_on host caller table (Create path) = looks (write_answer 3 (flags_at table path) (finds host.rows table path))
+effect_on host caller table (Truncate path) = looks (write_answer 0 (flags_at table path) (finds host.rows table path))
+effect_on host caller table (Execve path) = creds_effect (exec_answer caller.creds (flags_at table path) (finds host.rows table path))
+effect_on host caller table (Mount source target flags) = with_admin caller.creds (table_effect (plain_answer (after_mount host.rows table source target flags)))
+effect_on host caller table (Umount path flags) = with_admin caller.creds (table_effect (plain_answer (umount_answer table path flags)))
+effect_on host caller table doing = effect_of host caller doing
+
+-- a call of an ABI, by its number
+pub record CallAt : Type 0 where
+  pub abi : ℕ
+  pub nr : ℕ
+
+pub record IsCallAt (at : CallAt) : Type 0 where
+  pub abi : at.abi < 2 ^ 8
+  pub number : at.nr < 2 ^ 32
+
+abbrev pub place_of : CallLine → CallAt
+place_of line = record { abi = line.abi; nr = line.number }
+
+abbrev pub rule_there : Launch → CallAt → Option Rule
+rule_there launch at = rule_at (calls_in launch.calls at.abi) at.nr
+
+abbrev pub passes_at : Launch → CallAt → List ℕ → Type 0
+passes_at launch at args = passes launch at.abi at.nr args
 
 -- process 1 can make the call, the filters let it through, it asks for this, and comes to this effect
 pub record Makes (launch : Launch) (creds : Creds) (table : Table) (doing : Doing) (call : Call) (effect : Effect) : Type 0 where
   pub fit : IsCall call
   pub first : call.pid ≡ 1
-  pub through : passes launch call.nr call.args
-  pub asks : asked_of launch.calls.calls call ≡ Does doing
-  pub comes_to : effect_of (host_at launch) (caller_at launch creds table) doing ≡ effect
+  pub through : passes launch call.abi call.nr call.args
+  pub asks : asked_of launch.calls call ≡ Does doing
+  pub comes_to : effect_on (host_at launch) (caller_at launch creds table) table doing ≡ effect
 
 -- the calls lead from these credentials and this mount table to those
 pub data Way (launch : Launch) : Creds → Table → List Call → Creds → Table → Type 0 where
   here : {creds : Creds} {table : Table} → Way launch creds table [] creds table
   by_creds : {creds now last : Creds} {table end : Table} {rest : List Call} {doing : Doing} (call : Call) → Makes launch creds table doing call (SetCreds now) →
       Way launch now table rest last end → Way launch creds table (call ∷ rest) last end
-  by_table : {creds last : Creds} {table now end : Table} {rest : List Call} {doing : Doing} (call : Call) → Makes launch creds table doing call (SetTable now) →
+  by_table : {creds last : Creds} {table now end : Table} {rest : List Call} {doing : Doing} (call : Call) → Makes launch creds table doing call (SetTable (map plain now)) →
       Way launch creds now rest last end → Way launch creds table (call ∷ rest) last end

@@ -6,6 +6,7 @@
 #![tactic(auto)]
 
 ghost use Rattle.kernel_ways.specs.Blindness.{BlindIsExact};
+ghost use Rattle.kernel_ways.specs.Entering.{CallsShowInside};
 ghost use Rattle.kernel_ways.specs.Exposures.{UnmountsShowRow, UnmountsShowRowAtOnce, TwoMountsShowRows, TwoMountsShowRowsAtOnce};
 ghost use Rattle.kernel_ways.specs.Launching.{SettingsPassAlike, LaunchedIsServed, LaunchedRunsProgram};
 ghost use Rattle.kernel_ways.specs.Laws.{OpenIsShown, VerdictIsExact, ListedAreFit, QuestionsAreExact, CeilingIsExact};
@@ -41,6 +42,7 @@ pub fn ways()
     ensures are_done { WaysAreDone }
     ensures show_by_a_call { CallsShow }
     ensures show_by_credentials { CredsShow }
+    ensures show_inside { CallsShowInside }
 {}
 
 /// Calls by which process 1, with CAP_SYS_ADMIN, exposes a row: umount2(2) of what covers it, or two calls of mount(2). They are

@@ -1,7 +1,9 @@
 -- Worlds that differ in the programs of the launch alone go on alike.
 use Rattle.std.proofs.Common.{◌≡◌, ℕ, zero, suc, Bool, true, false, cond, List, [], ◌∷◌, ◌++◌, Option, Some, None, ◌⊎◌, inl, inr, refl, ap, ◌∙◌, sym, subst, length, arith, eqb}
 use Rattle.std.specs.Prelude.{slice_get, slice_set, map, nat_lt, nat_le, ◌-◌, ◌+◌, ◌<◌, ◌^◌, ◌||◌, ◌&&◌, not}
-use Rattle.std.specs.Option.{option_map}
+use Rattle.std.specs.Option.{option_map, option_map_or}
+use Rattle.call_table.specs.Table.{Abi, abi_at}
+use Rattle.kernel_model.specs.Step as kernel
 use Rattle.std.proofs.lemmas.Bool.Decides.{nat_tests}
 use Rattle.std.proofs.lemmas.List.Sums.{sum_by-append}
 use Rattle.bpf_code.specs.declared.machine.Insn.{Insn}
@@ -19,11 +21,11 @@ use Rattle.kernel_calls.specs.Doing.{Doing, Asked, Lacking, Misformed, Does, ask
 use Rattle.kernel_model.specs.Effects as f
 use Rattle.kernel_model.specs.Effects.{Effect, Caller, effect_of, seccomp_effect, push_effect}
 use Rattle.kernel_model.specs.declared.reply.Reply.TheVariants as w
-use Rattle.kernel_model.specs.World.{World, living_of, process_of, if_alive, with_process, with_copy, with_child, moved_to, ended, table_of, host_of}
+use Rattle.kernel_model.specs.World.{World, living_of, process_of, if_alive, with_process, with_copy, with_child, moved_to, ended, mounts_of, table_of, host_of, with_user, entered_by, owner_of, is_newer}
 use Rattle.kernel_model.specs.declared.process.Process.{Process}
 use Rattle.kernel_model.specs.declared.reply.Reply.{Reply}
-use Rattle.kernel_model.specs.Step.{step, step_by, decided, answered, applied, child_of, data_of}
-use Rattle.launcher.specs.Alike.{AnswerAlike, over, above, IsFullInOne, SameReplies, AlikeReplies, AlikeRun, AlikeRuns, Pushes, FullByOwn, RoomByBounds}
+use Rattle.kernel_model.specs.Step.{step, step_by, decided, answered, applied, child_of, data_of, child_in, moved_in, has_user_left, decision_of}
+use Rattle.launcher.specs.Alike.{AnswerAlike, over, above, IsFullInOne, SameReplies, AlikeReplies, AlikeRun, AlikeRuns, Pushes, FullByOwn, RoomByBounds, HasWordArchs}
 use Rattle.linux_numbers.specs.Errnos.{eacces, eagain, efault, einval, enomem, enospc, enosys, esrch}
 use Rattle.linux_numbers.specs.Limits.{max_insns_per_path}
 use Rattle.linux_numbers.specs.Capabilities.{cap_sys_admin}
@@ -93,18 +95,27 @@ module _ (programs : List (List Insn)) where
   abbrev W : Type 0
   W = Reply × World
 
-  born : (world : World) (process : Process) (own : Bool) → child_of (above programs world) (over programs process) own ≡ lifted (child_of world process own)
-  born world process false = ap (λ n. (w.Done (n + 1), with_child (above programs world) (over programs process))) (counted world) ∙ ap (λ (v : World). (w.Done (length world.processes + 1), v)) (child_above world process)
-  born world process true = by (nat_lt (length world.tables) 64)
+  born_in : (old world : World) (child : Process) (own : Bool) → child_in (above programs old) (above programs world) (over programs child) own ≡ lifted (child_in old world child own)
+  born_in old world child false = ap (λ n. (w.Done (n + 1), with_child (above programs world) (over programs child))) (counted world) ∙ ap (λ (v : World). (w.Done (length world.processes + 1), v)) (child_above world child)
+  born_in old world child true = by (nat_lt (length world.tables) 64)
     where
-      moved : Process
-      moved = moved_to process (length world.tables)
-
-      by : (b : Bool) → cond {A = Reply × World} b (w.Done (length (map (over programs) world.processes) + 1), with_child (with_copy (above programs world) process.namespace) (over programs (moved_to process (length world.tables)))) (w.Refused enospc, above programs world)
-          ≡ lifted (cond {A = Reply × World} b (w.Done (length world.processes + 1), with_child (with_copy world process.namespace) (moved_to process (length world.tables))) (w.Refused enospc, world))
-      by true = ap (λ n. (w.Done (n + 1), with_child (with_copy (above programs world) process.namespace) (over programs (moved_to process (length world.tables))))) (counted world)
-          ∙ ap (λ (v : World). (w.Done (length world.processes + 1), v)) (child_above (with_copy world process.namespace) (moved_to process (length world.tables)))
+      by : (b : Bool) → cond {A = Reply × World} b (w.Done (length (map (over programs) world.processes) + 1), with_child (with_copy (above programs world) child.namespace child.user) (over programs (moved_to child (length world.tables)))) (w.Refused enospc, above programs old)
+          ≡ lifted (cond {A = Reply × World} b (w.Done (length world.processes + 1), with_child (with_copy world child.namespace child.user) (moved_to child (length world.tables))) (w.Refused enospc, old))
+      by true = ap (λ n. (w.Done (n + 1), with_child (with_copy (above programs world) child.namespace child.user) (over programs (moved_to child (length world.tables))))) (counted world)
+          ∙ ap (λ (v : World). (w.Done (length world.processes + 1), v)) (child_above (with_copy world child.namespace child.user) (moved_to child (length world.tables)))
       by false = refl
+
+  moved_above : (old world : World) (pid : ℕ) (process : Process) (own : Bool) → moved_in (above programs old) (above programs world) pid (over programs process) own ≡ lifted (moved_in old world pid process own)
+  moved_above old world pid process false = ap (λ (v : World). (w.Done 0, v)) (put_above world pid process)
+  moved_above old world pid process true = by (nat_lt (length world.tables) 64)
+    where
+      by : (b : Bool) → cond {A = Reply × World} b (w.Done 0, with_process (with_copy (above programs world) process.namespace process.user) pid (over programs (moved_to process (length world.tables)))) (w.Refused enospc, above programs old)
+          ≡ lifted (cond {A = Reply × World} b (w.Done 0, with_process (with_copy world process.namespace process.user) pid (moved_to process (length world.tables))) (w.Refused enospc, old))
+      by true = ap (λ (v : World). (w.Done 0, v)) (put_above (with_copy world process.namespace process.user) pid (moved_to process (length world.tables)))
+      by false = refl
+
+  born : (world : World) (process : Process) (own : Bool) → child_of (above programs world) (over programs process) own ≡ lifted (child_of world process own)
+  born world process own = born_in world world process own
 
   applied_above : (world : World) (pid : ℕ) (process : Process) (effect : Effect) → applied (above programs world) pid (over programs process) effect ≡ lifted (applied world pid process effect)
   applied_above world pid process (f.Refuse errno) = refl
@@ -122,17 +133,29 @@ module _ (programs : List (List Insn)) where
       by : (b : Bool) → cond {A = Reply × World} b (lifted (child_of world process own)) (w.Refused eagain, above programs world) ≡ lifted (cond {A = Reply × World} b (child_of world process own) (w.Refused eagain, world))
       by true = refl
       by false = refl
-  applied_above world pid process f.OwnTable = by (nat_lt (length world.tables) 64)
+  applied_above world pid process f.OwnTable = moved_above world world pid process true
+  applied_above world pid process (f.UserChild own) =
+      ap (λ n. cond {A = Reply × World} (has_user_left world) (cond {A = Reply × World} (nat_lt n 1024) (child_in (above programs world) (above programs (with_user world)) (over programs (entered_by process world.users)) own) (w.Refused eagain, above programs world)) (w.Refused enospc, above programs world)) (counted world)
+      ∙ ap (λ (out : Reply × World). cond {A = Reply × World} (has_user_left world) (cond {A = Reply × World} (nat_lt (length world.processes) 1024) out (w.Refused eagain, above programs world)) (w.Refused enospc, above programs world)) (born_in world (with_user world) (entered_by process world.users) own)
+      ∙ by (has_user_left world) (nat_lt (length world.processes) 1024)
     where
-      by : (b : Bool) → cond {A = Reply × World} b (w.Done 0, with_process (with_copy (above programs world) process.namespace) pid (over programs (moved_to process (length world.tables)))) (w.Refused enospc, above programs world)
-          ≡ lifted (cond {A = Reply × World} b (w.Done 0, with_process (with_copy world process.namespace) pid (moved_to process (length world.tables))) (w.Refused enospc, world))
-      by true = ap (λ (v : World). (w.Done 0, v)) (put_above (with_copy world process.namespace) pid (moved_to process (length world.tables)))
+      by : (a b : Bool) → cond {A = Reply × World} a (cond {A = Reply × World} b (lifted (child_in world (with_user world) (entered_by process world.users) own)) (w.Refused eagain, above programs world)) (w.Refused enospc, above programs world)
+          ≡ lifted (cond {A = Reply × World} a (cond {A = Reply × World} b (child_in world (with_user world) (entered_by process world.users) own) (w.Refused eagain, world)) (w.Refused enospc, world))
+      by true true = refl
+      by true false = refl
+      by false b = refl
+  applied_above world pid process (f.OwnUser own) =
+      ap (λ (out : Reply × World). cond {A = Reply × World} (has_user_left world) out (w.Refused enospc, above programs world)) (moved_above world (with_user world) pid (entered_by process world.users) own) ∙ by (has_user_left world)
+    where
+      by : (a : Bool) → cond {A = Reply × World} a (lifted (moved_in world (with_user world) pid (entered_by process world.users) own)) (w.Refused enospc, above programs world)
+          ≡ lifted (cond {A = Reply × World} a (moved_in world (with_user world) pid (entered_by process world.users) own) (w.Refused enospc, world))
+      by true = refl
       by false = refl
   applied_above world pid process f.End = ap (λ (v : World). (w.Done 0, v)) (put_above world pid (ended process))
 
   -- the step, with the programs as an argument
   abbrev pub caller_over : World → Process → Caller
-  caller_over world process = record { creds = process.creds; stack = programs ++ process.stack; table = table_of world process.namespace }
+  caller_over world process = record { creds = process.creds; stack = programs ++ process.stack; table = mounts_of world process.namespace; newer = is_newer process; owns = eqb (owner_of world process.namespace) process.user }
 
   abbrev pub own_answered : World → ℕ → Process → Asked → Reply × World
   own_answered world pid process Lacking = (w.Refused enosys, world)
@@ -140,13 +163,13 @@ module _ (programs : List (List Insn)) where
   own_answered world pid process (Does doing) = applied world pid process (effect_of (host_of world) (caller_over world process) doing)
 
   abbrev pub own_decided : World → Call → Process → Decision → Reply × World
-  own_decided world call process decision.Pass = own_answered world call.pid process (asked_of world.calls.calls call)
+  own_decided world call process decision.Pass = own_answered world call.pid process (asked_of world.calls call)
   own_decided world call process (decision.Errno errno) = (w.Refused errno, world)
   own_decided world call process decision.Kill = (w.Killed, with_process world call.pid (ended process))
 
   abbrev pub own_by : World → Call → Option Process → Reply × World
   own_by world call None = (w.Refused esrch, world)
-  own_by world call (Some process) = own_decided world call process (decision_on (programs ++ process.stack) (data_of world call))
+  own_by world call (Some process) = own_decided world call process (decision_of world call (over programs process))
 
   abbrev pub own_step : World → Call → Reply × World
   own_step world call = own_by world call (living_of world call.pid)
@@ -157,13 +180,13 @@ module _ (programs : List (List Insn)) where
   answered_above world pid process (Does doing) = applied_above world pid process (effect_of (host_of world) (caller_over world process) doing)
 
   decided_above : (world : World) (call : Call) (process : Process) (c : Decision) → decided (above programs world) call (over programs process) c ≡ lifted (own_decided world call process c)
-  decided_above world call process decision.Pass = answered_above world call.pid process (asked_of world.calls.calls call)
+  decided_above world call process decision.Pass = answered_above world call.pid process (asked_of world.calls call)
   decided_above world call process (decision.Errno errno) = refl
   decided_above world call process decision.Kill = ap (λ (v : World). (w.Killed, v)) (put_above world call.pid (ended process))
 
   by_above : (world : World) (call : Call) (o : Option Process) → step_by (above programs world) call (option_map (over programs) o) ≡ lifted (own_by world call o)
   by_above world call None = refl
-  by_above world call (Some process) = decided_above world call process (decision_on (programs ++ process.stack) (data_of world call))
+  by_above world call (Some process) = decided_above world call process (decision_of world call (over programs process))
 
   pub step_above : (world : World) (call : Call) → step (above programs world) call ≡ lifted (own_step world call)
   step_above world call = ap (step_by (above programs world) call) (living_above world call.pid) ∙ by_above world call (living_of world call.pid)
@@ -180,6 +203,17 @@ pub same_decision : (one other own : List (List Insn)) (input : CallData) → An
 same_decision one other own input alike fit =
     ap (λ (ns : List ℕ). decision_by (deciding ns)) (answers_append one own input ∙ ap (λ (ns : List ℕ). ns ++ answers_of own input) (same_answers one other input alike fit) ∙ sym (answers_append other own input))
 
+-- what stacks decide of a call, by its ABI
+pub same_decided : (one other : List (List Insn)) (world : World) (call : Call) (process : Process) → AnswerAlike one other → IsCallData (data_of world call) → decision_of world call (over one process) ≡ decision_of world call (over other process)
+same_decided one other world call process alike fit = by (abi_at world.calls call.abi) refl
+  where
+    by : (o : Option Abi) → abi_at world.calls call.abi ≡ o → kernel.decision_by call (over one process) o ≡ kernel.decision_by call (over other process) o
+    by None e = refl
+    by (Some abi) e =
+        let input : CallData = record { nr = call.nr; arch = abi.arch; ip = 0; args = call.args } in
+        let same : data_of world call ≡ input = ap (λ (o : Option Abi). record { nr = call.nr; arch = option_map_or (λ found. found.arch) o 0; ip = 0; args = call.args }) e in
+        same_decision one other process.stack input alike (subst IsCallData same fit)
+
 -- the call is full in one of two replies
 pub record FullInOne (calls : _) (call : Call) (one other : Reply) : Type 0 where
   pub operation : ℕ
@@ -190,32 +224,32 @@ pub record FullInOne (calls : _) (call : Call) (one other : Reply) : Type 0 wher
 
 module _ (one other : List (List Insn)) (world : World) (call : Call) where
   abbrev pub Outcome : Reply × World → Reply × World → Type 0
-  Outcome x y = (x ≡ y) ⊎ FullInOne world.calls.calls call x.0 y.0
+  Outcome x y = (x ≡ y) ⊎ FullInOne world.calls call x.0 y.0
 
   module _ (process : Process) where
     at : Effect → Reply × World
     at effect = applied world call.pid process effect
 
-    pushed_alike : (operation flags : ℕ) (bytes : List ℕ) → asked_of world.calls.calls call ≡ Does (d.Seccomp operation flags bytes) → (code : List Insn) (b c : Bool)
+    pushed_alike : (operation flags : ℕ) (bytes : List ℕ) → asked_of world.calls call ≡ Does (d.Seccomp operation flags bytes) → (code : List Insn) (b c : Bool)
         → Outcome (applied world call.pid process (cond b (f.Push code) (f.Refuse enomem))) (applied world call.pid process (cond c (f.Push code) (f.Refuse enomem)))
     pushed_alike operation flags bytes asks code true true = inl refl
     pushed_alike operation flags bytes asks code false false = inl refl
     pushed_alike operation flags bytes asks code true false = inr (record { operation = operation; flags = flags; bytes = bytes; asks = asks; replies = inr (refl, refl) })
     pushed_alike operation flags bytes asks code false true = inr (record { operation = operation; flags = flags; bytes = bytes; asks = asks; replies = inl (refl, refl) })
 
-    read_alike : (operation flags : ℕ) (bytes : List ℕ) → asked_of world.calls.calls call ≡ Does (d.Seccomp operation flags bytes) → (read : Option (List Insn))
+    read_alike : (operation flags : ℕ) (bytes : List ℕ) → asked_of world.calls call ≡ Does (d.Seccomp operation flags bytes) → (read : Option (List Insn))
         → Outcome (applied world call.pid process (push_effect (one ++ process.stack) read)) (applied world call.pid process (push_effect (other ++ process.stack) read))
     read_alike operation flags bytes asks None = inl refl
     read_alike operation flags bytes asks (Some code) = pushed_alike operation flags bytes asks code (nat_le (room_of (one ++ process.stack) + length code) max_insns_per_path) (nat_le (room_of (other ++ process.stack) + length code) max_insns_per_path)
 
-    seccomp_alike : (operation flags : ℕ) (bytes : List ℕ) → asked_of world.calls.calls call ≡ Does (d.Seccomp operation flags bytes) → (b c : Bool)
+    seccomp_alike : (operation flags : ℕ) (bytes : List ℕ) → asked_of world.calls call ≡ Does (d.Seccomp operation flags bytes) → (b c : Bool)
         → Outcome (applied world call.pid process (cond b (f.Refuse einval) (cond c (f.Refuse eacces) (push_effect (one ++ process.stack) (program_of bytes)))))
         (applied world call.pid process (cond b (f.Refuse einval) (cond c (f.Refuse eacces) (push_effect (other ++ process.stack) (program_of bytes)))))
     seccomp_alike operation flags bytes asks true c = inl refl
     seccomp_alike operation flags bytes asks false true = inl refl
     seccomp_alike operation flags bytes asks false false = read_alike operation flags bytes asks (program_of bytes)
 
-    doing_alike : (doing : Doing) → asked_of world.calls.calls call ≡ Does doing
+    doing_alike : (doing : Doing) → asked_of world.calls call ≡ Does doing
         → Outcome (applied world call.pid process (effect_of (host_of world) (caller_over one world process) doing)) (applied world call.pid process (effect_of (host_of world) (caller_over other world process) doing))
     doing_alike (d.See path) asks = inl refl
     doing_alike (d.Open flags path) asks = inl refl
@@ -229,6 +263,7 @@ module _ (one other : List (List Insn)) (world : World) (call : Call) where
     doing_alike (d.Schedule policy) asks = inl refl
     doing_alike (d.Personality domain) asks = inl refl
     doing_alike (d.Socket family) asks = inl refl
+    doing_alike (d.Socketcall operation family) asks = inl refl
     doing_alike d.Enter asks = inl refl
     doing_alike d.Fork asks = inl refl
     doing_alike (d.Clone flags) asks = inl refl
@@ -246,36 +281,44 @@ module _ (one other : List (List Insn)) (world : World) (call : Call) where
     doing_alike (d.Seccomp operation flags bytes) asks = seccomp_alike operation flags bytes asks (not (eqb operation 1 && eqb flags 0)) (not (process.creds.no_new_privs || has process.creds.effective cap_sys_admin))
     doing_alike (d.Plain cap) asks = inl refl
 
-    asked_alike : (asked : Asked) → asked_of world.calls.calls call ≡ asked → Outcome (own_answered one world call.pid process asked) (own_answered other world call.pid process asked)
+    asked_alike : (asked : Asked) → asked_of world.calls call ≡ asked → Outcome (own_answered one world call.pid process asked) (own_answered other world call.pid process asked)
     asked_alike Lacking asks = inl refl
     asked_alike Misformed asks = inl refl
     asked_alike (Does doing) asks = doing_alike doing asks
 
     decided_alike : (c : Decision) → Outcome (own_decided one world call process c) (own_decided other world call process c)
-    decided_alike decision.Pass = asked_alike (asked_of world.calls.calls call) refl
+    decided_alike decision.Pass = asked_alike (asked_of world.calls call) refl
     decided_alike (decision.Errno errno) = inl refl
     decided_alike decision.Kill = inl refl
 
   by_alike : AnswerAlike one other → IsCallData (data_of world call) → (o : Option Process) → Outcome (own_by one world call o) (own_by other world call o)
   by_alike alike fit None = inl refl
   by_alike alike fit (Some process) =
-      subst (λ (c : Decision). Outcome (own_by one world call (Some process)) (own_decided other world call process c)) (same_decision one other process.stack (data_of world call) alike fit)
-      (decided_alike process (decision_on (one ++ process.stack) (data_of world call)))
+      subst (λ (c : Decision). Outcome (own_by one world call (Some process)) (own_decided other world call process c)) (same_decided one other world call process alike fit)
+      (decided_alike process (decision_of world call (over one process)))
 
   pub own_alike : AnswerAlike one other → IsCallData (data_of world call) → Outcome (own_step one world call) (own_step other world call)
   own_alike alike fit = by_alike alike fit (living_of world call.pid)
 
-pub fits : (world : World) (call : Call) → world.calls.arch < 2 ^ 32 → IsCall call → IsCallData (data_of world call)
-fits world call arch fit = record { nr = fit.nr; arch = arch; ip = omega arith; count = fit.count; args = fit.args }
+pub fits : (world : World) (call : Call) → HasWordArchs world.calls → IsCall call → IsCallData (data_of world call)
+fits world call arch fit = record { nr = fit.nr; arch = arch call.abi; ip = omega arith; count = fit.count; args = fit.args }
 
 -- ---- lists of calls
 -- the tables that the kernel was told stay
-calls_child : (world : World) (process : Process) (own : Bool) → (child_of world process own).1.calls ≡ world.calls
-calls_child world process false = refl
-calls_child world process true = by (nat_lt (length world.tables) 64)
+calls_child : (old world : World) (child : Process) (own : Bool) → world.calls ≡ old.calls → (child_in old world child own).1.calls ≡ old.calls
+calls_child old world child false e = e
+calls_child old world child true e = by (nat_lt (length world.tables) 64)
   where
-    by : (b : Bool) → (cond {A = Reply × World} b (w.Done (length world.processes + 1), with_child (with_copy world process.namespace) (moved_to process (length world.tables))) (w.Refused enospc, world)).1.calls ≡ world.calls
-    by true = refl
+    by : (b : Bool) → (cond {A = Reply × World} b (w.Done (length world.processes + 1), with_child (with_copy world child.namespace child.user) (moved_to child (length world.tables))) (w.Refused enospc, old)).1.calls ≡ old.calls
+    by true = e
+    by false = refl
+
+calls_moved : (old world : World) (pid : ℕ) (process : Process) (own : Bool) → world.calls ≡ old.calls → (moved_in old world pid process own).1.calls ≡ old.calls
+calls_moved old world pid process false e = e
+calls_moved old world pid process true e = by (nat_lt (length world.tables) 64)
+  where
+    by : (b : Bool) → (cond {A = Reply × World} b (w.Done 0, with_process (with_copy world process.namespace process.user) pid (moved_to process (length world.tables))) (w.Refused enospc, old)).1.calls ≡ old.calls
+    by true = e
     by false = refl
 
 calls_applied : (world : World) (pid : ℕ) (process : Process) (effect : Effect) → (applied world pid process effect).1.calls ≡ world.calls
@@ -287,12 +330,19 @@ calls_applied world pid process (f.Push program) = refl
 calls_applied world pid process (f.Child own) = by (nat_lt (length world.processes) 1024)
   where
     by : (b : Bool) → (cond {A = Reply × World} b (child_of world process own) (w.Refused eagain, world)).1.calls ≡ world.calls
-    by true = calls_child world process own
+    by true = calls_child world world process own refl
     by false = refl
-calls_applied world pid process f.OwnTable = by (nat_lt (length world.tables) 64)
+calls_applied world pid process f.OwnTable = calls_moved world world pid process true refl
+calls_applied world pid process (f.UserChild own) = by (has_user_left world) (nat_lt (length world.processes) 1024)
   where
-    by : (b : Bool) → (cond {A = Reply × World} b (w.Done 0, with_process (with_copy world process.namespace) pid (moved_to process (length world.tables))) (w.Refused enospc, world)).1.calls ≡ world.calls
-    by true = refl
+    by : (a b : Bool) → (cond {A = Reply × World} a (cond {A = Reply × World} b (child_in world (with_user world) (entered_by process world.users) own) (w.Refused eagain, world)) (w.Refused enospc, world)).1.calls ≡ world.calls
+    by true true = calls_child world (with_user world) (entered_by process world.users) own refl
+    by true false = refl
+    by false b = refl
+calls_applied world pid process (f.OwnUser own) = by (has_user_left world)
+  where
+    by : (a : Bool) → (cond {A = Reply × World} a (moved_in world (with_user world) pid (entered_by process world.users) own) (w.Refused enospc, world)).1.calls ≡ world.calls
+    by true = calls_moved world (with_user world) pid (entered_by process world.users) own refl
     by false = refl
 calls_applied world pid process f.End = refl
 
@@ -302,13 +352,13 @@ calls_answered programs world pid process Misformed = refl
 calls_answered programs world pid process (Does doing) = calls_applied world pid process (effect_of (host_of world) (caller_over programs world process) doing)
 
 calls_decided : (programs : List (List Insn)) (world : World) (call : Call) (process : Process) (c : Decision) → (own_decided programs world call process c).1.calls ≡ world.calls
-calls_decided programs world call process decision.Pass = calls_answered programs world call.pid process (asked_of world.calls.calls call)
+calls_decided programs world call process decision.Pass = calls_answered programs world call.pid process (asked_of world.calls call)
 calls_decided programs world call process (decision.Errno errno) = refl
 calls_decided programs world call process decision.Kill = refl
 
 calls_by : (programs : List (List Insn)) (world : World) (call : Call) (o : Option Process) → (own_by programs world call o).1.calls ≡ world.calls
 calls_by programs world call None = refl
-calls_by programs world call (Some process) = calls_decided programs world call process (decision_on (programs ++ process.stack) (data_of world call))
+calls_by programs world call (Some process) = calls_decided programs world call process (decision_of world call (over programs process))
 
 pub calls_kept : (programs : List (List Insn)) (world : World) (call : Call) → (own_step programs world call).1.calls ≡ world.calls
 calls_kept programs world call = calls_by programs world call (living_of world call.pid)
@@ -330,12 +380,12 @@ alike_replies one other world (call ∷ calls) alike arch fit =
     reply_second : (step (above other world) call).0 ≡ (own_step other world call).0
     reply_second = ap (λ (out : Reply × World). out.0) (step_above other world call)
 
-    by : (own_step one world call ≡ own_step other world call) ⊎ FullInOne world.calls.calls call (own_step one world call).0 (own_step other world call).0
-        → ((next : World) → next.calls.arch < 2 ^ 32 → SameReplies (above one next) (above other next) calls)
+    by : (own_step one world call ≡ own_step other world call) ⊎ FullInOne world.calls call (own_step one world call).0 (own_step other world call).0
+        → ((next : World) → HasWordArchs next.calls → SameReplies (above one next) (above other next) calls)
         → (((step (above one world) call).0 ≡ (step (above other world) call).0) × SameReplies (step (above one world) call).1 (step (above other world) call).1 calls) ⊎ IsFullInOne (above one world) (above other world) call
     by (inl same) rest =
         let next : World = (own_step one world call).1 in
-        let kept : next.calls.arch < 2 ^ 32 = subst (λ (t : _). t.arch < 2 ^ 32) (sym (calls_kept one world call)) arch in
+        let kept : HasWordArchs next.calls = subst HasWordArchs (sym (calls_kept one world call)) arch in
         let after : (step (above one world) call).1 ≡ above one next = ap (λ (out : Reply × World). out.1) (step_above one world call) in
         let after' : (step (above other world) call).1 ≡ above other next = ap (λ (out : Reply × World). out.1) (step_above other world call) ∙ ap (λ (out : Reply × World). above other out.1) (sym same) in
         inl (
@@ -383,15 +433,15 @@ alike_runs one other base (call ∷ calls) alike arch fit =
     reply_second : (step (above other base) call).0 ≡ (own_step other base call).0
     reply_second = ap (λ (out : Reply × World). out.0) (step_above other base call)
 
-    by : (own_step one base call ≡ own_step other base call) ⊎ FullInOne base.calls.calls call (own_step one base call).0 (own_step other base call).0
-        → ((next : World) → next.calls.arch < 2 ^ 32 → AlikeRun one other next calls) → AlikeRun one other base (call ∷ calls)
+    by : (own_step one base call ≡ own_step other base call) ⊎ FullInOne base.calls call (own_step one base call).0 (own_step other base call).0
+        → ((next : World) → HasWordArchs next.calls → AlikeRun one other next calls) → AlikeRun one other base (call ∷ calls)
     by (inl same) rest =
         inl (
           (own_step one base call).0,
           (own_step one base call).1,
           step_above one base call,
           step_above other base call ∙ ap (lifted other) (sym same),
-          rest (own_step one base call).1 (subst (λ (t : _). t.arch < 2 ^ 32) (sym (calls_kept one base call)) arch),
+          rest (own_step one base call).1 (subst HasWordArchs (sym (calls_kept one base call)) arch),
         )
     by (inr full) rest = inr (record { operation = full.operation; flags = full.flags; bytes = full.bytes; asks = full.asks; replies = by_replies full.replies })
       where

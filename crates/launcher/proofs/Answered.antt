@@ -11,6 +11,7 @@ use Rattle.kern_mounts.specs.Split.{Table}
 use Rattle.kernel_model.specs.World.{World, start_world}
 use Rattle.mount_plan.specs.Host.{host_of}
 use Rattle.site_table.specs.Table.{Site, row_at}
+use Rattle.launcher.specs.Alike.{HasWordArchs}
 use Rattle.launcher.specs.declared.error.LaunchError.{LaunchError}
 use Rattle.launcher.specs.declared.error.LaunchError.TheVariants as error
 use Rattle.launcher.specs.declared.filters.FilterProgram.{FilterProgram}
@@ -51,7 +52,7 @@ killed_alike one other x y step is same = by y (subst (λ (z : Ending). EndAlike
     by (StepKilled at) h = ap StepKilled (sym h)
     by (PrivilegedProgram path) h = absurd h
 
-module _ (table : calls.Table) (site : Site) (settings : Settings) (plan : Table) (whole : IsWhole table) (arch : table.arch < 2 ^ 32) (can : CanBeMounted (host_of site) plan) (fit : CanBeLaunched settings) where
+module _ (table : calls.Table) (site : Site) (settings : Settings) (plan : Table) (whole : IsWhole table) (arch : HasWordArchs table) (can : CanBeMounted (host_of site) plan) (fit : CanBeLaunched settings) where
   -- a program that has no privileges is launched by the steps
   by_steps : (programs : List (List ℕ)) → is_privileged_row (finds (row_at site.rows) plan settings.program) ≡ false
       → launch_with table site settings plan programs ≡ launch_from (start_world table site) (launch_steps table.calls (wanted_of settings programs) plan) 0

@@ -50,7 +50,7 @@ none_first p x xs e = by (p x) refl e
     by false is e = (is, e)
 
 abbrev with_name : CallLine → List ℕ → CallLine
-with_name line name = record { name = name; number = line.number; cap = line.cap }
+with_name line name = record { name = name; number = line.number; cap = line.cap; abi = line.abi }
 
 module _ (table : calls.Table) (whole : IsWhole table) where
   follows : (name : List ℕ) (rule' : Rule) → lacks table.calls name ≡ false → ((line : CallLine) → rule_of (with_name line name) ≡ Some rule') → rule_at table.calls (number_of table.calls name) ≡ Some rule'

@@ -33,6 +33,7 @@ use Rattle.kern_files.specs.Executing.{marks_of, executed as executed_by, exec_a
 use Rattle.launcher.specs.Launch.{Wanted, LaunchStep, Launched, PrivilegedProgram, makes, first_call, prctl_step, capset_step, launch_step, launch_steps, launch_from, mount_steps, with_unshare, is_privileged_row, group_steps, drop_steps, inherit_steps, user_steps, raise_steps, left_steps, privilege_steps, identity_steps, filter_steps, program_steps, set_keepcaps, capbset_drop, set_no_new_privs, cap_ambient, ambient_raise, set_mode_filter}
 use Rattle.kernel_laws.specs.Launched.{launch_of}
 use Rattle.site_table.specs.Kinds.{is_exe}
+use Rattle.kern_mounts.specs.Mounts.{Mounts as MountList, first_mounts, plain as plain_mount}
 use Rattle.kern_mounts.specs.Split.{Table}
 use Rattle.kernel_laws.specs.Questions.{if_so, count_from}
 use Rattle.kernel_model.specs.Runs.{IsDone}
@@ -45,7 +46,7 @@ use Rattle.launcher.proofs.HostRoot.{BeginsAtHostRoot, begins_at_host}
 use Rattle.launcher.proofs.Leading.{Leads, launched_leads, leads_parts, leads_map, append_assoc, append_none, append_parts}
 use Rattle.launcher.proofs.MountSteps.{plan_mounted}
 use Rattle.launcher.proofs.RaisedAll.{counted_small, filter_keeps, all_raised}
-use Rattle.launcher.proofs.Solo.{At, solo, only, weaker, makes_creds, makes_push, does, creds_done, own_table}
+use Rattle.launcher.proofs.Solo.{ones_number, ones_length, At, solo, only, weaker, makes_creds, makes_push, does, creds_done, own_table}
 use Rattle.launcher.proofs.LaunchCreds.{Has, starts, set_groups, set_gids, drops, set_all, keeps_caps, set_uid, Raised, raises, set_ambient, IsReady, no_new_privs, ready_root, ready_user, executed}
 use Rattle.launcher.proofs.LaunchCalls.{launch_calls}
 use Rattle.linux_numbers.specs.Errnos.{eacces}
@@ -59,26 +60,26 @@ module _ (table : calls.Table) (site : Site) (calls' : HasLaunchCalls table.call
     groups_set : (ids : List ℕ) (world : World) → Here (Has 0 all all none) stack plan world → IsDone (launch_step world (makes table.calls (codes "setgroups") 0 0 0 (Ids ids))).0
         → Here (Has 0 all all none) stack plan (launch_step world (makes table.calls (codes "setgroups") 0 0 0 (Ids ids))).1
     groups_set ids world at done =
-        makes_creds table site (Has 0 all all none) (Has 0 all all none) (codes "setgroups") 0 0 0 (Ids ids) (rule.Known known.Setgroups) (d.Setgroups ids) (λ c. after_setgroups c ids) calls'.setgroups refl (λ host caller. refl)
+        makes_creds table site (Has 0 all all none) (Has 0 all all none) (codes "setgroups") 0 0 0 (Ids ids) (rule.Known known.Setgroups) (d.Setgroups ids) (λ c. after_setgroups c ids) calls'.setgroups refl (λ host creds stack mounts owns. refl)
         (λ c now h is. set_groups 0 all all none ids c now h is) stack plan world at done
 
     gids_set : (gid : ℕ) (world : World) → Here (Has 0 all all none) stack plan world → IsDone (launch_step world (makes table.calls (codes "setresgid") gid gid gid Nothing)).0
         → Here (Has 0 all all none) stack plan (launch_step world (makes table.calls (codes "setresgid") gid gid gid Nothing)).1
     gids_set gid world at done =
         let g : ℕ = gid % 2 ^ 32 in
-        makes_creds table site (Has 0 all all none) (Has 0 all all none) (codes "setresgid") gid gid gid Nothing (rule.Known known.Setresgid) (d.Setresgid g g g) (λ c. after_setresgid c g g g) calls'.setresgid refl (λ host caller. refl)
+        makes_creds table site (Has 0 all all none) (Has 0 all all none) (codes "setresgid") gid gid gid Nothing (rule.Known known.Setresgid) (d.Setresgid g g g) (λ c. after_setresgid c g g g) calls'.setresgid refl (λ host creds stack mounts owns. refl)
         (λ c now h is. set_gids 0 all all none g c now h is) stack plan world at done
 
     dropped : (cap : ℕ) (world : World) → Here (Has 0 all all none) stack plan world → IsDone (launch_step world (prctl_step table.calls capbset_drop cap 0)).0
         → Here (Has 0 all all none) stack plan (launch_step world (prctl_step table.calls capbset_drop cap 0)).1
     dropped cap world at done =
-        makes_creds table site (Has 0 all all none) (Has 0 all all none) (codes "prctl") 24 cap 0 Nothing (rule.Known known.Prctl) (d.Prctl 24 (cap % 2 ^ 32) 0) (λ c. after_drop_bounding c (cap % 2 ^ 32)) calls'.prctl refl (λ host caller. refl)
+        makes_creds table site (Has 0 all all none) (Has 0 all all none) (codes "prctl") 24 cap 0 Nothing (rule.Known known.Prctl) (d.Prctl 24 (cap % 2 ^ 32) 0) (λ c. after_drop_bounding c (cap % 2 ^ 32)) calls'.prctl refl (λ host creds stack mounts owns. refl)
         (λ c now h is. drops 0 all all (cap % 2 ^ 32) c now h is) stack plan world at done
 
     all_set : (amb : ℕ) (world : World) → Here (Has 0 all all none) stack plan world → IsDone (launch_step world (capset_step table.calls all all amb)).0
         → Here (Has 0 all all amb) stack plan (launch_step world (capset_step table.calls all all amb)).1
     all_set amb world at done =
-        makes_creds table site (Has 0 all all none) (Has 0 all all amb) (codes "capset") 0 0 0 (Sets all all amb) (rule.Known known.Capset) (d.Capset all all amb) (λ c. after_capset c all all amb) calls'.capset refl (λ host caller. refl)
+        makes_creds table site (Has 0 all all none) (Has 0 all all amb) (codes "capset") 0 0 0 (Sets all all amb) (rule.Known known.Capset) (d.Capset all all amb) (λ c. after_capset c all all amb) calls'.capset refl (λ host creds stack mounts owns. refl)
         (λ c now h is. set_all 0 all all amb c now h is) stack plan world at done
 
     -- the capabilities of a list are made ambient
@@ -89,7 +90,7 @@ module _ (table : calls.Table) (site : Site) (calls' : HasLaunchCalls table.call
     raised_all uid p e i low (cap ∷ caps) world last small at l =
         let same : cap % 2 ^ 32 ≡ cap = omega arith in
         let own : ℕ = cap % 2 ^ 32 in
-        let next = makes_creds table site (λ c. Has uid p e i c × IsWithin low c.ambient) (λ c. Has uid p e i c × IsWithin (union low (single own)) c.ambient) (codes "prctl") 47 2 cap Nothing (rule.Known known.Prctl) (d.Prctl 47 2 own) (λ c. after_raise c own) calls'.prctl refl (λ host caller. refl)
+        let next = makes_creds table site (λ c. Has uid p e i c × IsWithin low c.ambient) (λ c. Has uid p e i c × IsWithin (union low (single own)) c.ambient) (codes "prctl") 47 2 cap Nothing (rule.Known known.Prctl) (d.Prctl 47 2 own) (λ c. after_raise c own) calls'.prctl refl (λ host creds stack mounts owns. refl)
         (λ c now h is. by c now h (raises uid p e i own c now h.0 is)) stack plan world at l.0 in
         weaker table site _ _ stack plan last (λ c h. (h.0, within_through low (union low (single own)) c.ambient (within_union_left low low (single own) (within_self low)) h.1, (ap (has c.ambient) (sym same) ∙ (h.1).each own (in_union own), h.2)))
         (raised_all uid p e i (union low (single own)) caps (launch_step world (prctl_step table.calls cap_ambient ambient_raise cap)).1 last small.1 next l.1)
@@ -119,7 +120,7 @@ module _ (table : calls.Table) (site : Site) (calls' : HasLaunchCalls table.call
     nothing_new : (b : Bool) (uid i : ℕ) (own : List (List Insn)) (world last : World) → Here (IsReady uid i) own plan world → Leads world (if_so b (prctl_step table.calls set_no_new_privs 1 0)) last → Here (IsReady uid i) own plan last
     nothing_new true uid i own world last at l =
         subst (Here (IsReady uid i) own plan) l.1
-        (makes_creds table site (IsReady uid i) (IsReady uid i) (codes "prctl") 38 1 0 Nothing (rule.Known known.Prctl) (d.Prctl 38 1 0) (λ c. Ok (after_set_no_new_privs c)) calls'.prctl refl (λ host caller. refl)
+        (makes_creds table site (IsReady uid i) (IsReady uid i) (codes "prctl") 38 1 0 Nothing (rule.Known known.Prctl) (d.Prctl 38 1 0) (λ c. Ok (after_set_no_new_privs c)) calls'.prctl refl (λ host creds stack mounts owns. refl)
         (λ c now h is. no_new_privs uid i c now h is) own plan world at l.0)
     nothing_new false uid i own world last at l = subst (Here (IsReady uid i) own plan) l at
 
@@ -130,7 +131,7 @@ module _ (table : calls.Table) (site : Site) (calls' : HasLaunchCalls table.call
     pub plain : is_privileged file ≡ false
     pub is : effect ≡ creds_effect (after_exec creds file nosuid)
 
-  executes : (creds : Creds) (stack : List (List Insn)) (namespace : ℕ) (tables : List Table) (flags : Flags) (found : Found Row) → is_privileged_row found ≡ false
+  executes : (creds : Creds) (stack : List (List Insn)) (namespace : ℕ) (tables : List MountList) (flags : Flags) (found : Found Row) → is_privileged_row found ≡ false
       → IsDone (applied (solo table site creds stack namespace tables) 1 (only table site creds stack namespace) (creds_effect (exec_answer creds flags found))).0 → Executes creds (creds_effect (exec_answer creds flags found))
   executes creds stack namespace tables flags (row own) unmarked done = by (is_exe own.kind) flags.no_exec unmarked done
     where
@@ -192,18 +193,18 @@ module _ (table : calls.Table) (site : Site) (calls' : HasLaunchCalls table.call
     user_ready false is world one two last at l m n =
         let other : eqb (uid % 2 ^ 32) 0 ≡ false = ap (λ u. eqb u 0) low ∙ is in
         let taken : eqb (uid % 2 ^ 32) no_id ≡ false = grind (arith, nat_tests) in
-        let kept = makes_creds table site (Has 0 all all amb) (λ c. Has 0 all all amb c × (c.keepcaps ≡ true)) (codes "prctl") 8 1 0 Nothing (rule.Known known.Prctl) (d.Prctl 8 1 0) (λ c. Ok (after_set_keepcaps c true)) calls'.prctl refl (λ host caller. refl)
+        let kept = makes_creds table site (Has 0 all all amb) (λ c. Has 0 all all amb c × (c.keepcaps ≡ true)) (codes "prctl") 8 1 0 Nothing (rule.Known known.Prctl) (d.Prctl 8 1 0) (λ c. Ok (after_set_keepcaps c true)) calls'.prctl refl (λ host creds stack mounts owns. refl)
         (λ c now h is'. keeps_caps 0 all all amb c now h is') [] plan world at l.0 in
         let next : World = (launch_step world (prctl_step table.calls set_keepcaps 1 0)).1 in
         let u : ℕ = uid % 2 ^ 32 in
-        let set = makes_creds table site (λ c. Has 0 all all amb c × (c.keepcaps ≡ true)) (Has u all none amb) (codes "setresuid") uid uid uid Nothing (rule.Known known.Setresuid) (d.Setresuid u u u) (λ c. after_setresuid c u u u) calls'.setresuid refl (λ host caller. refl)
+        let set = makes_creds table site (λ c. Has 0 all all amb c × (c.keepcaps ≡ true)) (Has u all none amb) (codes "setresuid") uid uid uid Nothing (rule.Known known.Setresuid) (d.Setresuid u u u) (λ c. after_setresuid c u u u) calls'.setresuid refl (λ host creds stack mounts owns. refl)
         (λ c now h is'. set_uid u all all amb taken other c now h is') [] plan next kept l.1.0 in
         let there : World = (launch_step next (makes table.calls (codes "setresuid") uid uid uid Nothing)).1 in
         let before : Here (Has u all none amb) [] plan one = subst (Here (Has u all none amb) [] plan) l.1.1 set in
         let raised = raised_all [] plan u all none amb none (filter (has amb) (count_from 0 41)) one two caps_small (weaker table site (Has u all none amb) (λ c. Has u all none amb c × IsWithin none c.ambient) [] plan one (λ c h. (h, none_within c.ambient)) before) m in
         let held = weaker table site (λ c. Has u all none amb c × IsWithin none c.ambient × AllByRecursion (λ cap. has c.ambient cap ≡ true) (filter (has amb) (count_from 0 41))) (λ c. Has u all none amb c × IsWithin amb c.ambient) [] plan two
         (λ c h. (h.0, all_raised amb c (within_through amb c.bounding all (h.0).inheritable_bounding (h.0).bounding) h.2)) raised in
-        let done = makes_creds table site (λ c. Has u all none amb c × IsWithin amb c.ambient) (λ c. Has u amb amb amb c × IsWithin amb c.ambient) (codes "capset") 0 0 0 (Sets amb amb amb) (rule.Known known.Capset) (d.Capset amb amb amb) (λ c. after_capset c amb amb amb) calls'.capset refl (λ host caller. refl)
+        let done = makes_creds table site (λ c. Has u all none amb c × IsWithin amb c.ambient) (λ c. Has u amb amb amb c × IsWithin amb c.ambient) (codes "capset") 0 0 0 (Sets amb amb amb) (rule.Known known.Capset) (d.Capset amb amb amb) (λ c. after_capset c amb amb amb) calls'.capset refl (λ host creds stack mounts owns. refl)
         (λ c now h is'. set_ambient u all none amb c now h is') [] plan two held n.0 in
         let end : World = (launch_step two (capset_step table.calls amb amb amb)).1 in
         subst (Here (IsReady uid amb) [] plan) n.1 (weaker table site (λ c. Has u amb amb amb c × IsWithin amb c.ambient) (IsReady uid amb) [] plan end (λ c h. ready_user uid amb c is (subst (λ (v : ℕ). Has v amb amb amb c) low h.0, h.1)) done)
@@ -212,7 +213,7 @@ module _ (table : calls.Table) (site : Site) (calls' : HasLaunchCalls table.call
       → Leads (start_world table site) (with_unshare table.calls (mount_steps plan) ++ identity_steps table.calls wanted) last → Here (IsReady wanted.uid wanted.ambient) [] plan last
   ready_at wanted plan last begins small l =
       let lines = table.calls in
-      let start : Here (Has 0 all all none) [] mounts.start (start_world table site) = record { creds = creds.start; namespace = 1; tables = mounts.start ∷ []; as_asked = starts; is = refl; own = refl } in
+      let start : Here (Has 0 all all none) [] mounts.start (start_world table site) = record { creds = creds.start; namespace = 1; tables = first_mounts ∷ []; as_asked = starts; is = refl; own = refl } in
       let own = leads_parts (start_world table site) (with_unshare lines (mount_steps plan)) (identity_steps lines wanted) last l in
       let privs = leads_parts own.mid (group_steps lines wanted ++ drop_steps lines wanted ++ inherit_steps lines wanted ++ user_steps lines wanted ++ raise_steps lines wanted ++ left_steps lines wanted) (privilege_steps lines wanted) last own.after in
       let left' = leads_parts own.mid (group_steps lines wanted ++ drop_steps lines wanted ++ inherit_steps lines wanted ++ user_steps lines wanted ++ raise_steps lines wanted) (left_steps lines wanted) privs.mid privs.before in
@@ -266,6 +267,9 @@ leaves table site calls' wanted plan last f =
       is = ap launch_of at.is ∙ ap (λ (t : Table). record { calls = table; site = site; creds = at.creds; stack = f.codes'; table = t }) same;
       alone = ap (λ (v : World). v.processes) at.is;
       own = ap (λ (v : World). of_number v.tables at.namespace) at.is ∙ at.own;
+      home = ap (λ (v : World). of_number v.owners at.namespace) at.is ∙ ones_number table site at.tables at.namespace (map plain_mount plan) at.own;
+      numbers = ap (λ (v : World). length v.owners) at.is ∙ ones_length table site at.tables ∙ sym (ap (λ (v : World). length v.tables) at.is);
+      no_users = ap (λ (v : World). v.users) at.is;
       as_launched = at.as_asked;
       read = f.read;
     }

@@ -1,5 +1,5 @@
 -- A launch by the programs of settings leaves what the judge stands on.
-use Rattle.std.proofs.Common.{◌≡◌, ℕ, Bool, true, false, cond, List, [], ◌∷◌, Option, Some, None, inl, inr, refl, ap, ◌∙◌, sym, subst, arith}
+use Rattle.std.proofs.Common.{◌≡◌, ℕ, Bool, true, false, cond, List, [], ◌∷◌, Option, Some, None, inl, inr, refl, ap, ◌∙◌, sym, subst, arith, map}
 use Rattle.std.specs.Prelude.{◌==◌, ◌≤◌, find, reverse, option_and_then, unwrap_or, IfSome}
 use mathlib.Core.List.{reverse_aux}
 use Rattle.std.specs.List.{AllByRecursion}
@@ -27,14 +27,18 @@ use Rattle.filter_rules.specs.declared.mentions.Mention.{Mention}
 use Rattle.filter_rules.specs.declared.mentions.Mode.{Mode}
 use Rattle.filter_rules.specs.declared.mentions.Mode.TheVariants.{Allow, Deny}
 use Rattle.filter_rules.specs.declared.names.FilterName.{FilterName}
-use Rattle.filter_rules.specs.declared.names.FilterName.TheVariants.{Families, MemoryDenyWriteExecute, Realtime, Suid, Namespaces, Hostname, Modules, Logs, Clock, Devices, Personality, Calls}
+use Rattle.filter_rules.specs.declared.names.FilterName.TheVariants.{Families, MemoryDenyWriteExecute, Realtime, Suid, Namespaces, Hostname, Modules, Logs, Clock, Devices, Personality, Calls, Archs}
 use Rattle.filter_rules.specs.declared.settings.FilterSettings.{FilterSettings}
-use Rattle.filter_rules.specs.Wanted.{named_action, unnamed_action, wanted_action}
+use Rattle.filter_rules.specs.Wanted.{named_action, unnamed_action, other_action, wanted_action}
 use Rattle.kernel_laws.specs.FirstChoice.{Means}
+use Rattle.launcher.proofs.TwoAbis.{once_in, of_abi_in, one_cap_in, range_in, archs_differ}
 use Rattle.launcher.specs.Launch.{Wanted}
 use Rattle.kernel_laws.specs.Launched.{Launch, IsLaunched, first_of, process_or}
+use Rattle.kern_mounts.specs.Mounts.{Mounts as MountList, plain as plain_mount, ArePlain as ArePlainMounts}
+use Rattle.kern_mounts.proofs.Leaving.{ascending_is_ordered}
+use Rattle.kern_mounts.proofs.Plain.{are_plain}
 use Rattle.kern_mounts.specs.Split.{Table}
-use Rattle.kernel_model.specs.World.{World, of_number}
+use Rattle.kernel_model.specs.World.{World, of_number, mounts_of, table_or}
 use Rattle.kernel_model.specs.declared.process.Process.{Process}
 use Rattle.kernel_laws.proofs.SettingsChoose.{settings_choose}
 use Rattle.launcher.specs.Launches.{AreRead, Leaves}
@@ -124,6 +128,7 @@ module _ (settings : FilterSettings) (table : calls.Table) (a : AreRefusing sett
   named_plain Devices name input = unless_plain 1 _ (omega arith)
   named_plain Personality name input = unless_plain 1 _ (omega arith)
   named_plain Calls name input = calls_plain table settings.calls settings.default_action name a.default a.suffixes
+  named_plain Archs name input = kill_plain
 
   unnamed_plain : (filter : FilterName) → IsPlain (word_of (unnamed_action filter settings))
   unnamed_plain Families = allow_plain
@@ -138,12 +143,17 @@ module _ (settings : FilterSettings) (table : calls.Table) (a : AreRefusing sett
   unnamed_plain Devices = allow_plain
   unnamed_plain Personality = allow_plain
   unnamed_plain Calls = rest_plain settings.calls settings.default_action a.default
+  unnamed_plain Archs = kill_plain
 
-  wanted_plain : (filter : FilterName) (input : CallData) → IsPlain (word_of (wanted_action filter settings table input))
-  wanted_plain filter input = by (input.arch == table.arch) (numbered input.nr table.calls)
+  other_plain : (second : Option calls.Abi) → IsPlain (word_of (other_action second))
+  other_plain None = kill_plain
+  other_plain (Some second) = allow_plain
+
+  wanted_plain : (filter : FilterName) (abi : ℕ) (input : CallData) → IsPlain (word_of (wanted_action filter settings table abi input))
+  wanted_plain filter abi input = by (input.arch == calls.arch_of table abi) (numbered input.nr (calls.calls_in table abi))
     where
-      by : (b : Bool) (o : Option CallLine) → IsPlain (word_of (cond b (option_map_or (λ call. named_action filter settings table call.name input) o (unnamed_action filter settings)) action.KillProcess))
-      by false o = kill_plain
+      by : (b : Bool) (o : Option CallLine) → IsPlain (word_of (cond b (option_map_or (λ call. named_action filter settings table call.name input) o (unnamed_action filter settings)) (other_action table.second)))
+      by false o = other_plain table.second
       by true None = unnamed_plain filter
       by true (Some line) = named_plain filter line.name input
 
@@ -151,7 +161,7 @@ module _ (settings : FilterSettings) (table : calls.Table) (a : AreRefusing sett
   meant_plain [] each input fit = tt
   meant_plain (code ∷ stack) each input fit =
       let m : Means settings table code = each.0 in
-      (subst IsPlain (sym (m.answers input fit)) (wanted_plain m.filter input), meant_plain stack each.1 input fit)
+      (subst IsPlain (sym (m.answers input fit)) (wanted_plain m.filter m.abi input), meant_plain stack each.1 input fit)
 
   read_means : (programs : List (List ℕ)) (stack : List (List Insn)) → AreRead programs stack → AllByRecursion (IsMeant settings table) programs → AllByRecursion (Means settings table) stack
   read_means [] [] read each = tt
@@ -159,7 +169,7 @@ module _ (settings : FilterSettings) (table : calls.Table) (a : AreRefusing sett
   read_means (bytes ∷ programs) [] read each = absurd read
   read_means (bytes ∷ programs) (code ∷ stack) read each = (each.0 code read.0, read_means programs stack read.1 each.1)
 
-first_of_alone : (table : calls.Table) (site : Site) (wanted : Wanted) (plan : Table) (last : World) (l : Leaves table site wanted plan last) → first_of last ≡ record { creds = l.creds; stack = l.stack; namespace = l.namespace; alive = true }
+first_of_alone : (table : calls.Table) (site : Site) (wanted : Wanted) (plan : Table) (last : World) (l : Leaves table site wanted plan last) → first_of last ≡ record { creds = l.creds; stack = l.stack; namespace = l.namespace; user = 1; alive = true }
 first_of_alone table site wanted plan last l = ap (λ (ps : List Process). process_or (of_number ps 1)) l.alone
 
 begins : (plan : Table) → BeginsAtRoot plan → StartsAtRoot plan
@@ -173,9 +183,11 @@ launched_is_world settings table site wanted plan last steps whole arch refusing
     let means = read_means settings table refusing wanted.programs l.stack l.read meant in
     let plain = meant_plain settings table refusing l.stack means in
     let is : IsLaunched launch' = record {
-      calls_once = whole.sound.calls.once.by_number;
+      calls_once = once_in table whole.sound;
+      calls_of_abi = of_abi_in table whole.sound;
+      one_cap = one_cap_in table whole.sound;
       families_once = whole.sound.families.once.by_number;
-      calls_in_range = whole.sound.calls.in_range;
+      calls_in_range = range_in table whole.sound;
       arch = arch;
       real = l.as_launched.real;
       saved = l.as_launched.saved;
@@ -188,14 +200,22 @@ launched_is_world settings table site wanted plan last steps whole arch refusing
       inheritable_effective = l.as_launched.inheritable_effective;
       root = l.as_launched.root;
       rooted = begins plan can.begins_at_root;
+      ordered = ascending_is_ordered plan can.places_ascend;
       honours = can.none_is_no_suid;
       plain = plain;
-      chosen = settings_choose launch' settings arch means plain;
+      chosen = settings_choose launch' settings arch (archs_differ table whole.sound) means plain;
     } in
-    let first_is : first_of last ≡ record { creds = l.creds; stack = l.stack; namespace = l.namespace; alive = true } = first_of_alone table site wanted plan last l in
+    let first_is : first_of last ≡ record { creds = l.creds; stack = l.stack; namespace = l.namespace; user = 1; alive = true } = first_of_alone table site wanted plan last l in
+    let own : of_number last.tables (first_of last).namespace ≡ Some (map plain_mount plan) = ap (λ p. of_number last.tables p.namespace) first_is ∙ l.own in
+    let held : mounts_of last (first_of last).namespace ≡ map plain_mount plan = ap table_or own in
     record {
       alone = l.alone ∙ ap (λ p. p ∷ []) (sym first_is);
       lives = ap (λ p. p.alive) first_is;
-      own = ap (λ p. of_number last.tables p.namespace) first_is ∙ l.own ∙ ap (λ (t : Table). Some t) (sym (ap (λ (launch : Launch). launch.table) l.is));
+      user = ap (λ p. p.user) first_is;
+      home = ap (λ p. of_number last.owners p.namespace) first_is ∙ l.home;
+      numbers = l.numbers;
+      no_users = l.no_users;
+      own = own ∙ ap (λ (t : MountList). Some t) (sym held);
+      plain = subst ArePlainMounts (sym held) (are_plain plan);
       launched = subst IsLaunched (sym l.is) is;
     }

@@ -30,13 +30,14 @@ use Rattle.kernel_calls.specs.Doing.{Asked, Does, asked_of, asked_by}
 use Rattle.kernel_model.specs.Effects as f
 use Rattle.kernel_model.specs.Effects.{Effect, push_effect, seccomp_effect}
 use Rattle.launcher.specs.Launch.{LaunchStep, Ending, Launched, StepRefused, StepKilled, PrivilegedProgram, first_call, number_of, launch_step, launch_steps, launch_on, launch_from, is_privileged_row, mount_steps, with_unshare, identity_steps, filter_steps, program_steps}
+use Rattle.kern_mounts.specs.Mounts.{Mounts as MountList}
 use Rattle.kern_mounts.specs.Split.{Table}
 use Rattle.kernel_model.specs.Runs.{IsDone}
 use Rattle.kernel_model.specs.declared.reply.Reply.TheVariants as w
 use Rattle.kernel_model.specs.World.{World, start_world}
 use Rattle.kernel_model.specs.declared.reply.Reply.{Reply}
 use Rattle.kernel_model.specs.Step.{step, applied, answered, decided}
-use Rattle.launcher.specs.Alike.{AnswerAlike, above}
+use Rattle.launcher.specs.Alike.{HasWordArchs, AnswerAlike, above}
 use Rattle.launcher.specs.Launches.{HasLaunchCalls, AreRead}
 use Rattle.launcher.specs.LaunchesAlike.{EndAlike, LaunchesAlike}
 use Rattle.launcher.proofs.Solo.{solo, only}
@@ -94,20 +95,20 @@ pushed_alike [] (x ∷ other) code own alike same = absurd alike
 pushed_alike (x ∷ one) [] code own alike same = absurd alike
 pushed_alike (x ∷ one) (y ∷ other) code own alike same = (alike.0, pushed_alike one other code own alike.1 same)
 
-module _ (table : calls.Table) (site : Site) (whole : IsWhole table) (arch : table.arch < 2 ^ 32) where
+module _ (table : calls.Table) (site : Site) (whole : IsWhole table) (arch : HasWordArchs table) where
   calls' : HasLaunchCalls table.calls
   calls' = launch_calls table whole
 
   fits : (name : List ℕ) (one : ℕ) → one < 2 ^ 64 → IsCallData (record { nr = number_of table.calls name; arch = table.arch; ip = 0; args = one ∷ 0 ∷ 0 ∷ 0 ∷ 0 ∷ 0 ∷ [] })
   fits name one small = record {
     nr = number_small table.calls name whole.sound.calls.in_range;
-    arch = arch;
+    arch = arch 0;
     ip = omega arith;
     count = refl;
     args = All-from_recursion (λ arg. arg < 2 ^ 64) (one ∷ 0 ∷ 0 ∷ 0 ∷ 0 ∷ 0 ∷ []) (small, (omega arith, (omega arith, (omega arith, (omega arith, (omega arith, tt))))));
   }
 
-  module _ (creds : Creds) (namespace : ℕ) (tables : List Table) where
+  module _ (creds : Creds) (namespace : ℕ) (tables : List MountList) where
     abbrev with_stack : List (List Insn) → World
     with_stack stack = solo table site creds stack namespace tables
 
@@ -163,7 +164,7 @@ module _ (table : calls.Table) (site : Site) (whole : IsWhole table) (arch : tab
     exec_alike program one other count alike =
         let base : World = with_stack [] in
         let call : Call = first_call table.calls (codes "execve") (0 ∷ 0 ∷ 0 ∷ 0 ∷ 0 ∷ 0 ∷ []) (OnePath program) in
-        let asks : asked_of table.calls call ≡ Does (d.Execve program) = ap (λ (o : Option Rule). asked_by o call) calls'.execve in
+        let asks : asked_of table call ≡ Does (d.Execve program) = ap (λ (o : Option Rule). asked_by o call) calls'.execve in
         let whole' : (stack : List (List Insn)) → above stack base ≡ with_stack stack = λ stack. ap (λ (s : List (List Insn)). with_stack s) (append_none stack) in
         let stepped : (stack : List (List Insn)) → step (with_stack stack) call ≡ lifted stack (own_step stack base call) = λ stack. ap (λ (v : World). step v call) (sym (whole' stack)) ∙ step_above stack base call in
         by call asks (own_step one base call) refl (own_alike one other base call alike (fits (codes "execve") 0 (omega arith))) (stepped one) (stepped other)
@@ -182,8 +183,8 @@ module _ (table : calls.Table) (site : Site) (whole : IsWhole table) (arch : tab
         other_doing : (operation flags : ℕ) (bytes : List ℕ) → ◌≡◌ {A = Asked} (Does (d.Execve program)) (Does (d.Seccomp operation flags bytes)) → ⊥
         other_doing operation flags bytes e = cc
 
-        by : (call : Call) → asked_of table.calls call ≡ Does (d.Execve program) → (out : Reply × World) → own_step one (with_stack []) call ≡ out
-            → (own_step one (with_stack []) call ≡ own_step other (with_stack []) call) ⊎ FullInOne table.calls call (own_step one (with_stack []) call).0 (own_step other (with_stack []) call).0
+        by : (call : Call) → asked_of table call ≡ Does (d.Execve program) → (out : Reply × World) → own_step one (with_stack []) call ≡ out
+            → (own_step one (with_stack []) call ≡ own_step other (with_stack []) call) ⊎ FullInOne table call (own_step one (with_stack []) call).0 (own_step other (with_stack []) call).0
             → step (with_stack one) call ≡ lifted one (own_step one (with_stack []) call) → step (with_stack other) call ≡ lifted other (own_step other (with_stack []) call)
             → E (step (with_stack one) call) (step (with_stack other) call)
         by call asks out is (inr full) first second = absurd (other_doing full.operation full.flags full.bytes (sym asks ∙ full.asks))

@@ -9,6 +9,7 @@ pub mod LaunchWorld
 pub mod LaunchedWorlds
 pub mod Alike
 pub mod LaunchesAlike
+pub mod TwoAbis
 pub mod Matching
 pub mod Conditions
 pub mod Programs

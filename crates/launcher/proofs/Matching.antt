@@ -1,5 +1,5 @@
 -- Programs that match the filters of settings, one for each.
-use Rattle.std.proofs.Common.{List, [], ◌∷◌, ap, ◌∙◌, sym, length, arith}
+use Rattle.std.proofs.Common.{◌≡◌, Some, List, [], ◌∷◌, ap, ◌∙◌, sym, length, arith}
 use Rattle.std.specs.Prelude.{◌≤◌, ◌+◌}
 use Rattle.std.specs.List.{AllByRecursion}
 use Rattle.std.proofs.lemmas.List.Sums.{sum_by-cons}
@@ -18,12 +18,12 @@ use Rattle.launcher.specs.Alike.{AnswerAlike}
 use Rattle.launcher.specs.Matching.{AreMatching, MatchingLaws}
 
 pub means : (settings : FilterSettings) (table : calls.Table) (filters : List Filter) (stack : List (List Insn))
-    → AllByRecursion (HasWantedRules settings table) filters → AreMatching filters stack → AllByRecursion (Means settings table) stack
-means settings table [] [] wanted m = tt
-means settings table [] (code ∷ stack) wanted m = absurd m
-means settings table (one ∷ filters) [] wanted m = tt
-means settings table (one ∷ filters) (code ∷ stack) wanted m =
-    (record { filter = one.name; answers = λ input fit. answer_is code input (word_of (case_action one.rules input)) ((m.0).decides input fit) ∙ ap word_of (wanted.0 input) }, means settings table filters stack wanted.1 m.1)
+    → AllByRecursion (HasWantedRules settings table) filters → AllByRecursion (λ one. (found : calls.Abi) × (calls.abi_at table one.abi ≡ Some found)) filters → AreMatching filters stack → AllByRecursion (Means settings table) stack
+means settings table [] [] wanted there m = tt
+means settings table [] (code ∷ stack) wanted there m = absurd m
+means settings table (one ∷ filters) [] wanted there m = tt
+means settings table (one ∷ filters) (code ∷ stack) wanted there m =
+    (record { filter = one.name; abi = one.abi; found = there.0.0; there = there.0.1; answers = λ input fit. answer_is code input (word_of (case_action one.rules input)) ((m.0).decides input fit) ∙ ap word_of (wanted.0 input) }, means settings table filters stack wanted.1 there.1 m.1)
 
 pub room : (filters : List Filter) (stack : List (List Insn)) → AreMatching filters stack → room_of stack ≤ most_room filters
 room [] [] m = omega arith

@@ -12,14 +12,13 @@ use Rattle.kern_mounts.specs.declared.step.Flags.{Flags}
 use Rattle.kern_mounts.specs.declared.step.What.TheVariants.{Host}
 use Rattle.kern_mounts.specs.declared.step.MountStep.{MountStep}
 use Rattle.kernel_calls.specs.declared.payload.Payload.TheVariants.{Nothing}
-use Rattle.kernel_model.specs.MountStep.{with_step, with_first_flags}
 use Rattle.kernel_model.specs.World.{World}
 use Rattle.kernel_laws.specs.Questions.{if_so}
 use Rattle.launcher.specs.Launch.{Mounts, makes, launch_step, mount_steps, with_unshare, has_flags, new_mounts}
 use Rattle.launcher.specs.Launches.{HasLaunchCalls}
 use Rattle.launcher.proofs.HostRoot.{AreBelowRoot, BeginsAtHostRoot}
 use Rattle.launcher.proofs.Leading.{Leads, append_assoc, append_none}
-use Rattle.launcher.proofs.Solo.{At, makes_unshare, mounts_entry}
+use Rattle.launcher.proofs.Solo.{At, makes_unshare, mounts_entry, with_entry, with_first_flags}
 
 module _ (table : calls.Table) (site : Site) (calls' : HasLaunchCalls table.calls) where
   abbrev Here : (Creds → Type 0) → List (List Insn) → Table → World → Type 0
@@ -30,11 +29,11 @@ module _ (table : calls.Table) (site : Site) (calls' : HasLaunchCalls table.call
   pushed Q stack [] own world last below at l = subst (λ (t : Table). Here Q stack t last) (sym (append_none own)) (subst (Here Q stack own) l at)
   pushed Q stack (entry ∷ rest) own world last below at l =
       let next = mounts_entry table site Q entry stack own world at in
-      let grown : with_step own entry ≡ own ++ entry ∷ [] = ap (λ b. cond b (with_first_flags entry.flags own) (own ++ entry ∷ [])) below.0 in
+      let grown : with_entry own entry ≡ own ++ entry ∷ [] = ap (λ b. cond b (with_first_flags entry.flags own) (own ++ entry ∷ [])) below.0 in
       let more = pushed Q stack rest (own ++ entry ∷ []) (launch_step world (Mounts entry)).1 last below.1 (subst (λ (t : Table). Here Q stack t (launch_step world (Mounts entry)).1) grown next) l.1 in
       subst (λ (t : Table). Here Q stack t last) (append_assoc own (entry ∷ []) rest) more
 
-  first_mounted : (first : MountStep) → first.place ≡ [] → first.what ≡ Host [] → with_step mounts.start first ≡ first ∷ []
+  first_mounted : (first : MountStep) → first.place ≡ [] → first.what ≡ Host [] → with_entry mounts.start first ≡ first ∷ []
   first_mounted first place what =
       ap (λ (p : Path). cond (is_root p) (record { place = []; what = Host []; flags = first.flags } ∷ []) (mounts.start ++ first ∷ [])) place
       ∙ ap (λ (p : Path). record { place = p; what = Host []; flags = first.flags } ∷ []) (sym place)

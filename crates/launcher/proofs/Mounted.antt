@@ -8,39 +8,41 @@ use Rattle.call_table.specs.Facts.{IsWhole}
 use Rattle.kern_creds.specs.declared.creds.Creds.{Creds}
 use Rattle.kern_creds.specs.Start as creds
 use Rattle.kern_mounts.specs.Table as mounts
+use Rattle.kern_mounts.specs.Mounts.{Mounts as MountList, plain, first_mounts}
+use Rattle.kern_mounts.specs.MountsRemount.{with_root_flags}
 use Rattle.kern_mounts.specs.Split.{Table}
 use Rattle.kern_mounts.specs.declared.step.Flags.{Flags}
 use Rattle.kern_mounts.specs.declared.step.MountStep.{MountStep}
 use Rattle.kernel_calls.specs.declared.payload.Payload.TheVariants.{Nothing}
 use Rattle.kernel_model.specs.declared.process.Process.{Process}
-use Rattle.kernel_model.specs.MountStep.{CanStep, HasRoom, after_mount_step, stepped_by, with_step, with_first_flags}
-use Rattle.kernel_model.specs.World.{World, living_of, of_number, put_number, table_of, table_or}
+use Rattle.kernel_model.specs.MountStep.{CanStep, HasRoom, after_mount_step, stepped_by, with_step}
+use Rattle.kernel_model.specs.World.{World, living_of, of_number, put_number, mounts_of, table_or}
 use Rattle.launcher.specs.declared.error.LaunchError.{LaunchError}
 use Rattle.launcher.specs.declared.error.LaunchError.TheVariants as error
 use Rattle.launcher.specs.Ends.{Begins, StepsTo, IsStart, HasRoomBy, HasRoomFor, with_mounts}
 use Rattle.launcher.specs.Launch.{LaunchStep, Mounts, launch_from, makes, mount_steps, with_unshare, new_mounts}
 use Rattle.launcher.proofs.LaunchCalls.{launch_calls}
 use Rattle.launcher.proofs.CallsMade.{step_done, step_ends}
-use Rattle.launcher.proofs.Solo.{At, solo, makes_unshare, own_table}
+use Rattle.launcher.proofs.Solo.{At, solo, makes_unshare, own_mounts}
 
 -- ---- there is room for each
-flags_length : (flags : Flags) (table : Table) → length (with_first_flags flags table) ≡ length table
+flags_length : (flags : Flags) (table : MountList) → length (with_root_flags flags table) ≡ length table
 flags_length flags [] = refl
 flags_length flags (first ∷ table) = refl
 
-step_length : (table : Table) (step : MountStep) → length (with_step table step) ≤ length table + 1
+step_length : (table : MountList) (step : MountStep) → length (with_step table step) ≤ length table + 1
 step_length table step = by (is_root step.place)
   where
-    by : (b : Bool) → length (cond b (with_first_flags step.flags table) (table ++ step ∷ [])) ≤ length table + 1
+    by : (b : Bool) → length (cond b (with_root_flags step.flags table) (table ++ plain step ∷ [])) ≤ length table + 1
     by true = let e = flags_length step.flags table in omega (arith, e)
-    by false = let e = length-append table (step ∷ []) in omega (arith, e)
+    by false = let e = length-append table (plain step ∷ []) in omega (arith, e)
 
-set_length : (tables : List Table) (i : ℕ) (table : Table) → length (table_or (slice_get (slice_set tables i table) i)) ≤ length table
+set_length : (tables : List MountList) (i : ℕ) (table : MountList) → length (table_or (slice_get (slice_set tables i table) i)) ≤ length table
 set_length [] i table = omega arith
 set_length (own ∷ tables) zero table = omega arith
 set_length (own ∷ tables) (suc i) table = set_length tables i table
 
-put_length : (tables : List Table) (number : ℕ) (table : Table) → length (table_or (of_number (put_number tables number table) number)) ≤ length table
+put_length : (tables : List MountList) (number : ℕ) (table : MountList) → length (table_or (of_number (put_number tables number table) number)) ≤ length table
 put_length tables number table = by (eqb number 0)
   where
     by : (b : Bool) → length (table_or (cond b None (slice_get (slice_set tables (number - 1) table) (number - 1)))) ≤ length table
@@ -53,11 +55,11 @@ room_less count world entry room = by (living_of world 1) refl room
     by : (o : Option Process) → living_of world 1 ≡ o → HasRoomBy world (suc count) o → HasRoomBy (stepped_by world entry o) count (living_of (stepped_by world entry o) 1)
     by None is h = absurd h
     by (Some process) is h =
-        let own : Table = table_of world process.namespace in
+        let own : MountList = mounts_of world process.namespace in
         let next = stepped_by world entry (Some process) in
         let put = put_length world.tables process.namespace (with_step own entry) in
         let one = step_length own entry in
-        let fits : length (table_of next process.namespace) + count ≤ 4096 = omega (arith, put, one, h) in
+        let fits : length (mounts_of next process.namespace) + count ≤ 4096 = omega (arith, put, one, h) in
         subst (λ (o : Option Process). HasRoomBy next count o) (sym is) fits
 
 pub room_steps : (count : ℕ) (world : World) → HasRoomFor (suc count) world → CanStep world 1
@@ -143,10 +145,10 @@ Any creds = Unit {0}
 pub room_of_own : (world own : World) (count : ℕ) → IsStart world → IsWhole world.calls → count ≤ 161 → StepsTo world (unshare_of world.calls.calls) 1 (Ok tt) own → HasRoomFor count own
 room_of_own world own count starts whole few done =
     let calls' = launch_calls world.calls whole in
-    let first : At world.calls world.site Any [] mounts.start world = record { creds = creds.start; namespace = 1; tables = mounts.start ∷ []; as_asked = tt; is = starts; own = refl } in
+    let first : At world.calls world.site Any [] mounts.start world = record { creds = creds.start; namespace = 1; tables = first_mounts ∷ []; as_asked = tt; is = starts; own = refl } in
     let at = makes_unshare world.calls world.site Any calls'.unshare [] mounts.start world first done.0 in
-    let same = own_table world.calls world.site at.creds [] at.namespace at.tables mounts.start at.own in
+    let same = own_mounts world.calls world.site at.creds [] at.namespace at.tables mounts.start at.own in
     let there : World = solo world.calls world.site at.creds [] at.namespace at.tables in
-    let fits : length (table_of there at.namespace) + count ≤ 4096 = subst (λ (t : Table). length t + count ≤ 4096) (sym same) (omega (arith, few)) in
+    let fits : length (mounts_of there at.namespace) + count ≤ 4096 = subst (λ (t : MountList). length t + count ≤ 4096) (sym same) (omega (arith, few)) in
     let room : HasRoomFor count there = fits in
     subst (HasRoomFor count) (sym (done.1 ∙ at.is)) room

@@ -5,7 +5,8 @@ use Rattle.bpf_code.specs.declared.machine.CallData.{CallData}
 use Rattle.bpf_code.specs.declared.decision.Decision.TheVariants as decision
 use Rattle.bpf_code.specs.Meaning.{IsCallData}
 use Rattle.bpf_code.specs.ProgramOf.{program_of}
-use Rattle.bpf_code.specs.Stack.{answer_of, decision_on, room_of}
+use Rattle.bpf_code.specs.Stack.{answer_of, room_of}
+use Rattle.call_table.specs.Table.{Table, arch_of}
 use Rattle.cap_sets.specs.Sets.{has}
 use Rattle.linux_numbers.specs.Capabilities.{cap_sys_admin}
 use Rattle.linux_numbers.specs.Errnos.{enomem}
@@ -17,7 +18,11 @@ use Rattle.kernel_model.specs.World.{World, living_of}
 use Rattle.kernel_model.specs.declared.process.Process.{Process}
 use Rattle.kernel_model.specs.declared.reply.Reply.{Reply}
 use Rattle.kernel_model.specs.declared.reply.Reply.TheVariants.{Done, Refused}
-use Rattle.kernel_model.specs.Step.{step, data_of}
+use Rattle.kernel_model.specs.Step.{step, decision_of}
+
+-- the architecture of each ABI is a word of 32 bits
+abbrev pub HasWordArchs : Table → Type 0
+HasWordArchs table = (abi : ℕ) → arch_of table abi < 2 ^ 32
 
 -- the programs of the one list answer as those of the other, one by one
 abbrev pub AnswerAlike : List (List Insn) → List (List Insn) → Type 0
@@ -38,7 +43,7 @@ pub record IsFullInOne (one other : World) (call : Call) : Type 0 where
   pub operation : ℕ
   pub flags : ℕ
   pub bytes : List ℕ
-  pub asks : asked_of one.calls.calls call ≡ Does (Seccomp operation flags bytes)
+  pub asks : asked_of one.calls call ≡ Does (Seccomp operation flags bytes)
   pub replies : (((step one call).0 ≡ Refused enomem) × ((step other call).0 ≡ Done 0)) ⊎ (((step one call).0 ≡ Done 0) × ((step other call).0 ≡ Refused enomem))
 
 -- the replies are the same, up to such a call
@@ -48,14 +53,14 @@ SameReplies one other (call ∷ calls) =
     (((step one call).0 ≡ (step other call).0) × SameReplies (step one call).1 (step other call).1 calls) ⊎ IsFullInOne one other call
 
 abbrev pub AlikeReplies : Type 0
-AlikeReplies = (one other : List (List Insn)) (world : World) (calls : List Call) → AnswerAlike one other → world.calls.arch < 2 ^ 32 → AreCalls calls → SameReplies (above one world) (above other world) calls
+AlikeReplies = (one other : List (List Insn)) (world : World) (calls : List Call) → AnswerAlike one other → HasWordArchs world.calls → AreCalls calls → SameReplies (above one world) (above other world) calls
 
 -- a living process asks to push a program above its own programs and those of the launch, and may
 pub record Pushes (programs : List (List Insn)) (world : World) (call : Call) (process : Process) (code : List Insn) : Type 0 where
   pub lives : living_of world call.pid ≡ Some process
-  pub passes : decision_on (programs ++ process.stack) (data_of world call) ≡ decision.Pass
+  pub passes : decision_of world call (over programs process) ≡ decision.Pass
   pub bytes : List ℕ
-  pub asks : asked_of world.calls.calls call ≡ Does (Seccomp 1 0 bytes)
+  pub asks : asked_of world.calls call ≡ Does (Seccomp 1 0 bytes)
   pub may : (process.creds.no_new_privs || has process.creds.effective cap_sys_admin) ≡ true
   pub read : program_of bytes ≡ Some code
 
@@ -78,4 +83,4 @@ AlikeRun one other base (call ∷ calls) =
     ⊎ IsFullInOne (above one base) (above other base) call
 
 abbrev pub AlikeRuns : Type 0
-AlikeRuns = (one other : List (List Insn)) (base : World) (calls : List Call) → AnswerAlike one other → base.calls.arch < 2 ^ 32 → AreCalls calls → AlikeRun one other base calls
+AlikeRuns = (one other : List (List Insn)) (base : World) (calls : List Call) → AnswerAlike one other → HasWordArchs base.calls → AreCalls calls → AlikeRun one other base calls

@@ -31,6 +31,7 @@ wanted_of settings programs = record {
 -- a program of the filter: it has its name and matches it, and seccomp(2) takes its bytes
 pub record IsProgramOf (filter : Filter) (one : FilterProgram) : Type 0 where
   pub named : one.name ≡ filter.name
+  pub own_abi : one.abi ≡ filter.abi
   pub matches : IsMatch filter one.program
   pub taken : IsProgram one.program
 

@@ -6,7 +6,7 @@ use Rattle.kernel_model.specs.declared.reply.Reply.{Reply}
 use Rattle.kernel_model.specs.declared.reply.Reply.TheVariants.{Refused, Killed}
 use Rattle.kernel_model.specs.MountStep.{after_mount_step}
 use Rattle.kernel_model.specs.Runs.{IsDone}
-use Rattle.kernel_model.specs.World.{World, living_of, table_of, start_world}
+use Rattle.kernel_model.specs.World.{World, living_of, mounts_of, start_world}
 use Rattle.linux_numbers.specs.Limits.{mount_max}
 use Rattle.launcher.specs.declared.error.LaunchError.{LaunchError}
 use Rattle.launcher.specs.declared.error.LaunchError.TheVariants as error
@@ -55,7 +55,7 @@ with_mounts world (entry ∷ entries) = with_mounts (after_mount_step world 1 en
 
 abbrev pub HasRoomBy : World → ℕ → Option Process → Type 0
 HasRoomBy world count None = ⊥
-HasRoomBy world count (Some process) = length (table_of world process.namespace) + count ≤ mount_max
+HasRoomBy world count (Some process) = length (mounts_of world process.namespace) + count ≤ mount_max
 
 -- process 1 lives, and its table has room for so many entries
 abbrev pub HasRoomFor : ℕ → World → Type 0

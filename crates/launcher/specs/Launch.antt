@@ -72,7 +72,7 @@ abbrev pub number_of : List CallLine → List ℕ → ℕ
 number_of lines name = option_map_or (λ line. line.number) (named name lines) 0
 
 abbrev pub first_call : List CallLine → List ℕ → List ℕ → Payload → Call
-first_call lines name args payload = record { pid = 1; nr = number_of lines name; args = args; payload = payload }
+first_call lines name args payload = record { pid = 1; abi = 0; nr = number_of lines name; args = args; payload = payload }
 
 -- a call of this name with these words, the others 0
 abbrev pub makes : List CallLine → List ℕ → ℕ → ℕ → ℕ → Payload → LaunchStep

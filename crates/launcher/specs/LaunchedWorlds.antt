@@ -15,6 +15,7 @@ use Rattle.kernel_model.specs.World.{World}
 use Rattle.linux_numbers.specs.Limits.{no_id}
 use Rattle.mount_plan.specs.Host.{host_of}
 use Rattle.site_table.specs.Table.{Site}
+use Rattle.launcher.specs.Alike.{HasWordArchs}
 use Rattle.launcher.specs.Launch.{Wanted, Launched, launch}
 
 -- bytes of a program that decides as a filter of the settings
@@ -23,6 +24,6 @@ IsMeant settings table bytes = (code : List Insn) → program_of bytes ≡ Some 
 
 abbrev pub LaunchedIsWorld : Type 0
 LaunchedIsWorld = (settings : FilterSettings) (table : calls.Table) (site : Site) (wanted : Wanted) (plan : Table) (last : World) (steps : ℕ)
-    → IsWhole table → table.arch < 2 ^ 32 → AreRefusing settings → CanBeMounted (host_of site) plan
+    → IsWhole table → HasWordArchs table → AreRefusing settings → CanBeMounted (host_of site) plan
     → wanted.uid < no_id → AllByRecursion (IsMeant settings table) wanted.programs
     → launch table site wanted plan ≡ Launched last steps → IsLaunchedWorld last

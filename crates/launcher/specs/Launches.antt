@@ -1,5 +1,5 @@
 -- What a launch that ends well leaves.
-use Rattle.std.specs.Prelude.{◌≡◌, ℕ, ◌<◌, codes, true, List, [], ◌∷◌, length, Some}
+use Rattle.std.specs.Prelude.{◌≡◌, ℕ, ◌<◌, codes, true, List, [], ◌∷◌, length, Some, map}
 use Rattle.bpf_code.specs.declared.machine.Insn.{Insn}
 use Rattle.bpf_code.specs.ProgramOf.{program_of}
 use Rattle.call_names.specs.declared.rule.CallRule.TheVariants.{Unshare, Setgroups, Setresgid, Prctl, Capset, Setresuid, Seccomp, Execve}
@@ -8,6 +8,7 @@ use Rattle.call_table.specs.Facts.{IsWhole}
 use Rattle.call_table.specs.Table as calls
 use Rattle.cap_sets.specs.Sets.{IsWithin}
 use Rattle.kern_creds.specs.declared.creds.Creds.{Creds}
+use Rattle.kern_mounts.specs.Mounts.{plain}
 use Rattle.kern_mounts.specs.Launch.{CanBeMounted}
 use Rattle.kern_mounts.specs.Split.{Table}
 use Rattle.kernel_calls.specs.declared.rule.Rule.TheVariants.{Known}
@@ -58,8 +59,11 @@ pub record Leaves (table : calls.Table) (site : Site) (wanted : Wanted) (plan : 
   pub stack : List (List Insn)
   pub namespace : ℕ
   pub is : launch_of last ≡ record { calls = table; site = site; creds = creds; stack = stack; table = plan }
-  pub alone : last.processes ≡ record { creds = creds; stack = stack; namespace = namespace; alive = true } ∷ []
-  pub own : of_number last.tables namespace ≡ Some plan
+  pub alone : last.processes ≡ record { creds = creds; stack = stack; namespace = namespace; user = 1; alive = true } ∷ []
+  pub own : of_number last.tables namespace ≡ Some (map plain plan)
+  pub home : of_number last.owners namespace ≡ Some 1
+  pub numbers : length last.owners ≡ length last.tables
+  pub no_users : last.users ≡ 0
   pub as_launched : IsLaunchedCreds creds
   pub read : AreRead wanted.programs stack
 

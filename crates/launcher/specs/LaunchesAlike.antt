@@ -10,7 +10,7 @@ use Rattle.kernel_model.specs.World.{World}
 use Rattle.linux_numbers.specs.Limits.{max_insns_per_path, no_id}
 use Rattle.mount_plan.specs.Host.{host_of}
 use Rattle.site_table.specs.Table.{Site}
-use Rattle.launcher.specs.Alike.{AnswerAlike, above}
+use Rattle.launcher.specs.Alike.{HasWordArchs, AnswerAlike, above}
 use Rattle.launcher.specs.Launch.{Wanted, Ending, Launched, StepRefused, StepKilled, PrivilegedProgram, launch}
 use Rattle.launcher.specs.Launches.{AreRead}
 
@@ -30,6 +30,6 @@ pub record AreInstalled (programs : List (List ℕ)) (stack : List (List Insn)) 
 -- launches by programs that answer alike end alike
 abbrev pub LaunchesAlike : Type 0
 LaunchesAlike = (table : calls.Table) (site : Site) (wanted : Wanted) (plan : Table) (programs : List (List ℕ)) (one other : List (List Insn))
-    → IsWhole table → table.arch < 2 ^ 32 → CanBeMounted (host_of site) plan → wanted.uid < no_id
+    → IsWhole table → HasWordArchs table → CanBeMounted (host_of site) plan → wanted.uid < no_id
     → AreInstalled wanted.programs one → AreInstalled programs other → AnswerAlike one other
     → EndAlike one other (launch table site wanted plan) (launch table site (record wanted { programs = programs }) plan)

@@ -30,6 +30,7 @@ pub fn first_call(
 {
     Call {
         pid: 1,
+        abi: 0,
         nr: number_of(table, name),
         args: [one, two, three, 0, 0, 0],
         payload,

@@ -15,6 +15,8 @@ use std::alloc::{AllocError, Global};
 #[derive(Drop)]
 pub struct FilterProgram {
     pub name: FilterName,
+    /// The position of its ABI in the table of calls, from 0.
+    pub abi: u8,
     pub program: Program,
 }
 
@@ -28,6 +30,7 @@ fn compile_one(alloc: Global, filter: &Filter) -> Result<FilterProgram, AllocErr
 {
     Ok(FilterProgram {
         name: filter.name,
+        abi: filter.abi,
         program: compile(alloc, &filter.rules)?,
     })
 }

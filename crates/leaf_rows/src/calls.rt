@@ -31,5 +31,6 @@ fn payload(form: PayloadForm) -> &'static str {
         PayloadForm::Sets => "sets",
         PayloadForm::Ids => "ids",
         PayloadForm::Program => "a program",
+        PayloadForm::Family => "a family",
     }
 }

@@ -1,12 +1,16 @@
 -- The calls for a thing that is listed are those that are chosen for it.
-use Rattle.std.proofs.Common.{◌≡◌, ℕ, true, List, [], ◌∷◌, ◌++◌, Some, None, ap, ◌∙◌, sym, append_assoc, append-nil}
+use Rattle.std.proofs.Common.{◌≡◌, ℕ, true, List, [], ◌∷◌, ◌++◌, Some, None, ap, ◌∙◌, sym, append_assoc}
 use Rattle.std.specs.Prelude.{slice_get, Contains}
+use Rattle.std.specs.List.{list_any}
 use Rattle.std.specs.Option.{option_map_or}
+use Rattle.std.proofs.lemmas.Bool.{and_parts}
 use Rattle.abs_path.specs.Paths.{Path}
+use Rattle.call_table.specs.Table.{every_call}
 use Rattle.call_table.specs.declared.listed.CallLine.{CallLine}
 use Rattle.site_table.specs.declared.row.Row.{Row}
 use Rattle.kernel_calls.specs.declared.call.Call.{Call}
-use Rattle.kernel_laws.specs.Bound.{can_reach, if_listed, is_open, power_of}
+use Rattle.kernel_laws.specs.Bound.{can_have_for, can_reach, ceiling, if_listed, is_call_open, is_open, power_of}
+use Rattle.kernel_calls.specs.Rules.{rule_of}
 use Rattle.kernel_laws.specs.Launched.{Launch}
 use Rattle.kernel_laws.specs.Questions as question
 use Rattle.kernel_laws.specs.Questions.{Wish, Question, questions}
@@ -14,28 +18,19 @@ use Rattle.kernel_model.specs.World.{World}
 use Rattle.kernel_ways.specs.Laws.{IsFit, IsServedWorld}
 use Rattle.kernel_ways.proofs.FitQuestions.{listed_are_fit}
 use Rattle.questions.proofs.Among.{has_contained, all_had}
-use Rattle.chosen_calls.specs.Chosen.{calls_for, row_calls, plain_calls, socket_calls}
+use Rattle.chosen_calls.specs.Chosen.{calls_for, is_called, row_calls}
 
 module _ (launch : Launch) (program : Path) (place : ℕ) where
   pub row_is : (wish : Wish) (row : Row) → slice_get launch.site.rows place ≡ Some row → row_calls launch program wish row ≡ calls_for launch program (question.ByPath wish place)
   unfolding calls_for
   row_is wish row e = sym (ap (λ o. option_map_or (row_calls launch program wish) o []) e)
 
-  pub call_is : (line : CallLine) → slice_get launch.calls.calls place ≡ Some line → plain_calls launch program line ≡ calls_for launch program (question.Call place)
-  unfolding calls_for
-  call_is line e = sym (ap (λ o. option_map_or (plain_calls launch program) o []) e)
-
-  pub no_call : slice_get launch.calls.calls place ≡ None → (front : List Call) → front ≡ front ++ calls_for launch program (question.Call place)
-  unfolding calls_for
-  no_call e front = sym (append-nil front) ∙ ap (λ (calls : List Call). front ++ calls) (sym (ap (λ o. option_map_or (plain_calls launch program) o []) e))
-
-  pub family_is : (line : CallLine) → slice_get launch.calls.families place ≡ Some line → socket_calls launch program line ≡ calls_for launch program (question.Socket place)
-  unfolding calls_for
-  family_is line e = sym (ap (λ o. option_map_or (socket_calls launch program) o []) e)
-
   -- what is open is listed
   pub open_row : (wish : Wish) (row : Row) → slice_get launch.site.rows place ≡ Some row → is_open launch (question.ByPath wish place) ≡ true → can_reach launch (power_of launch) wish row ≡ true
   open_row wish row e h = sym (ap (if_listed (can_reach launch (power_of launch) wish)) e) ∙ h
+
+  pub open_call : (line : CallLine) → slice_get (every_call launch.calls) place ≡ Some line → is_open launch (question.Call place) ≡ true → list_any (is_called launch line.name) (every_call launch.calls) ≡ true
+  open_call line e h = (and_parts (list_any (is_called launch line.name) (every_call launch.calls)) (can_have_for (ceiling launch) (rule_of line)) (sym (ap (if_listed (is_call_open launch (ceiling launch))) e) ∙ h)).0
 
   pub no_row : (wish : Wish) → slice_get launch.site.rows place ≡ None → is_open launch (question.ByPath wish place) ≡ true → ⊥
   no_row wish e h = let never = sym (ap (if_listed (can_reach launch (power_of launch) wish)) e) ∙ h in cc

@@ -8,13 +8,14 @@ use Rattle.kern_mounts.specs.declared.step.MountStep.{MountStep}
 use Rattle.kernel_calls.specs.declared.call.Call.{Call}
 use Rattle.kernel_laws.specs.Questions.{if_so}
 use Rattle.kernel_ways.specs.Uncovering.{covering, umount_call, umount_calls}
+use Rattle.kernel_ways.specs.Ways.{CallAt}
 use Rattle.reach_paths.proofs.Looping.{from_here, none_from}
 
 map_append : {X Y : Type 0} (f : X → Y) (xs ys : List X) → map f (xs ++ ys) ≡ map f xs ++ map f ys
 map_append f [] ys = refl
 map_append f (x ∷ xs) ys = ap (λ zs. f x ∷ zs) (map_append f xs ys)
 
-module _ (nr : ℕ) (path : Path) (table : Table) where
+module _ (nr : CallAt) (path : Path) (table : Table) where
   abbrev pub calls_from : ℕ → List Call
   calls_from at = umount_calls nr (covering path (drop at table))
 

@@ -1,37 +1,40 @@
 //! The calls of a question.
 
 ghost use Rattle.std.specs.Prelude.{◌≡◌, ◌++◌, ◌∷◌, [], Contains, true, option_copied, slice_get, IfOk, OnOk};
-ghost use Rattle.chosen_calls.specs.Chosen.{calls_for, plain_cap};
+ghost use Rattle.std.specs.List.{list_any};
+ghost use Rattle.call_table.specs.Table.{every_call};
+ghost use Rattle.chosen_calls.specs.Chosen.{calls_for, plain_cap, space_calls, is_called, plain_calls, plain_line};
 ghost use Rattle.chosen_calls.specs.First.{call_by};
 ghost use Rattle.kernel_calls.specs.declared.payload.Payload.TheVariants.{Nothing};
 ghost use Rattle.kernel_calls.specs.Rules.{rule_of};
 ghost use Rattle.kernel_laws.specs.Bound.{is_open};
 ghost use Rattle.kernel_laws.specs.Denied.{Shows};
 ghost use Rattle.kernel_laws.specs.Launched.{launch_of, lets};
-ghost use Rattle.kernel_laws.specs.Questions.{Call as CallQuestion, Socket, questions};
+ghost use Rattle.kernel_laws.specs.Questions.{Call as CallQuestion, Ns, Socket, questions};
 ghost use Rattle.kernel_ways.specs.Laws.{IsServedWorld};
 ghost use Rattle.kernel_ways.specs.Offers.{RunsProgram};
 ghost use Rattle.questions.specs.Meanings.{meant};
 ghost use Rattle.ceilings.specs.Meanings.{meant_kind};
+ghost use Rattle.questions.specs.Meanings.{meant_space};
 ghost use Rattle.ceilings.specs.Own.{IsCeilingOf};
 
-use crate::first::{call_by, call_of};
+use crate::first::{call_by, call_inside, call_of, socket_payload, user_call};
 use crate::ids::IdKind;
 use crate::service::{Made, Service};
 use call_table::CallLine;
-use ceilings::{CallKind, Ceiling, rule_of};
+use ceilings::{CallKind, Ceiling, plain_line, rule_of};
 use kernel_calls::{Call, Payload, Rule};
 use kernel_model::World;
 use launcher::Launched;
 use linux_numbers::capabilities::CAP_SYS_ADMIN;
-use questions::Question;
+use questions::{NamespaceType, Question, call_at};
 use std::alloc::{AllocError, Global};
 
 // The call of this number.
 fn listed_call<'a>(world: &'a World<'_>, at: usize) -> Option<&'a CallLine>
-    ensures { option_copied result ≡ slice_get (launch_of world.now).calls.calls at }
+    ensures { option_copied result ≡ slice_get (every_call (launch_of world.now).calls) at }
 {
-    world.call_table().calls().get(at)
+    call_at(world.call_table(), at)
 }
 
 // The family of this number.
@@ -39,6 +42,18 @@ fn listed_family<'a>(world: &'a World<'_>, at: usize) -> Option<&'a CallLine>
     ensures { option_copied result ≡ slice_get (launch_of world.now).calls.families at }
 {
     world.call_table().families().get(at)
+}
+
+// The line of the plain call of this name that is made: by the native ABI, else by the other.
+#[tactic(auto, unfolding(chosen_calls::specs::Chosen::plain_line))]
+fn named_line<'a>(world: &'a World<'_>, name: &str) -> &'a CallLine
+    requires { list_any (is_called (launch_of world.now) name.now) (every_call (launch_of world.now).calls) ≡ true }
+    ensures { result.now ≡ plain_line (launch_of world.now) name.now }
+{
+    match plain_line(world, name) {
+        Some(line) => line,
+        None => unreachable!(),
+    }
 }
 
 // The capability that a plain call asks for.
@@ -52,18 +67,29 @@ fn plain_cap(line: &CallLine) -> Option<u8>
 }
 
 impl Service<'_> {
+    // Adds the calls for the plain call of the name of this line, which passes.
+    fn push_named(&self, calls: &mut Vec<Call>, line: &CallLine) -> Made<()>
+        requires served { IsServedWorld self.now.world.now }
+        requires some_passes { list_any (is_called (launch_of self.now.world.now) line.now.name) (every_call (launch_of self.now.world.now).calls) ≡ true }
+        ensures { OnOk result (calls.new.items ≡ calls.old.items ++ plain_calls (launch_of self.now.world.now) self.now.program.now line.now) }
+    {
+        self.push_gaining_if(calls, plain_cap(line))?;
+        let called = named_line(self.world, line.name.as_str());
+        calls.push(call_of(called, [0; 6], Payload::Nothing))?;
+        Ok(())
+    }
+
     // Adds the calls for the plain call of this number.
     #[tactic(auto, unfolding(chosen_calls::specs::Chosen::calls_for))]
     fn push_plain(&self, calls: &mut Vec<Call>, at: usize) -> Made<()>
         requires served { IsServedWorld self.now.world.now }
+        requires reachable { is_open (launch_of self.now.world.now) (CallQuestion at) ≡ true }
         ensures { OnOk result (calls.new.items ≡ calls.old.items ++ calls_for (launch_of self.now.world.now) self.now.program.now (CallQuestion at)) }
     {
-        let Some(line) = listed_call(self.world, at) else {
-            return Ok(());
-        };
-        self.push_gaining_if(calls, plain_cap(line))?;
-        calls.push(call_of(line.number, [0; 6], Payload::Nothing))?;
-        Ok(())
+        match listed_call(self.world, at) {
+            Some(line) => self.push_named(calls, line),
+            None => Ok(()),
+        }
     }
 
     // Adds the calls for the family of this number.
@@ -77,7 +103,10 @@ impl Service<'_> {
             return Ok(());
         };
         self.push_gaining_if(calls, line.cap)?;
-        self.push_first(calls, CallKind::ForFamily(line.number))
+        let payload = socket_payload(self.world, line.number);
+        let kind = CallKind::ForFamily(line.number);
+        calls.push(call_by(self.world, kind, payload))?;
+        Ok(())
     }
 
     // Adds the first call of a kind, which carries nothing.
@@ -86,6 +115,30 @@ impl Service<'_> {
         ensures { OnOk result (calls.new.items ≡ calls.old.items ++ call_by (launch_of self.now.world.now) (meant_kind kind) Nothing ∷ []) }
     {
         calls.push(call_by(self.world, kind, Payload::Nothing))?;
+        Ok(())
+    }
+
+    // Adds the calls that make a namespace of the type: of users by itself; another one by CAP_SYS_ADMIN, where that can be had,
+    // else in a user namespace.
+    fn push_space(&self, calls: &mut Vec<Call>, kind: NamespaceType) -> Made<()>
+        requires served { IsServedWorld self.now.world.now }
+        requires reachable { is_open (launch_of self.now.world.now) (Ns (meant_space kind)) ≡ true }
+        ensures { OnOk result (calls.new.items ≡ calls.old.items ++ space_calls (launch_of self.now.world.now) self.now.program.now (meant_space kind)) }
+    {
+        match kind {
+            NamespaceType::User => {
+                calls.push(user_call(self.world))?;
+                return Ok(());
+            }
+            _ => {}
+        }
+        let first = CallKind::ForNamespace(kind);
+        if self.admin {
+            self.push_gaining(calls, CAP_SYS_ADMIN)?;
+            return self.push_first(calls, first);
+        }
+        calls.push(user_call(self.world))?;
+        calls.push(call_inside(self.world, first, Payload::Nothing))?;
         Ok(())
     }
 
@@ -100,10 +153,7 @@ impl Service<'_> {
             Question::Path(wish, at) => self.push_path(calls, *wish, *at),
             Question::Call(at) => self.push_plain(calls, *at),
             Question::Socket(at) => self.push_socket(calls, *at),
-            Question::Namespace(kind) => {
-                self.push_gaining(calls, CAP_SYS_ADMIN)?;
-                self.push_first(calls, CallKind::ForNamespace(*kind))
-            }
+            Question::Namespace(kind) => self.push_space(calls, *kind),
             Question::MapWx => self.push_first(calls, CallKind::MapsWx),
             Question::ProtectX => self.push_first(calls, CallKind::ProtectsX),
             Question::ShmX => self.push_first(calls, CallKind::AttachesX),
@@ -142,6 +192,7 @@ pub fn calls(
         world: &launched.world,
         program: &launched.program,
         power: ceiling.power,
+        admin: ceiling.effective.contains(CAP_SYS_ADMIN),
     };
     let mut calls = Vec::new(alloc);
     service.push_calls(&mut calls, question)?;

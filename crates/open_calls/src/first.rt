@@ -1,34 +1,41 @@
 //! Which call of a kind is made, with which words: of those that the filters let through, the first in the order of names.
 
-ghost use Rattle.std.specs.Prelude.{◌≡◌, true, find, option_copied, option_and_then, option_map, IfOk};
+ghost use Rattle.std.specs.Prelude.{◌≡◌, true, find, option_copied, option_map, IfOk};
 ghost use Rattle.call_table.specs.Lookups.{named};
-ghost use Rattle.chosen_calls.specs.First.{args_of, call_by, first_line, lets_name, line_of, names_of, own_rule};
-ghost use Rattle.kernel_laws.specs.Launched.{launch_of, lets, lets_line};
+ghost use Rattle.call_table.specs.Table.{calls_in};
+ghost use Rattle.chosen_calls.specs.Chosen.{call_inside, pid_inside, user_call, socket_payload};
+ghost use Rattle.chosen_calls.specs.First.{args_of, call_by, first_line, lets_name, line_of, own_rule, line_in};
+ghost use Rattle.kernel_laws.specs.Kinds.{ForSpace, ForFamily};
+ghost use Rattle.kernel_laws.specs.Launched.{launch_of, lets};
+ghost use Rattle.kernel_laws.specs.Questions.{User};
+ghost use Rattle.kernel_calls.specs.declared.payload.Payload.TheVariants.{Nothing};
 ghost use Rattle.kernel_ways.specs.Taking.{id_call, id_payload, id_words};
+ghost use Rattle.kernel_ways.specs.Ways.{place_of};
 ghost use Rattle.ceilings.specs.Meanings.{meant_kind};
 
 use crate::names::names_of;
 use crate::service::Made;
 use call_names::CallRule;
 use call_table::CallLine;
-use ceilings::{CallKind, lets_line, rule_of, words};
+use ceilings::{CallKind, lets_line, passing_line, rule_of, words};
 use kernel_calls::{Call, IdList, Payload, Rule};
 use kernel_model::World;
+use questions::NamespaceType;
 use std::alloc::Global;
 
-// The line of the table with this name.
-fn line_named<'a>(world: &'a World<'_>, name: &str) -> Option<&'a CallLine>
-    ensures { option_copied result ≡ named name.now (launch_of world.now).calls.calls }
+// The line of this ABI with this name.
+fn line_named<'a>(world: &'a World<'_>, abi: u8, name: &str) -> Option<&'a CallLine>
+    ensures { option_copied result ≡ named name.now (calls_in (launch_of world.now).calls abi) }
 {
-    let lines = world.call_table().calls();
+    let lines = world.call_table().calls_in(abi);
     lines.iter().find(|line| name == line.name.as_str())
 }
 
-// Whether the table has a call of the name that asks for the kind, and the filters let it through.
-fn lets_name(world: &World<'_>, kind: CallKind, name: &str) -> bool
-    ensures { result ≡ lets_name (launch_of world.now) (meant_kind kind) name.now }
+// Whether the ABI has a call of the name that asks for the kind, and the filters let it through.
+fn lets_name(world: &World<'_>, kind: CallKind, abi: u8, name: &str) -> bool
+    ensures { result ≡ lets_name (launch_of world.now) (meant_kind kind) abi name.now }
 {
-    match line_named(world, name) {
+    match line_named(world, abi, name) {
         None => false,
         Some(line) => lets_line(world, kind, line),
     }
@@ -38,39 +45,33 @@ fn lets_name(world: &World<'_>, kind: CallKind, name: &str) -> bool
 fn first_name(
     world: &World<'_>,
     kind: CallKind,
+    abi: u8,
     names: &'static [&'static str],
 ) -> Option<&'static str>
-    ensures { option_copied result ≡ option_map (λ name. name.now) (find (λ name. lets_name (launch_of world.now) (meant_kind kind) name.now) names.now) }
+    ensures { option_copied result ≡ option_map (λ name. name.now) (find (λ name. lets_name (launch_of world.now) (meant_kind kind) abi name.now) names.now) }
 {
     names
         .iter()
-        .find(|name| lets_name(world, kind, name))
+        .find(|name| lets_name(world, kind, abi, name))
         .copied()
 }
 
 // The line of that name.
-fn preferred_line<'a>(world: &'a World<'_>, kind: CallKind) -> Option<&'a CallLine>
-    ensures { let launch = launch_of world.now in
-        option_copied result ≡ option_and_then (λ name. named name launch.calls.calls) (find (lets_name launch (meant_kind kind)) (names_of (meant_kind kind))) }
+fn line_in<'a>(world: &'a World<'_>, kind: CallKind, abi: u8) -> Option<&'a CallLine>
+    ensures { option_copied result ≡ line_in (launch_of world.now) (meant_kind kind) abi }
 {
-    let name = first_name(world, kind, names_of(kind))?;
-    line_named(world, name)
+    let name = first_name(world, kind, abi, names_of(kind))?;
+    line_named(world, abi, name)
 }
 
-// The first line of the table that asks for the kind and passes.
-fn passing_line<'a>(world: &'a World<'_>, kind: CallKind) -> Option<&'a CallLine>
-    ensures { let launch = launch_of world.now in
-        option_copied result ≡ find (lets_line launch (meant_kind kind)) launch.calls.calls }
-{
-    let lines = world.call_table().calls();
-    lines.iter().find(|line| lets_line(world, kind, line))
-}
-
-// The line of the call that is made, if there is one.
+// The line of the call that is made, if there is one: by the native ABI, else by the other.
 fn first_line<'a>(world: &'a World<'_>, kind: CallKind) -> Option<&'a CallLine>
     ensures { option_copied result ≡ first_line (launch_of world.now) (meant_kind kind) }
 {
-    match preferred_line(world, kind) {
+    if let Some(line) = line_in(world, kind, 0) {
+        return Some(line);
+    }
+    match line_in(world, kind, 1) {
         Some(line) => Some(line),
         None => passing_line(world, kind),
     }
@@ -103,13 +104,14 @@ fn args_of(kind: CallKind, line: &CallLine) -> [u64; 6]
     args.unwrap_or([0; 6])
 }
 
-/// A call by process 1.
-pub(crate) fn call_of(nr: u32, args: [u64; 6], payload: Payload) -> Call
-    ensures { result ≡ record { pid = 1; nr = nr; args = args; payload = payload } }
+/// The call of a line, by process 1.
+pub(crate) fn call_of(line: &CallLine, args: [u64; 6], payload: Payload) -> Call
+    ensures { result ≡ record { pid = 1; abi = line.now.abi; nr = line.now.number; args = args; payload = payload } }
 {
     Call {
         pid: 1,
-        nr,
+        abi: line.abi,
+        nr: line.number,
         args,
         payload,
     }
@@ -121,7 +123,49 @@ pub(crate) fn call_by(world: &World<'_>, kind: CallKind, payload: Payload) -> Ca
     ensures { result ≡ call_by (launch_of world.now) (meant_kind kind) payload }
 {
     let line = line_of(world, kind);
-    call_of(line.number, args_of(kind, line), payload)
+    call_of(line, args_of(kind, line), payload)
+}
+
+/// What the first call for a family carries: the family, where the call is socketcall(2).
+pub(crate) fn socket_payload(world: &World<'_>, family: u32) -> Payload
+    requires some_passes { lets (launch_of world.now) (ForFamily family) ≡ true }
+    ensures { result ≡ socket_payload (launch_of world.now) family }
+{
+    match own_rule(line_of(world, CallKind::ForFamily(family))) {
+        Rule::Known(CallRule::Socketcall) => Payload::Family(family),
+        _ => Payload::Nothing,
+    }
+}
+
+/// The call that makes a user namespace, user_namespaces(7).
+pub(crate) fn user_call(world: &World<'_>) -> Call
+    requires some_passes { lets (launch_of world.now) (ForSpace User) ≡ true }
+    ensures { result ≡ user_call (launch_of world.now) }
+{
+    let kind = CallKind::ForNamespace(NamespaceType::User);
+    call_by(world, kind, Payload::Nothing)
+}
+
+// Who is in it: by unshare(2) process 1, else its first child.
+fn pid_inside(world: &World<'_>) -> u32
+    requires some_passes { lets (launch_of world.now) (ForSpace User) ≡ true }
+    ensures { result ≡ pid_inside (launch_of world.now) }
+{
+    match own_rule(line_of(world, CallKind::ForNamespace(NamespaceType::User))) {
+        Rule::Known(CallRule::Unshare) => 1,
+        _ => 2,
+    }
+}
+
+/// The first call of a kind, by the process that is in the user namespace.
+pub(crate) fn call_inside(world: &World<'_>, kind: CallKind, payload: Payload) -> Call
+    requires some_passes { lets (launch_of world.now) (meant_kind kind) ≡ true }
+    requires user_passes { lets (launch_of world.now) (ForSpace User) ≡ true }
+    ensures { result ≡ call_inside (launch_of world.now) (meant_kind kind) payload }
+{
+    let mut call = call_by(world, kind, payload);
+    call.pid = pid_inside(world);
+    call
 }
 
 // The words of a call of the rule that takes the id.
@@ -154,10 +198,10 @@ fn id_payload(alloc: Global, rule: Rule, id: u32) -> Made<Payload>
 pub(crate) fn id_call(alloc: Global, world: &World<'_>, kind: CallKind, id: u32) -> Made<Call>
     requires some_passes { lets (launch_of world.now) (meant_kind kind) ≡ true }
     ensures { IfOk result (λ call. let line = line_of (launch_of world.now) (meant_kind kind) in
-        call ≡ id_call line.number (own_rule line) id) }
+        call ≡ id_call (place_of line) (own_rule line) id) }
 {
     let line = line_of(world, kind);
     let rule = own_rule(line);
     let payload = id_payload(alloc, rule, id)?;
-    Ok(call_of(line.number, id_words(rule, id), payload))
+    Ok(call_of(line, id_words(rule, id), payload))
 }

@@ -30,8 +30,7 @@ fn capset_call(world: &World<'_>, row: &Row) -> Call
     let creds = &launched_process(world).creds;
     let common = row.caps.cut(creds.bounding());
     let payload = Payload::Sets(common, common, creds.inheritable());
-    let nr = line_of(world, CallKind::SetsCaps).number;
-    call_of(nr, [0; 6], payload)
+    call_of(line_of(world, CallKind::SetsCaps), [0; 6], payload)
 }
 
 impl Service<'_> {

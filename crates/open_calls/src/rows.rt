@@ -3,12 +3,13 @@
 ghost use Rattle.std.specs.Prelude.{◌≡◌, ◌++◌, if◌then◌else◌, true, option_copied, slice_get, OnOk, Some};
 ghost use Rattle.site_table.specs.Table.{row_at};
 ghost use Rattle.kern_files.specs.MountCall.{ms_remount_bind};
-ghost use Rattle.chosen_calls.specs.Chosen.{calls_for, is_held_off, row_calls, unmarked};
-ghost use Rattle.kernel_laws.specs.Bound.{can_reach, is_open, power_of};
-ghost use Rattle.kernel_laws.specs.Launched.{IsLaunchedWorld, launch_of};
-ghost use Rattle.kernel_laws.specs.Questions.{ByPath};
+ghost use Rattle.chosen_calls.specs.Chosen.{calls_for, is_held_off, row_calls, row_inside, unmarked};
+ghost use Rattle.kernel_laws.specs.Bound.{can_reach, is_mounting, is_open, power_of};
+ghost use Rattle.kernel_laws.specs.Launched.{IsLaunchedWorld, launch_of, can_make_user};
+ghost use Rattle.kernel_laws.specs.Questions.{ByPath, ToExec};
+ghost use Rattle.kernel_laws.specs.Reach.{Nowise, reaches};
 ghost use Rattle.kernel_ways.specs.Laws.{IsServedWorld};
-ghost use Rattle.reach_paths.specs.Meanings.{meant_wish};
+ghost use Rattle.reach_paths.specs.Meanings.{meant_power, meant_wish};
 
 use crate::exposing::{Aim, REMOUNT, REMOUNT_UNMARKED};
 use crate::service::{Made, Service};
@@ -38,6 +39,16 @@ fn is_held_off(world: &World<'_>, wish: Wish, row: &Row) -> bool
     }
 }
 
+// Whether the power makes mounts.
+fn can_mount(power: Power) -> bool
+    ensures { result ≡ is_mounting (meant_power power) }
+{
+    match power {
+        Power::Mount => true,
+        Power::None | Power::Unmount => false,
+    }
+}
+
 // The flags of the second mount, where mount(2) exposes the row.
 fn remount_flags(held_off: bool) -> u64
     ensures { result ≡ (if held_off then unmarked else ms_remount_bind) }
@@ -58,6 +69,26 @@ impl Service<'_> {
         }
     }
 
+    // Adds the calls that execute a row in a user namespace, which execve holds off elsewhere: its bounding set is full,
+    // user_namespaces(7).
+    fn push_held_off(&self, calls: &mut Vec<Call>, near: bool, row: &Row) -> Made<()>
+        requires served { IsServedWorld self.now.world.now }
+        requires known { row_at self.now.world.now.site.rows row.now.path ≡ Some row.now }
+        requires reachable { can_reach (launch_of self.now.world.now) (power_of (launch_of self.now.world.now)) ToExec row.now ≡ true }
+        requires by_space { can_make_user (launch_of self.now.world.now) ≡ true }
+        requires at_once { near ≡ reaches Nowise (launch_of self.now.world.now).table row.now.path ToExec }
+        ensures { OnOk result (calls.new.items ≡ calls.old.items ++ row_inside (launch_of self.now.world.now) self.now.program.now row.now) }
+    {
+        let wish = Wish::Exec;
+        if near {
+            let power = Power::None;
+            return self.push_inside(calls, &Aim { power, wish, row });
+        }
+        self.push_gaining(calls, CAP_SYS_ADMIN)?;
+        let power = self.power;
+        self.push_inside(calls, &Aim { power, wish, row })
+    }
+
     // Adds the calls that do what is wished of a row for which it is open.
     fn push_row(&self, calls: &mut Vec<Call>, wish: Wish, row: &Row) -> Made<()>
         requires served { IsServedWorld self.now.world.now }
@@ -67,6 +98,9 @@ impl Service<'_> {
     {
         let held_off = is_held_off(self.world, wish, row);
         let near = reach(launched_table(self.world), &row.path, wish, Power::None);
+        if held_off && !can_mount(self.power) {
+            return self.push_held_off(calls, near.is_some(), row);
+        }
         if !held_off && near.is_some() {
             let power = Power::None;
             return self.push_doing(calls, REMOUNT, &Aim { power, wish, row });

@@ -73,10 +73,10 @@ module _ (table : calls.Table) (site : Site) (calls' : HasLaunchCalls table.call
   goes_groups world at =
       let g : ℕ = wanted.gid % 2 ^ 32 in
       goes_on (Here Root) (Here Root) world (makes table.calls (codes "setgroups") 0 0 0 (Ids wanted.groups) ∷ []) (makes table.calls (codes "setresgid") wanted.gid wanted.gid wanted.gid Nothing ∷ [])
-      (goes_creds table site Root Root (codes "setgroups") 0 0 0 (Ids wanted.groups) (rule.Known known.Setgroups) (d.Setgroups wanted.groups) (λ c. after_setgroups c wanted.groups) (λ c. record c { groups = wanted.groups }) calls'.setgroups refl (λ host caller. refl)
+      (goes_creds table site Root Root (codes "setgroups") 0 0 0 (Ids wanted.groups) (rule.Known known.Setgroups) (d.Setgroups wanted.groups) (λ c. after_setgroups c wanted.groups) (λ c. record c { groups = wanted.groups }) calls'.setgroups refl (λ host process mounts owns. refl)
       (λ c own. groups_granted c wanted.groups own.0.effective plain.groups)
       (λ c own. (set_groups 0 all all none wanted.groups c (record c { groups = wanted.groups }) own.0 (groups_granted c wanted.groups own.0.effective plain.groups), own.1)) plan world at)
-      (λ mid own. goes_creds table site Root Root (codes "setresgid") wanted.gid wanted.gid wanted.gid Nothing (rule.Known known.Setresgid) (d.Setresgid g g g) (λ c. after_setresgid c g g g) (λ c. record c { gids = kept_ids c.gids g g g }) calls'.setresgid refl (λ host caller. refl)
+      (λ mid own. goes_creds table site Root Root (codes "setresgid") wanted.gid wanted.gid wanted.gid Nothing (rule.Known known.Setresgid) (d.Setresgid g g g) (λ c. after_setresgid c g g g) (λ c. record c { gids = kept_ids c.gids g g g }) calls'.setresgid refl (λ host process mounts owns. refl)
       (λ c has'. gids_granted c g has'.0.effective)
       (λ c has'. (set_gids 0 all all none g c (record c { gids = kept_ids c.gids g g g }) has'.0 (gids_granted c g has'.0.effective), has'.1)) plan mid own)
 
@@ -89,7 +89,7 @@ module _ (table : calls.Table) (site : Site) (calls' : HasLaunchCalls table.call
       let known' : cap < 41 = dropped.0 in
       let same : cap ≡ own = omega (arith, known') in
       let below : own < 41 = subst (λ n. n < 41) same known' in
-      goes_creds table site Root Root (codes "prctl") 24 cap 0 Nothing (rule.Known known.Prctl) (d.Prctl 24 own 0) (λ c. after_drop_bounding c own) (λ c. record c { bounding = minus c.bounding (single own) }) calls'.prctl refl (λ host caller. refl)
+      goes_creds table site Root Root (codes "prctl") 24 cap 0 Nothing (rule.Known known.Prctl) (d.Prctl 24 own 0) (λ c. after_drop_bounding c own) (λ c. record c { bounding = minus c.bounding (single own) }) calls'.prctl refl (λ host process mounts owns. refl)
       (λ c has'. drop_granted c own has'.0.effective below)
       (λ c has'. (drops 0 all all own c (record c { bounding = minus c.bounding (single own) }) has'.0 (drop_granted c own has'.0.effective below), still_within wanted.ambient c.bounding own (subst (λ n. has wanted.ambient n ≡ false) same (lacks dropped.1)) has'.1)) plan world at
     where
@@ -112,7 +112,7 @@ module _ (table : calls.Table) (site : Site) (calls' : HasLaunchCalls table.call
 
   goes_inherit : (world : World) → Here Root world → Goes (Here Ready) world (inherit_steps table.calls wanted)
   goes_inherit world at =
-      goes_creds table site Root Ready (codes "capset") 0 0 0 (Sets all all wanted.ambient) (rule.Known known.Capset) (d.Capset all all wanted.ambient) (λ c. after_capset c all all wanted.ambient) (λ c. with_sets c all all wanted.ambient) calls'.capset refl (λ host caller. refl)
+      goes_creds table site Root Ready (codes "capset") 0 0 0 (Sets all all wanted.ambient) (rule.Known known.Capset) (d.Capset all all wanted.ambient) (λ c. after_capset c all all wanted.ambient) (λ c. with_sets c all all wanted.ambient) calls'.capset refl (λ host process mounts owns. refl)
       inherits (λ c own. set_all 0 all all wanted.ambient c (with_sets c all all wanted.ambient) own.0 (inherits c own)) plan world at
 
   goes_user : (b : Bool) → eqb wanted.uid 0 ≡ b → (world : World) → Here Ready world
@@ -125,9 +125,9 @@ module _ (table : calls.Table) (site : Site) (calls' : HasLaunchCalls table.call
       let other : eqb u 0 ≡ false = ap (λ n. eqb n 0) low ∙ is in
       let taken : eqb u no_id ≡ false = ap (λ n. eqb n no_id) low ∙ grind (arith, nat_tests, small) in
       goes_on (Here Keeping) (Here Kept) world (prctl_step table.calls set_keepcaps 1 0 ∷ []) (makes table.calls (codes "setresuid") wanted.uid wanted.uid wanted.uid Nothing ∷ [])
-      (goes_creds table site Ready Keeping (codes "prctl") 8 1 0 Nothing (rule.Known known.Prctl) (d.Prctl 8 1 0) (λ c. Ok (after_set_keepcaps c true)) (λ c. after_set_keepcaps c true) calls'.prctl refl (λ host caller. refl)
+      (goes_creds table site Ready Keeping (codes "prctl") 8 1 0 Nothing (rule.Known known.Prctl) (d.Prctl 8 1 0) (λ c. Ok (after_set_keepcaps c true)) (λ c. after_set_keepcaps c true) calls'.prctl refl (λ host process mounts owns. refl)
       (λ c own. refl) (λ c own. keeps_caps 0 all all wanted.ambient c (after_set_keepcaps c true) own refl) plan world at)
-      (λ mid own. goes_creds table site Keeping Kept (codes "setresuid") wanted.uid wanted.uid wanted.uid Nothing (rule.Known known.Setresuid) (d.Setresuid u u u) (λ c. after_setresuid c u u u) (λ c. with_uids c (kept_ids c.uids u u u)) calls'.setresuid refl (λ host caller. refl)
+      (λ mid own. goes_creds table site Keeping Kept (codes "setresuid") wanted.uid wanted.uid wanted.uid Nothing (rule.Known known.Setresuid) (d.Setresuid u u u) (λ c. after_setresuid c u u u) (λ c. with_uids c (kept_ids c.uids u u u)) calls'.setresuid refl (λ host process mounts owns. refl)
       (λ c has'. uids_granted c u has'.0.effective)
       (λ c has'. let now = set_uid u all all wanted.ambient taken other c (with_uids c (kept_ids c.uids u u u)) has' (uids_granted c u has'.0.effective) in (now.permitted, now.inheritable)) plan mid own)
 
@@ -141,7 +141,7 @@ module _ (table : calls.Table) (site : Site) (calls' : HasLaunchCalls table.call
       let same : cap ≡ own = omega (arith, known') in
       let below : own < 41 = subst (λ n. n < 41) same known' in
       let wants : has wanted.ambient own ≡ true = subst (λ n. has wanted.ambient n ≡ true) same raised.1 in
-      goes_creds table site Kept Kept (codes "prctl") 47 2 cap Nothing (rule.Known known.Prctl) (d.Prctl 47 2 own) (λ c. after_raise c own) (λ c. record c { ambient = union c.ambient (single own) }) calls'.prctl refl (λ host caller. refl)
+      goes_creds table site Kept Kept (codes "prctl") 47 2 cap Nothing (rule.Known known.Prctl) (d.Prctl 47 2 own) (λ c. after_raise c own) (λ c. record c { ambient = union c.ambient (single own) }) calls'.prctl refl (λ host process mounts owns. refl)
       (λ c has'. raise_granted c own below (ap (λ s. has s own) has'.0 ∙ ambient_known.each own wants) (ap (λ s. has s own) has'.1 ∙ wants))
       (λ c has'. has') plan world at
 
@@ -163,12 +163,12 @@ module _ (table : calls.Table) (site : Site) (calls' : HasLaunchCalls table.call
   goes_left : (b : Bool) (world : World) → Here Kept world → Goes (Here Any) world (cond b [] (capset_step table.calls wanted.ambient wanted.ambient wanted.ambient ∷ []))
   goes_left true world at = stays (Here Any) world (weaker table site Kept Any [] plan world (λ c own. tt) at)
   goes_left false world at =
-      goes_creds table site Kept Any (codes "capset") 0 0 0 (Sets wanted.ambient wanted.ambient wanted.ambient) (rule.Known known.Capset) (d.Capset wanted.ambient wanted.ambient wanted.ambient) (λ c. after_capset c wanted.ambient wanted.ambient wanted.ambient) (λ c. with_sets c wanted.ambient wanted.ambient wanted.ambient) calls'.capset refl (λ host caller. refl)
+      goes_creds table site Kept Any (codes "capset") 0 0 0 (Sets wanted.ambient wanted.ambient wanted.ambient) (rule.Known known.Capset) (d.Capset wanted.ambient wanted.ambient wanted.ambient) (λ c. after_capset c wanted.ambient wanted.ambient wanted.ambient) (λ c. with_sets c wanted.ambient wanted.ambient wanted.ambient) calls'.capset refl (λ host process mounts owns. refl)
       leaves (λ c own. tt) plan world at
 
   goes_privileges : (b : Bool) (world : World) → Here Any world → Goes (Here Any) world (if_so b (prctl_step table.calls set_no_new_privs 1 0))
   goes_privileges true world at =
-      goes_creds table site Any Any (codes "prctl") 38 1 0 Nothing (rule.Known known.Prctl) (d.Prctl 38 1 0) (λ c. Ok (after_set_no_new_privs c)) after_set_no_new_privs calls'.prctl refl (λ host caller. refl)
+      goes_creds table site Any Any (codes "prctl") 38 1 0 Nothing (rule.Known known.Prctl) (d.Prctl 38 1 0) (λ c. Ok (after_set_no_new_privs c)) after_set_no_new_privs calls'.prctl refl (λ host process mounts owns. refl)
       (λ c own. refl) (λ c own. tt) plan world at
   goes_privileges false world at = stays (Here Any) world at
 

@@ -14,6 +14,7 @@ use Rattle.kern_files.specs.declared.program.Program.{Program}
 use Rattle.kern_mounts.specs.declared.step.Flags.{Flags}
 use Rattle.kern_mounts.specs.Finds.{finds}
 use Rattle.kern_mounts.specs.Table as mounts
+use Rattle.kern_mounts.specs.Mounts.{Mounts as MountList, first_mounts}
 use Rattle.kern_mounts.specs.Split.{Table}
 use Rattle.kernel_calls.specs.declared.call.Call.{Call}
 use Rattle.kernel_calls.specs.declared.payload.Payload.{Payload}
@@ -44,20 +45,20 @@ use Rattle.plain_launch.proofs.Going.{Goes, goes_once}
 use Rattle.plain_launch.proofs.Granted.{full, exec_granted}
 
 module _ (table : calls.Table) (site : Site) where
-  passes : (creds : Creds) (namespace : ℕ) (tables : List Table) (nr : ℕ) (args : List ℕ) (payload : Payload) (rule' : Rule) (doing : Doing)
+  passes : (creds : Creds) (namespace : ℕ) (tables : List MountList) (nr : ℕ) (args : List ℕ) (payload : Payload) (rule' : Rule) (doing : Doing)
       → rule_at table.calls nr ≡ Some rule' → doing_by rule' args payload ≡ Some doing
-      → step (solo table site creds [] namespace tables) (record { pid = 1; nr = nr; args = args; payload = payload })
+      → step (solo table site creds [] namespace tables) (record { pid = 1; abi = 0; nr = nr; args = args; payload = payload })
       ≡ applied (solo table site creds [] namespace tables) 1 (only table site creds [] namespace) (effect_of (host_of (solo table site creds [] namespace tables)) (caller_of (solo table site creds [] namespace tables) (only table site creds [] namespace)) doing)
   passes creds namespace tables nr args payload rule' doing by_rule is =
       let own : World = solo table site creds [] namespace tables in
-      let call : Call = record { pid = 1; nr = nr; args = args; payload = payload } in
+      let call : Call = record { pid = 1; abi = 0; nr = nr; args = args; payload = payload } in
       ap (λ (o : Option Rule). answered own 1 (only table site creds [] namespace) (asked_by o call)) by_rule
       ∙ ap (λ (o : Option Doing). answered own 1 (only table site creds [] namespace) (asked_if o)) is
 
   -- a call that changes credentials, where its rule grants it
   pub goes_creds : (Q R : Creds → Type 0) (name : List ℕ) (one two three : ℕ) (payload : Payload) (rule' : Rule) (doing : Doing) (answer : Creds → Result Creds ℕ) (made : Creds → Creds)
       → rule_at table.calls (number_of table.calls name) ≡ Some rule' → doing_by rule' (one ∷ two ∷ three ∷ 0 ∷ 0 ∷ 0 ∷ []) payload ≡ Some doing
-      → ((host : Host) (caller : Caller) → effect_of host caller doing ≡ creds_effect (answer caller.creds))
+      → ((host : Host) (process : Process) (mounts : MountList) (owns : Bool) → effect_of host (record { creds = process.creds; stack = process.stack; table = mounts; newer = false; owns = owns }) doing ≡ creds_effect (answer process.creds))
       → ((creds : Creds) → Q creds → answer creds ≡ Ok (made creds)) → ((creds : Creds) → Q creds → R (made creds))
       → (plan : Table) (world : World) → At table site Q [] plan world → Goes (At table site R [] plan) world (makes table.calls name one two three payload ∷ [])
   goes_creds Q R name one two three payload rule' doing answer made by_rule is effect may to plan world at =
@@ -66,7 +67,7 @@ module _ (table : calls.Table) (site : Site) where
       let call : Call = first_call table.calls name (one ∷ two ∷ three ∷ 0 ∷ 0 ∷ 0 ∷ []) payload in
       let stepped = ap (λ (v : World). step v call) at.is
       ∙ passes at.creds at.namespace at.tables call.nr call.args payload rule' doing by_rule is
-      ∙ ap (λ (e : Effect). applied own 1 process e) (effect (host_of own) (caller_of own process))
+      ∙ ap (λ (e : Effect). applied own 1 process e) (effect (host_of own) process (caller_of own process).table (caller_of own process).owns)
       ∙ ap (λ (a : Result Creds ℕ). applied own 1 process (creds_effect a)) (may at.creds at.as_asked) in
       goes_once (At table site R [] plan) world (makes table.calls name one two three payload) (subst (λ (out : Reply × World). IsDone out.0) (sym stepped) tt)
       (record {
@@ -88,7 +89,7 @@ module _ (table : calls.Table) (site : Site) where
         let own : World = start_world table site in
         let process : Process = only table site creds.start [] 1 in
         let call : Call = first_call table.calls (codes "unshare") (new_mounts ∷ 0 ∷ 0 ∷ 0 ∷ 0 ∷ 0 ∷ []) Nothing in
-        let stepped = passes creds.start 1 (mounts.start ∷ []) call.nr call.args Nothing (rule.Known known.Unshare) (d.Unshare new_mounts) calls'.unshare refl
+        let stepped = passes creds.start 1 (first_mounts ∷ []) call.nr call.args Nothing (rule.Known known.Unshare) (d.Unshare new_mounts) calls'.unshare refl
         ∙ ap (λ b. applied own 1 process (cond b f.OwnTable (f.Refuse 1))) (full all 21 refl refl) in
         subst (λ (out : Reply × World). IsDone out.0) (sym stepped) tt
 
@@ -114,7 +115,7 @@ module _ (table : calls.Table) (site : Site) where
 
     pub goes_mounts : (Q : Creds → Type 0) (plan : Table) → BeginsAtHostRoot plan → Q creds.start → Goes (At table site Q [] plan) (start_world table site) (with_unshare table.calls (mount_steps plan))
     goes_mounts Q plan begins starts =
-        let start : At table site Q [] mounts.start (start_world table site) = record { creds = creds.start; namespace = 1; tables = mounts.start ∷ []; as_asked = starts; is = refl; own = refl } in
+        let start : At table site Q [] mounts.start (start_world table site) = record { creds = creds.start; namespace = 1; tables = first_mounts ∷ []; as_asked = starts; is = refl; own = refl } in
         let made = planned plan in
         record { last = made.0; leads = made.1; holds = plan_mounted table site calls' Q [] plan (start_world table site) made.0 begins start made.1 }
 

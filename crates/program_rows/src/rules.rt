@@ -28,6 +28,7 @@ impl Rules {
                 arch: 0,
                 calls: CallRules::new(Vec::new(alloc)),
                 rest: Action::KillProcess,
+                other: Action::KillProcess,
             },
         }
     }
@@ -94,6 +95,7 @@ impl Rules {
             arch,
             calls: CallRules::new(calls),
             rest,
+            other: Action::KillProcess,
         };
         format!(in alloc; "{} calls", self.set.calls.list().len())
     }

@@ -1,3 +1,4 @@
+pub mod AllCalls
 pub mod Among
 pub mod Plain
 pub mod Ascending

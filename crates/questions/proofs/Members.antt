@@ -1,10 +1,13 @@
 -- Which questions the list has: each of which there is a thing to be asked of, and no other.
 use Rattle.std.proofs.Common.{◌≡◌, ◌<◌, ◌≤◌, ◌⊎◌, inl, inr, ℕ, zero, suc, Bool, true, false, List, [], ◌∷◌, ◌++◌, ◌+◌, Option, Some, None, length, map, refl, ap, ◌∙◌, sym, subst, arith}
-use Rattle.std.specs.Prelude.{slice_get, not, ◌==◌, Contains}
+use Rattle.std.specs.Prelude.{slice_get, not, ◌==◌, ◌&&◌, Contains}
 use Rattle.std.specs.List.{AllByRecursion}
-use Rattle.std.proofs.lemmas.Bool.{eqb-true}
+use Rattle.std.specs.Option.{option_map_or}
+use Rattle.std.proofs.lemmas.Bool.{and_from, and_parts, eqb-true, eq-eqb}
 use Rattle.std.proofs.lemmas.Bool.Decides.{nat_tests}
 use Rattle.call_table.specs.declared.listed.CallLine.{CallLine}
+use Rattle.call_table.specs.Lookups.{place_named}
+use Rattle.call_table.specs.Members.{is_first}
 use Rattle.call_table.specs.Table as calls
 use Rattle.site_table.specs.declared.row.Row.{Row}
 use Rattle.site_table.specs.declared.accounts.User.{User}
@@ -75,30 +78,53 @@ asked_rows from (first ∷ rows) (suc at) row wish e a =
     has_right (of_row from first) (of_rows (from + 1) rows) (ByPath wish (from + suc at)) (subst (λ k. Has (of_rows (from + 1) rows) (ByPath wish k)) n (asked_rows (from + 1) rows at row wish e a))
 
 -- ---- calls and families
-record AskedOfCalls (from : ℕ) (lines : List CallLine) (q : Question) : Type 0 where
+record AskedOfCalls (every : List CallLine) (from : ℕ) (lines : List CallLine) (q : Question) : Type 0 where
   at : ℕ
   line : CallLine
   listed : slice_get lines at ≡ Some line
   plain : is_plain (rule_of line) ≡ true
+  first : is_first every line.name (from + at) ≡ true
   is : Call (from + at) ≡ q
 
-calls_asked : (from : ℕ) (lines : List CallLine) (q : Question) → Has (of_calls from lines) q → AskedOfCalls from lines q
-calls_asked from [] q h = absurd h
-calls_asked from (line ∷ lines) q h = elim (has_append (if_so (is_plain (rule_of line)) (Call from)) (of_calls (from + 1) lines) q h) [
-  | inl here ↦ (let p = if_had (is_plain (rule_of line)) (Call from) q here in let n : from + 0 ≡ from = omega arith in record { at = 0; line = line; listed = refl; plain = p.0; is = ap Call n ∙ p.1 })
-  | inr more ↦ (let m = calls_asked (from + 1) lines q more in let n : from + suc m.at ≡ from + 1 + m.at = omega arith in record { at = suc m.at; line = m.line; listed = m.listed; plain = m.plain; is = ap Call n ∙ m.is })
+abbrev asks_at : List CallLine → ℕ → CallLine → Bool
+asks_at every at line = is_plain (rule_of line) && is_first every line.name at
+
+calls_asked : (every : List CallLine) (from : ℕ) (lines : List CallLine) (q : Question) → Has (of_calls every from lines) q → AskedOfCalls every from lines q
+calls_asked every from [] q h = absurd h
+calls_asked every from (line ∷ lines) q h = elim (has_append (if_so (asks_at every from line) (Call from)) (of_calls every (from + 1) lines) q h) [
+  | inl here ↦ (
+      let p = if_had (asks_at every from line) (Call from) q here in
+      let both = and_parts (is_plain (rule_of line)) (is_first every line.name from) p.0 in
+      let n : from + 0 ≡ from = omega arith in
+      record { at = 0; line = line; listed = refl; plain = both.0; first = ap (is_first every line.name) n ∙ both.1; is = ap Call n ∙ p.1 })
+  | inr more ↦ (
+      let m = calls_asked every (from + 1) lines q more in
+      let n : from + suc m.at ≡ from + 1 + m.at = omega arith in
+      record { at = suc m.at; line = m.line; listed = m.listed; plain = m.plain; first = ap (is_first every m.line.name) n ∙ m.first; is = ap Call n ∙ m.is })
 ]
 
-asked_calls : (from : ℕ) (lines : List CallLine) (at : ℕ) (line : CallLine) → slice_get lines at ≡ Some line → is_plain (rule_of line) ≡ true → Has (of_calls from lines) (Call (from + at))
-asked_calls from [] at line e p = cc
-asked_calls from (first ∷ lines) zero line e p =
-    let same : first ≡ line = cc in
-    let n : from ≡ from + 0 = omega arith in
-    has_left (if_so (is_plain (rule_of first)) (Call from)) (of_calls (from + 1) lines) (Call (from + 0))
-    (subst (λ k. Has (if_so (is_plain (rule_of first)) (Call from)) (Call k)) n (had_if (is_plain (rule_of first)) (Call from) (ap (λ (l : CallLine). is_plain (rule_of l)) same ∙ p)))
-asked_calls from (first ∷ lines) (suc at) line e p =
+asked_calls : (every : List CallLine) (from : ℕ) (lines : List CallLine) (at : ℕ) (line : CallLine) → slice_get lines at ≡ Some line → is_plain (rule_of line) ≡ true → is_first every line.name (from + at) ≡ true → Has (of_calls every from lines) (Call (from + at))
+asked_calls every from [] at line e p f = cc
+asked_calls every from (first ∷ lines) zero line e p f =
+    let same : line ≡ first = cc in
+    let n : from + 0 ≡ from = omega arith in
+    let own : asks_at every from first ≡ true =
+    and_from (is_plain (rule_of first)) (is_first every first.name from) (ap (λ (l : CallLine). is_plain (rule_of l)) (sym same) ∙ p) (ap (λ (l : CallLine). is_first every l.name from) (sym same) ∙ ap (is_first every line.name) (sym n) ∙ f) in
+    has_left (if_so (asks_at every from first) (Call from)) (of_calls every (from + 1) lines) (Call (from + 0)) (subst (λ k. Has (if_so (asks_at every from first) (Call from)) (Call k)) (sym n) (had_if (asks_at every from first) (Call from) own))
+asked_calls every from (first ∷ lines) (suc at) line e p f =
     let n : from + 1 + at ≡ from + suc at = omega arith in
-    has_right (if_so (is_plain (rule_of first)) (Call from)) (of_calls (from + 1) lines) (Call (from + suc at)) (subst (λ k. Has (of_calls (from + 1) lines) (Call k)) n (asked_calls (from + 1) lines at line e p))
+    has_right (if_so (asks_at every from first) (Call from)) (of_calls every (from + 1) lines) (Call (from + suc at)) (subst (λ k. Has (of_calls every (from + 1) lines) (Call k)) n (asked_calls every (from + 1) lines at line e p (ap (is_first every line.name) n ∙ f)))
+
+-- the first of all lines of a name
+first_is : (every : List CallLine) (name : List ℕ) (at : ℕ) → is_first every name at ≡ true → place_named name every ≡ Some at
+first_is every name at h = by (place_named name every) h
+  where
+    by : (o : Option ℕ) → option_map_or (λ place. place == at) o false ≡ true → o ≡ Some at
+    by None h = cc
+    by (Some place) h = ap Some (eqb-true place at h)
+
+is_the_first : (every : List CallLine) (name : List ℕ) (at : ℕ) → place_named name every ≡ Some at → is_first every name at ≡ true
+is_the_first every name at h = ap (λ o. option_map_or (λ place. place == at) o false) h ∙ eq-eqb at at refl
 
 families_asked : (from : ℕ) (lines : List CallLine) (q : Question) → Has (of_families from lines) q → (at : ℕ) × (at < length lines) × (Socket (from + at) ≡ q)
 families_asked from [] q h = absurd h
@@ -243,11 +269,17 @@ module _ (table : calls.Table) (site : Site) where
   abbrev Asked : Question → Type 0
   Asked q = IsAskedOf table site q
 
+  abbrev every : List CallLine
+  every = calls.every_call table
+
+  abbrev calls_of : List Question
+  calls_of = of_calls every 0 every
+
   abbrev one : List Question
   one = of_rows 0 site.rows
 
   abbrev two : List Question
-  two = one ++ of_calls 0 table.calls
+  two = one ++ calls_of
 
   abbrev three : List Question
   three = two ++ of_families 0 table.families
@@ -268,11 +300,11 @@ module _ (table : calls.Table) (site : Site) where
       let own : Asked (ByPath m.asked.wish (0 + m.at)) = (m.row, ap (slice_get site.rows) (sym n) ∙ m.listed, m.asked.asked) in
       subst Asked m.asked.is own
 
-  by_call : (q : Question) → Has (of_calls 0 table.calls) q → Asked q
+  by_call : (q : Question) → Has calls_of q → Asked q
   by_call q h =
-      let m = calls_asked 0 table.calls q h in
+      let m = calls_asked every 0 every q h in
       let n : m.at ≡ 0 + m.at = omega arith in
-      let own : Asked (Call (0 + m.at)) = (m.line, ap (slice_get table.calls) (sym n) ∙ m.listed, m.plain) in
+      let own : Asked (Call (0 + m.at)) = (m.line, ap (slice_get every) (sym n) ∙ m.listed, m.plain, first_is every m.line.name (0 + m.at) m.first) in
       subst Asked m.is own
 
   by_family : (q : Question) → Has (of_families 0 table.families) q → Asked q
@@ -310,7 +342,7 @@ module _ (table : calls.Table) (site : Site) where
           | inr other ↦ by_other q other
           | inl h ↦ elim (has_append two (of_families 0 table.families) q h) [
             | inr family ↦ by_family q family
-            | inl h ↦ elim (has_append one (of_calls 0 table.calls) q h) [ inl row ↦ by_row q row | inr call ↦ by_call q call ]
+            | inl h ↦ elim (has_append one calls_of q h) [ inl row ↦ by_row q row | inr call ↦ by_call q call ]
           ]
         ]
       ]
@@ -348,10 +380,10 @@ module _ (table : calls.Table) (site : Site) where
   listed : (q : Question) → Asked q → Has (questions table site) q
   listed (ByPath wish at) a =
       let n : 0 + at ≡ at = omega arith in
-      from_two (ByPath wish at) (has_left one (of_calls 0 table.calls) (ByPath wish at) (subst (λ k. Has one (ByPath wish k)) n (asked_rows 0 site.rows at a.0 wish a.1 a.2)))
+      from_two (ByPath wish at) (has_left one calls_of (ByPath wish at) (subst (λ k. Has one (ByPath wish k)) n (asked_rows 0 site.rows at a.0 wish a.1 a.2)))
   listed (Call at) a =
       let n : 0 + at ≡ at = omega arith in
-      from_two (Call at) (has_right one (of_calls 0 table.calls) (Call at) (subst (λ k. Has (of_calls 0 table.calls) (Call k)) n (asked_calls 0 table.calls at a.0 a.1 a.2)))
+      from_two (Call at) (has_right one calls_of (Call at) (subst (λ k. Has calls_of (Call k)) n (asked_calls every 0 every at a.0 a.1 a.2 (ap (is_first every a.0.name) n ∙ is_the_first every a.0.name at a.3))))
   listed (Socket at) a =
       let n : 0 + at ≡ at = omega arith in
       from_three (Socket at) (has_right two (of_families 0 table.families) (Socket at) (subst (λ k. Has (of_families 0 table.families) (Socket k)) n (asked_families 0 table.families at a)))

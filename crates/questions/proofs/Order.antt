@@ -4,6 +4,7 @@ use Rattle.std.specs.Prelude.{not, nat_lt, ◌==◌, ◌||◌, ◌&&◌}
 use Rattle.std.specs.List.{AllByRecursion, list_all}
 use Rattle.std.proofs.lemmas.Bool.{and_parts, or_cases, not-true, eqb-true, ltb-true, ltb-false}
 use Rattle.call_table.specs.declared.listed.CallLine.{CallLine}
+use Rattle.call_table.specs.Members.{is_first}
 use Rattle.call_table.specs.Table as calls
 use Rattle.site_table.specs.declared.row.Row.{Row}
 use Rattle.site_table.specs.Kinds.{is_dir, is_exe}
@@ -158,9 +159,9 @@ if_first b q kind place list k p more = by b
     by true = record { order = (before_all kind q list k (lower kind (place_of q + 1) (place + 1) list (omega (arith, p)) more.kinds), more.order); kinds = (record { kind_is = k; from = omega (arith, p) }, kept) }
     by false = record { order = more.order; kinds = kept }
 
-calls_in : (at : ℕ) (lines : List CallLine) → InPlaces 1 at (of_calls at lines)
-calls_in at [] = record { order = tt; kinds = tt }
-calls_in at (line ∷ lines) = if_first (is_plain (rule_of line)) (Call at) 1 at (of_calls (at + 1) lines) refl refl (calls_in (at + 1) lines)
+calls_in : (every : List CallLine) (at : ℕ) (lines : List CallLine) → InPlaces 1 at (of_calls every at lines)
+calls_in every at [] = record { order = tt; kinds = tt }
+calls_in every at (line ∷ lines) = if_first (is_plain (rule_of line) && is_first every line.name at) (Call at) 1 at (of_calls every (at + 1) lines) refl refl (calls_in every (at + 1) lines)
 
 families_in : (at : ℕ) (lines : List CallLine) → InPlaces 2 at (of_families at lines)
 families_in at [] = record { order = tt; kinds = tt }
@@ -236,26 +237,27 @@ with_part kind next list part h r order from until = record {
 whole : (table : calls.Table) (site : Site) → InOrder (questions table site)
 whole table site =
     let rows = rows_in 0 site.rows in
-    let calls = calls_in 0 table.calls in
+    let every = calls.every_call table in
+    let calls = calls_in every 0 every in
     let families = families_in 0 table.families in
     let others = kinds_test 3 10 other_questions refl in
     let caps = caps_in 0 41 in
     let uids = ids_order Uid 11 (λ id. refl) (λ id. refl) (uids_of site) (uids_rise site) in
     let gids = ids_order Gid 12 (λ id. refl) (λ id. refl) (gids_of site) (gids_rise site) in
     let one : Ready 1 (of_rows 0 site.rows) = record { order = rows.order; until = kinds_until 0 (4 * 0) (of_rows 0 site.rows) rows.kinds } in
-    let two : Ready 2 (of_rows 0 site.rows ++ of_calls 0 table.calls) =
-    with_part 1 2 (of_rows 0 site.rows) (of_calls 0 table.calls) (omega arith) one calls.order (kinds_from 1 0 (of_calls 0 table.calls) calls.kinds) (kinds_until 1 0 (of_calls 0 table.calls) calls.kinds) in
-    let three : Ready 3 (of_rows 0 site.rows ++ of_calls 0 table.calls ++ of_families 0 table.families) =
-    with_part 2 3 (of_rows 0 site.rows ++ of_calls 0 table.calls) (of_families 0 table.families) (omega arith) two families.order
+    let two : Ready 2 (of_rows 0 site.rows ++ of_calls every 0 every) =
+    with_part 1 2 (of_rows 0 site.rows) (of_calls every 0 every) (omega arith) one calls.order (kinds_from 1 0 (of_calls every 0 every) calls.kinds) (kinds_until 1 0 (of_calls every 0 every) calls.kinds) in
+    let three : Ready 3 (of_rows 0 site.rows ++ of_calls every 0 every ++ of_families 0 table.families) =
+    with_part 2 3 (of_rows 0 site.rows ++ of_calls every 0 every) (of_families 0 table.families) (omega arith) two families.order
     (kinds_from 2 0 (of_families 0 table.families) families.kinds) (kinds_until 2 0 (of_families 0 table.families) families.kinds) in
-    let four = with_part 3 10 (of_rows 0 site.rows ++ of_calls 0 table.calls ++ of_families 0 table.families) other_questions (omega arith) three others_order others.0 others.1 in
-    let five = with_part 10 11 (of_rows 0 site.rows ++ of_calls 0 table.calls ++ of_families 0 table.families ++ other_questions) (map Cap (count_from 0 41)) (omega arith) four caps.order
+    let four = with_part 3 10 (of_rows 0 site.rows ++ of_calls every 0 every ++ of_families 0 table.families) other_questions (omega arith) three others_order others.0 others.1 in
+    let five = with_part 10 11 (of_rows 0 site.rows ++ of_calls every 0 every ++ of_families 0 table.families ++ other_questions) (map Cap (count_from 0 41)) (omega arith) four caps.order
     (kinds_from 10 0 (map Cap (count_from 0 41)) caps.kinds) (kinds_until 10 0 (map Cap (count_from 0 41)) caps.kinds) in
     let uid_kinds = ids_kind Uid 11 (λ id. refl) (λ id. refl) (uids_of site) in
     let gid_kinds = ids_kind Gid 12 (λ id. refl) (λ id. refl) (gids_of site) in
-    let six = with_part 11 12 (of_rows 0 site.rows ++ of_calls 0 table.calls ++ of_families 0 table.families ++ other_questions ++ map Cap (count_from 0 41)) (map Uid (uids_of site)) (omega arith) five uids
+    let six = with_part 11 12 (of_rows 0 site.rows ++ of_calls every 0 every ++ of_families 0 table.families ++ other_questions ++ map Cap (count_from 0 41)) (map Uid (uids_of site)) (omega arith) five uids
     (kinds_from 11 0 (map Uid (uids_of site)) uid_kinds) (kinds_until 11 0 (map Uid (uids_of site)) uid_kinds) in
-    let seven = with_part 12 13 (of_rows 0 site.rows ++ of_calls 0 table.calls ++ of_families 0 table.families ++ other_questions ++ map Cap (count_from 0 41) ++ map Uid (uids_of site)) (map Gid (gids_of site)) (omega arith) six gids
+    let seven = with_part 12 13 (of_rows 0 site.rows ++ of_calls every 0 every ++ of_families 0 table.families ++ other_questions ++ map Cap (count_from 0 41) ++ map Uid (uids_of site)) (map Gid (gids_of site)) (omega arith) six gids
     (kinds_from 12 0 (map Gid (gids_of site)) gid_kinds) (kinds_until 12 0 (map Gid (gids_of site)) gid_kinds) in
     seven.order
   where

@@ -3,6 +3,7 @@ use Rattle.std.specs.Prelude.{◌≡◌, ◌↔◌, ◌⊎◌, ◌<◌, ◌≤�
 use Rattle.std.specs.List.Sorted.{IsStrictlyIncreasing}
 use Rattle.linux_numbers.specs.Capabilities.{cap_last_cap}
 use Rattle.call_table.specs.declared.listed.CallLine.{CallLine}
+use Rattle.call_table.specs.Lookups.{place_named}
 use Rattle.call_table.specs.Table as calls
 use Rattle.site_table.specs.declared.kinds.RowKind.{RowKind}
 use Rattle.site_table.specs.declared.row.Row.{Row}
@@ -40,10 +41,11 @@ pub data IsGidOf (site : Site) (id : ℕ) : Type 0 where
   of_further_group : Any (λ (user : User). Contains user.groups id) site.users → IsGidOf site id
   of_group_of_row : Any (λ (row : Row). row.setgid ≡ Some id) site.rows → IsGidOf site id
 
--- there is a thing that the question is asked of
+-- there is a thing that the question is asked of; a call is asked of at the first of all lines of its name, in whatever ABI
 abbrev pub IsAskedOf : calls.Table → Site → Question → Type 0
 IsAskedOf table site (ByPath wish at) = (row : Row) × (slice_get site.rows at ≡ Some row) × (is_asked_of wish row.kind ≡ true)
-IsAskedOf table site (Call at) = (line : CallLine) × (slice_get table.calls at ≡ Some line) × (is_plain (rule_of line) ≡ true)
+IsAskedOf table site (Call at) =
+    (line : CallLine) × (slice_get (calls.every_call table) at ≡ Some line) × (is_plain (rule_of line) ≡ true) × (place_named line.name (calls.every_call table) ≡ Some at)
 IsAskedOf table site (Socket at) = at < length table.families
 IsAskedOf table site (Cap number) = number ≤ cap_last_cap
 IsAskedOf table site (Uid id) = IsUidOf site id

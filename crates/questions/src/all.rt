@@ -43,9 +43,9 @@ fn push_gids(list: &mut Vec<Question>, gids: &[u32]) -> Result<(), AllocError>
 }
 
 /// All that is asked of a service, in this order: of each row to see and to read it, to write what is no directory and to
-/// execute what can be executed; of each call that no rule names, in the order of the table; of each family; of the types
-/// of namespaces and the six other uses of memory, policies, domains and modes; of the capabilities by their numbers; of
-/// the uids and of the gids that the site knows, ascending, each once.
+/// execute what can be executed; of each call that no rule names, in the order of the table, once for each name, whichever
+/// ABIs have it; of each family; of the types of namespaces and the six other uses of memory, policies, domains and modes;
+/// of the capabilities by their numbers; of the uids and of the gids that the site knows, ascending, each once.
 ///
 /// The one error is want of memory.
 pub fn questions(
@@ -57,7 +57,7 @@ pub fn questions(
 {
     let mut list = Vec::new(alloc);
     push_rows(&mut list, site.rows())?;
-    push_calls(&mut list, calls.calls())?;
+    push_calls(&mut list, calls)?;
     push_families(&mut list, calls.families())?;
     list.extend_from_slice(other_questions())?;
     push_caps(&mut list)?;

@@ -15,3 +15,4 @@ pub use all::questions;
 pub use filter_rules::NamespaceType;
 pub use question::Question;
 pub use reach_paths::Wish;
+pub use tables::call_at;

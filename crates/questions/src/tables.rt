@@ -1,13 +1,16 @@
 //! The questions of the rows of a site, and of the calls and families of a table.
 
-ghost use Rattle.std.specs.Prelude.{◌≡◌, ◌++◌, map, OnOk};
+ghost use Rattle.std.specs.Prelude.{◌≡◌, ◌++◌, ◌&&◌, false, length, map, option_copied, slice_get, OnOk};
+ghost use Rattle.std.specs.Option.{option_map_or};
+ghost use Rattle.call_table.specs.Members.{is_first};
+ghost use Rattle.call_table.specs.Table.{every_call};
 ghost use Rattle.kernel_calls.specs.Rules.{rule_of};
-ghost use Rattle.kernel_laws.specs.Questions.{is_plain, of_row, of_rows, of_calls, of_families};
+ghost use Rattle.kernel_laws.specs.Questions.{Call, if_so, is_plain, of_row, of_rows, of_calls, of_families};
 ghost use Rattle.questions.specs.Meanings.{meant};
 
 use crate::question::Question;
 use call_names::is_known;
-use call_table::CallLine;
+use call_table::{CallLine, CallTable};
 use reach_paths::Wish;
 use site_table::{Row, RowKind};
 use std::alloc::AllocError;
@@ -46,14 +49,65 @@ fn is_plain(line: &CallLine) -> bool
     !is_known(line.name.as_str())
 }
 
-// Adds what is asked of the calls: to make each plain one.
-pub(crate) fn push_calls(list: &mut Vec<Question>, calls: &[CallLine]) -> Result<(), AllocError>
-    ensures { OnOk result (map meant list.new.items ≡ map meant list.old.items ++ of_calls 0 calls.now) }
+/// The line of a call by its number in the table's list of all calls: those of the native ABI come first.
+#[tactic(auto, using(crate::proofs::AllCalls::front_call, crate::proofs::AllCalls::back_call))]
+pub fn call_at(table: &CallTable, at: usize) -> Option<&CallLine>
+    ensures by_position { option_copied result ≡ slice_get (every_call table.now) at }
 {
-    for (at, line) in calls.iter().enumerate() {
-        if is_plain(line) {
-            list.push(Question::Call(at))?;
-        }
+    let native = table.calls();
+    if at < native.len() {
+        native.get(at)
+    } else {
+        table.calls_in(1).get(at - native.len())
+    }
+}
+
+// How many calls there are, in all ABIs.
+#[tactic(auto, using(crate::proofs::AllCalls::count_all))]
+fn count_calls(table: &CallTable) -> usize
+    ensures { result ≡ length (every_call table.now) }
+{
+    table.calls().len() + table.calls_in(1).len()
+}
+
+// Whether the line of this number is the first of its name.
+fn is_first(table: &CallTable, at: usize, line: &CallLine) -> bool
+    ensures { result ≡ is_first (every_call table.now) line.now.name at }
+{
+    match table.position(line.name.as_str()) {
+        Some(place) => place == at,
+        None => false,
+    }
+}
+
+// Whether the call of this number is asked of: it is plain, and its line the first of its name.
+fn is_asked(table: &CallTable, at: usize) -> bool
+    ensures { let every = every_call table.now in
+        result ≡ option_map_or (λ line. is_plain (rule_of line) && is_first every line.name at) (slice_get every at) false }
+{
+    match call_at(table, at) {
+        Some(line) => is_plain(line) && is_first(table, at, line),
+        None => false,
+    }
+}
+
+// Adds what is asked of the call of this number: to make it.
+fn push_call(list: &mut Vec<Question>, table: &CallTable, at: usize) -> Result<(), AllocError>
+    ensures { let every = every_call table.now in
+        OnOk result (map meant list.new.items ≡ map meant list.old.items ++ if_so (option_map_or (λ line. is_plain (rule_of line) && is_first every line.name at) (slice_get every at) false) (Call at)) }
+{
+    if is_asked(table, at) {
+        list.push(Question::Call(at))?;
+    }
+    Ok(())
+}
+
+// Adds what is asked of the calls.
+pub(crate) fn push_calls(list: &mut Vec<Question>, table: &CallTable) -> Result<(), AllocError>
+    ensures { OnOk result (map meant list.new.items ≡ map meant list.old.items ++ of_calls (every_call table.now) 0 (every_call table.now)) }
+{
+    for at in 0..count_calls(table) {
+        push_call(list, table, at)?;
     }
     Ok(())
 }

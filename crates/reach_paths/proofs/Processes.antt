@@ -1,10 +1,12 @@
 -- A process that may mount makes the tables that the rules make of its own, call by call.
-use Rattle.std.proofs.Common.{◌≡◌, ◌∙◌, ℕ, zero, suc, Bool, true, false, List, [], ◌∷◌, ◌++◌, Some, Ok, refl, cond, ap, sym, subst, arith}
+use Rattle.std.proofs.Common.{◌≡◌, ◌∙◌, ℕ, zero, suc, Bool, true, false, List, [], ◌∷◌, ◌++◌, Some, Ok, refl, cond, ap, sym, subst, arith, map}
 use Rattle.std.specs.Prelude.{slice_get, slice_set, ◌-◌}
 use Rattle.std.specs.List.{AllByRecursion}
 use Rattle.abs_path.specs.Paths.{Path}
 use Rattle.site_table.specs.Table.{row_at}
 use Rattle.kern_mounts.specs.Launch.{HasShortPlace, proc}
+use Rattle.kern_mounts.specs.Answer.{plain_answer}
+use Rattle.kern_mounts.specs.Mounts.{Mounts, plain}
 use Rattle.kern_mounts.specs.Split.{Table}
 use Rattle.kern_mounts.specs.Table.{StartsAtRoot}
 use Rattle.kern_mounts.specs.Umount.{after_umount}
@@ -12,16 +14,19 @@ use Rattle.kern_mounts.specs.Unmounts.{Unmounts, still, then_one}
 use Rattle.kern_mounts.proofs.Unmounting.{removes, trims, trimmed_part, trimmed_top, append_all}
 use Rattle.kern_files.specs.MountCall.{ms_bind, after_mount}
 use Rattle.kern_files.specs.UmountCall.{umount_answer}
+use Rattle.kern_files.specs.MountsCall.{mounts_after_mount, mounts_umount_answer}
+use Rattle.kern_files.proofs.MountsCall.{mount_entries, umount_answer_entries}
 use Rattle.kernel_calls.specs.Calls.{IsPath}
 use Rattle.kernel_calls.specs.Doing.{Doing, Mount, Umount}
 use Rattle.kernel_calls.specs.declared.call.Call.{Call}
 use Rattle.kernel_model.specs.Effects.{Effect, Refuse, SetTable, table_effect, effect_of}
 use Rattle.kernel_model.specs.Runs.{moments, run, IsDone, AllDone}
 use Rattle.kernel_model.specs.Step.{step, step_by, decided, answered, applied}
-use Rattle.kernel_model.specs.World.{World, living_of, table_of, table_or, with_table, host_of, caller_of}
+use Rattle.kernel_model.specs.World.{World, living_of, mounts_of, table_or, with_table, host_of, caller_of}
 use Rattle.kernel_model.specs.declared.process.Process.{Process}
 use Rattle.kernel_model.specs.declared.reply.Reply.{Reply}
 use Rattle.kernel_model.specs.declared.reply.Reply.TheVariants.{Done}
+use Rattle.cap_sets.specs.Sets.{has}
 use Rattle.kernel_laws.proofs.Numbered.{number_get, get_number}
 use Rattle.reach_paths.specs.Processes.{CanMount, AsksFor, LeadsTo, MountingShowsAll, umount_flags, CanAskToUnmount, UnmountingIsDone}
 use Rattle.reach_paths.proofs.Mounted.{mounted_twice}
@@ -33,24 +38,25 @@ put_own (z ∷ xs) zero x y e = refl
 put_own (z ∷ xs) (suc i) x y e = put_own xs i x y e
 
 module _ (world : World) (pid : ℕ) (process : Process) (table : Table) (can : CanMount world pid process table) where
-  table_is : table_of world process.namespace ≡ table
-  table_is = ap table_or can.own
+  mounts_are : mounts_of world process.namespace ≡ map plain table
+  mounts_are = ap table_or can.own
 
   -- the world in which the namespace has another table
   abbrev after : Table → World
-  after next = with_table world process.namespace next
+  after next = with_table world process.namespace (map plain next)
 
   still_can : (next : Table) → CanMount (after next) pid process next
   still_can next =
-      let at = number_get world.tables process.namespace table can.own in
+      let at = number_get world.tables process.namespace (map plain table) can.own in
       record {
         lives = can.lives;
         admin = can.admin;
-        own = get_number (slice_set world.tables (process.namespace - 1) next) process.namespace next at.0 (put_own world.tables (process.namespace - 1) table next at.1);
+        owns = can.owns;
+        own = get_number (slice_set world.tables (process.namespace - 1) (map plain next)) process.namespace (map plain next) at.0 (put_own world.tables (process.namespace - 1) (map plain table) (map plain next) at.1);
       }
 
   -- a call that asks for a change of the table makes it
-  steps : (call : Call) (doing : Doing) (next : Table) → AsksFor world pid process call doing → effect_of (host_of world) (caller_of world process) doing ≡ SetTable next
+  steps : (call : Call) (doing : Doing) (next : Table) → AsksFor world pid process call doing → effect_of (host_of world) (caller_of world process) doing ≡ SetTable (map plain next)
       → step world call ≡ (Done 0, after next)
   steps call doing next asks makes =
       ap (λ p. step_by world call (living_of world p)) asks.caller
@@ -60,23 +66,25 @@ module _ (world : World) (pid : ℕ) (process : Process) (table : Table) (can : 
       ∙ ap (applied world call.pid process) makes
 
   mount_makes : (source target : Path) (flags : ℕ) (next : Table) → after_mount (row_at world.site.rows) table source target flags ≡ Ok next
-      → effect_of (host_of world) (caller_of world process) (Mount source target flags) ≡ SetTable next
+      → effect_of (host_of world) (caller_of world process) (Mount source target flags) ≡ SetTable (map plain next)
   mount_makes source target flags next e =
-      ap (λ b. cond {A = Effect} b (table_effect (after_mount (row_at world.site.rows) (table_of world process.namespace) source target flags)) (Refuse 1)) can.admin
-      ∙ ap (λ t. table_effect (after_mount (row_at world.site.rows) t source target flags)) table_is ∙ ap table_effect e
+      ap (λ b. cond {A = Effect} b (cond (has process.creds.effective 21) (table_effect (mounts_after_mount (row_at world.site.rows) (mounts_of world process.namespace) source target flags)) (Refuse 1)) (Refuse 1)) can.owns
+      ∙ ap (λ b. cond {A = Effect} b (table_effect (mounts_after_mount (row_at world.site.rows) (mounts_of world process.namespace) source target flags)) (Refuse 1)) can.admin
+      ∙ ap (λ (t : Mounts). table_effect (mounts_after_mount (row_at world.site.rows) t source target flags)) mounts_are ∙ ap table_effect (mount_entries (row_at world.site.rows) table source target flags ∙ ap plain_answer e)
 
   umount_is : (detach : Bool) (path : Path) (next : Table) → after_umount table path detach ≡ Ok next → umount_answer table path (umount_flags detach) ≡ Ok next
   umount_is true path next e = e
   umount_is false path next e = e
 
   umount_makes : (path : Path) (detach : Bool) (next : Table) → after_umount table path detach ≡ Ok next
-      → effect_of (host_of world) (caller_of world process) (Umount path (umount_flags detach)) ≡ SetTable next
+      → effect_of (host_of world) (caller_of world process) (Umount path (umount_flags detach)) ≡ SetTable (map plain next)
   umount_makes path detach next e =
-      ap (λ b. cond {A = Effect} b (table_effect (umount_answer (table_of world process.namespace) path (umount_flags detach))) (Refuse 1)) can.admin
-      ∙ ap (λ t. table_effect (umount_answer t path (umount_flags detach))) table_is ∙ ap table_effect (umount_is detach path next e)
+      ap (λ b. cond {A = Effect} b (cond (has process.creds.effective 21) (table_effect (mounts_umount_answer (mounts_of world process.namespace) path (umount_flags detach))) (Refuse 1)) (Refuse 1)) can.owns
+      ∙ ap (λ b. cond {A = Effect} b (table_effect (mounts_umount_answer (mounts_of world process.namespace) path (umount_flags detach))) (Refuse 1)) can.admin
+      ∙ ap (λ (t : Mounts). table_effect (mounts_umount_answer t path (umount_flags detach))) mounts_are ∙ ap table_effect (umount_answer_entries table path (umount_flags detach) ∙ ap plain_answer (umount_is detach path next e))
 
   -- and then further calls
-  one_more : (call : Call) (doing : Doing) (next : Table) → AsksFor world pid process call doing → effect_of (host_of world) (caller_of world process) doing ≡ SetTable next
+  one_more : (call : Call) (doing : Doing) (next : Table) → AsksFor world pid process call doing → effect_of (host_of world) (caller_of world process) doing ≡ SetTable (map plain next)
       → (calls : List Call) (now : Table) → LeadsTo (after next) pid process calls now → LeadsTo world pid process (call ∷ calls) now
   one_more call doing next asks makes calls now more =
       let is = steps call doing next asks makes in
@@ -85,7 +93,7 @@ module _ (world : World) (pid : ℕ) (process : Process) (table : Table) (can : 
       record { done = subst P (sym is) (tt, more.done); can = subst Q (sym is) more.can }
 
 -- the tables and filters stay, so a call asks for the same later
-later_asks : (world : World) (pid : ℕ) (process : Process) (next : Table) (call : Call) (doing : Doing) → AsksFor world pid process call doing → AsksFor (with_table world process.namespace next) pid process call doing
+later_asks : (world : World) (pid : ℕ) (process : Process) (next : Table) (call : Call) (doing : Doing) → AsksFor world pid process call doing → AsksFor (with_table world process.namespace (map plain next)) pid process call doing
 later_asks world pid process next call doing asks = record { caller = asks.caller; through = asks.through; asks = asks.asks }
 
 nothing_more : (world : World) (pid : ℕ) (process : Process) (table : Table) → CanMount world pid process table → LeadsTo world pid process [] table
@@ -96,12 +104,12 @@ mounting_shows_all world pid process table bind remount flags can is form all ot
     let two = mounted_twice world.site table flags is form all other in
     let one = mount_makes world pid process table can [] proc ms_bind two.middle two.bound in
     let can_again = still_can world pid process table can two.middle in
-    let next = mount_makes (with_table world process.namespace two.middle) pid process two.middle can_again [] proc flags two.last two.remounted in
+    let next = mount_makes (with_table world process.namespace (map plain two.middle)) pid process two.middle can_again [] proc flags two.last two.remounted in
     record {
       now = two.last;
       leads = one_more world pid process table can bind (Mount [] proc ms_bind) two.middle asks one (remount ∷ []) two.last
-          (one_more (with_table world process.namespace two.middle) pid process two.middle can_again remount (Mount [] proc flags) two.last (later_asks world pid process two.middle remount (Mount [] proc flags) again) next [] two.last
-          (nothing_more (with_table (with_table world process.namespace two.middle) process.namespace two.last) pid process two.last (still_can (with_table world process.namespace two.middle) pid process two.middle can_again two.last)));
+          (one_more (with_table world process.namespace (map plain two.middle)) pid process two.middle can_again remount (Mount [] proc flags) two.last (later_asks world pid process two.middle remount (Mount [] proc flags) again) next [] two.last
+          (nothing_more (with_table (with_table world process.namespace (map plain two.middle)) process.namespace (map plain two.last)) pid process two.last (still_can (with_table world process.namespace (map plain two.middle)) pid process two.middle can_again two.last)));
       each_row = two.each_row;
     }
 
@@ -117,7 +125,7 @@ unmounting world pid process {table = table} {now = now} can top short asks (the
     let call = asks path detach (subst IsPath (sym r.place) named) in
     let part = trims path detach table next top e in
     let can' = still_can world pid process table can next in
-    let more' = unmounting (with_table world process.namespace next) pid process can' (trimmed_top part top) (part_all HasShortPlace (trimmed_part part) short)
+    let more' = unmounting (with_table world process.namespace (map plain next)) pid process can' (trimmed_top part top) (part_all HasShortPlace (trimmed_part part) short)
     (λ path detach fits. let own = asks path detach fits in (own.0, later_asks world pid process next own.0 (Umount path (umount_flags detach)) own.1)) more in
     (call.0 ∷ more'.0, one_more world pid process table can call.0 (Umount path (umount_flags detach)) next call.1 (umount_makes world pid process table can path detach next e) more'.0 now more'.1)
 

@@ -1,13 +1,13 @@
 -- What a process that may mount makes of its mount table, call by call, capabilities(7), CAP_SYS_ADMIN.
-use Rattle.std.specs.Prelude.{◌≡◌, ℕ, Bool, true, false, List, [], ◌∷◌, Some}
+use Rattle.std.specs.Prelude.{◌≡◌, ℕ, Bool, true, false, List, [], ◌∷◌, Some, map, ◌==◌}
 use Rattle.abs_path.specs.Paths.{Path}
 use Rattle.bpf_code.specs.declared.decision.Decision.TheVariants.{Pass}
-use Rattle.bpf_code.specs.Stack.{decision_on}
 use Rattle.cap_sets.specs.Sets.{has}
 use Rattle.linux_numbers.specs.Capabilities.{cap_sys_admin}
 use Rattle.site_table.specs.declared.row.Row.{Row}
 use Rattle.site_table.specs.Table.{IsSite, row_at}
 use Rattle.kern_mounts.specs.Launch.{CanBeMounted, proc}
+use Rattle.kern_mounts.specs.Mounts.{plain}
 use Rattle.kern_mounts.specs.Split.{Table}
 use Rattle.kern_mounts.specs.Unmounts.{Unmounts}
 use Rattle.kern_files.specs.Bits.{has_all}
@@ -17,23 +17,24 @@ use Rattle.kernel_calls.specs.Calls.{IsPath}
 use Rattle.kernel_calls.specs.Doing.{Doing, Mount, Umount, Does, asked_of}
 use Rattle.kernel_calls.specs.declared.call.Call.{Call}
 use Rattle.kernel_model.specs.Runs.{moments, run, AllDone}
-use Rattle.kernel_model.specs.Step.{data_of}
-use Rattle.kernel_model.specs.World.{World, living_of, of_number}
+use Rattle.kernel_model.specs.Step.{decision_of}
+use Rattle.kernel_model.specs.World.{World, living_of, of_number, owner_of}
 use Rattle.kernel_model.specs.declared.process.Process.{Process}
 use Rattle.reach_paths.specs.Finding.{dirs_of}
 use Rattle.reach_paths.specs.Mounting.{IsBelowProc}
 
--- the process lives, has the capability, and its namespace has this table
+-- the process lives, has the capability in the user namespace that its mount namespace belongs to, and this is its table, of mounts that are not locked and keep nothing
 pub record CanMount (world : World) (pid : ℕ) (process : Process) (table : Table) : Type 0 where
   pub lives : living_of world pid ≡ Some process
   pub admin : has process.creds.effective cap_sys_admin ≡ true
-  pub own : of_number world.tables process.namespace ≡ Some table
+  pub owns : (owner_of world process.namespace == process.user) ≡ true
+  pub own : of_number world.tables process.namespace ≡ Some (map plain table)
 
 -- a call of the process that asks for this, and that its filters let through
 pub record AsksFor (world : World) (pid : ℕ) (process : Process) (call : Call) (doing : Doing) : Type 0 where
   pub caller : call.pid ≡ pid
-  pub through : decision_on process.stack (data_of world call) ≡ Pass
-  pub asks : asked_of world.calls.calls call ≡ Does doing
+  pub through : decision_of world call process ≡ Pass
+  pub asks : asked_of world.calls call ≡ Does doing
 
 -- every call is done, and then the process may still mount, and its namespace has this table
 pub record LeadsTo (world : World) (pid : ℕ) (process : Process) (calls : List Call) (now : Table) : Type 0 where

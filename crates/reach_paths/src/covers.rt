@@ -4,6 +4,7 @@ ghost use Rattle.std.specs.Prelude.{◌≡◌, ◌++◌, drop, is_some};
 ghost use Rattle.std.specs.List.{list_any};
 ghost use Rattle.abs_path.specs.Paths.{parts_of};
 ghost use Rattle.abs_path.specs.Prefix.{IsRest, is_prefix, is_behind, behind_text};
+ghost use Rattle.kern_mounts.specs.Mounts.{steps_of};
 ghost use Rattle.kern_mounts.specs.Entry.{leads_to};
 
 use abs_path::AbsPath;
@@ -44,7 +45,7 @@ fn leads_to(place: &AbsPath, front: &AbsPath, rest: &str) -> bool
 /// to it. What `AbsPath::rest` answers is a rest, and so is nothing. It takes no memory.
 pub fn is_covered(table: &MountTable, from: usize, front: &AbsPath, rest: &str) -> bool
     requires may_be_joined { IsRest rest.now }
-    ensures some_place_leads_there { result ≡ list_any (leads_to (front.now ++ parts_of rest.now)) (drop from table.now) }
+    ensures some_place_leads_there { result ≡ list_any (leads_to (front.now ++ parts_of rest.now)) (drop from (steps_of table.now)) }
 {
     for at in from..table.len() {
         if leads_to(&table.entry(at).place, front, rest) {

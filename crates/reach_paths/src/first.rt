@@ -4,6 +4,7 @@ ghost use Rattle.std.specs.Prelude.{◌≡◌, ◌+◌, ◌<◌, ◌≤◌, ◌�
 ghost use Rattle.linux_numbers.specs.Limits.{mount_max};
 ghost use Rattle.site_table.specs.declared.row.Row.{Row};
 ghost use Rattle.site_table.specs.Table.{Site, IsSite, row_at};
+ghost use Rattle.kern_mounts.specs.Mounts.{steps_of};
 ghost use Rattle.kern_mounts.specs.Launch.{CanBeMounted};
 ghost use Rattle.kern_mounts.specs.declared.step.MountStep.{MountStep};
 ghost use Rattle.kernel_laws.specs.Reach.{shows_row, reach_from, reach};
@@ -21,8 +22,8 @@ use kern_mounts::{MountTable, What};
 fn shows(table: &MountTable, at: usize, row: &AbsPath, uncover: bool) -> bool
     requires in_range { at < length table.now }
     requires few { length table.now ≤ mount_max }
-    ensures { (entry : MountStep) → slice_get table.now at ≡ Some entry
-        → result ≡ shows_row uncover entry (drop (at + 1) table.now) row.now entry.what }
+    ensures { (entry : MountStep) → slice_get (steps_of table.now) at ≡ Some entry
+        → result ≡ shows_row uncover entry (drop (at + 1) (steps_of table.now)) row.now entry.what }
 {
     let entry = table.entry(at);
     match &entry.what {
@@ -36,7 +37,7 @@ fn shows(table: &MountTable, at: usize, row: &AbsPath, uncover: bool) -> bool
 
 // The number of the first entry that shows the row, with flags that allow the wish.
 fn first_that_serves(table: &MountTable, row: &AbsPath, wish: Wish, uncover: bool) -> Option<usize>
-    ensures { result ≡ reach_from uncover row.now (meant_wish wish) table.now 0 }
+    ensures { result ≡ reach_from uncover row.now (meant_wish wish) (steps_of table.now) 0 }
 {
     for at in 0..table.len() {
         if allows(table.entry(at).flags, wish) && shows(table, at, row, uncover) {
@@ -53,14 +54,14 @@ fn first_that_serves(table: &MountTable, row: &AbsPath, wish: Wish, uncover: boo
 /// On a table that a launch can mount, in a site that has the row, None comes exactly where no path finds the row so, on no
 /// table that the power makes of this one. It takes no memory.
 pub fn reach(table: &MountTable, row: &AbsPath, wish: Wish, power: Power) -> Option<usize>
-    ensures by_the_rule { result ≡ reach (meant_power power) table.now row.now (meant_wish wish) }
-    ensures first_that_leads_there { IsFirstByPower (meant_power power) table.now row.now (meant_wish wish) result }
+    ensures by_the_rule { result ≡ reach (meant_power power) (steps_of table.now) row.now (meant_wish wish) }
+    ensures first_that_leads_there { IsFirstByPower (meant_power power) (steps_of table.now) row.now (meant_wish wish) result }
 
     // On a table that a launch can mount, in a site that has the row.
     ensures exactly_where_it_can_be_found { (site : Site) (target : Row)
-        → IsSite site → CanBeMounted (dirs_of site) table.now → row_at site.rows row.now ≡ Some target
+        → IsSite site → CanBeMounted (dirs_of site) (steps_of table.now) → row_at site.rows row.now ≡ Some target
         → (IsSome result
-        ↔ CanBeFound (meant_power power) (row_at site.rows) table.now (meant_wish wish) target) }
+        ↔ CanBeFound (meant_power power) (row_at site.rows) (steps_of table.now) (meant_wish wish) target) }
 {
     match power {
         Power::None => first_that_serves(table, row, wish, false),

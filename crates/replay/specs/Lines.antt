@@ -1,7 +1,7 @@
 -- The lines of a replay, each ended by a line feed.
 use Rattle.std.specs.Prelude.{ℕ, List, [], ◌∷◌, ◌++◌, codes, flat_map}
 use Rattle.std.specs.Fmt.{decimal}
-use Rattle.call_table.specs.declared.listed.CallLine.{CallLine}
+use Rattle.call_table.specs.Table.{Table}
 use Rattle.kernel_calls.specs.declared.call.Call.{Call}
 use Rattle.kernel_model.specs.declared.reply.Reply.{Reply}
 use Rattle.kernel_model.specs.declared.reply.Reply.TheVariants.{Done, Refused, Killed}
@@ -16,13 +16,13 @@ reply_words (Refused errno) = codes "errno " ++ decimal errno
 reply_words Killed = codes "killed"
 
 -- a call, as a script would have it, and what it comes to
-abbrev pub call_line : List CallLine → Call → Reply → List ℕ
-call_line calls call reply = call_text calls call ++ (codes " -> " ++ (reply_words reply ++ 10 ∷ []))
+abbrev pub call_line : Table → Call → Reply → List ℕ
+call_line table call reply = call_text table call ++ (codes " -> " ++ (reply_words reply ++ 10 ∷ []))
 
 -- a call of a run and the reply to it
-abbrev pub moment_line : List CallLine → Moment → List ℕ
-moment_line calls moment = call_line calls moment.call moment.reply
+abbrev pub moment_line : Table → Moment → List ℕ
+moment_line table moment = call_line table moment.call moment.reply
 
 -- the run of a script from a world on: a line for each call, in order, with its reply
-abbrev pub run_text : List CallLine → World → List Call → List ℕ
-run_text calls world script = flat_map (moment_line calls) (moments world script)
+abbrev pub run_text : Table → World → List Call → List ℕ
+run_text table world script = flat_map (moment_line table) (moments world script)

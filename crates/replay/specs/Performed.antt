@@ -1,6 +1,6 @@
 -- Which calls of a script were made, where its replay stopped.
 use Rattle.std.specs.Prelude.{◌≡◌, ◌⊎◌, ◌≤◌, ℕ, List, ◌++◌, length, Option, Result, Ok, Err}
-use Rattle.call_table.specs.declared.listed.CallLine.{CallLine}
+use Rattle.call_table.specs.Table.{Table}
 use Rattle.host_io.specs.Writing.{Grew}
 use Rattle.host_io.specs.declared.writing.SinkError.{SinkError}
 use Rattle.kernel_calls.specs.declared.call.Call.{Call}
@@ -11,7 +11,7 @@ use Rattle.replay.specs.Lines.{run_text}
 
 -- the calls that were made are a front of the script: those whose lines the sink has taken whole, and at most one more, of
 -- whose line it has taken a front
-pub record IsCut (calls : List CallLine) (world : World) (script : List Call) (before after : Option (List ℕ)) (left : World) : Type 0 where
+pub record IsCut (table : Table) (world : World) (script : List Call) (before after : Option (List ℕ)) (left : World) : Type 0 where
   pub told : List Call
   pub more : List Call
   pub rest : List Call
@@ -20,13 +20,13 @@ pub record IsCut (calls : List CallLine) (world : World) (script : List Call) (b
   pub leaves : left ≡ run world (told ++ more)
   pub front : List ℕ
   pub behind : List ℕ
-  pub of_its_line : front ++ behind ≡ run_text calls (run world told) more
-  pub taken : Grew before after (run_text calls world told ++ front)
+  pub of_its_line : front ++ behind ≡ run_text table (run world told) more
+  pub taken : Grew before after (run_text table world told ++ front)
 
 -- a script was replayed whole, and its run's world is left; or only so many of its calls were made
-abbrev pub Performs : List CallLine → World → List Call → Option (List ℕ) → Option (List ℕ) → Result (Unit {0}) SinkError → World → Type 0
-Performs calls world script before after (Ok u) left = left ≡ run world script
-Performs calls world script before after (Err error) left = IsCut calls world script before after left
+abbrev pub Performs : Table → World → List Call → Option (List ℕ) → Option (List ℕ) → Result (Unit {0}) SinkError → World → Type 0
+Performs table world script before after (Ok u) left = left ≡ run world script
+Performs table world script before after (Err error) left = IsCut table world script before after left
 
 -- a call was made; where its line was not taken whole it was made, or not and nothing was taken
 abbrev pub Makes : World → Call → Option (List ℕ) → Option (List ℕ) → Result (Unit {0}) SinkError → World → Type 0

@@ -33,7 +33,7 @@ pub fn call_line(
     reply: Reply,
     calls: &CallTable,
 ) -> Result<Vec<u8>, AllocError>
-    ensures tells_call_and_reply { IfOk result (λ line. line.items ≡ call_line calls.now.calls call.now reply) }
+    ensures tells_call_and_reply { IfOk result (λ line. line.items ≡ call_line calls.now call.now reply) }
 {
     let mut line = print_call(alloc, call, calls)?;
     line.extend_from_slice(b" -> ")?;

@@ -23,7 +23,7 @@ fn make_call<K: Sink>(
     calls: &CallTable,
     out: &mut K,
 ) -> Result<(), SinkError>
-    ensures takes_the_line { TakesText (K.taken out.old) (K.taken out.new) (moment_line calls.now.calls (moment_at world.old call.now)) result }
+    ensures takes_the_line { TakesText (K.taken out.old) (K.taken out.new) (moment_line calls.now (moment_at world.old call.now)) result }
     ensures fault_rose { HasWriteCause (K.faults out.old) (K.faults out.new) result }
     ensures makes_it { Makes world.old call.now (K.taken out.old) (K.taken out.new) result world.new }
 {
@@ -41,9 +41,9 @@ fn make_calls<K: Sink>(
     calls: &CallTable,
     out: &mut K,
 ) -> Result<(), SinkError>
-    ensures takes_the_lines { TakesText (K.taken out.old) (K.taken out.new) (run_text calls.now.calls world.old script.now) result }
+    ensures takes_the_lines { TakesText (K.taken out.old) (K.taken out.new) (run_text calls.now world.old script.now) result }
     ensures fault_rose { HasWriteCause (K.faults out.old) (K.faults out.new) result }
-    ensures performs { Performs calls.now.calls world.old script.now (K.taken out.old) (K.taken out.new) result world.new }
+    ensures performs { Performs calls.now world.old script.now (K.taken out.old) (K.taken out.new) result world.new }
 {
     for call in script {
         make_call(alloc, world, call, calls, out)?;
@@ -65,9 +65,9 @@ pub fn replay<K: Sink>(
     calls: &CallTable,
     out: &mut K,
 ) -> Result<(), SinkError>
-    ensures takes_the_lines { TakesText (K.taken out.old) (K.taken out.new) (run_text calls.now.calls launched.old.world script.now) result }
+    ensures takes_the_lines { TakesText (K.taken out.old) (K.taken out.new) (run_text calls.now launched.old.world script.now) result }
     ensures fault_rose { HasWriteCause (K.faults out.old) (K.faults out.new) result }
-    ensures performs { Performs calls.now.calls launched.old.world script.now (K.taken out.old) (K.taken out.new) result launched.new.world }
+    ensures performs { Performs calls.now launched.old.world script.now (K.taken out.old) (K.taken out.new) result launched.new.world }
     ensures rest_stays { launched.new ≡ record launched.old { world = launched.new.world } }
 {
     make_calls(alloc, &mut launched.world, script.list(), calls, out)

@@ -71,8 +71,8 @@ prints_it (Some files) unit path prepared replay started can is = (
     comes_to = started.comes_to;
     replies_alike = replies_go_on (inputs_in prepared).calls (inputs_in prepared).site prepared.unit.settings.value prepared.plan prepared.script replay.launch can.calls started.comes_to;
     is_its_text =
-        ap (λ (table : Table). replay_text table.calls replay.script.now replay.launch) started.calls
-        ∙ ap (λ (script : List Call). replay_text (inputs_in prepared).calls.calls script replay.launch) started.script;
+        ap (λ (table : Table). replay_text table replay.script.now replay.launch) started.calls
+        ∙ ap (λ (script : List Call). replay_text (inputs_in prepared).calls script replay.launch) started.script;
     is_its_ending = refl;
   },
 )

@@ -52,7 +52,7 @@ pub record PrintsReplay (files : Files) (unit path : List ℕ) (ending : Ending)
   pub launch : UnitLaunch
   pub comes_to : ComesTo inputs.calls inputs.site settings plan launch
   pub replies_alike : RepliesAlike inputs.calls inputs.site settings plan script launch
-  pub is_its_text : text ≡ replay_text inputs.calls.calls script launch
+  pub is_its_text : text ≡ replay_text inputs.calls script launch
   pub is_its_ending : ending ≡ ending_behind launch
 
 -- the refusals in their order; a launch that is refused is told with status 7

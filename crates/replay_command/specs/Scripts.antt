@@ -29,7 +29,7 @@ script_line path error = refused_line path (script_cause error)
 
 -- the calls of some bytes, with the calls of a table, or the line
 abbrev pub script_said : List ℕ → Table → List ℕ → Result (List Call) (List ℕ)
-script_said path table bytes = or_line (script_line path) (script_of table.calls bytes)
+script_said path table bytes = or_line (script_line path) (script_of table bytes)
 
 -- the script of a path over some files, or the line
 abbrev pub script_in : Files → List ℕ → Table → Result (List Call) (List ℕ)

@@ -11,7 +11,7 @@ use Rattle.replay_command.specs.declared.ready.Replay.{Replay}
 
 -- what is ready
 abbrev pub text_of : Replay → List ℕ
-text_of replay = replay_text replay.calls.now.calls replay.script.now replay.launch
+text_of replay = replay_text replay.calls.now replay.script.now replay.launch
 
 abbrev pub ending_of : Replay → Ending
 ending_of replay = ending_behind replay.launch

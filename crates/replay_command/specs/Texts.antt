@@ -1,7 +1,7 @@
 -- The text of a replay, and how a run ends behind it.
 use Rattle.std.specs.Prelude.{ℕ, List, [], ◌∷◌, ◌++◌, length, codes}
 use Rattle.std.specs.Fmt.{decimal}
-use Rattle.call_table.specs.declared.listed.CallLine.{CallLine}
+use Rattle.call_table.specs.Table.{Table}
 use Rattle.command_answers.specs.declared.ending.Ending.{Ending}
 use Rattle.command_answers.specs.declared.ending.Ending.TheVariants.{Done, LaunchRefused}
 use Rattle.kernel_calls.specs.declared.call.Call.{Call}
@@ -18,14 +18,14 @@ abbrev pub count_line : ℕ → List ℕ
 count_line count = codes "calls " ++ (decimal count ++ 10 ∷ [])
 
 -- the launch of a service; the calls of the script with the replies of their run from its world on; how many calls there are
-abbrev pub service_text : List CallLine → List Call → Service → List ℕ
-service_text calls script service =
-    launched_line (told_of service.world service.steps) ++ (run_text calls service.world script ++ count_line (length script))
+abbrev pub service_text : Table → List Call → Service → List ℕ
+service_text table script service =
+    launched_line (told_of service.world service.steps) ++ (run_text table service.world script ++ count_line (length script))
 
 -- or the line of a launch that is refused
-abbrev pub replay_text : List CallLine → List Call → UnitLaunch → List ℕ
-replay_text calls script (Launched service) = service_text calls script service
-replay_text calls script (Refused refusal) = refusal_line refusal
+abbrev pub replay_text : Table → List Call → UnitLaunch → List ℕ
+replay_text table script (Launched service) = service_text table script service
+replay_text table script (Refused refusal) = refusal_line refusal
 
 abbrev pub ending_behind : UnitLaunch → Ending
 ending_behind (Launched service) = Done

@@ -21,7 +21,7 @@ fn print_service<K: Sink>(
     calls: &CallTable,
     out: &mut K,
 ) -> Result<(), SinkError>
-    ensures takes_the_text { TakesText (K.taken out.old) (K.taken out.new) (service_text calls.now.calls script.now service.old) result }
+    ensures takes_the_text { TakesText (K.taken out.old) (K.taken out.new) (service_text calls.now script.now service.old) result }
     ensures fault_rose { HasWriteCause (K.faults out.old) (K.faults out.new) result }
 {
     put_line(out, launched_line(alloc, told(service)))?;
@@ -37,7 +37,7 @@ pub fn print_replay<K: Sink>(
     calls: &CallTable,
     out: &mut K,
 ) -> Result<(), SinkError>
-    ensures takes_the_text { TakesText (K.taken out.old) (K.taken out.new) (replay_text calls.now.calls script.now launch.old) result }
+    ensures takes_the_text { TakesText (K.taken out.old) (K.taken out.new) (replay_text calls.now script.now launch.old) result }
     ensures fault_rose { HasWriteCause (K.faults out.old) (K.faults out.new) result }
 {
     match launch {

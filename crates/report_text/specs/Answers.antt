@@ -2,7 +2,6 @@
 use Rattle.std.specs.Prelude.{ℕ, List, [], ◌∷◌, ◌++◌, codes}
 use Rattle.std.specs.Fmt.{decimal}
 use Rattle.abs_path.specs.Paths.{Path, text_of}
-use Rattle.call_table.specs.declared.listed.CallLine.{CallLine}
 use Rattle.call_table.specs.Table as calls
 use Rattle.site_table.specs.Table.{Site}
 use Rattle.text_forms.specs.Escaped.{escaped_word}
@@ -22,8 +21,8 @@ abbrev pub verdict_line : calls.Table → Site → Question → Verdict → List
 verdict_line table site question verdict = verdict_word verdict ++ (codes " " ++ (question_words table site question ++ 10 ∷ []))
 
 -- a call of a list that shows an open question, as a script has it
-abbrev pub call_line : List CallLine → Call → List ℕ
-call_line calls call = codes "  " ++ (call_text calls call ++ 10 ∷ [])
+abbrev pub call_line : calls.Table → Call → List ℕ
+call_line table call = codes "  " ++ (call_text table call ++ 10 ∷ [])
 
 -- a folder that is blind
 abbrev pub blind_line : Path → List ℕ

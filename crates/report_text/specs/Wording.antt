@@ -31,7 +31,7 @@ space_word Uts = codes "uts"
 abbrev pub path_at : List Row → ℕ → List ℕ
 path_at rows at = option_map_or (λ row. text_of row.path) (slice_get rows at) []
 
--- the name of the call or family at a place of the table, from 0
+-- the name of the call or family at a place of the table, from 0: calls of the native ABI come first
 abbrev pub name_at : List CallLine → ℕ → List ℕ
 name_at lines at = option_map_or (λ line. line.name) (slice_get lines at) []
 
@@ -39,7 +39,7 @@ name_at lines at = option_map_or (λ line. line.name) (slice_get lines at) []
 -- of capabilities(7)
 abbrev pub question_words : calls.Table → Site → Question → List ℕ
 question_words table site (ByPath wish at) = wish_word wish ++ (codes " " ++ escaped_word (path_at site.rows at))
-question_words table site (Call at) = codes "call " ++ escaped_word (name_at table.calls at)
+question_words table site (Call at) = codes "call " ++ escaped_word (name_at (calls.every_call table) at)
 question_words table site (Socket at) = codes "socket " ++ escaped_word (name_at table.families at)
 question_words table site (Ns space) = codes "ns " ++ space_word space
 question_words table site MapWx = codes "map-wx"

@@ -50,7 +50,7 @@ pub fn verdict_line(
 
 /// The line of a call, below the open question that it leads to: two spaces, and the call as a script has it.
 pub fn call_line(alloc: Global, call: &Call, calls: &CallTable) -> Result<Vec<u8>, AllocError>
-    ensures tells_the_call { IfOk result (λ line. line.items ≡ call_line calls.now.calls call.now) }
+    ensures tells_the_call { IfOk result (λ line. line.items ≡ call_line calls.now call.now) }
 {
     let text = print_call(alloc, call, calls)?;
     let mut line = b"  ".to_vec(alloc)?;

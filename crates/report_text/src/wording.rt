@@ -1,6 +1,7 @@
 //! Questions, as they are written.
 ghost use Rattle.std.specs.Prelude.{◌≡◌, ◌++◌, OnOk, codes};
 ghost use Rattle.std.specs.Fmt.{decimal};
+ghost use Rattle.call_table.specs.Table.{every_call};
 ghost use Rattle.text_forms.specs.Escaped.{escaped_word};
 ghost use Rattle.questions.specs.Listed.{IsAskedOf};
 ghost use Rattle.questions.specs.Meanings.{meant};
@@ -35,11 +36,21 @@ fn path_at(rows: &[Row], at: usize) -> &str
     }
 }
 
-// The name of the call or family at a place.
-fn name_at(lines: &[CallLine], at: usize) -> &str
-    ensures { result.now ≡ name_at lines.now at }
+// The name of the call at a place among those of all ABIs.
+fn call_at(calls: &CallTable, at: usize) -> &str
+    ensures { result.now ≡ name_at (every_call calls.now) at }
 {
-    match lines.get(at) {
+    match call_words::name_at(calls, at) {
+        Some(name) => name,
+        None => "",
+    }
+}
+
+// The name of the family at a place.
+fn family_at(families: &[CallLine], at: usize) -> &str
+    ensures { result.now ≡ name_at families.now at }
+{
+    match families.get(at) {
         Some(line) => line.name.as_str(),
         None => "",
     }
@@ -89,8 +100,8 @@ pub(crate) fn push_question(
 {
     match question {
         Question::Path(wish, at) => push_path(out, wish_word(*wish), path_at(site.rows(), *at)),
-        Question::Call(at) => push_named(out, "call ", name_at(calls.calls(), *at)),
-        Question::Socket(at) => push_named(out, "socket ", name_at(calls.families(), *at)),
+        Question::Call(at) => push_named(out, "call ", call_at(calls, *at)),
+        Question::Socket(at) => push_named(out, "socket ", family_at(calls.families(), *at)),
         Question::Namespace(kind) => push_both(out, "ns ", kind.name()),
         Question::MapWx => out.extend_from_slice(b"map-wx"),
         Question::ProtectX => out.extend_from_slice(b"protect-x"),

@@ -5,6 +5,7 @@
 #![tactic(auto)]
 
 use call_table::{CallLine, CallTable};
+use call_words::name_at;
 use cap_sets::CapSet;
 use questions::{NamespaceType, Question, Wish};
 use row_text::said;
@@ -23,7 +24,10 @@ pub fn shown(
             let path = site.rows().get(*at).map_or("none", |row| row.path.text());
             format!(in alloc; "{} {path}", wish_word(*wish))
         }
-        Question::Call(at) => format!(in alloc; "call {}", name(calls.calls(), *at)),
+        Question::Call(at) => {
+            let name = name_at(calls, *at).unwrap_or("none");
+            format!(in alloc; "call {name}")
+        }
         Question::Socket(at) => format!(in alloc; "socket {}", name(calls.families(), *at)),
         Question::Namespace(kind) => format!(in alloc; "ns {}", namespace_word(*kind)),
         Question::Cap(cap) if *cap <= 40 => format!(in alloc; "cap {}", CapSet::name(*cap)),

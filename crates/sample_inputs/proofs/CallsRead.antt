@@ -4,12 +4,12 @@ use Rattle.std.specs.Str.{is_utf8, chars}
 use lib.Utf8.{encode}
 use Rattle.text_forms.specs.Numbers.{decimal_value, numeral_value}
 use Rattle.call_names.specs.Known.{known_call}
-use Rattle.call_table.specs.Reading.{table_of, line_kind, missing_call}
+use Rattle.call_table.specs.Reading.{table_of, is_version, line_kind, missing_call}
 use Rattle.call_table.specs.Faults.{entry_fault, group_fault}
 use Rattle.call_table.specs.Numbers.{arch_of, number_of, cap_of}
 use Rattle.sample_inputs.specs.Calls.{calls_text, calls_lines}
 use Rattle.sample_inputs.specs.CallTable.{sample_table, sample_calls, sample_families, sample_groups}
 
 pub calls_read : table_of calls_text ≡ Ok sample_table
-unfolding calls_text calls_lines sample_calls sample_families sample_groups table_of line_kind missing_call entry_fault group_fault arch_of number_of cap_of decimal_value numeral_value known_call is_utf8 chars encode
+unfolding calls_text calls_lines sample_calls sample_families sample_groups table_of is_version line_kind missing_call entry_fault group_fault arch_of number_of cap_of decimal_value numeral_value known_call is_utf8 chars encode
 calls_read = refl

@@ -7,10 +7,10 @@ use Rattle.call_table.specs.declared.listed.GroupLine.{GroupLine}
 
 -- a call or a family without a capability, and one with a capability
 abbrev pub plain : List ℕ → ℕ → CallLine
-plain name number = record { name = name; number = number; cap = None }
+plain name number = record { name = name; number = number; cap = None; abi = 0 }
 
 abbrev pub capable : List ℕ → ℕ → ℕ → CallLine
-capable name number cap = record { name = name; number = number; cap = Some cap }
+capable name number cap = record { name = name; number = number; cap = Some cap; abi = 0 }
 
 -- for raw sockets (capabilities(7))
 abbrev pub cap_net_raw : ℕ
@@ -72,6 +72,6 @@ unfoldable pub sample_families : List CallLine
 sample_families =
     plain (codes "AF_UNIX") 1 ∷ plain (codes "AF_INET") 2 ∷ plain (codes "AF_INET6") 10 ∷ plain (codes "AF_NETLINK") 16 ∷ capable (codes "AF_PACKET") 17 cap_net_raw ∷ []
 
--- AUDIT_ARCH_X86_64 (linux/audit.h)
+-- AUDIT_ARCH_X86_64 (linux/audit.h), and no second ABI
 abbrev pub sample_table : Table
-sample_table = record { arch = 0xc000003e; calls = sample_calls; families = sample_families; groups = sample_groups }
+sample_table = record { name = codes "x86-64"; arch = 0xc000003e; calls = sample_calls; families = sample_families; groups = sample_groups; second = None }

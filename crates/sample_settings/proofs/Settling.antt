@@ -1,12 +1,13 @@
 -- The settings of a sample, which compute.
 use Rattle.std.proofs.Common.{◌≡◌, ◌∙◌, ℕ, ◌<◌, ◌%◌, Bool, true, false, Option, Some, None, List, [], ◌∷◌, map, refl, sym, ap, subst}
-use Rattle.std.specs.Prelude.{Ok, ◌==◌, ◌||◌, filter}
+use Rattle.std.specs.Prelude.{Ok, ◌==◌, ◌&&◌, ◌||◌, not, is_some, length, filter}
+use Rattle.std.proofs.lemmas.Bool.{and_right}
 use Rattle.std.specs.Option.{option_map}
 use Rattle.std.specs.Fmt.{digits}
 use Rattle.std.specs.Str.{is_utf8, chars}
 use lib.Utf8.{encode}
 use Rattle.call_rules.specs.declared.actions.Action.TheVariants.{KillProcess}
-use Rattle.call_table.specs.Table.{Table}
+use Rattle.call_table.specs.Table.{Abi, Table}
 use Rattle.cap_sets.specs.Sets.{all, minus, none, union}
 use Rattle.cred_settings.specs.Ambient.{ambient_of}
 use Rattle.cred_settings.specs.Bounding.{bounding_of}
@@ -24,15 +25,16 @@ use Rattle.exec_settings.specs.Keys.{keys}
 use Rattle.exec_settings.specs.Mounts.{paths_refusal, unit_mentions, unit_switches}
 use Rattle.exec_settings.specs.Profile.{outside_key}
 use Rattle.exec_settings.specs.Refusals.{command_refusal, first_reason, group_refusal, identity_reason, identity_refusal, refusal_of}
-use Rattle.exec_settings.specs.Settings.{has_filter, unit_program}
+use Rattle.exec_settings.specs.Settings.{unit_program}
 use Rattle.exec_settings.specs.declared.errors.SettingsError.{SettingsError}
 use Rattle.exec_settings.specs.declared.errors.SettingsError.TheVariants.{MissingGroup}
 use Rattle.exec_settings.specs.declared.service.Settings.{Settings}
-use Rattle.filter_rules.specs.Names.{all_filters}
-use Rattle.filter_rules.specs.Wanted.{is_on}
+use Rattle.filter_rules.specs.Installed.{place_of, is_installed, installed}
+use Rattle.filter_rules.specs.Names.{all_programs}
 use Rattle.filter_rules.specs.declared.namespace_types.NamespaceTypes.{NamespaceTypes}
 use Rattle.filter_rules.specs.declared.settings.FilterSettings.{FilterSettings}
 use Rattle.filter_rules.specs.declared.installed.Filter.{Filter}
+use Rattle.filter_settings.specs.Architectures.{unit_refuses_second}
 use Rattle.filter_settings.specs.CallLists.{unit_call_list}
 use Rattle.filter_settings.specs.FamilyLists.{unit_family_list}
 use Rattle.filter_settings.specs.Namespaces.{unit_namespaces}
@@ -62,8 +64,15 @@ abbrev any_namespace : NamespaceTypes
 any_namespace = record { cgroup = true; ipc = true; net = true; mnt = true; pid = true; user = true; uts = true }
 
 -- no filter is asked for
+abbrev bare_but : Bool → FilterSettings
+bare_but refused = made false false false false false false false false false KillProcess any_namespace None None refused
+
 abbrev bare : FilterSettings
-bare = made false false false false false false false false false KillProcess any_namespace None None
+bare = bare_but false
+
+none_installed : (second : Option Abi) → filter (is_installed bare) (all_programs second) ≡ []
+none_installed None = refl
+none_installed (Some second) = refl
 
 or_false : (b : Bool) → (b || false) ≡ b
 or_false true = refl
@@ -84,8 +93,12 @@ unfolding is_dynamic identity_of unit_last unit_last_text unit_words service_ass
 user_passes unit site m h = below_four (λ m. identity_of (unit_by unit m) (site_by site) (is_dynamic (unit_by unit m)) ≡ Ok app) refl refl refl refl m h
 
 unfiltered : (unit : Resolved) (table : Table) (m : ℕ) → m < 4 → unit_filters (unit_by unit m) table ≡ bare
-unfolding unit_filters is_dynamic unit_call_list unit_family_list unit_namespaces unit_last unit_listed service_assignments
-unfiltered unit table m h = below_four (λ m. unit_filters (unit_by unit m) table ≡ bare) refl refl refl refl m h
+unfolding unit_filters is_dynamic unit_call_list unit_family_list unit_namespaces unit_refuses_second unit_last unit_listed service_assignments
+unfiltered unit table m h =
+    below_four (λ m. unit_filters (unit_by unit m) table ≡ bare_but (is_some table.second && false)) refl refl refl refl m h ∙ ap bare_but (and_right (is_some table.second) false refl)
+
+unfiltered_installs : (unit : Resolved) (table : Table) (m : ℕ) → m < 4 → installed (unit_filters (unit_by unit m) table) table ≡ []
+unfiltered_installs unit table m h = ap (λ settings. installed settings table) (unfiltered unit table m h) ∙ none_installed table.second
 
 paths_pass : (unit : Resolved) (m : ℕ) → m < 4 → paths_refusal (unit_by unit m) ≡ None
 unfolding paths_refusal unit_written service_assignments digits words_of words_in text_only closed_only mark_of open_after escape_of symbols_of is_utf8 chars encode
@@ -132,7 +145,7 @@ are_not_refused n unit table site says has =
 
 -- ---- what their settings are
 
-no_names : (filters : List Filter) → map (λ one. one.name) filters ≡ [] → filters ≡ []
+no_names : (filters : List Filter) → map place_of filters ≡ [] → filters ≡ []
 no_names [] e = refl
 no_names (one ∷ filters) e = cc
 
@@ -148,12 +161,12 @@ module _ (unit : Resolved) (table : Table) (site : Site) (made : Settings) (m : 
   its_bounding = are.bounding_without_what_is_taken ∙ ap (λ set. left_of set (unit_filters (unit_by unit m) table)) (bounded unit m h) ∙ ap (left_of all) (unfiltered unit table m h)
 
   its_filters : made.filters.items ≡ []
-  its_filters = no_names made.filters.items (are.filters_as_wanted.exactly_those_on ∙ ap (λ settings. filter (is_on settings) all_filters) (unfiltered unit table m h))
+  its_filters = no_names made.filters.items (are.filters_as_wanted.exactly_those_on ∙ unfiltered_installs unit table m h)
 
   its_privileges : made.no_new_privs ≡ (m % 2 == 0)
   its_privileges =
       are.new_privileges
-      ∙ ap (λ settings. is_in_effect (sets_new_privileges (unit_by unit m)) (has_filter settings) made.uid (ambient_of (unit_by unit m))) (unfiltered unit table m h)
+      ∙ ap (λ places. is_in_effect (sets_new_privileges (unit_by unit m)) (not (length places == 0)) made.uid (ambient_of (unit_by unit m))) (unfiltered_installs unit table m h)
       ∙ ap (λ on. on || false) (set_by_halves unit m h)
       ∙ or_false (m % 2 == 0)
 

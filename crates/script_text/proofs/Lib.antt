@@ -1,3 +1,4 @@
+pub mod Abis
 pub mod AllRead
 pub mod Bytes
 pub mod FirstFault

@@ -13,7 +13,8 @@ use Rattle.call_table.specs.Numbers.{word_only, number_of}
 use Rattle.script_text.specs.Numbers.{some_pid, pid_of, with_front, numbers_of, six_words, without_last_zeros}
 use Rattle.script_text.specs.Payloads.{below_capabilities, set_of}
 use Rattle.script_text.specs.Printed.{argument_words}
-use Rattle.script_text.proofs.Spaced.{HasNo, IsShown}
+use Rattle.script_text.specs.PrintedAgain.{IsWord}
+use Rattle.script_text.proofs.Spaced.{HasNo}
 use Rattle.script_text.proofs.Zeros.{same_word, no_longer, zeros_of}
 
 -- the bytes of a number are digits, so none is any other mark
@@ -28,7 +29,7 @@ no_mark mark (digit ∷ digits) m h = (by (digit == mark) refl, no_mark mark dig
 pub number_has_no : (mark number : ℕ) → 10 ≤ digit_value mark → number < 2 ^ 64 → HasNo mark (decimal number)
 number_has_no mark number m h = no_mark mark (decimal number) m (decimal_is_IsNumeral number h).0.1
 
-pub number_shown : (number : ℕ) → number < 2 ^ 64 → IsShown (decimal number)
+pub number_shown : (number : ℕ) → number < 2 ^ 64 → IsWord (decimal number)
 number_shown number h = record {
   some = let long : 0 < length (decimal number) = (decimal_is_IsNumeral number h).0.0 in grind (arith, nat_tests, long);
   plain = number_has_no 32 number (omega arith) h;
@@ -67,10 +68,10 @@ numbers_again (number ∷ numbers) h =
 pub arguments_again : (args : List ℕ) → AllByRecursion (λ arg. arg < 2 ^ 64) args → numbers_of (argument_words args) ≡ Some (without_last_zeros args)
 arguments_again args h = numbers_again (without_last_zeros args) (zeros_of (λ arg. arg < 2 ^ 64) args h)
 
-pub arguments_shown : (args : List ℕ) → AllByRecursion (λ arg. arg < 2 ^ 64) args → AllByRecursion IsShown (argument_words args)
+pub arguments_shown : (args : List ℕ) → AllByRecursion (λ arg. arg < 2 ^ 64) args → AllByRecursion IsWord (argument_words args)
 arguments_shown args h = each (without_last_zeros args) (zeros_of (λ arg. arg < 2 ^ 64) args h)
   where
-    each : (numbers : List ℕ) → AllByRecursion (λ number. number < 2 ^ 64) numbers → AllByRecursion IsShown (map decimal numbers)
+    each : (numbers : List ℕ) → AllByRecursion (λ number. number < 2 ^ 64) numbers → AllByRecursion IsWord (map decimal numbers)
     each [] h = tt
     each (number ∷ numbers) h = (number_shown number h.0, each numbers h.1)
 

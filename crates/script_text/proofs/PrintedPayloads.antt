@@ -18,7 +18,7 @@ use Rattle.hex.specs.Hex.{IsBytes, encode_lower, encode_with, decode_of, lower_d
 use Rattle.hex.proofs.HexLemmas.{decode_of-encode_lower, length-encode_with}
 use Rattle.kernel_calls.specs.Calls.{IsPath, FitsPayload}
 use Rattle.kernel_calls.specs.declared.payload.Payload.{Payload}
-use Rattle.kernel_calls.specs.declared.payload.Payload.TheVariants.{Nothing, OnePath, TwoPaths, Sets, Ids, Code}
+use Rattle.kernel_calls.specs.declared.payload.Payload.TheVariants.{Nothing, OnePath, TwoPaths, Sets, Ids, Family, Code}
 use Rattle.text_forms.specs.Escaped.{escaped_byte, escaped_word, is_coded, upper_digit}
 use Rattle.text_forms.proofs.Escapes.{escaped_read, no_white}
 use Rattle.script_text.specs.Escapes.{text_only, escaped_text}
@@ -26,10 +26,10 @@ use Rattle.script_text.specs.Marks.{before, between_commas}
 use Rattle.script_text.specs.Numbers.{all_read, with_front}
 use Rattle.script_text.specs.Payloads.{faultless_path, path_of, set_of, ids_of, is_code, code_of, with_words, two_paths, three_sets, payload_of}
 use Rattle.script_text.specs.Printed.{has_form, each_number, with_commas, ids_word, code_word, payload_words}
-use Rattle.script_text.specs.PrintedAgain.{HasTexts, IsText}
+use Rattle.script_text.specs.PrintedAgain.{HasTexts, IsText, IsWord}
 use Rattle.script_text.proofs.MarksFound.{behind_mark, before_mark}
 use Rattle.script_text.proofs.PrintedNumbers.{number_has_no, number_shown, number_again, set_again}
-use Rattle.script_text.proofs.Spaced.{HasNo, IsShown, all_append}
+use Rattle.script_text.proofs.Spaced.{HasNo, all_append}
 
 -- paths
 path_again : (path : Path) → IsPath path → IsText (text_of path) → path_of (escaped_word (text_of path)) ≡ Some path
@@ -135,41 +135,13 @@ code_again (byte ∷ bytes) h whole =
 -- a payload of the form is taken back, with what stands behind it
 pub payload_again : (form' : PayloadForm) (payload : Payload) (rest : List (List ℕ)) → has_form form' payload ≡ true → FitsPayload payload → HasTexts payload → payload_of form' (payload_words payload ++ rest) ≡ Some (payload, rest)
 payload_again form.Nothing Nothing rest h fits texts = refl
-payload_again form.Nothing (OnePath path) rest h fits texts = absurd (false≢true h)
-payload_again form.Nothing (TwoPaths source target) rest h fits texts = absurd (false≢true h)
-payload_again form.Nothing (Sets permitted effective inheritable) rest h fits texts = absurd (false≢true h)
-payload_again form.Nothing (Ids ids) rest h fits texts = absurd (false≢true h)
-payload_again form.Nothing (Code bytes) rest h fits texts = absurd (false≢true h)
-payload_again form.OnePath Nothing rest h fits texts = absurd (false≢true h)
 payload_again form.OnePath (OnePath path) rest h fits texts = ap (option_map (λ path. (OnePath path, rest))) (path_again path fits texts)
-payload_again form.OnePath (TwoPaths source target) rest h fits texts = absurd (false≢true h)
-payload_again form.OnePath (Sets permitted effective inheritable) rest h fits texts = absurd (false≢true h)
-payload_again form.OnePath (Ids ids) rest h fits texts = absurd (false≢true h)
-payload_again form.OnePath (Code bytes) rest h fits texts = absurd (false≢true h)
-payload_again form.TwoPaths Nothing rest h fits texts = absurd (false≢true h)
-payload_again form.TwoPaths (OnePath path) rest h fits texts = absurd (false≢true h)
 payload_again form.TwoPaths (TwoPaths source target) rest h fits texts = ap (option_map (with_words rest)) (paths_again source target fits texts)
-payload_again form.TwoPaths (Sets permitted effective inheritable) rest h fits texts = absurd (false≢true h)
-payload_again form.TwoPaths (Ids ids) rest h fits texts = absurd (false≢true h)
-payload_again form.TwoPaths (Code bytes) rest h fits texts = absurd (false≢true h)
-payload_again form.Sets Nothing rest h fits texts = absurd (false≢true h)
-payload_again form.Sets (OnePath path) rest h fits texts = absurd (false≢true h)
-payload_again form.Sets (TwoPaths source target) rest h fits texts = absurd (false≢true h)
 payload_again form.Sets (Sets permitted effective inheritable) rest h fits texts = ap (option_map (with_words rest)) (sets_again permitted effective inheritable fits)
-payload_again form.Sets (Ids ids) rest h fits texts = absurd (false≢true h)
-payload_again form.Sets (Code bytes) rest h fits texts = absurd (false≢true h)
-payload_again form.Ids Nothing rest h fits texts = absurd (false≢true h)
-payload_again form.Ids (OnePath path) rest h fits texts = absurd (false≢true h)
-payload_again form.Ids (TwoPaths source target) rest h fits texts = absurd (false≢true h)
-payload_again form.Ids (Sets permitted effective inheritable) rest h fits texts = absurd (false≢true h)
 payload_again form.Ids (Ids ids) rest h fits texts = ap (option_map (λ ids. (Ids ids, rest))) (ids_again ids fits)
-payload_again form.Ids (Code bytes) rest h fits texts = absurd (false≢true h)
-payload_again form.Program Nothing rest h fits texts = absurd (false≢true h)
-payload_again form.Program (OnePath path) rest h fits texts = absurd (false≢true h)
-payload_again form.Program (TwoPaths source target) rest h fits texts = absurd (false≢true h)
-payload_again form.Program (Sets permitted effective inheritable) rest h fits texts = absurd (false≢true h)
-payload_again form.Program (Ids ids) rest h fits texts = absurd (false≢true h)
+payload_again form.Family (Family family) rest h fits texts = ap (option_map (λ family. (Family family, rest))) (number_again family fits)
 payload_again form.Program (Code bytes) rest h fits texts = ap (option_map (λ bytes. (Code bytes, rest))) (code_again bytes fits h)
+payload_again _ _ rest h fits texts = absurd (false≢true h)
 
 some_byte : (byte : ℕ) (rest : List ℕ) → (length (escaped_byte byte ++ rest) == 0) ≡ false
 unfolding escaped_byte
@@ -180,7 +152,7 @@ some_byte byte rest = by (is_coded byte)
     by false = grind (arith, nat_tests)
 
 -- each word of a payload stands between spaces
-escaped_shown : (path : Path) → IsShown (escaped_word (text_of path))
+escaped_shown : (path : Path) → IsWord (escaped_word (text_of path))
 escaped_shown path = record {
   some = some (text_of path) (some_path path);
   plain = plain (escaped_word (text_of path)) (recursion_from_All (λ byte. 32 < byte) (escaped_word (text_of path)) (no_white (text_of path)));
@@ -198,7 +170,7 @@ escaped_shown path = record {
     plain [] h = tt
     plain (byte ∷ word) h = (let shows : 32 < byte = h.0 in grind (arith, nat_tests, shows), plain word h.1)
 
-small_set : (set : ℕ) → set < 2 ^ 41 → IsShown (decimal set)
+small_set : (set : ℕ) → set < 2 ^ 41 → IsWord (decimal set)
 small_set set h = number_shown set (omega (arith, h))
 
 ids_plain : (ids : List ℕ) → AllByRecursion (λ id. id < 2 ^ 32) ids → HasNo 32 (each_number (codes ",") ids)
@@ -220,20 +192,21 @@ lower_plain (byte ∷ word) h = (other byte (and_parts (is_lower_hex byte) (list
         by false s = refl
         by true s = absurd (false≢true (ap is_lower_hex (sym (eqb-true byte 32 s)) ∙ e))
 
-code_shown : (bytes : List ℕ) → AllByRecursion (λ byte. byte < 2 ^ 8) bytes → IsShown (code_word bytes)
+code_shown : (bytes : List ℕ) → AllByRecursion (λ byte. byte < 2 ^ 8) bytes → IsWord (code_word bytes)
 code_shown [] h = record { some = refl; plain = (refl, tt) }
 code_shown (byte ∷ bytes) h = record { some = no_dash bytes byte; plain = lower_plain (encode_lower (byte ∷ bytes)) (all_lower (byte ∷ bytes) h) }
 
-ids_shown : (ids : List ℕ) → AllByRecursion (λ id. id < 2 ^ 32) ids → IsShown (ids_word ids)
+ids_shown : (ids : List ℕ) → AllByRecursion (λ id. id < 2 ^ 32) ids → IsWord (ids_word ids)
 ids_shown ids h = record {
   some = grind (arith, nat_tests);
   plain = (refl, all_append (λ byte. (byte == 32) ≡ false) (with_commas ids) (93 ∷ []) (commas_plain ids h) (refl, tt));
 }
 
-pub payload_shown : (payload : Payload) → FitsPayload payload → AllByRecursion IsShown (payload_words payload)
+pub payload_shown : (payload : Payload) → FitsPayload payload → AllByRecursion IsWord (payload_words payload)
 payload_shown Nothing h = tt
 payload_shown (OnePath path) h = (escaped_shown path, tt)
 payload_shown (TwoPaths source target) h = (escaped_shown source, (escaped_shown target, tt))
 payload_shown (Sets permitted effective inheritable) h = (small_set permitted h.0, (small_set effective h.1, (small_set inheritable h.2, tt)))
 payload_shown (Ids ids) h = (ids_shown ids h, tt)
+payload_shown (Family family) h = (number_shown family (let small : family < 2 ^ 32 = h in omega (arith, small)), tt)
 payload_shown (Code bytes) h = (code_shown bytes h, tt)

@@ -1,6 +1,6 @@
 -- What is read can be written again.
 use Rattle.std.proofs.Common.{◌≡◌, inl, inr, ℕ, ◌*◌, ◌%◌, ◌≤◌, ◌^◌, Bool, true, false, cond, List, [], ◌∷◌, length, Option, Some, None, Result, Ok, Err, refl, sym, ap, ◌∙◌, subst, arith}
-use Rattle.std.specs.Prelude.{◌==◌, ◌&&◌, not, codes, slice_get, nat_le, nat_lt, option_and_then}
+use Rattle.std.specs.Prelude.{◌==◌, ◌&&◌, not, codes, slice_get, nat_le, nat_lt, option_and_then, IsSome}
 use Rattle.std.specs.Option.{option_map}
 use Rattle.std.specs.Result.{IfOk, result_ok}
 use Rattle.std.specs.List.{All, AllByRecursion, cons_option, list_all, position_or_len}
@@ -21,17 +21,20 @@ use Rattle.call_names.specs.declared.payload.PayloadForm.TheVariants as form
 use Rattle.call_table.proofs.Places.{place_is}
 use Rattle.call_table.specs.Lookups.{has_name, has_number, named, numbered, AreOnce}
 use Rattle.call_table.specs.Numbers.{is_lower_hex, number_of}
+use Rattle.call_table.specs.Table.{Table, abi_at, calls_in}
 use Rattle.call_table.specs.declared.listed.CallLine.{CallLine}
+use Rattle.call_words.specs.Words.{spelled}
+use Rattle.call_words.proofs.Back.{spelled_there}
 use Rattle.kernel_calls.specs.declared.call.Call.{Call}
 use Rattle.kernel_calls.specs.declared.payload.Payload.{Payload}
-use Rattle.kernel_calls.specs.declared.payload.Payload.TheVariants.{Nothing, OnePath, TwoPaths, Sets, Ids, Code}
+use Rattle.kernel_calls.specs.declared.payload.Payload.TheVariants.{Nothing, OnePath, TwoPaths, Sets, Ids, Family, Code}
 use Rattle.text_forms.specs.Numbers.{decimal_value}
 use Rattle.script_text.specs.Marks.{behind_hash}
 use Rattle.script_text.specs.Numbers.{some_pid, pid_of, numbers_of, six_words}
 use Rattle.script_text.specs.Payloads.{Taken, path_of, set_of, ids_of, is_code, code_of, with_words, payload_of}
 use Rattle.script_text.specs.Printed.{has_form}
 use Rattle.script_text.specs.PrintedAgain.{IsWritten}
-use Rattle.script_text.specs.Reading.{Named, bare_number, call_named, form_of_name, named_by, named_call, with_numbers, with_payload, with_name, with_pid, call_of}
+use Rattle.script_text.specs.Reading.{Named, bare_number, call_named, form_of_name, named_by, named_in, named_call, with_numbers, with_payload, with_name, with_pid, call_of}
 use Rattle.script_text.specs.Progress.{ReadsScript}
 use Rattle.script_text.specs.Scripts.{line_call, fault_of, calls_of, unless_fault, script_of_lines, script_of}
 use Rattle.script_text.specs.declared.error.ScriptCause.{ScriptCause}
@@ -49,9 +52,9 @@ pid_from_one word pid e = option_and_then_some some_pid (decimal_value word) pid
     grind (arith, nat_tests, positive, same))
 
 -- by its number it carries nothing, and by its name what the name carries
-data IsNamed (calls : List CallLine) (call : Named) : Type 0 where
-  by_number : call.form ≡ form.Nothing → IsNamed calls call
-  by_name : (line : CallLine) → numbered call.nr calls ≡ Some line → call.form ≡ form_of_name line.name → IsNamed calls call
+data IsNamed (table : Table) (call : Named) : Type 0 where
+  by_number : call.form ≡ form.Nothing → IsNamed table call
+  by_name : (line : CallLine) → numbered call.nr (calls_in table call.abi) ≡ Some line → call.form ≡ form_of_name line.name → IsNamed table call
 
 its_name : (calls : List CallLine) (word : List ℕ) (line : CallLine) → named word calls ≡ Some line → word ≡ line.name
 its_name [] word line e = cc
@@ -67,26 +70,47 @@ line_found calls word line once e =
     let there : slice_get calls at ≡ Some line = sym (find_at (has_name word) calls) ∙ e in
     find_at (has_number line.number) calls ∙ ap (slice_get calls) (place_is (has_number line.number) calls at (once.by_number at line there)).0 ∙ there
 
-same_named : (one other : Named) → Some one ≡ Some other → (one.nr ≡ other.nr) × (one.form ≡ other.form)
-same_named one other e = let same = same_Some one other e in (ap (λ (n : Named). n.nr) same, ap (λ (n : Named). n.form) same)
+same_named : (one other : Named) → Some one ≡ Some other → (one.abi ≡ other.abi) × (one.nr ≡ other.nr) × (one.form ≡ other.form)
+same_named one other e = let same = same_Some one other e in (ap (λ (n : Named). n.abi) same, ap (λ (n : Named). n.nr) same, ap (λ (n : Named). n.form) same)
 
-named_in : (calls : List CallLine) (word : List ℕ) (call : Named) → AreOnce calls → named_call calls word ≡ Some call → IsNamed calls call
-unfolding named_call
-named_in calls word call once e = by (behind_hash word) e
+-- the call of an ABI
+in_abi : (table : Table) (abi : ℕ) (word : List ℕ) (call : Named) → AreOnce (calls_in table abi) → named_in table abi word ≡ Some call → (call.abi ≡ abi) × IsNamed table call
+in_abi table abi word call once e = by (behind_hash word) e
   where
-    by_digits : (o : Option ℕ) → option_map bare_number o ≡ Some call → IsNamed calls call
+    by_digits : (o : Option ℕ) → option_map (bare_number abi) o ≡ Some call → (call.abi ≡ abi) × IsNamed table call
     by_digits None e = cc
-    by_digits (Some nr) e = by_number (sym (same_named (bare_number nr) call e).1)
+    by_digits (Some nr) e = let same = same_named (bare_number abi nr) call e in (sym same.0, by_number (sym same.2))
 
-    by_line : (o : Option CallLine) → named word calls ≡ o → option_map (call_named word) o ≡ Some call → IsNamed calls call
+    by_line : (o : Option CallLine) → named word (calls_in table abi) ≡ o → option_map (call_named abi word) o ≡ Some call → (call.abi ≡ abi) × IsNamed table call
     by_line None is e = cc
     by_line (Some line) is e =
-        let same = same_named (call_named word line) call e in
-        by_name line (ap (λ n. numbered n calls) (sym same.0) ∙ line_found calls word line once is) (sym same.1 ∙ ap form_of_name (its_name calls word line is))
+        let same = same_named (call_named abi word line) call e in (
+          sym same.0,
+          by_name line (ap (λ k. numbered call.nr (calls_in table k)) (sym same.0) ∙ ap (λ n. numbered n (calls_in table abi)) (sym same.1) ∙ line_found (calls_in table abi) word line once is)
+              (sym same.2 ∙ ap form_of_name (its_name (calls_in table abi) word line is)),
+        )
 
-    by : (o : Option (List ℕ)) → named_by calls word o ≡ Some call → IsNamed calls call
-    by None e = by_line (named word calls) refl e
+    by : (o : Option (List ℕ)) → named_by table abi word o ≡ Some call → (call.abi ≡ abi) × IsNamed table call
+    by None e = by_line (named word (calls_in table abi)) refl e
     by (Some digits) e = by_digits (number_of digits) e
+
+-- a call of the table's ABIs
+record IsOfTable (table : Table) (call : Named) : Type 0 where
+  there : IsSome (abi_at table call.abi)
+  is_named : IsNamed table call
+
+abbrev EachOnce : Table → Type 0
+EachOnce table = (abi : ℕ) → AreOnce (calls_in table abi)
+
+of_table : (table : Table) (word : List ℕ) (call : Named) → EachOnce table → named_call table word ≡ Some call → IsOfTable table call
+unfolding named_call
+of_table table word call once e = by (spelled table word) refl e
+  where
+    by : (o : Option (ℕ × List ℕ)) → spelled table word ≡ o → option_and_then (λ found. named_in table found.0 found.1) o ≡ Some call → IsOfTable table call
+    by None is e = cc
+    by (Some found) is e =
+        let known = in_abi table found.0 found.1 call (once found.0) e in
+        record { there = subst (λ (k : ℕ). IsSome (abi_at table k)) (sym known.0) (spelled_there table word found is); is_named = known.1 }
 
 -- what is taken has the form
 code_whole : (word bytes : List ℕ) → code_of word ≡ Some bytes → (length bytes % 8 == 0) ≡ true
@@ -143,6 +167,12 @@ has_its_form form.Ids (word ∷ words) taken e = by (ids_of word) e
     by : (o : Option (List ℕ)) → option_map (λ ids. (Ids ids, words)) o ≡ Some taken → has_form form.Ids taken.0 ≡ true
     by None e = cc
     by (Some ids) e = taken_form form.Ids (Ids ids) words taken e refl
+has_its_form form.Family [] taken e = cc
+has_its_form form.Family (word ∷ words) taken e = by (number_of word) e
+  where
+    by : (o : Option ℕ) → option_map (λ family. (Family family, words)) o ≡ Some taken → has_form form.Family taken.0 ≡ true
+    by None e = cc
+    by (Some family) e = taken_form form.Family (Family family) words taken e refl
 has_its_form form.Program [] taken e = cc
 has_its_form form.Program (word ∷ words) taken e = by (code_of word) refl e
   where
@@ -156,81 +186,97 @@ nothing_only (OnePath path) h = absurd (false≢true h)
 nothing_only (TwoPaths source target) h = absurd (false≢true h)
 nothing_only (Sets permitted effective inheritable) h = absurd (false≢true h)
 nothing_only (Ids ids) h = absurd (false≢true h)
+nothing_only (Family family) h = absurd (false≢true h)
 nothing_only (Code bytes) h = absurd (false≢true h)
 
 -- the parts of a line that gives a call
-record Parts (calls : List CallLine) (call : Call) : Type 0 where
+record Parts (table : Table) (call : Call) : Type 0 where
   pid : 1 ≤ call.pid
   named' : Named
-  is_named : IsNamed calls named'
+  is_named : IsOfTable table named'
+  abi : named'.abi ≡ call.abi
   nr : named'.nr ≡ call.nr
   form' : has_form named'.form call.payload ≡ true
 
-parts_of_line : (calls : List CallLine) (words : List (List ℕ)) (call : Call) → AreOnce calls → call_of calls words ≡ Ok call → Parts calls call
-parts_of_line calls [] call once e = cc
-parts_of_line calls (word ∷ words) call once e = by_pid (pid_of word) words refl e
+abbrev IsMadeOf : ℕ → Named → Payload → Call → Type 0
+IsMadeOf pid n payload call = (pid ≡ call.pid) × (n.abi ≡ call.abi) × (n.nr ≡ call.nr) × (payload ≡ call.payload)
+
+parts_of_line : (table : Table) (words : List (List ℕ)) (call : Call) → EachOnce table → call_of table words ≡ Ok call → Parts table call
+parts_of_line table [] call once e = cc
+parts_of_line table (word ∷ words) call once e = by_pid (pid_of word) words refl e
   where
-    by_numbers : (pid nr : ℕ) (payload : Payload) (numbers : Option (List ℕ)) → with_numbers pid nr payload numbers ≡ Ok call → (pid ≡ call.pid) × (nr ≡ call.nr) × (payload ≡ call.payload)
-    by_numbers pid nr payload None e = cc
-    by_numbers pid nr payload (Some numbers) e = by (nat_le (length numbers) 6) e
+    by_numbers : (pid : ℕ) (n : Named) (payload : Payload) (numbers : Option (List ℕ)) → with_numbers pid n payload numbers ≡ Ok call → IsMadeOf pid n payload call
+    by_numbers pid n payload None e = cc
+    by_numbers pid n payload (Some numbers) e = by (nat_le (length numbers) 6) e
       where
-        by : (b : Bool) → cond {A = Result Call ScriptCause} b (Ok (record { pid = pid; nr = nr; args = six_words numbers; payload = payload })) (Err Words) ≡ Ok call → (pid ≡ call.pid) × (nr ≡ call.nr) × (payload ≡ call.payload)
-        by true e = let same : record { pid = pid; nr = nr; args = six_words numbers; payload = payload } ≡ call = cc in (ap (λ (c : Call). c.pid) same, ap (λ (c : Call). c.nr) same, ap (λ (c : Call). c.payload) same)
+        by : (b : Bool) → cond {A = Result Call ScriptCause} b (Ok (record { pid = pid; abi = n.abi; nr = n.nr; args = six_words numbers; payload = payload })) (Err Words) ≡ Ok call → IsMadeOf pid n payload call
+        by true e =
+            let same : record { pid = pid; abi = n.abi; nr = n.nr; args = six_words numbers; payload = payload } ≡ call = cc in
+            (ap (λ (c : Call). c.pid) same, ap (λ (c : Call). c.abi) same, ap (λ (c : Call). c.nr) same, ap (λ (c : Call). c.payload) same)
         by false e = cc
 
-    by_payload : (pid : ℕ) (n : Named) (behind : List (List ℕ)) (taken : Option Taken) → payload_of n.form behind ≡ taken → 1 ≤ pid → IsNamed calls n → with_payload pid n.nr taken ≡ Ok call → Parts calls call
+    by_payload : (pid : ℕ) (n : Named) (behind : List (List ℕ)) (taken : Option Taken) → payload_of n.form behind ≡ taken → 1 ≤ pid → IsOfTable table n → with_payload pid n taken ≡ Ok call → Parts table call
     by_payload pid n behind None t p i e = cc
     by_payload pid n behind (Some taken) t p i e =
-        let same = by_numbers pid n.nr taken.0 (numbers_of taken.1) e in
+        let same = by_numbers pid n taken.0 (numbers_of taken.1) e in
         record {
           pid = subst (λ k. 1 ≤ k) same.0 p;
           named' = n;
           is_named = i;
-          nr = same.1;
-          form' = ap (has_form n.form) (sym same.2) ∙ has_its_form n.form behind taken t;
+          abi = same.1;
+          nr = same.2;
+          form' = ap (has_form n.form) (sym same.3) ∙ has_its_form n.form behind taken t;
         }
 
-    by_name' : (pid : ℕ) (name : List ℕ) (behind : List (List ℕ)) (n : Option Named) → named_call calls name ≡ n → 1 ≤ pid → with_name pid behind n ≡ Ok call → Parts calls call
+    by_name' : (pid : ℕ) (name : List ℕ) (behind : List (List ℕ)) (n : Option Named) → named_call table name ≡ n → 1 ≤ pid → with_name pid behind n ≡ Ok call → Parts table call
     by_name' pid name behind None is p e = cc
-    by_name' pid name behind (Some n) is p e = by_payload pid n behind (payload_of n.form behind) refl p (named_in calls name n once is) e
+    by_name' pid name behind (Some n) is p e = by_payload pid n behind (payload_of n.form behind) refl p (of_table table name n once is) e
 
-    by_pid : (pid : Option ℕ) (behind : List (List ℕ)) → pid_of word ≡ pid → with_pid calls behind pid ≡ Ok call → Parts calls call
+    by_pid : (pid : Option ℕ) (behind : List (List ℕ)) → pid_of word ≡ pid → with_pid table behind pid ≡ Ok call → Parts table call
     by_pid None behind is e = cc
     by_pid (Some pid) [] is e = cc
-    by_pid (Some pid) (name ∷ behind) is e = by_name' pid name behind (named_call calls name) refl (pid_from_one word pid is) e
+    by_pid (Some pid) (name ∷ behind) is e = by_name' pid name behind (named_call table name) refl (pid_from_one word pid is) e
 
-written : (calls : List CallLine) (call : Call) → Parts calls call → IsWritten calls call
-written calls call p = by p.is_named
+written : (table : Table) (call : Call) → Parts table call → IsWritten table call
+written table call p = by p.is_named.is_named
   where
-    by : IsNamed calls p.named' → IsWritten calls call
-    by (by_number none) = record { pid = p.pid; payload = inl (nothing_only call.payload (ap (λ f. has_form f call.payload) (sym none) ∙ p.form')) }
+    there : IsSome (abi_at table call.abi)
+    there = subst (λ (k : ℕ). IsSome (abi_at table k)) p.abi p.is_named.there
+
+    by : IsNamed table p.named' → IsWritten table call
+    by (by_number none) = record { pid = p.pid; abi = there; payload = inl (nothing_only call.payload (ap (λ f. has_form f call.payload) (sym none) ∙ p.form')) }
     by (by_name line found is) = record {
       pid = p.pid;
-      payload = inr (record { line = line; in_table = ap (λ n. numbered n calls) (sym p.nr) ∙ found; form = ap (λ f. has_form f call.payload) (sym is) ∙ p.form' });
+      abi = there;
+      payload = inr (record {
+        line = line;
+        in_table = ap (λ k. numbered call.nr (calls_in table k)) (sym p.abi) ∙ ap (λ n. numbered n (calls_in table p.named'.abi)) (sym p.nr) ∙ found;
+        form = ap (λ f. has_form f call.payload) (sym is) ∙ p.form';
+      });
     }
 
 -- each call of a script
-each_written : (calls : List CallLine) → AreOnce calls → (lines : List Line) → AllByRecursion (IsWritten calls) (calls_of calls lines)
+each_written : (table : Table) → EachOnce table → (lines : List Line) → AllByRecursion (IsWritten table) (calls_of table lines)
 unfolding line_call
-each_written calls once [] = tt
-each_written calls once (line ∷ lines) = by (line_call calls line) refl (each_written calls once lines)
+each_written table once [] = tt
+each_written table once (line ∷ lines) = by (line_call table line) refl (each_written table once lines)
   where
-    by : (r : Result Call ScriptCause) → line_call calls line ≡ r → AllByRecursion (IsWritten calls) (calls_of calls lines) → AllByRecursion (IsWritten calls) (cons_option (result_ok r) (calls_of calls lines))
-    by (Ok call) is rest = (written calls call (parts_of_line calls (words_of line.text) call once is), rest)
+    by : (r : Result Call ScriptCause) → line_call table line ≡ r → AllByRecursion (IsWritten table) (calls_of table lines) → AllByRecursion (IsWritten table) (cons_option (result_ok r) (calls_of table lines))
+    by (Ok call) is rest = (written table call (parts_of_line table (words_of line.text) call once is), rest)
     by (Err cause) is rest = rest
 
-script_written : (calls : List CallLine) (bytes : List ℕ) (script : List Call) → AreOnce calls → script_of calls bytes ≡ Ok script → All (IsWritten calls) script
+script_written : (table : Table) (bytes : List ℕ) (script : List Call) → EachOnce table → script_of table bytes ≡ Ok script → All (IsWritten table) script
 unfolding script_of
-script_written calls bytes script once e = by (is_text bytes) e
+script_written table bytes script once e = by (is_text bytes) e
   where
-    by_fault : (o : Option ScriptError) → unless_fault o (calls_of calls (lines_of bytes)) ≡ Ok script → All (IsWritten calls) script
-    by_fault None e = let same : calls_of calls (lines_of bytes) ≡ script = cc in subst (All (IsWritten calls)) same (All-from_recursion (IsWritten calls) (calls_of calls (lines_of bytes)) (each_written calls once (lines_of bytes)))
+    by_fault : (o : Option ScriptError) → unless_fault o (calls_of table (lines_of bytes)) ≡ Ok script → All (IsWritten table) script
+    by_fault None e = let same : calls_of table (lines_of bytes) ≡ script = cc in subst (All (IsWritten table)) same (All-from_recursion (IsWritten table) (calls_of table (lines_of bytes)) (each_written table once (lines_of bytes)))
     by_fault (Some fault) e = cc
 
-    by : (b : Bool) → cond b (script_of_lines calls (lines_of bytes)) (Err NotText) ≡ Ok script → All (IsWritten calls) script
-    by true e = by_fault (fault_of calls (lines_of bytes)) e
+    by : (b : Bool) → cond b (script_of_lines table (lines_of bytes)) (Err NotText) ≡ Ok script → All (IsWritten table) script
+    by true e = by_fault (fault_of table (lines_of bytes)) e
     by false e = cc
 
-pub answer_written : (calls : List CallLine) (bytes : List ℕ) (answer : Result (List Call) ScriptError) → AreOnce calls → ReadsScript (script_of calls bytes) answer → IfOk answer (λ script. All (IsWritten calls) script)
-answer_written calls bytes (Ok script) once h = script_written calls bytes script once h
-answer_written calls bytes (Err error) once h = tt
+pub answer_written : (table : Table) (bytes : List ℕ) (answer : Result (List Call) ScriptError) → EachOnce table → ReadsScript (script_of table bytes) answer → IfOk answer (λ script. All (IsWritten table) script)
+answer_written table bytes (Ok script) once h = script_written table bytes script once h
+answer_written table bytes (Err error) once h = tt

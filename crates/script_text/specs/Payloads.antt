@@ -11,7 +11,7 @@ use Rattle.call_names.specs.declared.payload.PayloadForm.TheVariants as form
 use Rattle.call_table.specs.Numbers.{is_lower_hex, number_of}
 use Rattle.hex.specs.Hex.{decode_of}
 use Rattle.kernel_calls.specs.declared.payload.Payload.{Payload}
-use Rattle.kernel_calls.specs.declared.payload.Payload.TheVariants.{Nothing, OnePath, TwoPaths, Sets, Ids, Code}
+use Rattle.kernel_calls.specs.declared.payload.Payload.TheVariants.{Nothing, OnePath, TwoPaths, Sets, Ids, Family, Code}
 use Rattle.text_forms.specs.Numbers.{number_value}
 use Rattle.script_text.specs.Escapes.{escaped_text}
 use Rattle.script_text.specs.Marks.{between_brackets, between_commas}
@@ -65,5 +65,6 @@ payload_of form.OnePath (word ∷ words) = option_map (λ path. (OnePath path, w
 payload_of form.TwoPaths (source ∷ target ∷ words) = option_map (with_words words) (two_paths source target)
 payload_of form.Sets (permitted ∷ effective ∷ inheritable ∷ words) = option_map (with_words words) (three_sets permitted effective inheritable)
 payload_of form.Ids (word ∷ words) = option_map (λ ids. (Ids ids, words)) (ids_of word)
+payload_of form.Family (word ∷ words) = option_map (λ family. (Family family, words)) (number_of word)
 payload_of form.Program (word ∷ words) = option_map (λ bytes. (Code bytes, words)) (code_of word)
 payload_of _ _ = None

@@ -6,11 +6,13 @@ use Rattle.abs_path.specs.Paths.{text_of}
 use Rattle.call_names.specs.declared.payload.PayloadForm.{PayloadForm}
 use Rattle.call_names.specs.declared.payload.PayloadForm.TheVariants as form
 use Rattle.call_table.specs.Lookups.{numbered}
+use Rattle.call_table.specs.Table.{Table, calls_in}
 use Rattle.call_table.specs.declared.listed.CallLine.{CallLine}
+use Rattle.call_words.specs.Words.{spelling}
 use Rattle.hex.specs.Hex.{encode_lower}
 use Rattle.kernel_calls.specs.declared.call.Call.{Call}
 use Rattle.kernel_calls.specs.declared.payload.Payload.{Payload}
-use Rattle.kernel_calls.specs.declared.payload.Payload.TheVariants.{Nothing, OnePath, TwoPaths, Sets, Ids, Code}
+use Rattle.kernel_calls.specs.declared.payload.Payload.TheVariants.{Nothing, OnePath, TwoPaths, Sets, Ids, Family, Code}
 use Rattle.text_forms.specs.Escaped.{escaped_word}
 use Rattle.script_text.specs.Numbers.{without_last_zeros}
 use Rattle.script_text.specs.Reading.{form_of_name}
@@ -22,6 +24,7 @@ has_form form.OnePath (OnePath path) = true
 has_form form.TwoPaths (TwoPaths source target) = true
 has_form form.Sets (Sets permitted effective inheritable) = true
 has_form form.Ids (Ids ids) = true
+has_form form.Family (Family family) = true
 has_form form.Program (Code bytes) = length bytes % 8 == 0
 has_form _ _ = false
 
@@ -53,24 +56,33 @@ payload_words (OnePath path) = escaped_word (text_of path) ∷ []
 payload_words (TwoPaths source target) = escaped_word (text_of source) ∷ escaped_word (text_of target) ∷ []
 payload_words (Sets permitted effective inheritable) = decimal permitted ∷ decimal effective ∷ decimal inheritable ∷ []
 payload_words (Ids ids) = ids_word ids ∷ []
+payload_words (Family family) = decimal family ∷ []
 payload_words (Code bytes) = code_word bytes ∷ []
 
 abbrev pub hash_word : ℕ → List ℕ
 hash_word nr = codes "#" ++ decimal nr
 
+-- a call by its number
+abbrev pub numbered_words : Table → Call → List (List ℕ)
+numbered_words table call = spelling table call.abi (hash_word call.nr) ∷ []
+
 -- a call of the table whose payload is of its form goes by its name and has its payload; any other goes by its number
-abbrev pub named_words : Call → Option CallLine → List (List ℕ)
-named_words call None = hash_word call.nr ∷ []
-named_words call (Some line) = cond (has_form (form_of_name line.name) call.payload) (line.name ∷ payload_words call.payload) (hash_word call.nr ∷ [])
+abbrev pub named_words : Table → Call → Option CallLine → List (List ℕ)
+named_words table call None = numbered_words table call
+named_words table call (Some line) = cond (has_form (form_of_name line.name) call.payload) (spelling table call.abi line.name ∷ payload_words call.payload) (numbered_words table call)
 
 -- the words of the call's words, in decimal, without the zeros at the end
 abbrev pub argument_words : List ℕ → List (List ℕ)
 argument_words args = map decimal (without_last_zeros args)
 
+-- the words of the call itself, by the name that its ABI gives its number
+abbrev pub front_words : Table → Call → List (List ℕ)
+front_words table call = named_words table call (numbered call.nr (calls_in table call.abi))
+
 -- the words behind the number of the process
-abbrev pub words_behind_pid : List CallLine → Call → List (List ℕ)
-words_behind_pid calls call = named_words call (numbered call.nr calls) ++ argument_words call.args
+abbrev pub words_behind_pid : Table → Call → List (List ℕ)
+words_behind_pid table call = front_words table call ++ argument_words call.args
 
 -- the text of a call, one space between words
-abbrev pub call_text : List CallLine → Call → List ℕ
-call_text calls call = decimal call.pid ++ each_behind (codes " ") (words_behind_pid calls call)
+abbrev pub call_text : Table → Call → List ℕ
+call_text table call = decimal call.pid ++ each_behind (codes " ") (words_behind_pid table call)

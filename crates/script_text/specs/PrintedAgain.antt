@@ -1,24 +1,31 @@
 -- Which printed calls are read again as themselves.
-use Rattle.std.specs.Prelude.{◌≡◌, ◌⊎◌, ◌<◌, ◌≤◌, ℕ, true, Some, List, slice_get, Ok}
-use Rattle.std.specs.List.{All}
+use Rattle.std.specs.Prelude.{◌≡◌, ◌⊎◌, ◌<◌, ◌≤◌, ◌==◌, ℕ, true, false, Some, List, length, slice_get, Ok, IfSome, IsSome}
+use Rattle.std.specs.List.{All, AllByRecursion}
 use Rattle.std.specs.Str.{is_utf8}
 use Rattle.abs_path.specs.Paths.{text_of}
 use Rattle.line_text.specs.Lines.{words_of}
 use Rattle.call_table.specs.Lookups.{numbered, AreOnce}
 use Rattle.call_table.specs.Names.{is_name}
 use Rattle.call_table.specs.Reading.{table_of}
-use Rattle.call_table.specs.Table.{Table}
+use Rattle.call_table.specs.Table.{Table, abi_at, calls_in}
 use Rattle.call_table.specs.declared.listed.CallLine.{CallLine}
+use Rattle.call_words.specs.Words.{HasOtherName}
 use Rattle.kernel_calls.specs.Calls.{IsCall}
 use Rattle.kernel_calls.specs.declared.call.Call.{Call}
 use Rattle.kernel_calls.specs.declared.payload.Payload.{Payload}
-use Rattle.kernel_calls.specs.declared.payload.Payload.TheVariants.{Nothing, OnePath, TwoPaths, Sets, Ids, Code}
+use Rattle.kernel_calls.specs.declared.payload.Payload.TheVariants.{Nothing, OnePath, TwoPaths, Sets, Ids, Family, Code}
 use Rattle.script_text.specs.Printed.{call_text, has_form}
 use Rattle.script_text.specs.Reading.{call_of, form_of_name}
 
--- each call has a name of the letters of names
-abbrev pub AreNamed : List CallLine → Type 0
-AreNamed calls = (at : ℕ) (line : CallLine) → slice_get calls at ≡ Some line → is_name line.name ≡ true
+-- a word that stands between spaces
+pub record IsWord (word : List ℕ) : Type 0 where
+  pub some : (length word == 0) ≡ false
+  pub plain : AllByRecursion (λ byte. (byte == 32) ≡ false) word
+
+-- each call has a name of the letters of names, and the name of a second ABI is a word
+pub record AreNamed (table : Table) : Type 0 where
+  pub calls : (abi at : ℕ) (line : CallLine) → slice_get (calls_in table abi) at ≡ Some line → is_name line.name ≡ true
+  pub second : IfSome table.second (λ second. IsWord second.name)
 
 -- bytes that are a text
 pub record IsText (bytes : List ℕ) : Type 0 where
@@ -32,32 +39,36 @@ HasTexts (OnePath path) = IsText (text_of path)
 HasTexts (TwoPaths source target) = IsText (text_of source) × IsText (text_of target)
 HasTexts (Sets permitted effective inheritable) = Unit {0}
 HasTexts (Ids ids) = Unit {0}
+HasTexts (Family family) = Unit {0}
 HasTexts (Code bytes) = Unit {0}
 
--- the table has the number, and the payload is of the form of the call's name
-pub record HasItsForm (calls : List CallLine) (call : Call) : Type 0 where
+-- the call's ABI has its number, and the payload is of the form of the name that it gives it
+pub record HasItsForm (table : Table) (call : Call) : Type 0 where
   pub line : CallLine
-  pub in_table : numbered call.nr calls ≡ Some line
+  pub in_table : numbered call.nr (calls_in table call.abi) ≡ Some line
   pub form : has_form (form_of_name line.name) call.payload ≡ true
 
--- a call that can be written: it has a process, and carries nothing, or what its name carries
-pub record IsWritten (calls : List CallLine) (call : Call) : Type 0 where
+-- a call that can be written: it has a process and an ABI of the table, and carries nothing, or what its name carries
+pub record IsWritten (table : Table) (call : Call) : Type 0 where
   pub pid : 1 ≤ call.pid
-  pub payload : (call.payload ≡ Nothing) ⊎ HasItsForm calls call
+  pub abi : IsSome (abi_at table call.abi)
+  pub payload : (call.payload ≡ Nothing) ⊎ HasItsForm table call
 
 -- a call as a program holds it
 pub record IsHeld (call : Call) : Type 0 where
   pub fits : IsCall call
   pub texts : HasTexts call.payload
 
--- a printed call has one reading, the call itself, where names and numbers stand once
+-- a printed call has one reading, the call itself, where the names of the ABIs, and the names and numbers of the calls of its
+-- ABI, stand once
 abbrev pub ReadsBack : Type 0
-ReadsBack = (calls : List CallLine) (call : Call) → AreOnce calls → AreNamed calls → IsHeld call → IsWritten calls call → call_of calls (words_of (call_text calls call)) ≡ Ok call
+ReadsBack = (table : Table) (call : Call) → HasOtherName table → AreOnce (calls_in table call.abi) → AreNamed table → IsHeld call → IsWritten table call
+    → call_of table (words_of (call_text table call)) ≡ Ok call
 
 -- the same of a text that was made of a call
-abbrev pub IsReadAs : List CallLine → Call → List ℕ → Type 0
-IsReadAs calls call text = AreNamed calls → IsWritten calls call → call_of calls (words_of text) ≡ Ok call
+abbrev pub IsReadAs : Table → Call → List ℕ → Type 0
+IsReadAs table call text = AreNamed table → IsWritten table call → call_of table (words_of text) ≡ Ok call
 
--- the calls of a table that was read have such names
+-- the calls and the ABIs of a table that was read have such names
 abbrev pub TablesAreNamed : Type 0
-TablesAreNamed = (bytes : List ℕ) (table : Table) → table_of bytes ≡ Ok table → AreNamed table.calls
+TablesAreNamed = (bytes : List ℕ) (table : Table) → table_of bytes ≡ Ok table → AreNamed table

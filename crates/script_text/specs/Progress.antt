@@ -3,7 +3,7 @@ use Rattle.std.specs.Prelude.{◌≡◌, ℕ, ◌<◌, ◌≤◌, Option, Some, 
 use Rattle.std.specs.declared.alloc.Global.{Global}
 use Rattle.kernel_calls.specs.declared.call.Call.{Call}
 use Rattle.line_text.specs.Lines.{Line}
-use Rattle.call_table.specs.declared.listed.CallLine.{CallLine}
+use Rattle.call_table.specs.Table.{Table}
 use Rattle.script_text.specs.Payloads.{Taken}
 use Rattle.script_text.specs.Scripts.{most_calls, fault_of, calls_of}
 use Rattle.script_text.specs.declared.payloads.TakenPayload.{TakenPayload}
@@ -58,9 +58,9 @@ ReadsLine number wanted (Err (AtLine line cause)) = (line ≡ number) × (wanted
 ReadsLine number wanted (Err TooMany) = ⊥
 
 -- what a reader has behind some lines without a fault: a call of each
-pub record HasRead (calls : List CallLine) (lines : List Line) (made : List Call) : Type 0 where
-  pub faultless : fault_of calls lines ≡ None
-  pub read : made ≡ calls_of calls lines
+pub record HasRead (table : Table) (lines : List Line) (made : List Call) : Type 0 where
+  pub faultless : fault_of table lines ≡ None
+  pub read : made ≡ calls_of table lines
   pub one_each : length made ≡ length lines
 
 -- one call more, where there may be one more; unless memory ran out

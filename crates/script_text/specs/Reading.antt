@@ -1,5 +1,5 @@
 -- What a line of a script is, by its words: `PID NAME [PAYLOAD] [WORD ..]`.
-use Rattle.std.specs.Prelude.{ℕ, nat_le, cond, Option, Some, None, Result, Ok, Err, List, [], ◌∷◌, length}
+use Rattle.std.specs.Prelude.{ℕ, nat_le, cond, Option, Some, None, option_and_then, Result, Ok, Err, List, [], ◌∷◌, length}
 use Rattle.std.specs.Option.{option_map}
 use Rattle.call_names.specs.Known.{known_call, form_of}
 use Rattle.call_names.specs.declared.known.KnownCall.{KnownCall}
@@ -8,7 +8,9 @@ use Rattle.call_names.specs.declared.payload.PayloadForm.{PayloadForm}
 use Rattle.call_names.specs.declared.payload.PayloadForm.TheVariants as form
 use Rattle.call_table.specs.Lookups.{named}
 use Rattle.call_table.specs.Numbers.{number_of}
+use Rattle.call_table.specs.Table.{Table, calls_in}
 use Rattle.call_table.specs.declared.listed.CallLine.{CallLine}
+use Rattle.call_words.specs.Words.{spelled}
 use Rattle.kernel_calls.specs.declared.call.Call.{Call}
 use Rattle.kernel_calls.specs.declared.payload.Payload.{Payload}
 use Rattle.script_text.specs.Marks.{behind_hash}
@@ -17,8 +19,9 @@ use Rattle.script_text.specs.Payloads.{Taken, payload_of}
 use Rattle.script_text.specs.declared.error.ScriptCause.{ScriptCause}
 use Rattle.script_text.specs.declared.error.ScriptCause.TheVariants as cause
 
--- a call that a line names, and what it carries
+-- a call that a line names, by its ABI, and what it carries
 pub record Named : Type 0 where
+  pub abi : ℕ
   pub nr : ℕ
   pub form : PayloadForm
 
@@ -31,39 +34,43 @@ form_of_known (Some (Modelled rule)) = form_of rule
 abbrev pub form_of_name : List ℕ → PayloadForm
 form_of_name name = form_of_known (known_call name)
 
-abbrev pub bare_number : ℕ → Named
-bare_number nr = record { nr = nr; form = form.Nothing }
+abbrev pub bare_number : ℕ → ℕ → Named
+bare_number abi nr = record { abi = abi; nr = nr; form = form.Nothing }
 
-abbrev pub call_named : List ℕ → CallLine → Named
-call_named name line = record { nr = line.number; form = form_of_name name }
+abbrev pub call_named : ℕ → List ℕ → CallLine → Named
+call_named abi name line = record { abi = abi; nr = line.number; form = form_of_name name }
 
-abbrev pub named_by : List CallLine → List ℕ → Option (List ℕ) → Option Named
-named_by calls word None = option_map (call_named word) (named word calls)
-named_by calls word (Some digits) = option_map bare_number (number_of digits)
+abbrev pub named_by : Table → ℕ → List ℕ → Option (List ℕ) → Option Named
+named_by table abi word None = option_map (call_named abi word) (named word (calls_in table abi))
+named_by table abi word (Some digits) = option_map (bare_number abi) (number_of digits)
 
--- NAME is a call of the table; `#NUMBER` is any call, without a payload
-unfoldable pub named_call : List CallLine → List ℕ → Option Named
-named_call calls word = named_by calls word (behind_hash word)
+-- a name is a call of the ABI; `#NUMBER` is any call, without a payload
+abbrev pub named_in : Table → ℕ → List ℕ → Option Named
+named_in table abi word = named_by table abi word (behind_hash word)
 
-abbrev pub with_numbers : ℕ → ℕ → Payload → Option (List ℕ) → Result Call ScriptCause
-with_numbers pid nr payload None = Err cause.Number
-with_numbers pid nr payload (Some numbers) =
-    cond (nat_le (length numbers) 6) (Ok (record { pid = pid; nr = nr; args = six_words numbers; payload = payload })) (Err cause.Words)
+-- NAME is of the native ABI, or of the one that stands before its last colon
+unfoldable pub named_call : Table → List ℕ → Option Named
+named_call table word = option_and_then (λ call. named_in table call.0 call.1) (spelled table word)
 
-abbrev pub with_payload : ℕ → ℕ → Option Taken → Result Call ScriptCause
-with_payload pid nr None = Err cause.Payload
-with_payload pid nr (Some taken) = with_numbers pid nr taken.0 (numbers_of taken.1)
+abbrev pub with_numbers : ℕ → Named → Payload → Option (List ℕ) → Result Call ScriptCause
+with_numbers pid named payload None = Err cause.Number
+with_numbers pid named payload (Some numbers) =
+    cond (nat_le (length numbers) 6) (Ok (record { pid = pid; abi = named.abi; nr = named.nr; args = six_words numbers; payload = payload })) (Err cause.Words)
+
+abbrev pub with_payload : ℕ → Named → Option Taken → Result Call ScriptCause
+with_payload pid named None = Err cause.Payload
+with_payload pid named (Some taken) = with_numbers pid named taken.0 (numbers_of taken.1)
 
 abbrev pub with_name : ℕ → List (List ℕ) → Option Named → Result Call ScriptCause
 with_name pid words None = Err cause.Name
-with_name pid words (Some call) = with_payload pid call.nr (payload_of call.form words)
+with_name pid words (Some named) = with_payload pid named (payload_of named.form words)
 
-abbrev pub with_pid : List CallLine → List (List ℕ) → Option ℕ → Result Call ScriptCause
-with_pid calls words None = Err cause.Pid
-with_pid calls [] (Some pid) = Err cause.Words
-with_pid calls (word ∷ words) (Some pid) = with_name pid words (named_call calls word)
+abbrev pub with_pid : Table → List (List ℕ) → Option ℕ → Result Call ScriptCause
+with_pid table words None = Err cause.Pid
+with_pid table [] (Some pid) = Err cause.Words
+with_pid table (word ∷ words) (Some pid) = with_name pid words (named_call table word)
 
 -- the call of a line, or the first of its causes
-abbrev pub call_of : List CallLine → List (List ℕ) → Result Call ScriptCause
-call_of calls [] = Err cause.Pid
-call_of calls (word ∷ words) = with_pid calls words (pid_of word)
+abbrev pub call_of : Table → List (List ℕ) → Result Call ScriptCause
+call_of table [] = Err cause.Pid
+call_of table (word ∷ words) = with_pid table words (pid_of word)

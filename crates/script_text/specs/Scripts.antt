@@ -3,7 +3,7 @@ use Rattle.std.specs.Prelude.{ℕ, nat_lt, cond, Option, Some, None, Result, Ok,
 use Rattle.std.specs.List.{filter_map, enumerate_from}
 use Rattle.std.specs.Result.{result_ok}
 use Rattle.line_text.specs.Lines.{Line, is_text, lines_of, words_of}
-use Rattle.call_table.specs.declared.listed.CallLine.{CallLine}
+use Rattle.call_table.specs.Table.{Table}
 use Rattle.kernel_calls.specs.declared.call.Call.{Call}
 use Rattle.script_text.specs.Reading.{call_of}
 use Rattle.script_text.specs.declared.error.ScriptCause.{ScriptCause}
@@ -13,32 +13,32 @@ use Rattle.script_text.specs.declared.error.ScriptError.TheVariants.{NotText, Li
 abbrev pub most_calls : ℕ
 most_calls = 16384
 
-unfoldable pub line_call : List CallLine → Line → Result Call ScriptCause
-line_call calls line = call_of calls (words_of line.text)
+unfoldable pub line_call : Table → Line → Result Call ScriptCause
+line_call table line = call_of table (words_of line.text)
 
 abbrev pub fault_by : ℕ → Line → Result Call ScriptCause → Option ScriptError
 fault_by at line (Err cause) = Some (AtLine line.number cause)
 fault_by at line (Ok call) = cond (nat_lt at most_calls) None (Some TooMany)
 
 -- the fault of a line behind so many others that count: its cause, or one call more than there may be
-abbrev pub fault_at : List CallLine → ℕ × Line → Option ScriptError
-fault_at calls place = fault_by place.0 place.1 (line_call calls place.1)
+abbrev pub fault_at : Table → ℕ × Line → Option ScriptError
+fault_at table place = fault_by place.0 place.1 (line_call table place.1)
 
 -- the first fault of the lines
-abbrev pub fault_of : List CallLine → List Line → Option ScriptError
-fault_of calls lines = slice_get (filter_map (fault_at calls) (enumerate_from 0 lines)) 0
+abbrev pub fault_of : Table → List Line → Option ScriptError
+fault_of table lines = slice_get (filter_map (fault_at table) (enumerate_from 0 lines)) 0
 
 -- the calls of the lines
-abbrev pub calls_of : List CallLine → List Line → List Call
-calls_of calls lines = filter_map (λ line. result_ok (line_call calls line)) lines
+abbrev pub calls_of : Table → List Line → List Call
+calls_of table lines = filter_map (λ line. result_ok (line_call table line)) lines
 
 abbrev pub unless_fault : Option ScriptError → List Call → Result (List Call) ScriptError
 unless_fault None made = Ok made
 unless_fault (Some fault) made = Err fault
 
-abbrev pub script_of_lines : List CallLine → List Line → Result (List Call) ScriptError
-script_of_lines calls lines = unless_fault (fault_of calls lines) (calls_of calls lines)
+abbrev pub script_of_lines : Table → List Line → Result (List Call) ScriptError
+script_of_lines table lines = unless_fault (fault_of table lines) (calls_of table lines)
 
--- what the bytes of a script give, with these calls of the table
-unfoldable pub script_of : List CallLine → List ℕ → Result (List Call) ScriptError
-script_of calls bytes = cond (is_text bytes) (script_of_lines calls (lines_of bytes)) (Err NotText)
+-- what the bytes of a script give, with this table of calls
+unfoldable pub script_of : Table → List ℕ → Result (List Call) ScriptError
+script_of table bytes = cond (is_text bytes) (script_of_lines table (lines_of bytes)) (Err NotText)

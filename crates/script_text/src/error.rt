@@ -11,7 +11,7 @@ use thiserror::Error;
 pub enum ScriptCause {
     /// PID is not a decimal number from 1 and below 2^32.
     Pid,
-    /// NAME is no call of the table, and not `#` with a decimal number below 2^32.
+    /// NAME is no call of its ABI, and not `#` with a decimal number below 2^32, or the table lacks the ABI.
     Name,
     /// The payload of the call is missing, or not of its form.
     Payload,

@@ -37,7 +37,11 @@ fn payload_is_text(payload: &Payload)
             path_is_text(source);
             path_is_text(target);
         }
-        Payload::Nothing | Payload::Sets(_, _, _) | Payload::Ids(_) | Payload::Code(_) => {}
+        Payload::Nothing
+        | Payload::Sets(_, _, _)
+        | Payload::Ids(_)
+        | Payload::Family(_)
+        | Payload::Code(_) => {}
     }
 }
 

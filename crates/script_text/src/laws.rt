@@ -7,7 +7,7 @@ pub fn printed_call_read()
     ensures read_back { ReadsBack }
 {}
 
-/// The calls of a table that was read have names by which they can be read again.
+/// The calls and the ABIs of a table that was read have names by which calls can be read again.
 pub fn read_tables_are_named()
     ensures named { TablesAreNamed }
 {}

@@ -28,6 +28,7 @@ fn read_named(alloc: Global, pid: u32, named: NamedCall, words: &[&str]) -> Resu
     }
     Ok(Call {
         pid,
+        abi: named.abi,
         nr: named.nr,
         args: six_words(numbers.as_slice()),
         payload: taken.payload,
@@ -36,7 +37,7 @@ fn read_named(alloc: Global, pid: u32, named: NamedCall, words: &[&str]) -> Resu
 
 // the call that words write
 fn read_words(alloc: Global, calls: &CallTable, words: &[&str]) -> Result<Call, LineFault>
-    ensures { ReadsCall (call_of calls.now.calls (map (λ word. word.now) words.now)) result }
+    ensures { ReadsCall (call_of calls.now (map (λ word. word.now) words.now)) result }
 {
     let Some((pid, behind)) = words.split_first() else {
         return Err(LineFault::Faulty(ScriptCause::Pid));
@@ -49,10 +50,10 @@ fn read_words(alloc: Global, calls: &CallTable, words: &[&str]) -> Result<Call, 
     read_named(alloc, pid, named, behind)
 }
 
-/// The call that a line writes, with these calls of the table.
+/// The call that a line writes, with this table of calls.
 #[tactic(auto, unfolding(crate::specs::Scripts::line_call))]
 pub(crate) fn read_line(alloc: Global, calls: &CallTable, line: &Line) -> Result<Call, LineFault>
-    ensures { ReadsCall (line_call calls.now.calls (line_view line.now)) result }
+    ensures { ReadsCall (line_call calls.now (line_view line.now)) result }
 {
     let words = words(alloc, line.text)?;
     read_words(alloc, calls, words.as_slice())

@@ -2,17 +2,20 @@
 
 ghost use Rattle.std.specs.Prelude.{◌≡◌, option_map};
 ghost use Rattle.call_table.specs.Numbers.{number_of};
-ghost use Rattle.script_text.specs.Reading.{form_of_name, named_call};
+ghost use Rattle.script_text.specs.Reading.{form_of_name, named_in, named_call};
 ghost use Rattle.script_text.specs.Marks.{behind_hash};
 ghost use Rattle.script_text.specs.Views.{view_named};
 
 use call_names::{KnownCall, PayloadForm, form_of, known_call};
 use call_table::CallTable;
+use call_words::spelled;
 use text_forms::read_decimal;
 
 /// A call, and what it carries beside its words.
 #[derive(Clone, Copy)]
 pub(crate) struct NamedCall {
+    /// The ABI by which it is called.
+    pub abi: u8,
     /// The number of the call.
     pub nr: u32,
     /// What it carries.
@@ -42,19 +45,30 @@ pub(crate) fn read_number(digits: &str) -> Option<u32>
     u32::try_from(read_decimal(digits)?).ok()
 }
 
-/// The call that a word names: one of the table, or behind `#` the call of a decimal number, which carries nothing.
-#[tactic(auto, unfolding(crate::specs::Reading::named_call))]
-pub(crate) fn find_call(calls: &CallTable, word: &str) -> Option<NamedCall>
-    ensures { option_map view_named result ≡ named_call calls.now.calls word.now }
+// the call of an ABI that a name stands for, or behind `#` the call of a decimal number, which carries nothing
+fn call_in(calls: &CallTable, abi: u8, word: &str) -> Option<NamedCall>
+    ensures { option_map view_named result ≡ named_in calls.now abi word.now }
 {
     match behind_hash(word) {
         Some(digits) => Some(NamedCall {
+            abi,
             nr: read_number(digits)?,
             form: PayloadForm::Nothing,
         }),
         None => Some(NamedCall {
-            nr: calls.number(word)?,
+            abi,
+            nr: calls.number_in(abi, word)?,
             form: form_of_name(word),
         }),
     }
+}
+
+/// The call that a word names, of the native ABI or of the one that stands before its last colon: one of the table, or behind
+/// `#` the call of a decimal number, which carries nothing.
+#[tactic(auto, unfolding(crate::specs::Reading::named_call))]
+pub(crate) fn find_call(calls: &CallTable, word: &str) -> Option<NamedCall>
+    ensures { option_map view_named result ≡ named_call calls.now word.now }
+{
+    let (abi, word) = spelled(calls, word)?;
+    call_in(calls, abi, word)
 }

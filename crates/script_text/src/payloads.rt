@@ -127,6 +127,13 @@ fn read_ids(alloc: Global, word: &str) -> Result<IdList, LineFault>
     Ok(IdList::new(read_each(alloc, pieces.as_slice())?))
 }
 
+// the number of a family
+fn read_family(word: &str) -> Result<u32, LineFault>
+    ensures { ReadsAs (number_of word.now) PayloadCause result }
+{
+    read_number(word).ok_or(NO_PAYLOAD)
+}
+
 fn is_lower_hex(byte: u8) -> bool
     ensures { result ≡ is_lower_hex byte }
 {
@@ -199,6 +206,10 @@ pub(crate) fn take_payload<'w, 't>(
         }),
         (PayloadForm::Ids, [ids, rest @ ..]) => Ok(TakenPayload {
             payload: Payload::Ids(read_ids(alloc, ids)?),
+            rest,
+        }),
+        (PayloadForm::Family, [family, rest @ ..]) => Ok(TakenPayload {
+            payload: Payload::Family(read_family(family)?),
             rest,
         }),
         (PayloadForm::Program, [code, rest @ ..]) => Ok(TakenPayload {

@@ -4,15 +4,15 @@ ghost use Rattle.std.specs.Prelude.{◌≡◌, ◌++◌, ◌∷◌, OnOk, IfOk, 
 ghost use Rattle.abs_path.specs.Paths.{text_of};
 ghost use Rattle.text_forms.specs.Escaped.{escaped_word};
 ghost use Rattle.script_text.specs.Numbers.{without_last_zeros};
-ghost use Rattle.script_text.specs.Printed.{argument_words, call_text, code_word, each_behind, each_number, has_form, hash_word, ids_word, named_words, payload_words, with_commas};
+ghost use Rattle.script_text.specs.Printed.{argument_words, call_text, code_word, each_behind, each_number, has_form, ids_word, front_words, numbered_words, payload_words, with_commas};
 ghost use Rattle.script_text.specs.PrintedAgain.{IsReadAs};
-ghost use Rattle.call_table.specs.Lookups.{numbered};
 
 use crate::held::is_held;
 use crate::names::form_of_name;
 use abs_path::AbsPath;
 use call_names::PayloadForm;
 use call_table::CallTable;
+use call_words::push_abi;
 use hex::encode;
 use kernel_calls::{Call, Payload};
 use std::alloc::{AllocError, Global};
@@ -27,7 +27,8 @@ fn has_form(form: PayloadForm, payload: &Payload) -> bool
         | (PayloadForm::OnePath, Payload::OnePath(_))
         | (PayloadForm::TwoPaths, Payload::TwoPaths(_, _))
         | (PayloadForm::Sets, Payload::Sets(_, _, _))
-        | (PayloadForm::Ids, Payload::Ids(_)) => true,
+        | (PayloadForm::Ids, Payload::Ids(_))
+        | (PayloadForm::Family, Payload::Family(_)) => true,
         (PayloadForm::Program, Payload::Code(code)) => code.list().len() % 8 == 0,
         _ => false,
     }
@@ -114,34 +115,38 @@ fn push_payload(alloc: Global, out: &mut Vec<u8>, payload: &Payload) -> Result<(
             push_number(out, inheritable.bits())
         }
         Payload::Ids(ids) => push_list(out, ids.list()),
+        Payload::Family(family) => push_number(out, u64::from(*family)),
         Payload::Code(code) => push_code(alloc, out, code.list()),
     }
 }
 
 // a space and the call by its number
-fn push_hash(out: &mut Vec<u8>, nr: u32) -> Result<(), AllocError>
-    ensures { OnOk result (out.new.items ≡ out.old.items ++ (codes " " ++ hash_word nr)) }
+fn push_numbered(out: &mut Vec<u8>, call: &Call, calls: &CallTable) -> Result<(), AllocError>
+    ensures { OnOk result (out.new.items ≡ out.old.items ++ each_behind (codes " ") (numbered_words calls.now call.now)) }
 {
-    out.extend_from_slice(b" #")?;
-    push_u64(out, u64::from(nr))
+    push_space(out)?;
+    push_abi(out, calls, call.abi)?;
+    out.extend_from_slice(b"#")?;
+    push_u64(out, u64::from(call.nr))
 }
 
-// the call by its name with its payload, where the table has it and the payload is of its form; else by its number
+// the call by its name with its payload, where its ABI has it and the payload is of its form; else by its number
 fn push_named(
     alloc: Global,
     out: &mut Vec<u8>,
     call: &Call,
     calls: &CallTable,
 ) -> Result<(), AllocError>
-    ensures { OnOk result (out.new.items ≡ out.old.items ++ each_behind (codes " ") (named_words call.now (numbered call.now.nr calls.now.calls))) }
+    ensures { OnOk result (out.new.items ≡ out.old.items ++ each_behind (codes " ") (front_words calls.now call.now)) }
 {
-    let Some(name) = calls.name(call.nr) else {
-        return push_hash(out, call.nr);
+    let Some(name) = calls.name_in(call.abi, call.nr) else {
+        return push_numbered(out, call, calls);
     };
     if !has_form(form_of_name(name), &call.payload) {
-        return push_hash(out, call.nr);
+        return push_numbered(out, call, calls);
     }
     push_space(out)?;
+    push_abi(out, calls, call.abi)?;
     out.extend_from_slice(name.as_bytes())?;
     push_payload(alloc, out, &call.payload)
 }
@@ -172,19 +177,20 @@ fn push_numbers(out: &mut Vec<u8>, numbers: &[u64]) -> Result<(), AllocError>
 
 /// The text of a call, as a line of a script has it: `PID NAME [PAYLOAD] [WORD ..]`, without a line feed.
 ///
-/// The call goes by its name where the table has its number and its payload is of the form of that name (a program is
-/// whole instructions of eight bytes); else it goes by `#` and its number, and its payload is not written. Numbers are
-/// decimal, and words that are zero are dropped at the end.
+/// The call goes by its name where its ABI has its number and its payload is of the form of that name (a program is whole
+/// instructions of eight bytes); else it goes by `#` and its number, and its payload is not written. The name of an ABI that is
+/// not the native one stands before it with a colon. Numbers are decimal, and words that are zero are dropped at the end.
 ///
-/// Where the table was read and the call has a process from 1 on, and carries nothing or what its name carries, the text has
-/// one reading as a line, the call itself.
+/// Where the table was read and has the call's ABI, and the call has a process from 1 on and carries nothing or what its name
+/// carries, the text has one reading as a line, the call itself.
 pub fn print_call(alloc: Global, call: &Call, calls: &CallTable) -> Result<Vec<u8>, AllocError>
-    ensures text { IfOk result (λ text. text.items ≡ call_text calls.now.calls call.now) }
-    ensures reads_back { IfOk result (λ text. IsReadAs calls.now.calls call.now text.items) }
+    ensures text { IfOk result (λ text. text.items ≡ call_text calls.now call.now) }
+    ensures reads_back { IfOk result (λ text. IsReadAs calls.now call.now text.items) }
 {
     // What holds of each call and of each table.
     is_held(call);
-    let _calls = calls.calls();
+    let _abis = calls.abis();
+    let _calls = calls.calls_in(call.abi);
     let mut text = Vec::new(alloc);
     push_u64(&mut text, u64::from(call.pid))?;
     push_named(alloc, &mut text, call, calls)?;

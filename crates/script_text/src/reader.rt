@@ -22,7 +22,7 @@ const MOST_CALLS: usize = 16384;
 
 // the call of a line, or the refusal that names it
 fn read_numbered(alloc: Global, calls: &CallTable, line: &Line) -> Result<Call, ScriptError>
-    ensures { ReadsLine (line_view line.now).number (line_call calls.now.calls (line_view line.now)) result }
+    ensures { ReadsLine (line_view line.now).number (line_call calls.now (line_view line.now)) result }
 {
     match read_line(alloc, calls, line) {
         Ok(call) => Ok(call),
@@ -43,7 +43,7 @@ fn add(made: &mut Vec<Call>, call: Call) -> Result<(), ScriptError>
 
 // the calls of the lines that count
 fn read_calls(alloc: Global, calls: &CallTable, lines: &[Line]) -> Result<Script, ScriptError>
-    ensures { ReadsScript (script_of_lines calls.now.calls (map line_view lines.now)) result }
+    ensures { ReadsScript (script_of_lines calls.now (map line_view lines.now)) result }
 {
     let mut made = Vec::new(alloc);
     for line in lines {
@@ -54,7 +54,7 @@ fn read_calls(alloc: Global, calls: &CallTable, lines: &[Line]) -> Result<Script
 
 #[tactic(auto, unfolding(crate::specs::Scripts::script_of))]
 fn read_bytes(alloc: Global, calls: &CallTable, bytes: &[u8]) -> Result<Script, ScriptError>
-    ensures { ReadsScript (script_of calls.now.calls bytes.now) result }
+    ensures { ReadsScript (script_of calls.now bytes.now) result }
 {
     let Some(text) = read_text(bytes) else {
         return Err(ScriptError::NotText);
@@ -68,12 +68,13 @@ fn read_bytes(alloc: Global, calls: &CallTable, bytes: &[u8]) -> Result<Script, 
 /// Reads the calls of a script, with the calls of this table.
 ///
 /// The bytes are cut at LF; empty lines and lines that begin with `#` are passed over, and words stand between spaces.
-/// A line is `PID NAME [PAYLOAD] [WORD ..]`. PID is decimal, from 1 and below 2^32. NAME is a call of the table, or `#`
-/// and a decimal number, which has no payload. At most six WORDs are the arguments in their positions, decimal or `0x`
+/// A line is `PID NAME [PAYLOAD] [WORD ..]`. PID is decimal, from 1 and below 2^32. NAME is a call of the native ABI, or `#`
+/// and a decimal number, which has no payload; behind the name of an ABI and a colon it is one of that ABI. At most six WORDs are the arguments in their positions, decimal or `0x`
 /// and hex digits, below 2^64; those that are not written are 0. The payload stands for what pointers among the words
 /// point to: an escaped path for stat(2) and its like, open(2), openat(2), creat(2), truncate(2), execve(2) and
 /// umount2(2); two, source and target, for mount(2); three numbers below 2^41 for capset(2), the permitted, the
-/// effective and the inheritable set; `[id,id,..]` for setgroups(2), in decimal; the program in lower-case hex, 16
+/// effective and the inheritable set; `[id,id,..]` for setgroups(2), in decimal; the number of the family, in decimal and below
+/// 2^32, for socketcall(2); the program in lower-case hex, 16
 /// digits an instruction, or `-` without any, for seccomp(2).
 ///
 /// `NotText` comes first, where the bytes are not UTF-8 or have a NUL; then `Line` of the first faulty line, with the
@@ -81,11 +82,11 @@ fn read_bytes(alloc: Global, calls: &CallTable, bytes: &[u8]) -> Result<Script, 
 /// Whether a program is one that seccomp(2) takes is not looked at here. Each call is one that `print_call` prints so that it
 /// is read again.
 pub fn read_script(alloc: Global, calls: &CallTable, bytes: &[u8]) -> Result<Script, ScriptError>
-    ensures reads_the_calls { IfOk result (λ script. script_of calls.now.calls bytes.now ≡ Ok script) }
-    ensures each_is_printed_again { IfOk result (λ script. All (IsWritten calls.now.calls) script) }
-    ensures first_refusal { IfErr result (λ error. error ≢ Memory → script_of calls.now.calls bytes.now ≡ Err error) }
+    ensures reads_the_calls { IfOk result (λ script. script_of calls.now bytes.now ≡ Ok script) }
+    ensures each_is_printed_again { IfOk result (λ script. All (IsWritten calls.now) script) }
+    ensures first_refusal { IfErr result (λ error. error ≢ Memory → script_of calls.now bytes.now ≡ Err error) }
 {
-    // What holds of each table is said by the call that lends its calls.
-    let _calls = calls.calls();
+    // What holds of each table is said by the call that counts its ABIs.
+    let _abis = calls.abis();
     read_bytes(alloc, calls, bytes)
 }

@@ -8,7 +8,6 @@ use Rattle.std.proofs.lemmas.List.Sums.{sum_by-cons, sum_by-le}
 use Rattle.call_rules.specs.Action.{call_action}
 use Rattle.call_rules.specs.Sizes.{most_insns, HaveFewTests, CanCompile}
 use Rattle.call_rules.specs.declared.actions.Action.{Action}
-use Rattle.call_rules.specs.declared.actions.Action.TheVariants.{KillProcess}
 use Rattle.call_rules.specs.declared.rules.Case.{Case}
 use Rattle.call_rules.specs.declared.rules.CallRule.{CallRule}
 use Rattle.call_rules.specs.declared.rules.RuleSet.{RuleSet}
@@ -126,12 +125,12 @@ hop-le true = omega arith
 hop-le false = omega arith
 
 pub rules_decided : (rules : RuleSet) (numbers decision : Decision) → CanCompile rules → DecidesNumbers rules.calls rules.rest numbers →
-    decision ≡ looks 4 (2 ^ 32 - 1) (splits Equal rules.arch (ends KillProcess) (looks 0 (2 ^ 32 - 1) numbers)) → DecidesRules rules decision
+    decision ≡ looks 4 (2 ^ 32 - 1) (splits Equal rules.arch (ends rules.other) (looks 0 (2 ^ 32 - 1) numbers)) → DecidesRules rules decision
 rules_decided rules numbers decision can n e = record {
   tree = ap is_end e;
   decides = λ input word fits.
       ap (λ decision. decide decision input word) e
-      ∙ ap (λ action. cond (input.arch == rules.arch) action KillProcess) (n.decides input input.nr (omega arith) fits);
+      ∙ ap (λ action. cond (input.arch == rules.arch) action rules.other) (n.decides input input.nr (omega arith) fits);
   most = let same = ap most_of e in omega (arith, same, hop-le (is_end numbers), n.most, weights rules.calls);
   path = λ short. subst (PathWithin 96) (sym e) (84, (82, omega arith, (79, n.path short can.calls, omega arith), omega arith), omega arith);
   inside = subst LooksInside (sym e) (omega arith, omega arith, (tt, (omega arith, omega arith, n.inside)));

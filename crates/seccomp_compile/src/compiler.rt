@@ -5,6 +5,7 @@ ghost use Rattle.bpf_code.specs.Reading.{IsProgram};
 ghost use Rattle.call_rules.specs.Sizes.{CanCompile, most_insns};
 ghost use Rattle.seccomp_compile.specs.Compiled.{Decides, DecidesWithin, longest_path};
 ghost use Rattle.seccomp_compile.specs.ShortCases.{HaveShortCases};
+ghost use Rattle.seccomp_compile.specs.Form.{AreOfForm};
 
 use crate::decisions::rules_tree;
 use crate::emit::place;
@@ -25,6 +26,7 @@ pub fn compile(alloc: Global, rules: &RuleSet) -> Result<Program, AllocError>
     requires { CanCompile rules.now }
     ensures decides_every_call { IfOk result (λ program. Decides program rules.now) }
     ensures is_taken_by_seccomp { IfOk result IsProgram }
+    ensures is_of_the_form { IfOk result AreOfForm }
     ensures keeps_within_the_length { IfOk result (λ program. length program ≤ most_insns rules.now) }
     ensures is_never_too_long { most_insns rules.now ≤ bpf_maxinsns }
     ensures within_the_path_length { HaveShortCases rules.now → IfOk result (λ program. DecidesWithin longest_path program rules.now) }

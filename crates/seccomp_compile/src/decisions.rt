@@ -58,14 +58,14 @@ fn numbers_tree(alloc: Global, calls: &[CallRule], rest: Action) -> Result<Tree,
     close(alloc, runs, rest)
 }
 
-// A tree that ends the process for every other architecture than this one.
-fn for_arch(alloc: Global, arch: u32, tree: Tree) -> Result<Tree, AllocError>
-    ensures { IfOk result (λ whole. decision_of whole ≡ splits Comparison.Equal arch (ends Action.KillProcess) (decision_of tree)) }
+// A tree that ends in this action for every other architecture than this one.
+fn for_arch(alloc: Global, arch: u32, other: Action, tree: Tree) -> Result<Tree, AllocError>
+    ensures { IfOk result (λ whole. decision_of whole ≡ splits Comparison.Equal arch (ends other) (decision_of tree)) }
 {
     Ok(Tree::Split {
         comparison: Comparison::Equal,
         number: arch,
-        miss: Box::new(alloc, Tree::End(Action::KillProcess))?,
+        miss: Box::new(alloc, Tree::End(other))?,
         hit: Box::new(alloc, tree)?,
     })
 }
@@ -77,6 +77,6 @@ pub fn rules_tree(alloc: Global, rules: &RuleSet) -> Result<Tree, AllocError>
 {
     let numbers = numbers_tree(alloc, rules.calls.list(), rules.rest)?;
     let by_number = look_at(alloc, NUMBER_OFFSET, numbers)?;
-    let compared = for_arch(alloc, rules.arch, by_number)?;
+    let compared = for_arch(alloc, rules.arch, rules.other, by_number)?;
     look_at(alloc, ARCH_OFFSET, compared)
 }

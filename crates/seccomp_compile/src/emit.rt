@@ -6,6 +6,7 @@ ghost use Rattle.std.specs.Prelude.{◌≡◌, ◌+◌, ◌-◌, ◌<◌, ◌≤
 ghost use Rattle.std.specs.List.{All};
 ghost use Rattle.bpf_code.specs.Reading.{Fits};
 ghost use Rattle.seccomp_compile.specs.Code.{look_code};
+ghost use Rattle.seccomp_compile.specs.Form.{AreOfForm};
 ghost use Rattle.seccomp_compile.specs.Decisions.{decision_of, ends, LooksInside};
 ghost use Rattle.seccomp_compile.specs.Lengths.{most_of};
 ghost use Rattle.seccomp_compile.specs.Placed.{IsSound, IsInReach, Placed, Reached, StandsAt, NoneStands, with_comparison, with_test};
@@ -45,8 +46,10 @@ fn end_near(code: &VecDeque<Insn>, action: Action) -> Option<usize>
 fn place_end(code: &mut VecDeque<Insn>, action: Action) -> Result<usize, AllocError>
     requires sound { IsSound code.old.items }
     requires fit { All Fits code.old.items }
+    requires formed { AreOfForm code.old.items }
     ensures placed { IfOk result (Placed (ends action) code.old.items code.new.items) }
     ensures fit { OnOk result (All Fits code.new.items) }
+    ensures formed { OnOk result (AreOfForm code.new.items) }
 {
     match end_near(code, action) {
         Some(skip) => Ok(code.len() - skip),
@@ -61,11 +64,13 @@ fn place_end(code: &mut VecDeque<Insn>, action: Action) -> Result<usize, AllocEr
 fn within(code: &mut VecDeque<Insn>, place: usize, limit: usize) -> Result<usize, AllocError>
     requires sound { IsSound code.old.items }
     requires fit { All Fits code.old.items }
+    requires formed { AreOfForm code.old.items }
     requires some { 0 < place }
     requires inside { place ≤ length code.old.items }
     requires short { length code.old.items ≤ 4096 }
     ensures reached { IfOk result (λ reached. Reached code.old.items code.new.items place reached limit) }
     ensures fit { OnOk result (All Fits code.new.items) }
+    ensures formed { OnOk result (AreOfForm code.new.items) }
 {
     let skip = code.len() - place;
     if skip <= limit {
@@ -84,10 +89,12 @@ fn compare(
     hit: usize,
 ) -> Result<(), AllocError>
     requires fit { All Fits code.old.items }
+    requires formed { AreOfForm code.old.items }
     requires miss { IsInReach miss code.old.items }
     requires hit { IsInReach hit code.old.items }
     ensures adds { OnOk result (code.new.items ≡ with_comparison comparison number miss hit code.old.items) }
     ensures fit { OnOk result (All Fits code.new.items) }
+    ensures formed { OnOk result (AreOfForm code.new.items) }
 {
     let insn = jump_if(
         comparison,
@@ -101,9 +108,11 @@ fn compare(
 
 // The word at an offset and a mask.
 fn look(code: &mut VecDeque<Insn>, offset: u32, mask: u32) -> Result<(), AllocError>
-    requires { All Fits code.old.items }
+    requires fit { All Fits code.old.items }
+    requires formed { AreOfForm code.old.items }
     ensures adds { OnOk result (code.new.items ≡ look_code offset mask ++ code.old.items) }
     ensures fit { OnOk result (All Fits code.new.items) }
+    ensures formed { OnOk result (AreOfForm code.new.items) }
 {
     if mask != WHOLE_WORD {
         code.push_front(and_mask(mask))?;
@@ -115,10 +124,12 @@ fn look(code: &mut VecDeque<Insn>, offset: u32, mask: u32) -> Result<(), AllocEr
 // A test that leads to the first place where it fails, and to the second one where it holds.
 fn test(code: &mut VecDeque<Insn>, test: Test, miss: usize, hit: usize) -> Result<(), AllocError>
     requires fit { All Fits code.old.items }
+    requires formed { AreOfForm code.old.items }
     requires miss { IsInReach miss code.old.items }
     requires hit { IsInReach hit code.old.items }
     ensures adds { OnOk result (code.new.items ≡ with_test test miss hit code.old.items) }
     ensures fit { OnOk result (All Fits code.new.items) }
+    ensures formed { OnOk result (AreOfForm code.new.items) }
 {
     compare(code, comparison_for(test), test.value, miss, hit)?;
     look(code, arg_offset(test.arg), mask_for(test))?;
@@ -129,10 +140,12 @@ fn test(code: &mut VecDeque<Insn>, test: Test, miss: usize, hit: usize) -> Resul
 pub fn place(code: &mut VecDeque<Insn>, tree: &Tree) -> Result<usize, AllocError>
     requires sound { IsSound code.old.items }
     requires fit { All Fits code.old.items }
+    requires formed { AreOfForm code.old.items }
     requires looks { LooksInside (decision_of tree.now) }
     requires short { length code.old.items + most_of (decision_of tree.now) ≤ 4096 }
     ensures placed { IfOk result (Placed (decision_of tree.now) code.old.items code.new.items) }
     ensures fit { OnOk result (All Fits code.new.items) }
+    ensures formed { OnOk result (AreOfForm code.new.items) }
 {
     match tree {
         Tree::End(action) => place_end(code, *action),

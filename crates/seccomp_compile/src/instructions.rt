@@ -1,6 +1,7 @@
 //! The instructions that a compiled program is made of.
-ghost use Rattle.std.specs.Prelude.{◌≡◌, ◌↔◌, IsTrue};
+ghost use Rattle.std.specs.Prelude.{◌≡◌, ◌↔◌, IsTrue, true};
 ghost use Rattle.bpf_code.specs.Reading.{Fits};
+ghost use Rattle.seccomp_compile.specs.Form.{is_of_form};
 ghost use Rattle.seccomp_compile.specs.Code.{load, mask_by, skip, compare, code_of, end, IsEnd};
 
 use crate::tree::Comparison;
@@ -24,6 +25,7 @@ fn plain(code: u16, k: u32) -> Insn
 pub fn load_word(offset: u32) -> Insn
     ensures is { result ≡ load offset }
     ensures fits { Fits result }
+    ensures formed { is_of_form result ≡ true }
 {
     plain(LD_W_ABS, offset)
 }
@@ -32,6 +34,7 @@ pub fn load_word(offset: u32) -> Insn
 pub fn and_mask(mask: u32) -> Insn
     ensures is { result ≡ mask_by mask }
     ensures fits { Fits result }
+    ensures formed { is_of_form result ≡ true }
 {
     plain(ALU_AND_K, mask)
 }
@@ -40,6 +43,7 @@ pub fn and_mask(mask: u32) -> Insn
 pub fn jump(count: u32) -> Insn
     ensures is { result ≡ skip count }
     ensures fits { Fits result }
+    ensures formed { is_of_form result ≡ true }
 {
     plain(JMP_JA, count)
 }
@@ -59,6 +63,7 @@ fn comparison_code(comparison: Comparison) -> u16
 pub fn jump_if(comparison: Comparison, number: u32, hit: u8, miss: u8) -> Insn
     ensures is { result ≡ compare comparison number hit miss }
     ensures fits { Fits result }
+    ensures formed { is_of_form result ≡ true }
 {
     Insn {
         code: comparison_code(comparison),
@@ -72,6 +77,7 @@ pub fn jump_if(comparison: Comparison, number: u32, hit: u8, miss: u8) -> Insn
 pub fn answer(action: Action) -> Insn
     ensures is { result ≡ end action }
     ensures fits { Fits result }
+    ensures formed { is_of_form result ≡ true }
 {
     plain(RET_K, action.word())
 }

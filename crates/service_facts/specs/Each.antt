@@ -2,7 +2,7 @@
 use Rattle.std.specs.Prelude.{ℕ, ◌==◌, ◌&&◌, ◌||◌, not, cond, Bool, false, is_some, is_none, codes, List, [], ◌∷◌, map, slice_get}
 use Rattle.std.specs.List.{list_any, range_with_len}
 use Rattle.std.specs.Option.{option_map_or}
-use Rattle.call_table.specs.Table.{Table}
+use Rattle.call_table.specs.Table.{Table, every_call}
 use Rattle.call_table.specs.Lookups.{named}
 use Rattle.call_table.specs.declared.listed.GroupLine.{GroupLine}
 use Rattle.cap_sets.specs.Names.{name_of as cap_name}
@@ -24,9 +24,9 @@ End = List ℕ × ℕ
 abbrev pub alone : ℕ → List End
 alone badness = ([], badness) ∷ []
 
--- SystemCallFilter= allows the call at this place of the table
+-- SystemCallFilter= allows the call at this place among those of all ABIs
 abbrev pub allows_place : Table → FilterSettings → ℕ → Bool
-allows_place table filters place = option_map_or (λ call. allows_call table filters call.name) (slice_get table.calls place) false
+allows_place table filters place = option_map_or (λ call. allows_call table filters call.name) (slice_get (every_call table) place) false
 
 -- SystemCallFilter= is off, or allows a member of the group
 abbrev pub lets_through : Table → FilterSettings → GroupLine → Bool

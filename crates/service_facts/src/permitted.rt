@@ -4,13 +4,14 @@ ghost use Rattle.std.specs.Prelude.{◌≡◌};
 ghost use Rattle.service_facts.specs.Each.{allows_place, lets_through, permits_named, permits_internet};
 
 use call_table::{CallTable, GroupLine};
+use call_words::name_at;
 use filter_rules::{FilterSettings, allows_call, permits_family};
 
 fn allows_place(calls: &CallTable, filters: &FilterSettings, place: usize) -> bool
     ensures { result ≡ allows_place calls.now filters.now place }
 {
-    match calls.calls().get(place) {
-        Some(call) => allows_call(calls, filters, call.name.as_str()),
+    match name_at(calls, place) {
+        Some(name) => allows_call(calls, filters, name),
         None => false,
     }
 }

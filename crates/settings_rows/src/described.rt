@@ -120,5 +120,6 @@ fn push_flags(text: &mut String, settings: &FilterSettings) -> Result<(), AllocE
     push_flag(text, "modules", settings.protect_kernel_modules)?;
     push_flag(text, "logs", settings.protect_kernel_logs)?;
     push_flag(text, "clock", settings.protect_clock)?;
-    push_flag(text, "devices", settings.private_devices)
+    push_flag(text, "devices", settings.private_devices)?;
+    push_flag(text, "archs", settings.second_abi_refused)
 }

@@ -5,6 +5,7 @@ use crate::described;
 use bpf_code::{CallData, run};
 use call_rules::{RuleSet, action};
 use call_table::CallTable;
+use call_words::spelled;
 use filter_rules::{
     CallList, Filter, FilterSettings, Mention, allows_call, filters, permits_family,
 };
@@ -90,11 +91,34 @@ fn argument(args: &[&str], at: usize) -> u64 {
     }
 }
 
-// A call of the table, or of a number, with these arguments.
-fn call_of(table: &CallTable, call: &str, args: &[&str]) -> CallData {
+// A call, and the ABI by which it is made.
+#[derive(Drop)]
+struct Called {
+    abi: u8,
+    data: CallData,
+}
+
+// A call of the table, or of a number, with these arguments; of the ABI whose name stands before a colon, else of the native one.
+fn call_of(table: &CallTable, call: &str, args: &[&str]) -> Called {
+    let (abi, call) = spelled(table, call).unwrap_or((0, call));
+    Called {
+        abi,
+        data: data_of(table, abi, call, args),
+    }
+}
+
+fn arch_of(table: &CallTable, abi: u8) -> u32 {
+    if abi < table.abis() {
+        table.arch_of(abi)
+    } else {
+        0
+    }
+}
+
+fn data_of(table: &CallTable, abi: u8, call: &str, args: &[&str]) -> CallData {
     CallData {
-        nr: table.number(call).unwrap_or(id(call)),
-        arch: table.arch(),
+        nr: table.number_in(abi, call).unwrap_or(id(call)),
+        arch: arch_of(table, abi),
         ip: 0,
         args: [
             argument(args, 0),
@@ -107,15 +131,22 @@ fn call_of(table: &CallTable, call: &str, args: &[&str]) -> CallData {
     }
 }
 
+// The rules of the filter of a name for the ABI of a call.
+fn rules_of<'a>(filters: &'a [Filter], name: &str, call: &Called) -> Option<&'a RuleSet> {
+    let filter = filters.iter().find(|filter| filter.name.text() == name
+        && filter.abi == call.abi)?;
+    Some(&filter.rules)
+}
+
 // What the filter of a name does with a call.
 fn done(
     alloc: Global,
     filters: &[Filter],
     name: &str,
-    call: &CallData,
+    call: &Called,
 ) -> Result<String, AllocError> {
-    match filters.iter().find(|filter| filter.name.text() == name) {
-        Some(filter) => described::action(alloc, action(&filter.rules, call)),
+    match rules_of(filters, name, call) {
+        Some(rules) => described::action(alloc, action(rules, &call.data)),
         None => said(alloc, "off"),
     }
 }
@@ -125,10 +156,10 @@ fn decided(
     alloc: Global,
     filters: &[Filter],
     name: &str,
-    call: &CallData,
+    call: &Called,
 ) -> Result<String, AllocError> {
-    match filters.iter().find(|filter| filter.name.text() == name) {
-        Some(filter) => answered(alloc, &filter.rules, call),
+    match rules_of(filters, name, call) {
+        Some(rules) => answered(alloc, rules, &call.data),
         None => said(alloc, "off"),
     }
 }

@@ -1,15 +1,20 @@
 -- What holds of a site without fault.
 use Rattle.std.proofs.Common.{◌≡◌, ◌≢◌, ℕ, ◌+◌, ◌≤◌, Bool, true, false, cond, List, [], ◌∷◌, ◌++◌, map, length, Option, Some, None, refl, sym, ap, ◌∙◌, subst, arith}
-use Rattle.std.specs.Prelude.{◌||◌, ◌&&◌, not, codes, nat_lt, nat_le, option_map, option_and_then, IfSome}
+use Rattle.std.specs.Prelude.{◌||◌, ◌&&◌, not, codes, ℤ, pos, negsuc, unwrap_or, nat_lt, nat_le, option_map, option_and_then, IfSome}
 use Rattle.std.specs.List.{AllByRecursion, filter_map, cons_option, list_any}
 use Rattle.std.specs.Option.{option_map_or}
 use Rattle.std.specs.Str.{bytes_eq}
-use Rattle.std.proofs.lemmas.Bool.{and_parts, or_parts, false≢true, not-false, leb-true, ltb-false}
+use Rattle.std.proofs.lemmas.Bool.{and_parts, or_parts, false≢true, not-false, leb-true, le-leb, ltb-false}
 use Rattle.std.proofs.lemmas.List.{length-map}
 use Rattle.std.proofs.lemmas.List.Folds.{list_any-append}
 use Rattle.toml.specs.Data.{Data, as_integer}
+use Rattle.toml_shapes.specs.Tree.{number_at}
 use Rattle.abs_path.specs.Paths.{Path, text_of, is_normal}
 use Rattle.abs_path.specs.Prefix.{is_same}
+use Rattle.cap_sets.specs.Sets.{all}
+use Rattle.cap_sets.proofs.Members.{has_all, none_within}
+use Rattle.site_table.specs.Rows.{cap_names}
+use Rattle.site_table.proofs.CapSets.{caps_known}
 use Rattle.abs_path.proofs.Prefixes.{same_path, part_itself}
 use Rattle.site_table.specs.declared.row.Row.{Row}
 use Rattle.site_table.specs.declared.kinds.RowKind.{RowKind}
@@ -20,7 +25,7 @@ use Rattle.site_table.specs.declared.error.SiteError.{SiteError}
 use Rattle.site_table.specs.declared.error.SiteError.TheVariants.{TooMany, User as BadUser, Group as BadGroup}
 use Rattle.site_table.specs.declared.error.RowCause.TheVariants.{Duplicate, NoParent}
 use Rattle.site_table.specs.declared.owners.OwnerKind.TheVariants.{User as UserKind, Group as GroupKind}
-use Rattle.site_table.specs.Ids.{id_at, as_id, greatest_id}
+use Rattle.site_table.specs.Ids.{id_at, as_id, greatest_id, count_by, most_spaces}
 use Rattle.site_table.specs.Kinds.{is_dir}
 use Rattle.site_table.specs.Order.{has_row, plain_dir, rows_in_order, with_fixed}
 use Rattle.site_table.specs.Owners.{name_of, has_doubled_name, is_wrong, user_of, group_of}
@@ -179,6 +184,7 @@ module _ (rows : List Data) (right : row_faults rows ≡ []) where
     exe_alone = exe_alone row good;
     owner_or_caps = owner_or_caps row good;
     effective_caps = effective_caps row good;
+    known_caps = record { each = λ number h. has_all number ∙ le-leb number 40 (caps_known (cap_names row) number h) };
   }
     where
       own : first_of (own_causes row) ≡ None
@@ -205,6 +211,7 @@ module _ (rows : List Data) (right : row_faults rows ≡ []) where
     exe_alone = λ other. (refl, refl, refl, refl);
     owner_or_caps = λ some. refl;
     effective_caps = λ on. absurd (false≢true on);
+    known_caps = none_within all;
   }
 
   pub each_row : AllByRecursion (IsRowOf (rows_in_order (with_fixed listed))) (rows_in_order (with_fixed listed))
@@ -300,6 +307,15 @@ rows_faultless site h =
     let users = none_of_both ((top_faults site ++ size_faults site) ++ row_faults (rows_in site)) (user_faults (users_in site)) groups.0 in
     (none_of_both (top_faults site ++ size_faults site) (row_faults (rows_in site)) users.0).1
 
+few_spaces : (number : Option ℤ) → unwrap_or (count_by number) 0 ≤ most_spaces
+few_spaces None = omega arith
+few_spaces (Some (pos number)) = by (nat_le number most_spaces) refl
+  where
+    by : (b : Bool) → nat_le number most_spaces ≡ b → unwrap_or (cond b (Some number) None) 0 ≤ most_spaces
+    by true e = leb-true number most_spaces e
+    by false e = omega arith
+few_spaces (Some (negsuc number)) = omega arith
+
 pub site_holds : (site : Data) → faults_of site ≡ [] → IsSite (site_in site)
 site_holds site h =
     let groups = none_of_both (((top_faults site ++ size_faults site) ++ row_faults (rows_in site)) ++ user_faults (users_in site)) (group_faults (groups_in site)) h in
@@ -311,6 +327,7 @@ site_holds site h =
     let few : length (rows_in site) ≤ 2048 = ltb-false 2048 (length (rows_in site)) most_users.0 in
     record {
       dynamic_uid = unwrapped_small (id_at (codes "dynamic_uid") site) (id_small (codes "dynamic_uid") site);
+      few_spaces = few_spaces (number_at (codes "user_namespaces") site);
       ascending = rows_ascend (with_fixed (map row_of (rows_in site)));
       root = root_is_dir (rows_in site) rows.1;
       proc = proc_is_dir (rows_in site) rows.1;

@@ -1,5 +1,5 @@
 -- A site, part by part.
-use Rattle.std.proofs.Common.{◌≡◌, ◌≢◌, ℕ, Bool, true, false, cond, List, [], ◌∷◌, ◌++◌, map, Some, None, Result, Ok, Err, Vec, Global, refl, sym, ap, ◌∙◌, subst, append-nil}
+use Rattle.std.proofs.Common.{◌≡◌, ◌≢◌, ℕ, Bool, true, false, cond, List, [], ◌∷◌, ◌++◌, map, Some, None, Result, Ok, Err, refl, sym, ap, ◌∙◌, subst, append-nil}
 use Rattle.std.specs.Prelude.{codes, unwrap_or, IfOk, IfErr}
 use Rattle.std.specs.Str.{IsUtf8, is_utf8}
 use Rattle.std.proofs.lemmas.Str.{IsUtf8-from_is_utf8, is_utf8-from_IsUtf8}
@@ -10,7 +10,7 @@ use Rattle.site_table.specs.declared.accounts.User.{User}
 use Rattle.site_table.specs.declared.accounts.Group.{Group}
 use Rattle.site_table.specs.declared.error.SiteError.{SiteError}
 use Rattle.site_table.specs.declared.error.SiteError.TheVariants.{NotToml, Top, TooMany, Row as BadRow, User as BadUser, Group as BadGroup, Memory}
-use Rattle.site_table.specs.Ids.{id_at}
+use Rattle.site_table.specs.Ids.{id_at, spaces_at}
 use Rattle.site_table.specs.Order.{rows_in_order, with_fixed}
 use Rattle.site_table.specs.Owners.{user_of, group_of}
 use Rattle.site_table.specs.Reading.{rows_in, users_in, groups_in, row_faults, user_faults, group_faults, is_too_large, size_faults, top_faults, faults_of, site_in, unless_fault, site_of, site_of_tree, IsUnlessMemory}
@@ -20,28 +20,28 @@ use Rattle.site_table.proofs.Answering.{accepted, stops_first}
 use Rattle.site_table.proofs.SiteHolds.{site_holds}
 
 -- nothing is wrong at the top, and the site is not too large
-pub record IsBegun (site : Data) (uid : ℕ) : Type 0 where
-  pub top : (top_faults site ≡ []) × (id_at (codes "dynamic_uid") site ≡ Some uid)
+pub record IsBegun (site : Data) (uid spaces : ℕ) : Type 0 where
+  pub top : (top_faults site ≡ []) × (id_at (codes "dynamic_uid") site ≡ Some uid) × (spaces_at site ≡ Some spaces)
   pub size : is_too_large site ≡ false
 
-begun_faults : (site : Data) (uid : ℕ) → IsBegun site uid → top_faults site ++ size_faults site ≡ []
-begun_faults site uid begun = ap (λ faults. faults ++ size_faults site) begun.top.0 ∙ ap (λ b. cond b (TooMany ∷ []) []) begun.size
+begun_faults : (site : Data) (uid spaces : ℕ) → IsBegun site uid spaces → top_faults site ++ size_faults site ≡ []
+begun_faults site uid spaces begun = ap (λ faults. faults ++ size_faults site) begun.top.0 ∙ ap (λ b. cond b (TooMany ∷ []) []) begun.size
 
-module _ (site : Data) (uid : ℕ) (rows : List Row) (begun : IsBegun site uid) (rows_read : unless_fault (row_faults (rows_in site)) (rows_in_order (with_fixed (map row_of (rows_in site)))) ≡ Ok rows) where
+module _ (site : Data) (uid spaces : ℕ) (rows : List Row) (begun : IsBegun site uid spaces) (rows_read : unless_fault (row_faults (rows_in site)) (rows_in_order (with_fixed (map row_of (rows_in site)))) ≡ Ok rows) where
   no_row : row_faults (rows_in site) ≡ []
   no_row = (accepted (row_faults (rows_in site)) (rows_in_order (with_fixed (map row_of (rows_in site)))) rows rows_read).0
 
   after_rows : faults_of site ≡ user_faults (users_in site) ++ group_faults (groups_in site)
   after_rows =
-      ap (λ faults. ((faults ++ row_faults (rows_in site)) ++ user_faults (users_in site)) ++ group_faults (groups_in site)) (begun_faults site uid begun)
+      ap (λ faults. ((faults ++ row_faults (rows_in site)) ++ user_faults (users_in site)) ++ group_faults (groups_in site)) (begun_faults site uid spaces begun)
       ∙ ap (λ faults. (faults ++ user_faults (users_in site)) ++ group_faults (groups_in site)) no_row
 
   -- a user with a fault, or no memory
-  pub users_stop : (error : SiteError) → IsUnlessMemory (λ (read : Vec User Global). read.items) (Err error) (unless_fault (user_faults (users_in site)) (map user_of (users_in site)))
+  pub users_stop : (error : SiteError) → IsUnlessMemory (λ (read : List User). read) (Err error) (unless_fault (user_faults (users_in site)) (map user_of (users_in site)))
       → IsUnlessMemory (λ (table : Site). table) (Err error) (unless_fault (faults_of site) (site_in site))
   users_stop error h =
       subst (λ (faults : List SiteError). IsUnlessMemory (λ (table : Site). table) (Err error) (unless_fault faults (site_in site))) (sym after_rows)
-      (stops_first (λ (read : Vec User Global). read.items) (λ (table : Site). table) (user_faults (users_in site)) (group_faults (groups_in site)) (map user_of (users_in site)) (site_in site) error h)
+      (stops_first (λ (read : List User). read) (λ (table : Site). table) (user_faults (users_in site)) (group_faults (groups_in site)) (map user_of (users_in site)) (site_in site) error h)
 
   module _ (users : List User) (users_read : unless_fault (user_faults (users_in site)) (map user_of (users_in site)) ≡ Ok users) where
     after_users : faults_of site ≡ group_faults (groups_in site)
@@ -49,16 +49,16 @@ module _ (site : Data) (uid : ℕ) (rows : List Row) (begun : IsBegun site uid) 
         after_rows ∙ ap (λ faults. faults ++ group_faults (groups_in site)) (accepted (user_faults (users_in site)) (map user_of (users_in site)) users users_read).0
 
     -- a group with a fault, or no memory
-    pub groups_stop : (error : SiteError) → IsUnlessMemory (λ (read : Vec Group Global). read.items) (Err error) (unless_fault (group_faults (groups_in site)) (map group_of (groups_in site)))
+    pub groups_stop : (error : SiteError) → IsUnlessMemory (λ (read : List Group). read) (Err error) (unless_fault (group_faults (groups_in site)) (map group_of (groups_in site)))
         → IsUnlessMemory (λ (table : Site). table) (Err error) (unless_fault (faults_of site) (site_in site))
     groups_stop error h =
         subst (λ (faults : List SiteError). IsUnlessMemory (λ (table : Site). table) (Err error) (unless_fault faults (site_in site))) (sym (after_users ∙ sym (append-nil (group_faults (groups_in site)))))
-        (stops_first (λ (read : Vec Group Global). read.items) (λ (table : Site). table) (group_faults (groups_in site)) [] (map group_of (groups_in site)) (site_in site) error h)
+        (stops_first (λ (read : List Group). read) (λ (table : Site). table) (group_faults (groups_in site)) [] (map group_of (groups_in site)) (site_in site) error h)
 
     -- the whole, without fault
     pub record IsRead (groups : List Group) : Type 0 where
       pub faultless : faults_of site ≡ []
-      pub says : site_in site ≡ record { dynamic_uid = uid; rows = rows; users = users; groups = groups }
+      pub says : site_in site ≡ record { dynamic_uid = uid; user_namespaces = spaces; rows = rows; users = users; groups = groups }
 
     pub whole : (groups : List Group) → unless_fault (group_faults (groups_in site)) (map group_of (groups_in site)) ≡ Ok groups → IsRead groups
     whole groups groups_read =
@@ -66,13 +66,14 @@ module _ (site : Data) (uid : ℕ) (rows : List Row) (begun : IsBegun site uid) 
         let users_said : map user_of (users_in site) ≡ users = (accepted (user_faults (users_in site)) (map user_of (users_in site)) users users_read).1 in
         let groups_said = accepted (group_faults (groups_in site)) (map group_of (groups_in site)) groups groups_read in
         let uid_said : unwrap_or (id_at (codes "dynamic_uid") site) 0 ≡ uid = ap (λ id. unwrap_or id 0) begun.top.1 in
+        let spaces_said : unwrap_or (spaces_at site) 0 ≡ spaces = ap (λ id. unwrap_or id 0) begun.top.2 in
         let groups_are : map group_of (groups_in site) ≡ groups = groups_said.1 in
         record { faultless = after_users ∙ groups_said.0; says = cc }
 
-    pub holds : (groups : List Group) → IsRead groups → IsSite (record { dynamic_uid = uid; rows = rows; users = users; groups = groups })
+    pub holds : (groups : List Group) → IsRead groups → IsSite (record { dynamic_uid = uid; user_namespaces = spaces; rows = rows; users = users; groups = groups })
     holds groups read = subst IsSite read.says (site_holds site read.faultless)
 
-    pub answered : (groups : List Group) → IsRead groups → unless_fault (faults_of site) (site_in site) ≡ Ok (record { dynamic_uid = uid; rows = rows; users = users; groups = groups })
+    pub answered : (groups : List Group) → IsRead groups → unless_fault (faults_of site) (site_in site) ≡ Ok (record { dynamic_uid = uid; user_namespaces = spaces; rows = rows; users = users; groups = groups })
     answered groups read = ap (λ faults. unless_fault faults (site_in site)) read.faultless ∙ ap Ok read.says
 
 -- ---- from the bytes

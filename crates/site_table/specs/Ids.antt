@@ -1,5 +1,5 @@
 -- Ids of users and groups (credentials(7)): 0 to 4,294,967,294; the number above stands for none in the calls that set ids.
-use Rattle.std.specs.Prelude.{ℕ, ℤ, pos, negsuc, nat_le, Bool, false, cond, not, is_some, List, Option, Some, None, option_and_then}
+use Rattle.std.specs.Prelude.{ℕ, ℤ, codes, pos, negsuc, nat_le, Bool, false, cond, not, is_some, List, Option, Some, None, option_and_then}
 use Rattle.std.specs.List.{list_all, filter_map}
 use Rattle.std.specs.Option.{option_map_or}
 use Rattle.toml.specs.Data.{Data, as_integer}
@@ -20,6 +20,23 @@ id_at key value = option_and_then id_of (number_at key value)
 -- a number out of range stands at a key
 abbrev pub is_out_of_range : List ℕ → Data → Bool
 is_out_of_range key value = option_map_or (λ number. not (is_some (id_of number))) (number_at key value) false
+
+-- the most user namespaces that a site may allow
+abbrev pub most_spaces : ℕ
+most_spaces = 64
+
+-- so many, if it is no more
+abbrev pub count_of : ℤ → Option ℕ
+count_of (pos number) = cond (nat_le number most_spaces) (Some number) None
+count_of (negsuc number) = None
+
+abbrev pub count_by : Option ℤ → Option ℕ
+count_by None = Some 0
+count_by (Some number) = count_of number
+
+-- how many user namespaces may be made, if the number that stands at the key is in range; none where the key is missing
+abbrev pub spaces_at : Data → Option ℕ
+spaces_at site = count_by (number_at (codes "user_namespaces") site)
 
 -- the id that a part of the tree is, if it is a number in range
 abbrev pub as_id : Data → Option ℕ

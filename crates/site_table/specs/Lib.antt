@@ -10,5 +10,4 @@ pub mod Table
 pub mod Reading
 pub mod Texts
 pub mod RowSteps
-pub mod OwnerSteps
 pub mod Exact

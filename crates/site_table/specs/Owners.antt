@@ -48,7 +48,3 @@ user_of user = record {
 
 abbrev pub group_of : Data → GroupAccount
 group_of group = record { name = name_of group; gid = unwrap_or (id_at (codes "gid") group) 0 }
-
--- the group that is read as a user
-abbrev pub as_group : Account → GroupAccount
-as_group owner = record { name = owner.name; gid = owner.gid }

@@ -10,7 +10,7 @@ use Rattle.site_table.specs.declared.owners.OwnerKind.TheVariants.{User as UserK
 use Rattle.toml_shapes.specs.Tree.{elements_at}
 use Rattle.toml_shapes.specs.Keys.{has_keys}
 use Rattle.site_table.specs.Keys.{top_keys}
-use Rattle.site_table.specs.Ids.{id_at}
+use Rattle.site_table.specs.Ids.{id_at, spaces_at}
 use Rattle.site_table.specs.Rows.{cause_of, row_of}
 use Rattle.site_table.specs.Owners.{has_doubled_name, is_wrong, user_of, group_of}
 use Rattle.site_table.specs.Order.{with_fixed, rows_in_order}
@@ -43,9 +43,9 @@ user_faults users = owner_faults (is_wrong UserKind) BadUser users
 abbrev pub group_faults : List Data → List SiteError
 group_faults groups = owner_faults (is_wrong GroupKind) BadGroup groups
 
--- what is wrong at the top: the keys, or the dynamic uid
+-- what is wrong at the top: the keys, the dynamic uid, or the number of user namespaces
 abbrev pub top_faults : Data → List SiteError
-top_faults site = cond (has_keys top_keys site && is_some (id_at (codes "dynamic_uid") site)) [] (Top ∷ [])
+top_faults site = cond ((has_keys top_keys site && is_some (id_at (codes "dynamic_uid") site)) && is_some (spaces_at site)) [] (Top ∷ [])
 
 -- more rows, users or groups than a site may have
 abbrev pub is_too_large : Data → Bool
@@ -62,6 +62,7 @@ faults_of site = top_faults site ++ size_faults site ++ row_faults (rows_in site
 abbrev pub site_in : Data → Site
 site_in site = record {
   dynamic_uid = unwrap_or (id_at (codes "dynamic_uid") site) 0;
+  user_namespaces = unwrap_or (spaces_at site) 0;
   rows = rows_in_order (with_fixed (map row_of (rows_in site)));
   users = map user_of (users_in site);
   groups = map group_of (groups_in site);
@@ -72,9 +73,9 @@ abbrev pub unless_fault : {T : Type 0} → List SiteError → T → Result T Sit
 unless_fault [] answer = Ok answer
 unless_fault (fault ∷ faults) answer = Err fault
 
--- the dynamic uid, where nothing is wrong at the top
-abbrev pub SaysTop : Data → Option ℕ → Type 0
-SaysTop site (Some uid) = (top_faults site ≡ []) × (id_at (codes "dynamic_uid") site ≡ Some uid)
+-- the dynamic uid and the number of user namespaces, where nothing is wrong at the top
+abbrev pub SaysTop : Data → Option (ℕ × ℕ) → Type 0
+SaysTop site (Some said) = (top_faults site ≡ []) × (id_at (codes "dynamic_uid") site ≡ Some said.0) × (spaces_at site ≡ Some said.1)
 SaysTop site None = top_faults site ≡ Top ∷ []
 
 -- the tree that `toml` reads from UTF-8

@@ -5,23 +5,24 @@ use Rattle.std.specs.Str.{bytes_eq}
 use Rattle.abs_path.specs.Paths.{Path, tail_of, text_of, is_normal}
 use Rattle.abs_path.specs.Prefix.{is_same}
 use Rattle.abs_path.specs.ByteOrder.{AreAscending}
-use Rattle.cap_sets.specs.Sets.{none}
+use Rattle.cap_sets.specs.Sets.{none, all, IsWithin}
 use Rattle.site_table.specs.declared.kinds.RowKind.{RowKind}
 use Rattle.site_table.specs.declared.kinds.RowKind.TheVariants.{Dir, Exe}
 use Rattle.site_table.specs.declared.row.Row.{Row}
 use Rattle.site_table.specs.declared.accounts.User.{User}
 use Rattle.site_table.specs.declared.accounts.Group.{Group}
-use Rattle.site_table.specs.Ids.{greatest_id}
+use Rattle.site_table.specs.Ids.{greatest_id, most_spaces}
 use Rattle.site_table.specs.Paths.{parent_of, root, proc}
 
 pub record Site : Type 0 where
   pub dynamic_uid : ℕ
+  pub user_namespaces : ℕ
   pub rows : List Row
   pub users : List User
   pub groups : List Group
 
-abbrev pub site_with : ℕ → List Row → List User → List Group → Site
-site_with uid rows users groups = record { dynamic_uid = uid; rows = rows; users = users; groups = groups }
+abbrev pub site_with : ℕ → ℕ → List Row → List User → List Group → Site
+site_with uid spaces rows users groups = record { dynamic_uid = uid; user_namespaces = spaces; rows = rows; users = users; groups = groups }
 
 -- the row of a path
 abbrev pub row_at : List Row → Path → Option Row
@@ -65,6 +66,7 @@ pub record IsRowOf (rows : List Row) (row : Row) : Type 0 where
   pub exe_alone : row.kind ≢ Exe → (row.setuid ≡ None) × (row.setgid ≡ None) × (row.caps ≡ none) × (row.effective ≡ false)
   pub owner_or_caps : IsSome row.setuid → row.caps ≡ none
   pub effective_caps : row.effective ≡ true → row.caps ≢ none
+  pub known_caps : IsWithin row.caps all
 
 -- the path of each row is normal
 abbrev pub AreNormal : List Row → Type 0
@@ -90,6 +92,7 @@ AreDistinct (name ∷ names) = AllByRecursion (λ other. name ≢ other) names �
 -- what holds of each site
 pub record IsSite (site : Site) : Type 0 where
   pub dynamic_uid : site.dynamic_uid ≤ greatest_id
+  pub few_spaces : site.user_namespaces ≤ most_spaces
   pub ascending : AreAscending (map (λ row. row.path) site.rows)
   pub root : kind_at site.rows root ≡ Some Dir
   pub proc : kind_at site.rows proc ≡ Some Dir

@@ -1,6 +1,7 @@
 //! Users and groups of a site.
 
 use crate::texts::{Ids, Name};
+use name_table::Named;
 
 /// A user (passwd(5)).
 #[derive(Drop)]
@@ -12,9 +13,25 @@ pub struct User {
     pub groups: Ids,
 }
 
+impl Named for User {
+    ghost name_of = { λ user. user.name };
+
+    fn name(&self) -> &str {
+        self.name.as_str()
+    }
+}
+
 /// A group (group(5)).
 #[derive(Drop)]
 pub struct Group {
     pub name: Name,
     pub gid: u32,
+}
+
+impl Named for Group {
+    ghost name_of = { λ group. group.name };
+
+    fn name(&self) -> &str {
+        self.name.as_str()
+    }
 }

@@ -3,7 +3,7 @@
 ghost use Rattle.std.specs.Prelude.{◌≡◌, IfOk, is_some};
 ghost use Rattle.std.specs.List.{filter_map, list_all};
 ghost use Rattle.toml.specs.View.{view};
-ghost use Rattle.site_table.specs.Ids.{id_of, id_at, is_out_of_range, as_id, ids_at, are_ids};
+ghost use Rattle.site_table.specs.Ids.{count_of, spaces_at, id_of, id_at, is_out_of_range, as_id, ids_at, are_ids};
 
 use crate::texts::Ids;
 use std::alloc::{AllocError, Global};
@@ -12,6 +12,9 @@ use toml_shapes::{elements_at, number_at};
 
 /// The greatest id. The number above stands for none in setresuid(2) and the like.
 const GREATEST_ID: i64 = 4_294_967_294;
+
+/// The most user namespaces that a site may allow.
+const MOST_SPACES: i64 = 64;
 
 fn id_of(number: i64) -> Option<u32>
     ensures { result ≡ id_of number }
@@ -35,6 +38,27 @@ pub fn is_out_of_range(value: &Value, key: &str) -> bool
     ensures { result ≡ is_out_of_range key.now (view value.now) }
 {
     number_at(value, key).is_some_and(|number| id_of(number).is_none())
+}
+
+// so many, if it is no more than a site may allow
+fn count_of(number: i64) -> Option<u32>
+    ensures { result ≡ count_of number }
+{
+    if 0 <= number && number <= MOST_SPACES {
+        Some(number as u32)
+    } else {
+        None
+    }
+}
+
+/// How many user namespaces may be made: none where the key is missing, and no answer where the number is out of range.
+pub fn spaces_at(site: &Value) -> Option<u32>
+    ensures { result ≡ spaces_at (view site.now) }
+{
+    match number_at(site, "user_namespaces") {
+        None => Some(0),
+        Some(number) => count_of(number),
+    }
 }
 
 fn as_id(value: &Value) -> Option<u32>

@@ -1,21 +1,72 @@
 //! The users and the groups of a site, which are read alike.
 
-ghost use Rattle.std.specs.Prelude.{◌≡◌, map, IfOk};
+ghost use Rattle.std.specs.Prelude.{◌≡◌, ◌||◌, map};
+ghost use Rattle.std.specs.List.{list_any};
+ghost use Rattle.std.specs.Str.{bytes_eq};
 ghost use Rattle.toml.specs.View.{view};
 ghost use Rattle.toml_shapes.specs.Keys.{has_keys};
-ghost use Rattle.site_table.specs.Owners.{name_of, keys_of, refusal_of, is_wrong, user_of, group_of, as_group};
-ghost use Rattle.site_table.specs.OwnerSteps.{SaysOwner};
+ghost use Rattle.site_table.specs.Owners.{name_of, keys_of, refusal_of, is_wrong, user_of, group_of};
 ghost use Rattle.site_table.specs.Reading.{IsUnlessMemory, unless_fault, owner_faults, user_faults, group_faults};
 
 use crate::accounts::{Group, User};
 use crate::error::SiteError;
 use crate::ids::{are_ids, id_at, ids_at, is_out_of_range};
 use crate::keys::{GROUP_KEYS, USER_KEYS};
-use crate::seen::Seen;
 use crate::texts::Name;
+use name_table::{NameTable, Named};
 use std::alloc::{AllocError, Global};
 use toml::Value;
 use toml_shapes::{has_keys, text_at};
+
+/// A user or a group, as an element of the tree describes it.
+trait Owner: Named + Drop + Sized {
+    ghost use Rattle.std.specs.Prelude.{◌≡◌, IfOk};
+    ghost use Rattle.toml.specs.Data.{Data};
+    ghost use Rattle.toml.specs.View.{view};
+    ghost use Rattle.site_table.specs.Owners.{name_of as name_told};
+
+    ghost said_of: { Data → Self };
+
+    // What the element says, where nothing is wrong with it.
+    fn say(alloc: Global, owner: &Value) -> Result<Self, AllocError>
+        ensures { IfOk result (λ said. said ≡ said_of (view owner.now)) };
+
+    ghost keeps_name: { (owner : Data) → Self.Named.name_of (said_of owner) ≡ name_told owner };
+}
+
+impl Owner for User {
+    ghost use Rattle.std.specs.Prelude.{refl};
+    ghost use Rattle.site_table.specs.Owners.{user_of};
+
+    ghost said_of = { user_of };
+
+    ghost keeps_name = { λ owner. refl };
+
+    fn say(alloc: Global, owner: &Value) -> Result<Self, AllocError> {
+        Ok(User {
+            name: Name::new(alloc, name_of(owner))?,
+            uid: id_at(owner, "uid").unwrap_or(0),
+            gid: id_at(owner, "gid").unwrap_or(0),
+            groups: ids_at(alloc, owner, "groups")?,
+        })
+    }
+}
+
+impl Owner for Group {
+    ghost use Rattle.std.specs.Prelude.{refl};
+    ghost use Rattle.site_table.specs.Owners.{group_of};
+
+    ghost said_of = { group_of };
+
+    ghost keeps_name = { λ owner. refl };
+
+    fn say(alloc: Global, owner: &Value) -> Result<Self, AllocError> {
+        Ok(Group {
+            name: Name::new(alloc, name_of(owner))?,
+            gid: id_at(owner, "gid").unwrap_or(0),
+        })
+    }
+}
 
 /// Who may own a file.
 #[derive(Clone, Copy)]
@@ -63,68 +114,45 @@ fn is_wrong(kind: OwnerKind, owner: &Value) -> bool
         || name_of(owner).is_empty()
 }
 
-// what the owner of this number says, behind others of these names: a group is a user of uid 0
-fn read_owner(
-    alloc: Global,
-    kind: OwnerKind,
-    number: u64,
-    names: &mut Seen,
-    owner: &Value,
-) -> Result<User, SiteError>
-    ensures { SaysOwner kind number names.old (view owner.now) names.new result }
+// whether something is wrong with the owner, or one before it has the name
+fn is_refused<O: Owner>(kind: OwnerKind, before: &NameTable<O>, owner: &Value) -> bool
+    ensures { result ≡ (is_wrong kind (view owner.now)
+        || list_any (λ other. bytes_eq (name_of (view owner.now)) (O.name_of other)) before.now) }
 {
-    let name = name_of(owner);
-    if is_wrong(kind, owner) || names.has(name) {
-        return Err(kind.refusal(number));
-    }
-    names.add(alloc, name)?;
-    Ok(User {
-        name: Name::new(alloc, name)?,
-        uid: id_at(owner, "uid").unwrap_or(0),
-        gid: id_at(owner, "gid").unwrap_or(0),
-        groups: ids_at(alloc, owner, "groups")?,
-    })
+    is_wrong(kind, owner) || before.has(name_of(owner))
 }
 
 // the owners that the elements of the tree describe, or the first that is wrong
-fn read_owners(alloc: Global, kind: OwnerKind, owners: &[Value]) -> Result<Vec<User>, SiteError>
-    ensures { IsUnlessMemory (λ read. read.items) result
-        (unless_fault (owner_faults (is_wrong kind) (refusal_of kind) (map view owners.now)) (map user_of (map view owners.now))) }
+fn read_owners<O: Owner>(
+    alloc: Global,
+    kind: OwnerKind,
+    owners: &[Value],
+) -> Result<NameTable<O>, SiteError>
+    ensures { IsUnlessMemory (λ read. read) result
+        (unless_fault (owner_faults (is_wrong kind) (refusal_of kind) (map view owners.now)) (map O.said_of (map view owners.now))) }
 {
-    let mut names = Seen::new(alloc);
-    let mut read = Vec::new(alloc);
+    let mut read = NameTable::new(alloc);
     for (at, value) in owners.iter().enumerate() {
-        let owner = read_owner(alloc, kind, at as u64 + 1, &mut names, value)?;
-        read.push(owner)?;
+        if is_refused(kind, &read, value) {
+            return Err(kind.refusal(at as u64 + 1));
+        }
+        read.push(alloc, O::say(alloc, value)?)?;
     }
     Ok(read)
 }
 
-fn as_groups(alloc: Global, owners: Vec<User>) -> Result<Vec<Group>, AllocError>
-    ensures { IfOk result (λ groups. groups.items ≡ map as_group owners.items) }
-{
-    owners
-        .into_iter()
-        .map(|owner| Group {
-            name: owner.name,
-            gid: owner.gid,
-        })
-        .collect(alloc)
-}
-
 /// The users that the elements of the tree describe, or the first that is wrong.
-pub fn read_users(alloc: Global, users: &[Value]) -> Result<Vec<User>, SiteError>
-    ensures { IsUnlessMemory (λ read. read.items) result
+pub fn read_users(alloc: Global, users: &[Value]) -> Result<NameTable<User>, SiteError>
+    ensures { IsUnlessMemory (λ read. read) result
         (unless_fault (user_faults (map view users.now)) (map user_of (map view users.now))) }
 {
     read_owners(alloc, OwnerKind::User, users)
 }
 
 /// The groups that the elements of the tree describe, or the first that is wrong.
-pub fn read_groups(alloc: Global, groups: &[Value]) -> Result<Vec<Group>, SiteError>
-    ensures { IsUnlessMemory (λ read. read.items) result
+pub fn read_groups(alloc: Global, groups: &[Value]) -> Result<NameTable<Group>, SiteError>
+    ensures { IsUnlessMemory (λ read. read) result
         (unless_fault (group_faults (map view groups.now)) (map group_of (map view groups.now))) }
 {
-    let owners = read_owners(alloc, OwnerKind::Group, groups)?;
-    Ok(as_groups(alloc, owners)?)
+    read_owners(alloc, OwnerKind::Group, groups)
 }

@@ -6,7 +6,7 @@ ghost use Rattle.site_table.specs.declared.error.SiteError.TheVariants.{Memory};
 ghost use Rattle.site_table.specs.Reading.{IsUnlessMemory, unless_fault, faults_of, site_in, site_of, SaysTop, is_too_large};
 
 use crate::error::SiteError;
-use crate::ids::id_at;
+use crate::ids::{id_at, spaces_at};
 use crate::keys::TOP_KEYS;
 use crate::owners::{read_groups, read_users};
 use crate::rows::read_rows;
@@ -22,15 +22,16 @@ const MOST_USERS: usize = 512;
 /// The most groups that it may list.
 const MOST_GROUPS: usize = 512;
 
-// the dynamic uid, where the top keys are right
-fn read_top(site: &Value) -> Option<u32>
+// the dynamic uid and how many user namespaces may be made, where the top keys are right
+fn read_top(site: &Value) -> Option<(u32, u32)>
     ensures { SaysTop (view site.now) result }
 {
-    if has_keys(&TOP_KEYS, site) {
-        id_at(site, "dynamic_uid")
-    } else {
-        None
+    if !has_keys(&TOP_KEYS, site) {
+        return None;
     }
+    let uid = id_at(site, "dynamic_uid")?;
+    let spaces = spaces_at(site)?;
+    Some((uid, spaces))
 }
 
 // whether there are more rows, users or groups than a site may have
@@ -47,7 +48,7 @@ fn read_tree(alloc: Global, site: &Value) -> Result<SiteTable, SiteError>
     ensures { IsUnlessMemory (λ table. table) result
         (unless_fault (faults_of (view site.now)) (site_in (view site.now))) }
 {
-    let Some(dynamic_uid) = read_top(site) else {
+    let Some((dynamic_uid, user_namespaces)) = read_top(site) else {
         return Err(SiteError::Top);
     };
     if is_too_large(site) {
@@ -56,7 +57,7 @@ fn read_tree(alloc: Global, site: &Value) -> Result<SiteTable, SiteError>
     let rows = read_rows(alloc, elements_at(site, "row"))?;
     let users = read_users(alloc, elements_at(site, "user"))?;
     let groups = read_groups(alloc, elements_at(site, "group"))?;
-    Ok(SiteTable::new(dynamic_uid, rows, users, groups))
+    Ok(SiteTable::new(dynamic_uid, user_namespaces, rows, users, groups))
 }
 
 // what the bytes of a site say
@@ -77,7 +78,7 @@ fn read_bytes(alloc: Global, bytes: &[u8]) -> Result<SiteTable, SiteError>
 
 /// Reads the description of a site.
 ///
-/// The top keys are `dynamic_uid`, a number, and the arrays of tables `row`, `user` and `group`, each
+/// The top keys are `dynamic_uid`, a number, `user_namespaces`, a number of 0 to 64 that may be missing, and the arrays of tables `row`, `user` and `group`, each
 /// of which may be missing. A row has a `path` and a `kind`, which is `dir`, `file` or `exe`; an exe may
 /// have `setuid` and `setgid`, its owner's uid and its group's gid, and `caps`, a list of names of
 /// capabilities, with a boolean `effective`. A user has `name`, `uid`, `gid` and may have `groups`, a

@@ -11,19 +11,21 @@ use crate::accounts::{Group, User};
 use crate::find::search;
 use crate::row::Row;
 use abs_path::AbsPath;
+use name_table::NameTable;
 use std::marker::Model;
 
 /// The files, users and groups of a site.
 ///
 /// The rows stand in byte order of their paths, `/` and `/proc` among them, and are numbered from 0
 /// in that order. Users and groups stand in the order of the file. A row is found by binary search, a
-/// user or a group, of which there are at most 512, by going through them.
+/// user or a group by a map of their names; the user of a uid by going through the users, at most 512.
 #[derive(Drop)]
 pub struct SiteTable {
     dynamic_uid: u32,
+    user_namespaces: u32,
     rows: Vec<Row>,
-    users: Vec<User>,
-    groups: Vec<Group>,
+    users: NameTable<User>,
+    groups: NameTable<Group>,
 }
 
 impl Model for SiteTable {
@@ -32,25 +34,27 @@ impl Model for SiteTable {
     ghost Value = { Site };
 
     ghost view = { λ site.
-        site_with site.dynamic_uid site.rows.items site.users.items site.groups.items };
+        site_with site.dynamic_uid site.user_namespaces site.rows.items site.users site.groups };
 
     ghost invariant = { λ site.
-        IsSite (site_with site.dynamic_uid site.rows.items site.users.items site.groups.items) };
+        IsSite (site_with site.dynamic_uid site.user_namespaces site.rows.items site.users site.groups) };
 }
 
 impl SiteTable {
     // the table of what has been read
     pub(crate) fn new(
         dynamic_uid: u32,
+        user_namespaces: u32,
         rows: Vec<Row>,
-        users: Vec<User>,
-        groups: Vec<Group>,
+        users: NameTable<User>,
+        groups: NameTable<Group>,
     ) -> SiteTable
-        requires { IsSite (site_with dynamic_uid rows.items users.items groups.items) }
-        ensures { result ≡ site_with dynamic_uid rows.items users.items groups.items }
+        requires { IsSite (site_with dynamic_uid user_namespaces rows.items users groups) }
+        ensures { result ≡ site_with dynamic_uid user_namespaces rows.items users groups }
     {
         SiteTable {
             dynamic_uid,
+            user_namespaces,
             rows,
             users,
             groups,
@@ -63,6 +67,14 @@ impl SiteTable {
         ensures holds_of_each_site { IsSite self.now }
     {
         self.dynamic_uid
+    }
+
+    /// How many user namespaces may be made, user_namespaces(7).
+    pub fn user_namespaces(&self) -> u32
+        ensures user_namespaces { result ≡ self.now.user_namespaces }
+        ensures holds_of_each_site { IsSite self.now }
+    {
+        self.user_namespaces
     }
 
     /// How many rows there are, `/` and `/proc` among them.
@@ -121,21 +133,21 @@ impl SiteTable {
     pub fn user(&self, name: &str) -> Option<&User>
         ensures user_of_the_name { option_copied result ≡ user_named self.now.users name.now }
     {
-        self.users.iter().find(|user| user.name.as_str() == name)
+        self.users.get(name)
     }
 
     /// The first user in the file with this uid.
     pub fn user_of(&self, uid: u32) -> Option<&User>
         ensures first_user_with_the_uid { option_copied result ≡ user_with self.now.users uid }
     {
-        self.users.iter().find(|user| user.uid == uid)
+        self.users().iter().find(|user| user.uid == uid)
     }
 
     /// The group of this name.
     pub fn group(&self, name: &str) -> Option<&Group>
         ensures group_of_the_name { option_copied result ≡ group_named self.now.groups name.now }
     {
-        self.groups.iter().find(|group| group.name.as_str() == name)
+        self.groups.get(name)
     }
 
     /// The users in the order of the file.
@@ -143,7 +155,7 @@ impl SiteTable {
         ensures users { result.now ≡ self.now.users }
         ensures holds_of_each_site { IsSite self.now }
     {
-        &self.users
+        self.users.lines()
     }
 
     /// The groups in the order of the file.
@@ -151,6 +163,6 @@ impl SiteTable {
         ensures groups { result.now ≡ self.now.groups }
         ensures holds_of_each_site { IsSite self.now }
     {
-        &self.groups
+        self.groups.lines()
     }
 }

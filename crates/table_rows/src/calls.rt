@@ -79,14 +79,47 @@ fn asked_of(alloc: Global, bytes: &[u8], words: &[&str]) -> Result<String, Alloc
 
 fn asked(alloc: Global, table: &CallTable, words: &[&str]) -> Result<String, AllocError> {
     match words {
+        ["abis"] => abis(alloc, table),
         ["call", name] => number_or_none(alloc, table.number(name).map(u64::from)),
         ["position", name] => number_or_none(alloc, table.position(name).map(|at| at as u64)),
         ["name", number] => said(alloc, table.name(id(number)).unwrap_or("none")),
         ["cap", number] => number_or_none(alloc, table.cap(id(number)).map(u64::from)),
+        ["number in", abi, name] => {
+            number_or_none(alloc, table.number_in(place(abi), name).map(u64::from))
+        }
+        ["name in", abi, number] => {
+            said(
+                alloc,
+                table.name_in(place(abi), id(number)).unwrap_or("none"),
+            )
+        }
+        ["cap in", abi, number] => {
+            number_or_none(alloc, table.cap_in(place(abi), id(number)).map(u64::from))
+        }
         ["family", name] => number_or_none(alloc, table.family(name).map(u64::from)),
         ["group", name] => members(alloc, table.members(name)),
         _ => said(alloc, "no row"),
     }
+}
+
+// The ABIs: the name, the architecture, and how many calls and numbers of calls.
+fn abis(alloc: Global, table: &CallTable) -> Result<String, AllocError> {
+    let mut text = format!(in alloc; "{} abis", table.abis())?;
+    for abi in 0..table.abis() {
+        let name = table.abi_name(abi).unwrap_or("none");
+        let arch = table.arch_of(abi);
+        let calls = table.calls_in(abi).len();
+        let numbers = table.by_number_in(abi).len();
+        text.push_str(format!(in alloc;
+            ", {name} {arch:#x} {calls} calls {numbers} numbers"
+        )?.as_str())?;
+    }
+    Ok(text)
+}
+
+// The position of an ABI that a word says, or 0.
+fn place(word: &str) -> u8 {
+    word.parse::<u8>().unwrap_or(0)
 }
 
 // The number of a word, or 0.

@@ -20,7 +20,7 @@ abbrev pub help_lines : List (List ℕ)
 help_lines =
     codes "Lentsheep judges the sandbox of a systemd service without starting it." ∷
     [] ∷
-    codes "usage: sandbox_cli COMMAND UNIT [FILE [THRESHOLD]]" ∷
+    codes "usage: lentsheep COMMAND UNIT [FILE [THRESHOLD]]" ∷
     [] ∷
     codes "  filter UNIT    print the compiled seccomp filters of the unit" ∷
     codes "  plan UNIT      print the mounts that give the service its view of files" ∷
@@ -54,7 +54,8 @@ help_lines =
     codes "  6  memory ran out, and the text was cut" ∷
     codes "  7  the launch of judge or replay is refused" ∷
     [] ∷
-    codes "The manual is README.md; docs/PROFILE.md says how units are read." ∷
+    codes "lentsheep --root / COMMAND UNIT judges a service of this machine; --root --help says more." ∷
+    codes "The manual is lentsheep(1). In a checkout the command is ./sandbox, and the manual README.md." ∷
     []
 
 abbrev pub help_text : List ℕ

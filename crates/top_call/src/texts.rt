@@ -11,7 +11,7 @@ use std::alloc::Global;
 const HELP: &[&str] = &[
     "Lentsheep judges the sandbox of a systemd service without starting it.\n",
     "\n",
-    "usage: sandbox_cli COMMAND UNIT [FILE [THRESHOLD]]\n",
+    "usage: lentsheep COMMAND UNIT [FILE [THRESHOLD]]\n",
     "\n",
     "  filter UNIT    print the compiled seccomp filters of the unit\n",
     "  plan UNIT      print the mounts that give the service its view of files\n",
@@ -45,7 +45,8 @@ const HELP: &[&str] = &[
     "  6  memory ran out, and the text was cut\n",
     "  7  the launch of judge or replay is refused\n",
     "\n",
-    "The manual is README.md; docs/PROFILE.md says how units are read.\n",
+    "lentsheep --root / COMMAND UNIT judges a service of this machine; --root --help says more.\n",
+    "The manual is lentsheep(1). In a checkout the command is ./sandbox, and the manual README.md.\n",
 ];
 
 /// The name and the version.

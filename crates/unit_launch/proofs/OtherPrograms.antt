@@ -15,7 +15,7 @@ use Rattle.kernel_model.specs.World.{World}
 use Rattle.linux_numbers.specs.Limits.{max_insns_per_path}
 use Rattle.mount_plan.specs.Host.{host_of}
 use Rattle.site_table.specs.Table.{Site, IsSite}
-use Rattle.launcher.specs.Alike.{AnswerAlike, SameReplies, above}
+use Rattle.launcher.specs.Alike.{AnswerAlike, HasWordArchs, SameReplies, above}
 use Rattle.launcher.specs.Answers.{LaunchesTo, codes_of, given_bytes, launch_with, wanted_of}
 use Rattle.launcher.specs.Conditions.{CanBeLaunched}
 use Rattle.launcher.specs.Launch.{Ending, Launched, StepRefused, StepKilled, PrivilegedProgram}
@@ -37,11 +37,11 @@ module _ (filters : List Filter) (fit : most_room filters ≤ max_insns_per_path
       let few : room_of codes ≤ most_room filters = room filters codes matching in
       record { read = read; room = omega (arith, few, fit) }
 
-module _ (table : calls.Table) (site : Site) (settings : Settings) (plan : Table) (service : Service) (arch : table.arch < 2 ^ 32) where
-  told : (base : World) (codes : List (List Insn)) → service.world ≡ above codes base → service.world.calls ≡ table → base.calls.arch < 2 ^ 32
+module _ (table : calls.Table) (site : Site) (settings : Settings) (plan : Table) (service : Service) (arch : HasWordArchs table) where
+  told : (base : World) (codes : List (List Insn)) → service.world ≡ above codes base → service.world.calls ≡ table → HasWordArchs base.calls
   told base codes own tables =
       let same : base.calls ≡ table = sym (ap (λ (world : World). world.calls) own) ∙ tables in
-      subst (λ (one : calls.Table). one.arch < 2 ^ 32) (sym same) arch
+      subst HasWordArchs (sym same) arch
 
   -- a launch that ends alike
   alike_there : (programs : List (List ℕ)) (codes : List (List Insn)) (other : Ending) → AnswerAlike (codes_of service.filters) codes → launch_with table site settings plan programs ≡ other → service.world.calls ≡ table

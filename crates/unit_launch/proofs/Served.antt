@@ -29,6 +29,8 @@ use Rattle.launcher.specs.Launches.{AreRead}
 use Rattle.launcher.proofs.Conditions.{settings_can_be_launched}
 use Rattle.launcher.proofs.Matching.{means}
 use Rattle.launcher.proofs.Programs.{they_are_read, they_match}
+use Rattle.launcher.proofs.TwoAbis.{filters_there}
+use Rattle.launcher.specs.Alike.{HasWordArchs}
 
 same_code : (one other : List Insn) → ◌≡◌ {A = Option (List Insn)} (Some one) (Some other) → one ≡ other
 same_code one other e = cc
@@ -41,7 +43,7 @@ meant settings table (bytes ∷ programs) [] read each = absurd read
 meant settings table (bytes ∷ programs) (code ∷ stack) read each =
     ((λ own is. subst (Means settings table) (same_code code own (sym read.0 ∙ is)) each.0), meant settings table programs stack read.1 each.1)
 
-module _ (unit : Resolved) (table : calls.Table) (site : Site) (settings : Settings) (plan : Table) (service : Service) (whole : IsWhole table) (arch : table.arch < 2 ^ 32) (sound : IsSite site) (can : CanBeMounted (host_of site) plan)
+module _ (unit : Resolved) (table : calls.Table) (site : Site) (settings : Settings) (plan : Table) (service : Service) (whole : IsWhole table) (arch : HasWordArchs table) (sound : IsSite site) (can : CanBeMounted (host_of site) plan)
     (are : AreSettings unit table site settings) (launches : LaunchesTo table site settings plan service) where
   abbrev own : FilterSettings
   own = unit_filters unit table
@@ -49,7 +51,7 @@ module _ (unit : Resolved) (table : calls.Table) (site : Site) (settings : Setti
   each : AllByRecursion (IsMeant own table) (given_bytes service.filters)
   each =
       let wanted = recursion_from_All (HasWantedRules own table) settings.filters.items are.filters_as_wanted.do_as_wanted in
-      let decide = means own table settings.filters.items (codes_of service.filters) wanted (they_match settings.filters.items service.filters launches.filters) in
+      let decide = means own table settings.filters.items (codes_of service.filters) wanted (filters_there own table settings.filters.items are.filters_as_wanted.exactly_those_on) (they_match settings.filters.items service.filters launches.filters) in
       meant own table (given_bytes service.filters) (codes_of service.filters) (they_are_read settings.filters.items service.filters launches.filters) decide
 
   pub served : IsServedWorld service.world

@@ -1,9 +1,11 @@
 //! The launch of a unit.
-ghost use Rattle.std.specs.Prelude.{◌<◌, ◌^◌, IfOk};
+ghost use Rattle.std.specs.Prelude.{◌≡◌, ◌<◌, ◌^◌, IfOk};
 ghost use Rattle.call_table.specs.Facts.{IsWhole};
+ghost use Rattle.call_table.specs.Table.{arch_of};
 ghost use Rattle.dropin_merge.specs.declared.resolved.Resolved.{Resolved};
 ghost use Rattle.exec_settings.specs.AreSettings.{AreSettings};
 ghost use Rattle.kern_mounts.specs.Launch.{CanBeMounted};
+ghost use Rattle.launcher.specs.Alike.{HasWordArchs};
 ghost use Rattle.mount_plan.specs.Host.{host_of};
 ghost use Rattle.unit_launch.specs.Launching.{ComesTo};
 
@@ -24,15 +26,33 @@ pub enum UnitLaunch<'a> {
     Refused(LaunchRefusal),
 }
 
+// The architecture of the second ABI, or 0.
+fn second_arch(table: &CallTable) -> u32
+    ensures { result ≡ arch_of table.now 1 }
+{
+    if table.abis() == 2 {
+        table.arch_of(1)
+    } else {
+        0
+    }
+}
+
+// The architectures of a table are words.
+fn look_at_archs(table: &CallTable)
+    ensures native { table.now.arch < 2 ^ 32 }
+    ensures second { arch_of table.now 1 < 2 ^ 32 }
+{
+    let _native = table.arch();
+    let _second = second_arch(table);
+}
+
 /// The facts of every table of calls, which its lists are lent with. It does nothing.
 pub fn look_at(table: &CallTable)
     ensures whole { IsWhole table.now }
-    ensures arch { table.now.arch < 2 ^ 32 }
+    ensures archs { HasWordArchs table.now }
 {
-    let _arch = table.arch();
-    let _calls = table.calls();
-    let _families = table.families();
-    let _groups = table.groups();
+    let _abis = table.abis();
+    look_at_archs(table);
 }
 
 /// Launches a unit with these settings and this plan of its mounts, over the table of calls and the site that they are by.

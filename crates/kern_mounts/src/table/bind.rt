@@ -1,19 +1,21 @@
 //! mount(2) with MS_BIND and MS_REC: what a path shows, at another path too.
 
-ghost use Rattle.std.specs.Prelude.{◌≡◌, ◌&&◌, ◌+◌, ◌<◌, ◌++◌, ◌≤◌, ◌∷◌, [], true, false, length, drop, count_by, if◌then◌else◌, IfOk, MatchResult};
+ghost use Rattle.std.specs.Prelude.{◌≡◌, ◌&&◌, ◌+◌, ◌<◌, ◌++◌, ◌≤◌, ◌∷◌, [], true, false, not, length, drop, count_by, if◌then◌else◌, IfOk, MatchResult};
 ghost use Rattle.std.specs.List.{list_any};
 ghost use Rattle.abs_path.specs.Prefix.{is_prefix, rest_of};
 ghost use Rattle.linux_numbers.specs.Limits.{mount_max};
 ghost use Rattle.kern_mounts.specs.Entry.{Belongs};
 ghost use Rattle.kern_mounts.specs.Answer.{Refuses, BecomesOrMemory};
+ghost use Rattle.kern_mounts.specs.Bind.{goes_too_far, moved, is_long, is_too_long, object_at, bound_entry, can_show, can_bind};
 ghost use Rattle.kern_mounts.specs.Split.{is_below};
-ghost use Rattle.kern_mounts.specs.Bind.{goes_too_far, moved, copies, is_long, is_too_long, object_at, bound_entry, after_bind, can_show, can_bind};
+ghost use Rattle.kern_mounts.specs.Mounts.{steps_of, stands_below};
+ghost use Rattle.kern_mounts.specs.MountsBind.{moved_mount, copied_mounts, bound_mount, is_locked_below, mounts_after_bind};
 
 use super::{MountTable, later_than};
 use crate::error::MountError;
-use crate::step::{MountStep, What};
+use crate::step::{Mount, MountStep, What};
 use abs_path::AbsPath;
-use linux_numbers::errnos::{ENAMETOOLONG, ENOSPC};
+use linux_numbers::errnos::{EINVAL, ENAMETOOLONG, ENOSPC};
 use linux_numbers::limits::MOUNT_MAX;
 use std::alloc::{AllocError, Global};
 
@@ -24,17 +26,18 @@ impl MountTable {
     /// Whether a bind of this source is one that `bind` makes: its entry is not hidden, and on a host entry the path that
     /// it has on the host has at most 512 bytes. It takes no memory.
     pub fn can_bind(&self, source: &AbsPath) -> bool
-        ensures by_the_entry { result ≡ can_bind self.now source.now }
+        ensures by_the_entry { result ≡ can_bind (steps_of self.now) source.now }
     {
-        can_show(&self.entries[self.resolve(source)], source)
+        can_show(&self.mounts[self.resolve(source)].step, source)
     }
 
-    /// Shows at the target what the table shows at the source, with the flags of the source's entry, mount(2) with
-    /// MS_BIND: an entry behind the others. With `recursive` (MS_REC) copies of the entries that are later than the
-    /// source's entry and strictly below the source follow it in their order, at the same places below the target. The
-    /// source is one for which `can_bind` is true.
+    /// Shows at the target what the table shows at the source, with the flags of the source's entry and those that it keeps,
+    /// mount(2) with MS_BIND: an entry behind the others, which is not locked. With `recursive` (MS_REC) copies of the entries
+    /// that are later than the source's entry and strictly below the source follow it in their order, at the same places below
+    /// the target, locked where those are, and with what those keep. The source is one for which `can_bind` is true.
     ///
-    /// ENAMETOOLONG where the place of a copy would have more than 512 bytes; then ENOSPC where the table would have more
+    /// EINVAL where the call is not `recursive` and an entry later than the source's is locked and strictly below the source;
+    /// then ENAMETOOLONG where the place of a copy would have more than 512 bytes; then ENOSPC where the table would have more
     /// than 4,096 entries; Memory only where neither is. On any error the table stays as it was.
     pub fn bind(
         &mut self,
@@ -42,53 +45,73 @@ impl MountTable {
         target: &AbsPath,
         recursive: bool,
     ) -> Result<(), MountError>
-        requires can_bind { can_bind self.old source.now ≡ true }
+        requires can_bind { can_bind (steps_of self.old) source.now ≡ true }
         ensures binds { BecomesOrMemory self.old self.new result
-            (after_bind self.old source.now target.now recursive) }
+            (mounts_after_bind self.old source.now target.now recursive) }
     {
         let at = self.resolve(source);
-        let alloc = *self.entries.allocator();
-        let more = added(alloc, &self.entries, at, source, target, recursive)?;
+        let alloc = *self.mounts.allocator();
+        let more = added(alloc, &self.mounts, at, source, target, recursive)?;
         self.grow(more)?;
         Ok(())
     }
 }
 
-// What a bind adds, or why it is refused; the source belongs to the entry of this number.
+// What a bind adds, or why it is refused; the source belongs to the mount of this number.
 fn added(
     alloc: Global,
-    entries: &[MountStep],
+    mounts: &[Mount],
     at: usize,
     source: &AbsPath,
     target: &AbsPath,
     recursive: bool,
-) -> Result<Vec<MountStep>, MountError>
-    requires belongs { Belongs entries.now source.now at }
-    requires can_bind { can_bind entries.now source.now ≡ true }
-    requires few { length entries.now ≤ mount_max }
+) -> Result<Vec<Mount>, MountError>
+    requires belongs { Belongs (steps_of mounts.now) source.now at }
+    requires can_bind { can_bind (steps_of mounts.now) source.now ≡ true }
+    requires few { length mounts.now ≤ mount_max }
     ensures { MatchResult result
-        (λ more. after_bind entries.now source.now target.now recursive ≡ Ok (entries.now ++ more.items))
-        (λ error. Refuses error (after_bind entries.now source.now target.now recursive)) }
+        (λ more. mounts_after_bind mounts.now source.now target.now recursive ≡ Ok (mounts.now ++ more.items))
+        (λ error. Refuses error (mounts_after_bind mounts.now source.now target.now recursive)) }
 {
-    let entry = &entries[at];
-    let later = copied_among(entries, at, recursive);
+    let mount = &mounts[at];
+    let later = copied_among(mounts, at, recursive);
+    if uncovers(mounts, at, source, recursive) {
+        return Err(MountError::Errno(EINVAL));
+    }
     if any_too_long(later, source, target) {
         return Err(MountError::Errno(ENAMETOOLONG));
     }
-    if entries.len() + 1 + count_below(later, source) > MOUNT_MAX {
+    if mounts.len() + 1 + count_below(later, source) > MOUNT_MAX {
         return Err(MountError::Errno(ENOSPC));
     }
-    let more = bound(alloc, entry, later, source, target)?;
+    let more = bound(alloc, mount, later, source, target)?;
     Ok(more)
 }
 
-// The entries that copies are looked for among: those behind the one of this number, or none.
-fn copied_among(entries: &[MountStep], at: usize, recursive: bool) -> &[MountStep]
-    requires in_range { at < length entries.now }
-    ensures { result.now ≡ (if recursive then drop (at + 1) entries.now else []) }
+// Whether a bind that is not recursive would uncover what a locked mount, behind the one of this number, covers.
+fn uncovers(mounts: &[Mount], at: usize, source: &AbsPath, recursive: bool) -> bool
+    requires in_range { at < length mounts.now }
+    ensures { result ≡ (not recursive && list_any (is_locked_below source.now) (drop (at + 1) mounts.now)) }
+{
+    !recursive && any_locked_below(later_than(mounts, at), source)
+}
+
+// Whether one of these mounts is locked and stands strictly below the source.
+fn any_locked_below(later: &[Mount], source: &AbsPath) -> bool
+    ensures { result ≡ list_any (is_locked_below source.now) later.now }
+{
+    later
+        .iter()
+        .any(|mount| mount.locked && mount.step.place.is_below(source))
+}
+
+// The mounts that copies are looked for among: those behind the one of this number, or none.
+fn copied_among(mounts: &[Mount], at: usize, recursive: bool) -> &[Mount]
+    requires in_range { at < length mounts.now }
+    ensures { result.now ≡ (if recursive then drop (at + 1) mounts.now else []) }
 {
     if recursive {
-        later_than(entries, at)
+        later_than(mounts, at)
     } else {
         &[]
     }
@@ -141,21 +164,21 @@ fn goes_too_far(entry: &MountStep, source: &AbsPath, target: &AbsPath) -> bool
 }
 
 // Whether a copy of one of these would have too long a place.
-fn any_too_long(later: &[MountStep], source: &AbsPath, target: &AbsPath) -> bool
-    ensures { result ≡ list_any (goes_too_far source.now target.now) later.now }
+fn any_too_long(later: &[Mount], source: &AbsPath, target: &AbsPath) -> bool
+    ensures { result ≡ list_any (λ mount. goes_too_far source.now target.now mount.step) later.now }
 {
     later
         .iter()
-        .any(|entry| goes_too_far(entry, source, target))
+        .any(|mount| goes_too_far(&mount.step, source, target))
 }
 
 // How many of these are copied.
-fn count_below(later: &[MountStep], source: &AbsPath) -> usize
-    ensures { result ≡ count_by (is_below source.now) later.now }
+fn count_below(later: &[Mount], source: &AbsPath) -> usize
+    ensures { result ≡ count_by (stands_below source.now) later.now }
 {
     later
         .iter()
-        .filter(|entry| entry.place.is_below(source))
+        .filter(|mount| mount.step.place.is_below(source))
         .count()
 }
 
@@ -195,25 +218,61 @@ fn bound_entry(
     })
 }
 
-// What a bind adds: the entry at the target, and copies of these behind it.
-fn bound(
+// The copy of a mount below the source.
+fn moved_mount(
     alloc: Global,
-    entry: &MountStep,
-    later: &[MountStep],
+    mount: &Mount,
     source: &AbsPath,
     target: &AbsPath,
-) -> Result<Vec<MountStep>, AllocError>
-    requires leads { is_prefix entry.now.place source.now ≡ true }
-    requires can_show { can_show entry.now.what entry.now.place source.now ≡ true }
-    requires short { list_any (goes_too_far source.now target.now) later.now ≡ false }
+) -> Result<Mount, AllocError>
+    requires below { stands_below source.now mount.now ≡ true }
+    requires short { is_too_long (moved source.now target.now mount.now.step) ≡ false }
+    ensures { IfOk result (λ copy. copy ≡ moved_mount source.now target.now mount.now) }
+{
+    Ok(Mount {
+        step: moved(alloc, &mount.step, source, target)?,
+        locked: mount.locked,
+        kept: mount.kept,
+    })
+}
+
+// The mount at the target.
+fn bound_mount(
+    alloc: Global,
+    mount: &Mount,
+    source: &AbsPath,
+    target: &AbsPath,
+) -> Result<Mount, AllocError>
+    requires leads { is_prefix mount.now.step.place source.now ≡ true }
+    requires can_show { can_show mount.now.step.what mount.now.step.place source.now ≡ true }
+    ensures { IfOk result (λ bound. bound ≡ bound_mount source.now target.now mount.now) }
+{
+    Ok(Mount {
+        step: bound_entry(alloc, &mount.step, source, target)?,
+        locked: false,
+        kept: mount.kept,
+    })
+}
+
+// What a bind adds: the mount at the target, and copies of these behind it.
+fn bound(
+    alloc: Global,
+    mount: &Mount,
+    later: &[Mount],
+    source: &AbsPath,
+    target: &AbsPath,
+) -> Result<Vec<Mount>, AllocError>
+    requires leads { is_prefix mount.now.step.place source.now ≡ true }
+    requires can_show { can_show mount.now.step.what mount.now.step.place source.now ≡ true }
+    requires short { list_any (λ mount. goes_too_far source.now target.now mount.step) later.now ≡ false }
     ensures { IfOk result (λ more. more.items
-        ≡ bound_entry source.now target.now entry.now ∷ copies true source.now target.now later.now) }
+        ≡ bound_mount source.now target.now mount.now ∷ copied_mounts true source.now target.now later.now) }
 {
     let mut more = Vec::new(alloc);
-    more.push(bound_entry(alloc, entry, source, target)?)?;
+    more.push(bound_mount(alloc, mount, source, target)?)?;
     for other in later {
-        if other.place.is_below(source) {
-            more.push(moved(alloc, other, source, target)?)?;
+        if other.step.place.is_below(source) {
+            more.push(moved_mount(alloc, other, source, target)?)?;
         }
     }
     Ok(more)

@@ -1,7 +1,6 @@
 use Rattle.std.proofs.Common.{List, ℕ, [], ◌∷◌, ◌++◌, map, sym, ap, ◌∙◌, subst}
-use Rattle.std.specs.List.{list_any}
-use Rattle.call_table.specs.declared.listed.GroupLine.{GroupLine}
-use Rattle.call_table.specs.Members.{has_group, FindsMembers}
+use Rattle.call_table.specs.Members.{FindsMembers}
+use Rattle.call_table.specs.Views.{lines_seen}
 use Rattle.call_table.proofs.Checks.{groups_more}
 use Rattle.call_table.proofs.lists.add_group.Goals as goal
 use denote.Ref.{Bor}
@@ -9,9 +8,8 @@ use denote.Ref.{Bor}
 pub returns-clause-sound : goal.returns-clause-sound
 returns-clause-sound c =
     let names = map (λ (word : Bor (List ℕ)). word.now) c.args.words.now in
-    let groups = c.args.groups.now.items in
-    let absent = ap (list_any (has_group c.args.name.now)) (sym c.deref.ensures.value) ∙ (sym c.has_name.ensures ∙ c.if-has_name.false) in
-    let found = subst (FindsMembers c.args.calls.now groups names) c.in-Some.is
-    (subst (λ (shown : List GroupLine). FindsMembers c.args.calls.now shown names c.in_ok-members.field-0) c.deref-2.ensures.value c.in_ok-members.ensures) in
-    groups_more c.args.calls.now groups c.args.name.now names c.in-Some.members c.push.new.self.items c.requires.groups absent found.1
-    ((rw (sym c.in_ok-map_err.ensures.variant) at c.push.ensures.items) ∙ ap (λ name. groups ++ record { name = name; members = c.in-Some.members } ∷ []) c.in_ok-name.ensures)
+    let every = c.args.calls.now ++ lines_seen c.args.more in
+    let absent = sym c.has.ensures.by_name ∙ c.if-has.false in
+    let found = subst (FindsMembers every c.args.groups.now names) c.in-Some.is c.in_ok-members.ensures in
+    groups_more every c.args.groups.now c.args.name.now names c.in-Some.members c.push.new.self c.requires.groups absent found.1
+    (c.in_ok-push.ensures.goes_last ∙ ap (λ name. c.args.groups.now ++ record { name = name; members = c.in-Some.members } ∷ []) c.in_ok-name.ensures)

@@ -1,52 +1,58 @@
 use Rattle.std.proofs.Common.{◌≡◌, ℕ, ◌+◌, ◌<◌, true, false, cond, List, [], ◌∷◌, ◌++◌, length, map, take, get_or, sym, ap, ◌∙◌, subst, append-nil}
 use Rattle.std.specs.Prelude.{filter}
 use Rattle.std.specs.List.{All}
-use Rattle.std.proofs.lemmas.List.{map-append}
-use Rattle.std.proofs.lemmas.List.Elements.{filter_more, All-push}
+use Rattle.std.proofs.lemmas.List.{map-append, take_more, get_or_default}
+use Rattle.std.proofs.lemmas.List.Elements.{filter-append, All-push}
 use Rattle.filter_rules.specs.declared.installed.Filter.{Filter}
-use Rattle.filter_rules.specs.declared.names.FilterName.{FilterName}
+use Rattle.filter_rules.specs.declared.names.FilterPlace.{FilterPlace}
 use Rattle.filter_rules.specs.declared.names.FilterName.TheVariants.{Families}
 use Rattle.filter_rules.specs.declared.settings.FilterSettings.{FilterSettings}
+use Rattle.filter_rules.specs.Names.{Place}
+use Rattle.filter_rules.specs.Installed.{shown, place_of, is_installed}
 use Rattle.filter_rules.specs.Rules.{AreRulesOf}
 use Rattle.filter_rules.specs.Wanted.{is_on}
 use Rattle.filter_rules.proofs.installed.filters_among.Goals as goal
 use Rattle.filter_rules.proofs.installed.filters_among.Goals.{then-is_on+in_ok-rules+in_ok-push, else-is_on}
 
-module _ (settings : FilterSettings) (names : List FilterName) (i : ℕ) (on : List FilterName) (before : i < length names) (so_far : on ≡ filter (is_on settings) (take i names)) where
+abbrev no_place : FilterPlace
+no_place = record { name = Families; abi = 0 }
+
+module _ (settings : FilterSettings) (places : List FilterPlace) (i : ℕ) (place : FilterPlace) (on : List Place) (before : i < length places) (is : place ≡ get_or places i place) (so_far : on ≡ filter (is_installed settings) (map shown (take i places))) where
+  one_more : filter (is_installed settings) (map shown (take (i + 1) places)) ≡ on ++ cond (is_on settings place.name) (shown place ∷ []) []
+  one_more =
+      ap (λ ps. filter (is_installed settings) (map shown ps)) (take_more places i place before ∙ ap (λ p. take i places ++ p ∷ []) (sym is))
+      ∙ ap (filter (is_installed settings)) (map-append shown (take i places) (place ∷ []))
+      ∙ filter-append (is_installed settings) (map shown (take i places)) (shown place ∷ [])
+      ∙ ap (λ ps. ps ++ cond (is_on settings place.name) (shown place ∷ []) []) (sym so_far)
+
   -- a filter that is on comes behind the others
-  on_more : is_on settings (get_or names i Families) ≡ true → on ++ get_or names i Families ∷ [] ≡ filter (is_on settings) (take (i + 1) names)
-  on_more e =
-      ap (λ ns. ns ++ get_or names i Families ∷ []) so_far
-      ∙ ap (λ b. filter (is_on settings) (take i names) ++ cond b (get_or names i Families ∷ []) []) (sym e)
-      ∙ sym (filter_more (is_on settings) names i Families before)
+  on_more : is_on settings place.name ≡ true → on ++ shown place ∷ [] ≡ filter (is_installed settings) (map shown (take (i + 1) places))
+  on_more e = sym (one_more ∙ ap (λ b. on ++ cond b (shown place ∷ []) []) e)
 
   -- one that is off is left out
-  off_more : is_on settings (get_or names i Families) ≡ false → on ≡ filter (is_on settings) (take (i + 1) names)
-  off_more e =
-      so_far
-      ∙ sym (append-nil (filter (is_on settings) (take i names)))
-      ∙ ap (λ b. filter (is_on settings) (take i names) ++ cond b (get_or names i Families ∷ []) []) (sym e)
-      ∙ sym (filter_more (is_on settings) names i Families before)
+  off_more : is_on settings place.name ≡ false → on ≡ filter (is_installed settings) (map shown (take (i + 1) places))
+  off_more e = sym (one_more ∙ ap (λ b. on ++ cond b (shown place ∷ []) []) e ∙ append-nil on)
 
-pub loop-name-preserved : goal.loop-name-preserved
-loop-name-preserved c =
+pub loop-place-preserved : goal.loop-place-preserved
+loop-place-preserved c =
     let settings = c.args.settings.now in
-    let names = c.args.names.now in
-    let i = c.loop-name.name-index in
+    let places = c.args.places.now in
+    let i = c.loop-place.place-index in
+    let place : FilterPlace = get_or places i no_place in
+    let itself = get_or_default places i no_place place c.loop-place-test.true in
     let table = c.args.table.now in
-    let Fits : Filter → Type 0 = λ made. AreRulesOf made.name settings table made.rules in
+    let Fits : Filter → Type 0 = λ made. AreRulesOf made.name settings table made.abi made.rules in
     elim c.if-is_on.branch [
       | then-is_on+in_ok-rules+in_ok-push w ↦
           let items = ap (λ filters. filters.items) w.filters-is ∙ w.in_ok-push.ensures.items in
-          let more = on_more settings names i _ c.loop-name-test.true c.loop-name.invariant.on (sym c.is_on.ensures ∙ w.if-is_on.true) in
           record {
-            on = ap (map (λ made. made.name)) items ∙ map-append (λ made. made.name) c.loop-name.filters.items _ ∙ more;
-            rules = subst (All Fits) (sym items) (All-push Fits c.loop-name.filters.items _ c.loop-name.invariant.rules w.in_ok-rules.ensures);
+            on = ap (map place_of) items ∙ map-append place_of c.loop-place.filters.items _ ∙ on_more settings places i place _ c.loop-place-test.true itself c.loop-place.invariant.on (sym c.is_on.ensures ∙ w.if-is_on.true);
+            rules = subst (All Fits) (sym items) (All-push Fits c.loop-place.filters.items _ c.loop-place.invariant.rules w.in_ok-rules.ensures);
           }
       | else-is_on w ↦
           let items = ap (λ filters. filters.items) w.filters-is in
           record {
-            on = ap (map (λ made. made.name)) items ∙ off_more settings names i _ c.loop-name-test.true c.loop-name.invariant.on (sym c.is_on.ensures ∙ w.if-is_on.false);
-            rules = subst (All Fits) (sym items) c.loop-name.invariant.rules;
+            on = ap (map place_of) items ∙ off_more settings places i place _ c.loop-place-test.true itself c.loop-place.invariant.on (sym c.is_on.ensures ∙ w.if-is_on.false);
+            rules = subst (All Fits) (sym items) c.loop-place.invariant.rules;
           }
     ]

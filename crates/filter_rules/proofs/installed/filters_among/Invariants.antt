@@ -2,11 +2,11 @@ use Rattle.std.proofs.Common.{◌≡◌, map, take}
 use Rattle.std.specs.Prelude.{filter}
 use Rattle.std.specs.List.{All}
 use Rattle.filter_rules.specs.Rules.{AreRulesOf}
-use Rattle.filter_rules.specs.Wanted.{is_on}
+use Rattle.filter_rules.specs.Installed.{shown, place_of, is_installed}
 use Rattle.filter_rules.proofs.installed.filters_among.Given as goal
 
-abbrev pub invariant-loop-name : goal.invariant-loop-name
-invariant-loop-name l = record {
-  on : map (λ made. made.name) l.filters.items ≡ filter (is_on l.settings) (take l.name-index l.names);
-  rules : All (λ made. AreRulesOf made.name l.settings l.table made.rules) l.filters.items;
+abbrev pub invariant-loop-place : goal.invariant-loop-place
+invariant-loop-place l = record {
+  on : map place_of l.filters.items ≡ filter (is_installed l.settings) (map shown (take l.place-index l.places));
+  rules : All (λ made. AreRulesOf made.name l.settings l.table made.abi made.rules) l.filters.items;
 }

@@ -4,6 +4,7 @@ use Rattle.std.proofs.lemmas.List.Elements.{All-get_or}
 use Rattle.call_table.specs.declared.listed.CallLine.{CallLine}
 use Rattle.call_table.specs.declared.by_number.Numbered.{Numbered}
 use Rattle.call_table.specs.ByNumber.{AscendsByNumber}
+use Rattle.call_table.specs.Table.{calls_in}
 use Rattle.filter_rules.specs.Order.{Ascends}
 use Rattle.filter_rules.proofs.Ordered.{line_at, no_line, within, ascends}
 use Rattle.filter_rules.proofs.order.ascending.Goals as goal
@@ -13,12 +14,12 @@ below : (calls lines : List CallLine) (order : List Numbered) (i : ℕ) → line
 below calls lines order i e h lt = subst (λ ls. (get_or order i (record { number = 0; position = 0 })).position < length ls) (sym e) (All-get_or (λ numbered. numbered.position < length calls) order i (record { number = 0; position = 0 }) lt (within calls order h))
 
 pub bounds-calls-numbered : goal.bounds-calls-numbered
-bounds-calls-numbered c = below c.args.table.now.calls c.calls-calls.result.now c.by_number-numbered-items.result.now c.loop-numbered.numbered-index c.calls-calls.ensures.lists c.by_number-numbered-items.ensures.ascends c.loop-numbered-test.true
+bounds-calls-numbered c = below (calls_in c.args.table.now c.args.abi) c.calls_in-calls.result.now c.by_number_in-numbered-items.result.now c.loop-numbered.numbered-index c.calls_in-calls.ensures.lists c.by_number_in-numbered-items.ensures.ascends c.loop-numbered-test.true
 
 pub offset_bounds-calls-numbered : goal.offset_bounds-calls-numbered
 offset_bounds-calls-numbered c =
-    let few = c.calls-calls.ensures.names_and_numbers_once.few in
-    let in_calls = below c.args.table.now.calls c.args.table.now.calls c.by_number-numbered-items.result.now c.loop-numbered.numbered-index refl c.by_number-numbered-items.ensures.ascends c.loop-numbered-test.true in
+    let few = c.calls_in-calls.ensures.names_and_numbers_once.few in
+    let in_calls = below (calls_in c.args.table.now c.args.abi) (calls_in c.args.table.now c.args.abi) c.by_number_in-numbered-items.result.now c.loop-numbered.numbered-index refl c.by_number_in-numbered-items.ensures.ascends c.loop-numbered-test.true in
     omega arith
 
 -- one more call
@@ -35,12 +36,12 @@ more calls done call order i lt in_calls is h =
 
 pub loop-numbered-preserved : goal.loop-numbered-preserved
 loop-numbered-preserved c =
-    let order = c.by_number-numbered-items.result.now in
+    let order = c.by_number_in-numbered-items.result.now in
     let i = c.loop-numbered.numbered-index in
     ap (map (λ call. call.now)) c.in_ok-push.ensures.items
     ∙ map-append (λ call. call.now) c.loop-numbered.ordered.items _
-    ∙ more c.calls-calls.result.now _ c.index-calls-numbered.result order i c.loop-numbered-test.true
-    (below c.args.table.now.calls c.calls-calls.result.now order i c.calls-calls.ensures.lists c.by_number-numbered-items.ensures.ascends c.loop-numbered-test.true)
+    ∙ more c.calls_in-calls.result.now _ c.index-calls-numbered.result order i c.loop-numbered-test.true
+    (below (calls_in c.args.table.now c.args.abi) c.calls_in-calls.result.now order i c.calls_in-calls.ensures.lists c.by_number_in-numbered-items.ensures.ascends c.loop-numbered-test.true)
     c.index-calls-numbered.is c.loop-numbered.invariant
 
 -- all of them
@@ -49,4 +50,4 @@ whole calls lines done order i e h ge is =
     subst (Ascends calls) (sym (is ∙ ap (λ ls. map (line_at ls) (take i order)) e ∙ ap (map (line_at calls)) (take_all i order ge))) (ascends calls order h)
 
 pub returns : goal.returns
-returns c = whole c.args.table.now.calls c.calls-calls.result.now _ c.by_number-numbered-items.result.now c.loop-numbered.numbered-index c.calls-calls.ensures.lists c.by_number-numbered-items.ensures.ascends c.loop-numbered-test.false c.loop-numbered.invariant
+returns c = whole (calls_in c.args.table.now c.args.abi) c.calls_in-calls.result.now _ c.by_number_in-numbered-items.result.now c.loop-numbered.numbered-index c.calls_in-calls.ensures.lists c.by_number_in-numbered-items.ensures.ascends c.loop-numbered-test.false c.loop-numbered.invariant

@@ -1,7 +1,8 @@
 use Rattle.std.proofs.Common.{◌≡◌, drop}
 use Rattle.kernel_laws.specs.Blind.{exposes}
+use Rattle.kern_mounts.specs.Mounts.{steps_of}
 use Rattle.judge.proofs.blindness.exposes.Given as goal
 
 -- what is looked for stands from here on
 abbrev pub invariant-loop-at : goal.invariant-loop-at
-invariant-loop-at l = exposes l.uncover l.folder (drop l.at l.table) ≡ exposes l.uncover l.folder l.table
+invariant-loop-at l = exposes l.uncover l.folder (drop l.at (steps_of l.table)) ≡ exposes l.uncover l.folder (steps_of l.table)

@@ -1,4 +1,5 @@
 use Rattle.alike_laws.proofs.Noninterference.{blind_to_others}
+use Rattle.launcher.proofs.TwoAbis.{word_archs}
 use Rattle.judge.proofs.Folders.{dir_is_folder}
 use Rattle.judge.proofs.two_sites.alike.Goals as goal
 
@@ -8,7 +9,7 @@ returns c = record {
       blind_to_others c.args.folder.now c.args.unit.now c.args.calls.now c.args.site.now c.args.other.now settings plan service
       (record {
         whole = c.know_table.ensures.whole;
-        arch = c.know_table.ensures.arch;
+        arch = word_archs c.args.calls.now c.know_table.ensures.native c.know_table.ensures.second;
         is_site = c.know_site.ensures;
         settings = are;
         mentions = kept;

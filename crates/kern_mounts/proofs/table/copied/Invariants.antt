@@ -1,5 +1,5 @@
 use Rattle.std.proofs.Common.{◌≡◌, take}
 use Rattle.kern_mounts.proofs.table.copied.Given as goal
 
-abbrev pub invariant-loop-entry : goal.invariant-loop-entry
-invariant-loop-entry l = l.copies.items ≡ take l.entry-index l.entries
+abbrev pub invariant-loop-mount : goal.invariant-loop-mount
+invariant-loop-mount l = l.copies.items ≡ take l.mount-index l.mounts

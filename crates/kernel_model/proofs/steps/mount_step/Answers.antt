@@ -1,9 +1,6 @@
-use Rattle.std.proofs.Common.{sym, ◌∙◌}
-use Rattle.kernel_model.proofs.MountSteps.{steps_at_root, never_refused}
+use Rattle.std.proofs.Common.{◌∙◌, sym}
+use Rattle.kernel_model.proofs.MountSteps.{steps_at_root}
 use Rattle.kernel_model.proofs.steps.mount_step.Goals as goal
 
-pub returns-in-Ok-clause-steps : goal.returns-in-Ok-clause-steps
-returns-in-Ok-clause-steps c = steps_at_root c.args.table.now c.remount.new.self c.args.step.now c.requires.rooted (sym c.is_root.ensures.without_parts ∙ c.if-is_root.true) c.in-Ok.ensures.remounts
-
-pub unreachable-requires : goal.unreachable-requires
-unreachable-requires c = never_refused c.args.table.now c.args.step.now c.in-Err.field-0 c.requires.rooted (sym c.is_root.ensures.without_parts ∙ c.if-is_root.true) c.in-Err.ensures.remounts.0
+pub returns-then-is_root-clause-steps : goal.returns-then-is_root-clause-steps
+returns-then-is_root-clause-steps c = steps_at_root c.args.table.now c.set_root_flags.new.self c.args.step.now (sym c.is_root.ensures.without_parts ∙ c.if-is_root.true) c.set_root_flags.ensures.sets

@@ -10,7 +10,7 @@ use Rattle.replay_command.proofs.printing.print_service.Goals as goal
 pub returns-in_err-put_line-clause-takes_the_text : goal.returns-in_err-put_line-clause-takes_the_text
 returns-in_err-put_line-clause-takes_the_text g c =
     let line = launched_line (told_of c.args.service.now.world c.args.service.now.steps) in
-    let lines = run_text c.args.calls.now.calls c.args.service.now.world c.args.script.now in
+    let lines = run_text c.args.calls.now c.args.service.now.world c.args.script.now in
     text_at_error _ _ _ c.in_err-put_line.field-0.0 c.from_residual.result c.from_residual.ensures.0
     (text_cut _ _ line (lines ++ count_line (length c.args.script.now)) c.in_err-put_line.field-0.0
     (c.in_err-put_line.ensures.takes_the_line line (subst (λ own. IfOk c.launched_line.result (λ put. put.items ≡ launched_line own)) c.told.ensures.tells_the_first_process c.launched_line.ensures.tells_the_launch)))
@@ -18,7 +18,7 @@ returns-in_err-put_line-clause-takes_the_text g c =
 pub returns-in_err-replay-clause-takes_the_text : goal.returns-in_err-replay-clause-takes_the_text
 returns-in_err-replay-clause-takes_the_text g c =
     let line = launched_line (told_of c.args.service.now.world c.args.service.now.steps) in
-    let lines = run_text c.args.calls.now.calls c.args.service.now.world c.args.script.now in
+    let lines = run_text c.args.calls.now c.args.service.now.world c.args.script.now in
     text_at_error _ _ _ c.in_err-replay.field-0.0 c.from_residual-in_err-replay.result c.from_residual-in_err-replay.ensures.0
     (text_then _ _ _ line (lines ++ count_line (length c.args.script.now)) (Err c.in_err-replay.field-0.0)
     (c.in_ok-put_line.ensures.takes_the_line line (subst (λ own. IfOk c.launched_line.result (λ put. put.items ≡ launched_line own)) c.told.ensures.tells_the_first_process c.launched_line.ensures.tells_the_launch))
@@ -27,7 +27,7 @@ returns-in_err-replay-clause-takes_the_text g c =
 pub returns-clause-takes_the_text : goal.returns-clause-takes_the_text
 returns-clause-takes_the_text g c =
     let line = launched_line (told_of c.args.service.now.world c.args.service.now.steps) in
-    let lines = run_text c.args.calls.now.calls c.args.service.now.world c.args.script.now in
+    let lines = run_text c.args.calls.now c.args.service.now.world c.args.script.now in
     text_then _ _ _ line (lines ++ count_line (length c.args.script.now)) c.put_line-2.result
     (c.in_ok-put_line.ensures.takes_the_line line (subst (λ own. IfOk c.launched_line.result (λ put. put.items ≡ launched_line own)) c.told.ensures.tells_the_first_process c.launched_line.ensures.tells_the_launch))
     (text_then _ _ _ lines (count_line (length c.args.script.now)) c.put_line-2.result

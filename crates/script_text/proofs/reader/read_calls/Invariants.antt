@@ -4,4 +4,4 @@ use Rattle.script_text.specs.Progress.{HasRead}
 use Rattle.script_text.proofs.reader.read_calls.Given as goal
 
 abbrev pub invariant-loop-line : goal.invariant-loop-line
-invariant-loop-line l = HasRead l.calls.calls (map line_view (take l.line-index l.lines)) l.made.items
+invariant-loop-line l = HasRead l.calls (map line_view (take l.line-index l.lines)) l.made.items

@@ -1,5 +1,4 @@
 use Rattle.std.proofs.Common.{ap, ◌∙◌, subst}
-use Rattle.call_rules.specs.declared.actions.Action.TheVariants.{KillProcess}
 use Rattle.seccomp_compile.specs.declared.tree.Comparison.TheVariants.{Equal}
 use Rattle.seccomp_compile.specs.Code.{whole_word}
 use Rattle.seccomp_compile.specs.Decisions.{decision_of, ends, looks, splits}
@@ -16,5 +15,5 @@ returns c =
     (subst (λ calls. DecidesNumbers calls c.args.rules.now.rest (decision_of c.in_ok-numbers.numbers)) c.list.ensures.all_in_order c.in_ok-numbers.ensures)
     (e
     ∙ ap (λ compared. looks 4 whole_word compared) c.in_ok-compared.ensures
-    ∙ ap (λ looked. looks 4 whole_word (splits Equal c.args.rules.now.arch (ends KillProcess) looked)) c.in_ok-by_number.ensures))
+    ∙ ap (λ looked. looks 4 whole_word (splits Equal c.args.rules.now.arch (ends c.args.rules.now.other) looked)) c.in_ok-by_number.ensures))
     c.look_at-2.ensures

@@ -1,13 +1,15 @@
-use Rattle.std.proofs.Common.{◌≡◌, ◌∙◌, ◌+◌, Bool, true, false, Ok, refl, sym, ap, subst, drop, ◌<◌, length}
+use Rattle.std.proofs.Common.{◌≡◌, ◌∙◌, ◌+◌, ℕ, Bool, true, false, Ok, refl, sym, ap, subst, drop, ◌<◌, length, get_or}
 use Rattle.std.specs.Prelude.{not, ◌&&◌}
 use Rattle.std.specs.List.{list_any}
-use Rattle.kern_mounts.specs.Umount.{after_umount}
-use Rattle.kern_mounts.specs.Split.{is_below}
+use Rattle.std.proofs.lemmas.List.{get_or_default}
+use Rattle.kern_mounts.specs.declared.step.Mount.{Mount}
+use Rattle.kern_mounts.specs.Mounts.{Mounts, steps_of, stands_at, stands_below}
+use Rattle.kern_mounts.specs.MountsUmount.{mounts_after_umount}
 use Rattle.kern_mounts.specs.Table.{IsTable}
-use Rattle.kern_mounts.proofs.Unmounting.{unmounted_table}
-use Rattle.kern_mounts.proofs.Changing.{Stands, umount_elsewhere, umount_busy, umount_done}
-use Rattle.kern_mounts.specs.Split.{Table}
-use Rattle.kern_mounts.proofs.Places.{in_range_of_places, places_without}
+use Rattle.kern_mounts.proofs.Mounts.{in_range}
+use Rattle.kern_mounts.proofs.Changing.{Stands, umount_elsewhere, umount_locked, umount_busy, umount_done}
+use Rattle.kern_mounts.proofs.Steps.{unmounted_mounts}
+use Rattle.kern_mounts.proofs.Places.{in_range_of_places, mount_places_without}
 use Rattle.kern_mounts.proofs.table.MountTable.umount.Goals as goal
 use Rattle.kern_mounts.proofs.table.MountTable.umount.Goals.{else-not-detach-via-then-not-detach+else-any_below, else-not-detach-via-else-not-detach}
 
@@ -27,42 +29,61 @@ detached : (detach some : Bool) → detach ≡ true → (not detach && some) ≡
 detached true some e = refl
 detached false some e = cc
 
+-- one element, read twice
+element : (items : Mounts) (at : ℕ) (x y : Mount) {mounts : Mounts} → at < length mounts → items ≡ mounts → x ≡ get_or items at x → y ≡ get_or items at y → x ≡ y
+element items at x y lt view e f = e ∙ get_or_default items at x y (rw view lt) ∙ sym f
+
 pub returns-then-ne : goal.returns-then-ne
 returns-then-ne c =
-    let stands : Stands c.args.self.now c.self.inside.entries.items c.args.path.now c.resolve-at.result c.index.result.now =
+    let stands : Stands c.args.self.now c.self.inside.mounts.items c.args.path.now c.resolve-at.result c.index.result.now =
     record { view = c.self.view_is; belongs = c.resolve-at.ensures.last_that_leads; entry_is = c.index.ensures } in
     record { unmounts = (umount_elsewhere _ _ c.args.path.now c.args.detach c.resolve-at.result c.index.result.now stands (sym c.if-is_root.ensures.without_parts) (was_false _ c.if-ne.ensures), refl) }
 
+-- what the first reading of the mount said of its place holds at the second
+same_mount : (c : goal.Then-index) → c.index.result.now ≡ c.index-2.result.now
+same_mount c = element c.self.inside.mounts.items c.resolve-at.result _ _ (in_range c.args.self.now c.args.path.now c.resolve-at.result c.resolve-at.ensures.last_that_leads) c.self.view_is c.index.ensures c.index-2.ensures
+
+pub returns-then-index : goal.returns-then-index
+returns-then-index c =
+    let stands : Stands c.args.self.now c.self.inside.mounts.items c.args.path.now c.resolve-at.result c.index-2.result.now =
+    record { view = c.self.view_is; belongs = c.resolve-at.ensures.last_that_leads; entry_is = c.index-2.ensures } in
+    let own = ap (λ (m : Mount). stands_at c.args.path.now m) (sym (same_mount c)) ∙ was_true _ c.if-ne.ensures in
+    record { unmounts = (umount_locked _ _ c.args.path.now c.args.detach c.resolve-at.result c.index-2.result.now stands (sym c.if-is_root.ensures.without_parts) own c.if-index.true, refl) }
+
 pub returns-then-any_below : goal.returns-then-any_below
 returns-then-any_below c =
-    let stands : Stands c.args.self.now c.self.inside.entries.items c.args.path.now c.resolve-at.result c.index.result.now =
-    record { view = c.self.view_is; belongs = c.resolve-at.ensures.last_that_leads; entry_is = c.index.ensures } in
-    let some : list_any (is_below c.args.path.now) (drop (c.resolve-at.result + 1) c.self.inside.entries.items) ≡ true =
-    sym (c.if-any_below.ensures ∙ ap (list_any (is_below c.args.path.now)) (c.later_than.ensures.behind ∙ ap (drop (c.resolve-at.result + 1)) c.deref.ensures.value)) in
-    let busy = umount_busy _ _ c.args.path.now c.resolve-at.result c.index.result.now stands (sym c.if-is_root.ensures.without_parts) (was_true _ c.if-ne.ensures) some in
-    record { unmounts = (ap (after_umount c.args.self.now c.args.path.now) c.if-not-detach.true ∙ busy, refl) }
+    let stands : Stands c.args.self.now c.self.inside.mounts.items c.args.path.now c.resolve-at.result c.index-2.result.now =
+    record { view = c.self.view_is; belongs = c.resolve-at.ensures.last_that_leads; entry_is = c.index-2.ensures } in
+    let lt = in_range c.args.self.now c.args.path.now c.resolve-at.result c.resolve-at.ensures.last_that_leads in
+    let same : c.index.result.now ≡ c.index-2.result.now = element c.self.inside.mounts.items c.resolve-at.result _ _ lt c.self.view_is c.index.ensures c.index-2.ensures in
+    let some : list_any (stands_below c.args.path.now) (drop (c.resolve-at.result + 1) c.self.inside.mounts.items) ≡ true =
+    sym (c.if-any_below.ensures ∙ ap (list_any (stands_below c.args.path.now)) (c.later_than.ensures.behind ∙ ap (drop (c.resolve-at.result + 1)) c.deref.ensures.value)) in
+    let busy = umount_busy _ _ c.args.path.now c.resolve-at.result c.index-2.result.now stands (sym c.if-is_root.ensures.without_parts) (ap (λ (m : Mount). stands_at c.args.path.now m) (sym same) ∙ was_true _ c.if-ne.ensures) c.if-index.false some in
+    record { unmounts = (ap (mounts_after_umount c.args.self.now c.args.path.now) c.if-not-detach.true ∙ busy, refl) }
 
-done : (c : goal.After-take_away-2) → after_umount c.args.self.now c.args.path.now c.args.detach ≡ Ok c.take_away.new.entries.items
+done : (c : goal.After-take_away-2) → mounts_after_umount c.args.self.now c.args.path.now c.args.detach ≡ Ok c.take_away.new.mounts.items
 done c =
-    let stands : Stands c.args.self.now c.self.inside.entries.items c.args.path.now c.resolve-at.result c.index.result.now =
-    record { view = c.self.view_is; belongs = c.resolve-at.ensures.last_that_leads; entry_is = c.index.ensures } in
-    let some : Bool = list_any (is_below c.args.path.now) (drop (c.resolve-at.result + 1) c.self.inside.entries.items) in
+    let stands : Stands c.args.self.now c.self.inside.mounts.items c.args.path.now c.resolve-at.result c.index-2.result.now =
+    record { view = c.self.view_is; belongs = c.resolve-at.ensures.last_that_leads; entry_is = c.index-2.ensures } in
+    let lt = in_range c.args.self.now c.args.path.now c.resolve-at.result c.resolve-at.ensures.last_that_leads in
+    let same : c.index.result.now ≡ c.index-2.result.now = element c.self.inside.mounts.items c.resolve-at.result _ _ lt c.self.view_is c.index.ensures c.index-2.ensures in
+    let some : Bool = list_any (stands_below c.args.path.now) (drop (c.resolve-at.result + 1) c.self.inside.mounts.items) in
     let none : (not c.args.detach && some) ≡ false = elim c.else-not-detach.branch [
-      | else-not-detach-via-then-not-detach+else-any_below w ↦ neither c.args.detach some (sym (w.if-any_below.ensures ∙ ap (list_any (is_below c.args.path.now)) (w.later_than.ensures.behind ∙ ap (drop (c.resolve-at.result + 1)) w.deref.ensures.value)))
+      | else-not-detach-via-then-not-detach+else-any_below w ↦ neither c.args.detach some (sym (w.if-any_below.ensures ∙ ap (list_any (stands_below c.args.path.now)) (w.later_than.ensures.behind ∙ ap (drop (c.resolve-at.result + 1)) w.deref.ensures.value)))
       | else-not-detach-via-else-not-detach w ↦ detached c.args.detach some w.if-not-detach.false
     ] in
-    umount_done _ _ c.args.path.now c.args.detach c.resolve-at.result c.index.result.now stands (sym c.if-is_root.ensures.without_parts) (was_true _ c.if-ne.ensures) none
-    ∙ ap Ok (sym c.take_away.ensures.the_entry_and_below)
+    umount_done _ _ c.args.path.now c.args.detach c.resolve-at.result c.index-2.result.now stands (sym c.if-is_root.ensures.without_parts) (ap (λ (m : Mount). stands_at c.args.path.now m) (sym same) ∙ was_true _ c.if-ne.ensures) c.if-index.false none
+    ∙ ap Ok (sym c.take_away.ensures.the_mount_and_below)
 
 pub take_away-requires-2 : goal.take_away-requires-2
-take_away-requires-2 c = record { in_range = in_range_of_places c.self.inside.entries.items c.self.inside.places c.resolve-at.result c.self.invariant.1 (subst (λ (table : Table). c.resolve-at.result < length table) (sym c.self.view_is) c.resolve-at.ensures.last_that_leads.in_range) }
+take_away-requires-2 c = record { in_range = in_range_of_places (steps_of c.self.inside.mounts.items) c.self.inside.places c.resolve-at.result c.self.invariant.1 (subst (λ (mounts : Mounts). c.resolve-at.result < length (steps_of mounts)) (sym c.self.view_is) c.resolve-at.ensures.last_that_leads.in_range) }
 
 pub invariant_of-self : goal.invariant_of-self
 invariant_of-self c =
-    let is : IsTable c.args.self.now = subst IsTable c.self.view_is c.self.invariant.0 in (
-      unmounted_table c.args.path.now c.args.detach c.args.self.now c.take_away.new.entries.items is (done c),
-      places_without c.self.inside.entries.items c.take_away.new.entries.items c.self.inside.places c.take_away-2.new.self c.args.path.now c.resolve-at.result c.self.invariant.1
-          c.take_away.ensures.the_entry_and_below c.take_away-2.ensures.place_and_below,
+    let is : IsTable (steps_of c.args.self.now) = subst (λ (mounts : Mounts). IsTable (steps_of mounts)) c.self.view_is c.self.invariant.0 in (
+      unmounted_mounts c.args.path.now c.args.detach c.args.self.now c.take_away.new.mounts.items is (done c),
+      mount_places_without c.self.inside.mounts.items c.take_away.new.mounts.items c.self.inside.places c.take_away-2.new.self c.args.path.now c.resolve-at.result c.self.invariant.1
+          c.take_away.ensures.the_mount_and_below c.take_away-2.ensures.place_and_below,
     )
 
 pub returns : goal.returns

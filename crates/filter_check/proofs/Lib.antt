@@ -1,0 +1,5 @@
+pub mod Sorting
+pub mod Least
+pub mod Counting
+pub mod OneAnswer
+pub mod Found

@@ -1,0 +1,67 @@
+-- What a comparison of a program with wanted answers finds, as those of the rules of a filter.
+use Rattle.std.specs.Prelude.{◌≡◌, ◌≢◌, ◌≤◌, ℕ, List, Option, Result, Ok, Err}
+use Rattle.bpf_code.specs.declared.machine.Insn.{Insn}
+use Rattle.bpf_code.specs.declared.machine.CallData.{CallData}
+use Rattle.bpf_code.specs.Effects.{words_of}
+use Rattle.bpf_code.specs.Meaning.{Answers, IsCallData}
+use Rattle.call_rules.specs.declared.rules.RuleSet.{RuleSet}
+use Rattle.call_rules.specs.Action.{case_action, word_of}
+use Rattle.seccomp_compile.specs.Form.{AreOfForm}
+use Rattle.filter_paths.specs.Form.{IsFirstForeign}
+use Rattle.filter_paths.specs.Traces.{HasPaths, HasMorePaths}
+use Rattle.filter_paths.specs.declared.states.End.{End}
+use Rattle.filter_check.specs.Order.{IsNotAfter}
+use Rattle.filter_check.specs.Differing.{IsLeastFrom}
+use Rattle.filter_check.specs.declared.differences.Difference.{Difference}
+use Rattle.filter_check.specs.declared.outcome.Outcome.{Outcome}
+use Rattle.filter_check.specs.declared.outcome.Outcome.TheVariants.{Same, Differs}
+use Rattle.filter_check.specs.declared.outcome.CheckError.{CheckError}
+use Rattle.filter_check.specs.declared.outcome.CheckError.TheVariants.{Form, TooManyPaths, Memory}
+
+-- as many paths as are compared at most
+abbrev pub most_paths : ℕ
+most_paths = 16384
+
+-- all codes are of the form, and the program has so many paths, which are not too many
+pub record IsCompared (code : List Insn) (count : ℕ) : Type 0 where
+  pub form : AreOfForm code
+  pub paths : HasPaths code count
+  pub few : count ≤ most_paths
+
+-- the program's answer is the one that is wanted, whatever the data of the call
+abbrev pub AnswersAs : List Insn → (CallData → ℕ) → Type 0
+AnswersAs code wanted = (input : CallData) → IsCallData input → Answers code input (wanted input)
+
+-- at these call data the program answers this, and another answer is wanted
+pub record DiffersAt (code : List Insn) (wanted : CallData → ℕ) (input : CallData) (theirs ours : ℕ) : Type 0 where
+  pub fits : IsCallData input
+  pub answers : Answers code input theirs
+  pub is_wanted : ours ≡ wanted input
+  pub differ : theirs ≢ ours
+
+-- and of all call data at which they differ these are the least, by their sixteen words in order of their offsets
+pub record IsLeastDifference (code : List Insn) (wanted : CallData → ℕ) (at : CallData) (theirs ours : ℕ) : Type 0 where
+  pub differs : DiffersAt code wanted at theirs ours
+  pub least : (input : CallData) (their own : ℕ) → DiffersAt code wanted input their own → IsNotAfter (words_of at) (words_of input)
+
+-- What is found, by cases: an instruction that is not of the form; more paths than are compared; that the program answers
+-- as is wanted for all call data; or the least data at which it does not. Want of memory may come at any program.
+pub data Finds (code : List Insn) (wanted : CallData → ℕ) : Result Outcome CheckError → Type 0 where
+  foreign : (place : ℕ) → IsFirstForeign code place → Finds code wanted (Err (Form place))
+  too_many : AreOfForm code → HasMorePaths code most_paths → Finds code wanted (Err TooManyPaths)
+  same : (count : ℕ) → IsCompared code count → AnswersAs code wanted → Finds code wanted (Ok (Same count))
+  differs : (count : ℕ) (at : CallData) (theirs ours : ℕ) → IsCompared code count → IsLeastDifference code wanted at theirs ours → Finds code wanted (Ok (Differs at theirs ours))
+  memory : Finds code wanted (Err Memory)
+
+-- so each answer but want of memory comes exactly where it is found: no other one is found there
+abbrev pub OneFinding : Type 0
+OneFinding = (code : List Insn) (wanted : CallData → ℕ) (one other : Result Outcome CheckError)
+    → Finds code wanted one → Finds code wanted other → one ≢ Err Memory → other ≢ Err Memory → one ≡ other
+
+-- the answers that the rules of a filter want: the words of their actions
+abbrev pub wanted_by : RuleSet → CallData → ℕ
+wanted_by rules input = word_of (case_action rules input)
+
+-- the least of the data at which the rules want another answer than the ends have, by any program that answers as they want
+abbrev pub IsLeastByRules : List End → RuleSet → Option Difference → Type 0
+IsLeastByRules ends rules found = (ours : List Insn) × AnswersAs ours (wanted_by rules) × IsLeastFrom ends ours found

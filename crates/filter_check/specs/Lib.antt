@@ -1,0 +1,3 @@
+pub mod Order
+pub mod Differing
+pub mod Finding

@@ -1,0 +1,79 @@
+//! The comparison of a program with rules.
+ghost use Rattle.std.specs.Prelude.{◌≤◌, List, length, IfOk};
+ghost use Rattle.bpf_code.specs.Meaning.{IsCallData};
+ghost use Rattle.bpf_code.specs.Reading.{IsProgram};
+ghost use Rattle.bpf_code.specs.declared.machine.Insn.{Insn};
+ghost use Rattle.call_rules.specs.Sizes.{CanCompile};
+ghost use Rattle.seccomp_compile.specs.Form.{AreOfForm};
+ghost use Rattle.filter_paths.specs.Traces.{HasPaths};
+ghost use Rattle.filter_paths.specs.Walked.{AreEndsFor};
+ghost use Rattle.filter_check.specs.Finding.{Finds, IsLeastByRules, wanted_by};
+
+use crate::differences::{Difference, least_difference};
+use crate::outcome::{CheckError, Outcome};
+use bpf_code::{Insn, Program};
+use call_rules::RuleSet;
+use filter_paths::{End, all_ends, first_foreign};
+use seccomp_compile::compile;
+use std::alloc::{AllocError, Global};
+
+/// How many paths a program may have.
+const MOST_PATHS: usize = 16384;
+
+// The least call data at which the rules want another answer than the ends have.
+fn least_by_rules(
+    alloc: Global,
+    ends: &[End],
+    rules: &RuleSet,
+) -> Result<Option<Difference>, AllocError>
+    requires can_be_compiled { CanCompile rules.now }
+    ensures least { IfOk result (IsLeastByRules ends.now rules.now) }
+{
+    let ours = compile(alloc, rules)?;
+    least_difference(alloc, ends, ours.insns())
+}
+
+// What is found of a program with these ends.
+fn found(alloc: Global, ends: &[End], rules: &RuleSet) -> Result<Outcome, CheckError>
+    requires can_be_compiled { CanCompile rules.now }
+    requires few { length ends.now ≤ 16384 }
+    ensures finds { (code : List Insn) → AreOfForm code → HasPaths code (length ends.now) → AreEndsFor code IsCallData ends.now → Finds code (wanted_by rules.now) result }
+{
+    match least_by_rules(alloc, ends, rules)? {
+        None => Ok(Outcome::Same(ends.len() as u32)),
+        Some(found) => Ok(Outcome::Differs {
+            at: found.at,
+            theirs: found.theirs,
+            ours: found.ours,
+        }),
+    }
+}
+
+// What is found of a program of the form.
+fn compared(alloc: Global, insns: &[Insn], rules: &RuleSet) -> Result<Outcome, CheckError>
+    requires can_be_compiled { CanCompile rules.now }
+    requires program { IsProgram insns.now }
+    requires form { AreOfForm insns.now }
+    ensures finds { Finds insns.now (wanted_by rules.now) result }
+{
+    match all_ends(alloc, insns, MOST_PATHS)? {
+        None => Err(CheckError::TooManyPaths),
+        Some(ends) => found(alloc, ends.as_slice(), rules),
+    }
+}
+
+/// Compares a program with the rules of a filter, for all call data.
+///
+/// `Form` tells the first instruction whose code is not of the form; `TooManyPaths` comes exactly where all are and there are
+/// more than 16,384 paths. Else it is `Same` exactly where the two decide every call alike, and `Differs` tells the least call
+/// data at which they do not, by their sixteen words in order of their offsets. The condition is that of `compile`.
+pub fn check(alloc: Global, program: &Program, rules: &RuleSet) -> Result<Outcome, CheckError>
+    requires can_be_compiled { CanCompile rules.now }
+    ensures finds { Finds program.now (wanted_by rules.now) result }
+{
+    let insns = program.insns();
+    match first_foreign(insns) {
+        Some(place) => Err(CheckError::Form(place as u32)),
+        None => compared(alloc, insns, rules),
+    }
+}

@@ -1,0 +1,71 @@
+//! The least difference of two programs.
+ghost use Rattle.std.specs.Prelude.{◌∷◌, [], IfOk};
+ghost use Rattle.bpf_code.specs.Reading.{IsProgram};
+ghost use Rattle.seccomp_compile.specs.Form.{AreOfForm};
+ghost use Rattle.filter_check.specs.Differing.{IsLeastFrom, IsLesser};
+
+use crate::order::comes_before;
+use bpf_code::{CallData, Insn};
+use filter_paths::{End, ends_within};
+use std::alloc::{AllocError, Global};
+
+/// Call data at which two programs answer otherwise, and both answers.
+#[derive(Clone, Copy)]
+pub struct Difference {
+    pub at: CallData,
+    pub theirs: u32,
+    pub ours: u32,
+}
+
+// The least of a difference that was found before and of the end's, where it has another answer than theirs.
+fn lesser(old: Option<Difference>, end: &End, theirs: u32) -> Option<Difference>
+    ensures { IsLesser (end.now ∷ []) theirs old result }
+{
+    if end.answer == theirs {
+        return old;
+    }
+    let new = Difference {
+        at: end.least,
+        theirs,
+        ours: end.answer,
+    };
+    match old {
+        None => Some(new),
+        Some(old) => {
+            if comes_before(&new.at, &old.at) {
+                Some(new)
+            } else {
+                Some(old)
+            }
+        }
+    }
+}
+
+// The least of a difference that was found before and of those of the ends that have another answer than theirs.
+fn least_of(own: &[End], theirs: u32, old: Option<Difference>) -> Option<Difference>
+    ensures { IsLesser own.now theirs old result }
+{
+    let mut least = old;
+    for end in own {
+        least = lesser(least, end, theirs);
+    }
+    least
+}
+
+/// The least call data at which our program answers otherwise than one with these ends.
+pub fn least_difference(
+    alloc: Global,
+    ends: &[End],
+    ours: &[Insn],
+) -> Result<Option<Difference>, AllocError>
+    requires program { IsProgram ours.now }
+    requires form { AreOfForm ours.now }
+    ensures least { IfOk result (IsLeastFrom ends.now ours.now) }
+{
+    let mut least = None;
+    for end in ends {
+        let own = ends_within(alloc, ours, &end.region)?;
+        least = least_of(own.as_slice(), end.answer, least);
+    }
+    Ok(least)
+}

@@ -1,0 +1,16 @@
+//! Whether a program of another maker decides every call as the rules of a filter do.
+//!
+//! It stands on `filter_paths` for the paths of programs and on `seccomp_compile` for the program of the rules:
+//! `check(alloc, &program, &rules)?` is `Same` with the number of paths, or `Differs` with the least call data at which the two
+//! answer otherwise.
+#![tactic(auto)]
+
+mod checking;
+mod differences;
+mod laws;
+mod order;
+mod outcome;
+
+pub use checking::check;
+pub use laws::one_finding;
+pub use outcome::{CheckError, Outcome};

@@ -1,0 +1,42 @@
+//! What a comparison comes to.
+ghost use Rattle.std.specs.Prelude.{◌≡◌};
+ghost use Rattle.filter_check.specs.declared.outcome.CheckError.TheVariants.{Memory};
+
+use bpf_code::CallData;
+use std::alloc::AllocError;
+use thiserror::Error;
+
+/// What a comparison finds.
+#[derive(Clone, Copy)]
+pub enum Outcome {
+    /// The program decides every call as the rules do, on so many paths.
+    Same(u32),
+    /// It does not: the least call data at which they differ, and both answers.
+    Differs {
+        at: CallData,
+        theirs: u32,
+        ours: u32,
+    },
+}
+
+/// Why a program is not compared.
+#[derive(Clone, Copy, Debug, PartialEq, Eq, Error)]
+pub enum CheckError {
+    /// The code of this instruction is not of the form.
+    #[error("instruction {0}: not of the form")]
+    Form(u32),
+    /// The program has more than 16,384 paths.
+    #[error("more than 16384 paths")]
+    TooManyPaths,
+    /// Memory ran out.
+    #[error("out of memory")]
+    Memory,
+}
+
+impl From<AllocError> for CheckError {
+    ghost from_gives = { λ _ e. e ≡ Memory };
+
+    fn from(_: AllocError) -> Self {
+        CheckError::Memory
+    }
+}

@@ -1,0 +1,8 @@
+-- What a process is once it is in a user namespace of its own, user_namespaces(7), "Capabilities": it has every capability there.
+use Rattle.std.specs.Prelude.{false}
+use Rattle.cap_sets.specs.Sets.{none, all}
+use Rattle.kern_creds.specs.declared.creds.Creds.{Creds}
+
+-- ids, groups and no_new_privs stay
+abbrev pub entered : Creds → Creds
+entered creds = record creds { permitted = all; effective = all; bounding = all; inheritable = none; ambient = none; keepcaps = false }

@@ -1,0 +1,170 @@
+-- What a process in a newer user namespace does leaves the bounds on its ids, and on the tables of newer user namespaces.
+use Rattle.std.proofs.Common.{◌≡◌, ℕ, Bool, true, false, List, Option, Some, None, Result, Ok, Err, refl, cond, eqb, subst, sym}
+use Rattle.std.specs.Prelude.{◌&&◌, ◌||◌, ◌+◌, nat_lt, nat_le, length, not}
+use Rattle.abs_path.specs.Paths.{Path}
+use Rattle.bpf_code.specs.declared.machine.Insn.{Insn}
+use Rattle.bpf_code.specs.ProgramOf.{program_of}
+use Rattle.bpf_code.specs.Stack.{room_of}
+use Rattle.cap_sets.specs.Sets.{has}
+use Rattle.call_table.specs.declared.listed.CallLine.{CallLine}
+use Rattle.site_table.specs.declared.row.Row.{Row}
+use Rattle.site_table.specs.Table.{row_at}
+use Rattle.linux_numbers.specs.Limits.{no_id}
+use Rattle.kern_creds.specs.declared.creds.Creds.{Creds}
+use Rattle.kern_creds.specs.Prctl.{after_drop_bounding, after_raise, after_lower, after_clear_ambient, after_set_keepcaps, after_set_no_new_privs}
+use Rattle.kern_creds.proofs.Answers.{Leaves}
+use Rattle.kern_mounts.specs.Finds.{Found, finds}
+use Rattle.kern_mounts.specs.Mounts.{Mounts as Table, steps_of}
+use Rattle.kern_files.specs.Bits.{has_some, has_all}
+use Rattle.kern_files.specs.Looking.{flags_at}
+use Rattle.kern_files.specs.Executing.{program_answer, executed_in, exec_answer_in}
+use Rattle.kern_files.specs.MountsCall.{mounts_after_mount, mounts_umount_answer}
+use Rattle.kern_files.specs.declared.program.Program.{Program}
+use Rattle.kernel_calls.specs.Doing as d
+use Rattle.kernel_calls.specs.Doing.{Doing}
+use Rattle.kernel_model.specs.Effects.{Effect, Refuse, Answer, SetCreds, Push, Child, OwnTable, UserChild, OwnUser, Caller, effect_of, looks, creds_effect, table_effect, first_alone, with_cap_of, with_admin, with_own, socket_effect, socketcall_effect, clone_effect, unshare_effect, ambient_effect, prctl_effect, push_effect, seccomp_effect, newuser, other_spaces, newns}
+use Rattle.kernel_laws.specs.Bounds.{Bounds, KeepsIds}
+use Rattle.kernel_laws.specs.Ceiling.{TableIn, IsStable, IsSafe}
+use Rattle.kernel_laws.specs.Kinds as k
+use Rattle.kernel_laws.specs.Kinds.{Kind, asks}
+use Rattle.kernel_laws.specs.Launched.{Launch, lets}
+use Rattle.kernel_laws.specs.Questions.{User}
+use Rattle.kernel_laws.specs.Reach.{Power}
+use Rattle.kernel_laws.proofs.Flags.{user_flag}
+use Rattle.kernel_laws.proofs.Newer.{ids-clear_ambient, ids-no_new_privs, ids-keepcaps, ids-lower, ids-drop_bounding, ids-raise, ids-capset, ids-exec}
+
+module _ (launch : Launch) (power : Power) (top : Bounds) (below : Table → Type 0) (stable : IsStable launch power below) (ours : Bool) where
+  abbrev Safe : Effect → Type 0
+  Safe = IsSafe launch power top below true ours
+
+  safe_creds : (answer : Result Creds ℕ) → Leaves (KeepsIds top) answer → Safe (creds_effect answer)
+  safe_creds (Ok creds) l = l.held creds refl
+  safe_creds (Err errno) l = tt
+
+  safe_if : (b : Bool) (x y : Effect) → (b ≡ true → Safe x) → (b ≡ false → Safe y) → Safe (cond b x y)
+  safe_if true x y p q = p refl
+  safe_if false x y p q = q refl
+
+  safe_admin : (creds : Creds) (effect : Effect) → Safe effect → Safe (with_admin creds effect)
+  safe_admin creds effect h = safe_if (has creds.effective 21) effect (Refuse 1) (λ e. h) (λ e. tt)
+
+  safe_looks : (answer : Result ℕ ℕ) → Safe (looks answer)
+  safe_looks (Ok value) = tt
+  safe_looks (Err errno) = tt
+
+  safe_alone : (cap' : Option ℕ) (creds : Creds) (value : ℕ) → Safe (first_alone true cap' (with_cap_of cap' creds (Answer value)))
+  safe_alone None creds value = tt
+  safe_alone (Some number) creds value = tt
+
+  safe_socket : (creds : Creds) (line : Option CallLine) → Safe (socket_effect true creds line)
+  safe_socket creds None = tt
+  safe_socket creds (Some line) = safe_alone line.cap creds 3
+
+  safe_socketcall : (creds : Creds) (operation : ℕ) (line : Option CallLine) → Safe (socketcall_effect true creds operation line)
+  safe_socketcall creds operation line =
+      safe_if (eqb operation 1) (socket_effect true creds line) _ (λ e. safe_socket creds line) λ e. safe_if (nat_le 2 operation && nat_le operation 20) (Answer 0) (Refuse 22) (λ e. tt) (λ e. tt)
+
+  safe_exec : (creds : Creds) (answer : Result Program ℕ) → KeepsIds top creds → Safe (creds_effect (executed_in true creds answer))
+  safe_exec creds (Err errno) held = tt
+  safe_exec creds (Ok program) held = safe_creds _ (ids-exec top creds held program.file program.no_suid)
+
+  module _ (creds : Creds) (flags : ℕ) (user : has_all newuser flags ≡ true → lets launch (k.ForSpace User) ≡ true) where
+    safe_clone : Safe (clone_effect creds flags)
+    safe_clone =
+        safe_if (has_some 0x1_0000 flags) (Refuse 22) _ (λ e. tt) λ e. safe_if (has_some newuser flags) (UserChild (has_some newns flags)) _ (λ e. user (user_flag flags e)) λ e.
+        safe_if (has_some other_spaces flags) (with_admin creds (Child (has_some newns flags))) (Child false) (λ e. safe_admin creds (Child (has_some newns flags)) tt) (λ e. tt)
+
+    safe_unshare : Safe (unshare_effect creds flags)
+    safe_unshare =
+        safe_if (has_some 0x81fd_ffff flags) (Refuse 22) _ (λ e. tt) λ e. safe_if (has_some newuser flags) (OwnUser (has_some newns flags)) _ (λ e. user (user_flag flags e)) λ e.
+        safe_if (has_some other_spaces flags) (with_admin creds (cond (has_some newns flags) OwnTable (Answer 0))) (Answer 0)
+        (λ e. safe_admin creds (cond (has_some newns flags) OwnTable (Answer 0)) (safe_if (has_some newns flags) OwnTable (Answer 0) (λ e. tt) (λ e. tt))) (λ e. tt)
+
+  safe_ambient : (creds : Creds) (operation cap' : ℕ) → KeepsIds top creds → Safe (ambient_effect creds operation cap')
+  safe_ambient creds operation cap' held =
+      safe_if (eqb operation 1) (cond (nat_lt 40 cap') (Refuse 22) (Answer (cond (has creds.ambient cap') 1 0))) _ (λ e. safe_if (nat_lt 40 cap') (Refuse 22) (Answer (cond (has creds.ambient cap') 1 0)) (λ e. tt) (λ e. tt)) λ e.
+      safe_if (eqb operation 2) (creds_effect (after_raise creds cap')) _ (λ e. safe_creds _ (ids-raise top creds held cap')) λ e.
+      safe_if (eqb operation 3) (creds_effect (after_lower creds cap')) _ (λ e. safe_creds _ (ids-lower top creds held cap')) λ e.
+      safe_if (eqb operation 4) (SetCreds (after_clear_ambient creds)) (Refuse 22) (λ e. ids-clear_ambient top creds held) (λ e. tt)
+
+  safe_prctl : (creds : Creds) (option value third : ℕ) → KeepsIds top creds → Safe (prctl_effect creds option value third)
+  safe_prctl creds option value third held =
+      safe_if (eqb option 38) (cond (eqb value 1) (SetCreds (after_set_no_new_privs creds)) (Refuse 22)) _
+      (λ e. safe_if (eqb value 1) (SetCreds (after_set_no_new_privs creds)) (Refuse 22) (λ e. ids-no_new_privs top creds held) (λ e. tt)) λ e.
+      safe_if (eqb option 39) (Answer (cond creds.no_new_privs 1 0)) _ (λ e. tt) λ e.
+      safe_if (eqb option 8) (cond (nat_lt value 2) (SetCreds (after_set_keepcaps creds (eqb value 1))) (Refuse 22)) _
+      (λ e. safe_if (nat_lt value 2) (SetCreds (after_set_keepcaps creds (eqb value 1))) (Refuse 22) (λ e. ids-keepcaps top creds held (eqb value 1)) (λ e. tt)) λ e.
+      safe_if (eqb option 24) (creds_effect (after_drop_bounding creds value)) _ (λ e. safe_creds _ (ids-drop_bounding top creds held value)) λ e.
+      safe_if (eqb option 47) (ambient_effect creds value third) (Refuse 22) (λ e. safe_ambient creds value third held) (λ e. tt)
+
+  safe_push : (stack : List (List Insn)) (program : Option (List Insn)) → Safe (push_effect stack program)
+  safe_push stack None = tt
+  safe_push stack (Some program) = safe_if (nat_le (room_of stack + length program) 32768) (Push program) (Refuse 12) (λ e. tt) (λ e. tt)
+
+  safe_seccomp : (creds : Creds) (stack : List (List Insn)) (operation flags : ℕ) (bytes : List ℕ) → Safe (seccomp_effect creds stack operation flags bytes)
+  safe_seccomp creds stack operation flags bytes =
+      safe_if (not (eqb operation 1 && eqb flags 0)) (Refuse 22) _ (λ e. tt) λ e. safe_if (not (creds.no_new_privs || has creds.effective 21)) (Refuse 13) (push_effect stack (program_of bytes)) (λ e. tt) (λ e. safe_push stack _)
+
+  safe_ids : (real effective saved : ℕ) → Safe (cond ((eqb real no_id && eqb effective no_id) && eqb saved no_id) (Answer 0) (Refuse 22))
+  safe_ids real effective saved = safe_if ((eqb real no_id && eqb effective no_id) && eqb saved no_id) (Answer 0) (Refuse 22) (λ e. tt) (λ e. tt)
+
+  safe_table : (answer : Result Table ℕ) → ((table : Table) → answer ≡ Ok table → TableIn ours launch power below table) → Safe (table_effect answer)
+  safe_table (Ok table) h = h table refl
+  safe_table (Err errno) h = tt
+
+  -- a mount namespace that belongs to the process's user namespace does not belong to the first one
+  module _ (owns : Bool) (apart : owns ≡ true → ours ≡ false) (table : Table) (allowed : TableIn ours launch power below table) where
+    is_below : owns ≡ true → below table
+    is_below e = let P : Bool → Type 0 = λ b. TableIn b launch power below table in subst P (apart e) allowed
+
+    is_in : owns ≡ true → (now : Table) → below now → TableIn ours launch power below now
+    is_in e now h = let P : Bool → Type 0 = λ b. TableIn b launch power below now in subst P (sym (apart e)) h
+
+    safe_mount : (creds : Creds) (source target : Path) (flags : ℕ) → Safe (with_own owns (with_admin creds (table_effect (mounts_after_mount (row_at launch.site.rows) table source target flags))))
+    safe_mount creds source target flags =
+        safe_if owns (with_admin creds (table_effect (mounts_after_mount (row_at launch.site.rows) table source target flags))) (Refuse 1)
+        (λ e. safe_admin creds (table_effect (mounts_after_mount (row_at launch.site.rows) table source target flags)) (safe_table _ (λ now g. is_in e now (stable.mounts table now source target flags (is_below e) g)))) (λ e. tt)
+
+    safe_umount : (creds : Creds) (path : Path) (flags : ℕ) → Safe (with_own owns (with_admin creds (table_effect (mounts_umount_answer table path flags))))
+    safe_umount creds path flags =
+        safe_if owns (with_admin creds (table_effect (mounts_umount_answer table path flags))) (Refuse 1)
+        (λ e. safe_admin creds (table_effect (mounts_umount_answer table path flags)) (safe_table _ (λ now g. is_in e now (stable.unmounts table now path flags (is_below e) g)))) (λ e. tt)
+
+    -- the kinds that a call asks for are let through
+    abbrev Through : Doing → Type 0
+    Through doing = (kind : Kind) → asks kind doing ≡ true → lets launch kind ≡ true
+
+    abbrev pub newer_caller : Creds → List (List Insn) → Caller
+    newer_caller creds stack = record { creds = creds; stack = stack; table = table; newer = true; owns = owns }
+
+    pub safe_newer : (families : List CallLine) (creds : Creds) (stack : List (List Insn)) (doing : Doing) → KeepsIds top creds → Through doing
+        → Safe (effect_of (record { rows = row_at launch.site.rows; families = families }) (newer_caller creds stack) doing)
+    safe_newer families creds stack (d.See path) held p = safe_looks _
+    safe_newer families creds stack (d.Open flags path) held p = safe_looks _
+    safe_newer families creds stack (d.Create path) held p = safe_looks _
+    safe_newer families creds stack (d.Truncate path) held p = safe_looks _
+    safe_newer families creds stack (d.Execve path) held p = safe_exec creds (program_answer (flags_at (steps_of table) path) (finds (row_at launch.site.rows) (steps_of table) path)) held
+    safe_newer families creds stack (d.SetMode mode) held p = tt
+    safe_newer families creds stack (d.Map protection) held p = tt
+    safe_newer families creds stack (d.Protect protection) held p = tt
+    safe_newer families creds stack (d.Attach flags) held p = tt
+    safe_newer families creds stack (d.Schedule policy) held p = safe_looks _
+    safe_newer families creds stack (d.Personality domain) held p = tt
+    safe_newer families creds stack (d.Socket family) held p = safe_socket creds _
+    safe_newer families creds stack (d.Socketcall operation family) held p = safe_socketcall creds operation _
+    safe_newer families creds stack d.Enter held p = tt
+    safe_newer families creds stack d.Fork held p = tt
+    safe_newer families creds stack (d.Clone flags) held p = safe_clone creds flags (p (k.ForSpace User))
+    safe_newer families creds stack (d.Unshare flags) held p = safe_unshare creds flags (p (k.ForSpace User))
+    safe_newer families creds stack d.Exit held p = tt
+    safe_newer families creds stack (d.Mount source target flags) held p = safe_mount creds source target flags
+    safe_newer families creds stack (d.Umount path flags) held p = safe_umount creds path flags
+    safe_newer families creds stack (d.Setuid id) held p = tt
+    safe_newer families creds stack (d.Setgid id) held p = tt
+    safe_newer families creds stack (d.Setresuid real effective saved) held p = safe_ids real effective saved
+    safe_newer families creds stack (d.Setresgid real effective saved) held p = safe_ids real effective saved
+    safe_newer families creds stack (d.Setgroups ids) held p = tt
+    safe_newer families creds stack (d.Capset permitted effective inheritable) held p = safe_creds _ (ids-capset top creds held permitted effective inheritable)
+    safe_newer families creds stack (d.Prctl option value third) held p = safe_prctl creds option value third held
+    safe_newer families creds stack (d.Seccomp operation flags bytes) held p = safe_seccomp creds stack operation flags bytes
+    safe_newer families creds stack (d.Plain cap') held p = safe_alone cap' creds 0

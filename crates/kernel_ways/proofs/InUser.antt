@@ -1,0 +1,223 @@
+-- A process enters a user namespace of its own, and what it can do there.
+use Rattle.std.proofs.Common.{◌≡◌, ℕ, Bool, true, false, List, [], ◌∷◌, ◌++◌, Option, Some, Result, Ok, Err, refl, ap, ◌∙◌, sym, subst, cond, arith, ◌<◌, map}
+use Rattle.std.specs.Prelude.{◌^◌, ◌&&◌, not, nat_lt, slice_get}
+use Rattle.abs_path.specs.Paths.{Path}
+use Rattle.call_names.specs.declared.rule.CallRule.TheVariants as known
+use Rattle.cap_sets.specs.Sets.{has, all, within, IsWithin}
+use Rattle.cap_sets.proofs.Members.{has_all, within-from_IsWithin}
+use Rattle.linux_numbers.specs.Errnos.{eacces, eperm}
+use Rattle.site_table.specs.declared.row.Row.{Row}
+use Rattle.site_table.specs.Kinds.{is_exe}
+use Rattle.site_table.specs.Table.{row_at}
+use Rattle.kern_creds.specs.declared.creds.Creds.{Creds}
+use Rattle.kern_creds.specs.Enter.{entered}
+use Rattle.kern_creds.specs.Exec.{exec_done_in, is_refused}
+use Rattle.kern_mounts.specs.Finds.{row, finds}
+use Rattle.kern_mounts.specs.Split.{Table}
+use Rattle.kern_mounts.specs.Mounts.{plain, steps_of}
+use Rattle.kern_mounts.proofs.Plain.{steps_plain}
+use Rattle.kern_files.specs.Executing.{marks_of, executed_in, exec_answer_in}
+use Rattle.kern_files.specs.Looking.{flags_at}
+use Rattle.kernel_calls.specs.Calls.{IsCall, IsPath, FitsPayload}
+use Rattle.kernel_calls.specs.Doing as d
+use Rattle.kernel_calls.specs.Doing.{Doing, asked_by, asked_if, doing_by}
+use Rattle.kernel_calls.specs.declared.call.Call.{Call}
+use Rattle.kernel_calls.specs.declared.payload.Payload.{Payload}
+use Rattle.kernel_calls.specs.declared.payload.Payload.TheVariants as pay
+use Rattle.kernel_calls.specs.declared.rule.Rule.{Rule}
+use Rattle.kernel_calls.specs.declared.rule.Rule.TheVariants as rule
+use Rattle.kernel_model.specs.Effects as f
+use Rattle.kernel_model.specs.Effects.{Effect, SetCreds, creds_effect, effect_of}
+use Rattle.kernel_model.specs.Runs.{IsDone}
+use Rattle.kernel_model.specs.Step.{step, applied, moved_in, child_in}
+use Rattle.kernel_model.specs.World.{World, with_process, with_child, with_user, entered_by}
+use Rattle.kernel_model.specs.declared.process.Process.{Process}
+use Rattle.kernel_model.specs.declared.reply.Reply.{Reply}
+use Rattle.kernel_model.specs.declared.reply.Reply.TheVariants as reply
+use Rattle.kernel_laws.specs.Bound.{is_user}
+use Rattle.kernel_laws.specs.Denied.{asks_space}
+use Rattle.kernel_laws.specs.Kinds as k
+use Rattle.kernel_laws.specs.Kinds.{AreWords, no_words, one_word}
+use Rattle.kernel_laws.specs.Launched.{Launch}
+use Rattle.kernel_laws.specs.Questions as q
+use Rattle.kernel_laws.specs.Questions.{Space, flag_of, ToExec}
+use Rattle.kernel_laws.specs.Reach.{fits}
+use Rattle.kernel_ways.specs.Entering.{pid_in, IsEntered, MakesIn, newer_at}
+use Rattle.kernel_ways.specs.Showing.{IsDoable}
+use Rattle.kernel_ways.specs.Ways.{CallAt, IsCallAt, IsSolo, Makes, host_at, caller_at, passes_at, place_of, rule_there, solo_world, solo_process}
+use Rattle.kernel_ways.proofs.Choices as choices
+use Rattle.kernel_ways.proofs.Lines.{Line, choice_of, make, six, zeros, first_by}
+use Rattle.kernel_ways.proofs.Solo.{steps, mounts_are}
+
+-- every capability is had there
+admin_inside : has all 21 ≡ true
+admin_inside = has_all 21
+
+flag_words : (space : Space) → AreWords (flag_of space ∷ 0 ∷ 0 ∷ 0 ∷ 0 ∷ 0 ∷ [])
+flag_words space = six (flag_of space) 0 0 0 (by space) (omega arith) (omega arith) (omega arith)
+  where
+    by : (space : Space) → flag_of space < 2 ^ 32
+    by q.Cgroup = omega arith
+    by q.Ipc = omega arith
+    by q.Net = omega arith
+    by q.Mnt = omega arith
+    by q.Pid = omega arith
+    by q.User = omega arith
+    by q.Uts = omega arith
+
+-- ---- entering
+module _ (launch : Launch) (some : nat_lt 0 launch.site.user_namespaces ≡ true) (creds : Creds) (table : Table) where
+  -- a call after which a process is in a user namespace of its own
+  pub record Enters (own : Rule) (call : Call) : Type 0 where
+    pub doing : Doing
+    pub effect : Effect
+    pub makes : Makes launch creds table doing call effect
+    pub such : asks_space q.User doing ≡ true
+    pub pid : ℕ
+    pub small : pid < 2 ^ 32
+    pub pid_is : pid ≡ pid_in own
+    pub inside : (after : World) → IsSolo launch creds table after → IsDone (step after call).0 × IsEntered launch (entered creds) table pid (step after call).1
+
+  abbrev After : ℕ → Reply × World → Type 0
+  After pid out = IsDone out.0 × IsEntered launch (entered creds) table pid out.1
+
+  by_unshare : (call : Call) → Makes launch creds table (d.Unshare (flag_of q.User)) call (f.OwnUser false) → (after : World) → IsSolo launch creds table after → After 1 (step after call)
+  by_unshare call m after s =
+      let own = solo_world launch creds s.namespace s.tables s.owners in
+      let P : World → Type 0 = λ w. After 1 (step w call) in
+      let Q : Reply × World → Type 0 = λ out. After 1 out in
+      let R : Bool → Type 0 = λ b. After 1 (cond {A = Reply × World} b (moved_in own (with_user own) 1 (entered_by (solo_process launch creds s.namespace) 0) false) (reply.Refused 28, own)) in
+      subst P (sym s.is) (subst Q (sym (steps launch creds table s.namespace s.tables s.owners s.numbered s.own s.home s.few (d.Unshare (flag_of q.User)) call (f.OwnUser false) m))
+      (subst R (sym some) (
+        tt,
+        record {
+          calls = refl;
+          site = refl;
+          process = entered_by (solo_process launch creds s.namespace) 0;
+          lives = refl;
+          has = refl;
+          stack = refl;
+          newer = refl;
+          own = mounts_are launch creds table s.namespace s.tables s.owners s.numbered s.own s.home s.few (d.Unshare (flag_of q.User)) call (f.OwnUser false) m;
+          few = s.few;
+          fewer = refl;
+        },
+      )))
+
+  by_clone : (call : Call) → Makes launch creds table (d.Clone (flag_of q.User)) call (f.UserChild false) → (after : World) → IsSolo launch creds table after → After 2 (step after call)
+  by_clone call m after s =
+      let own = solo_world launch creds s.namespace s.tables s.owners in
+      let P : World → Type 0 = λ w. After 2 (step w call) in
+      let Q : Reply × World → Type 0 = λ out. After 2 out in
+      let R : Bool → Type 0 = λ b. After 2 (cond {A = Reply × World} b (child_in own (with_user own) (entered_by (solo_process launch creds s.namespace) 0) false) (reply.Refused 28, own)) in
+      subst P (sym s.is) (subst Q (sym (steps launch creds table s.namespace s.tables s.owners s.numbered s.own s.home s.few (d.Clone (flag_of q.User)) call (f.UserChild false) m))
+      (subst R (sym some) (
+        tt,
+        record {
+          calls = refl;
+          site = refl;
+          process = entered_by (solo_process launch creds s.namespace) 0;
+          lives = refl;
+          has = refl;
+          stack = refl;
+          newer = refl;
+          own = mounts_are launch creds table s.namespace s.tables s.owners s.numbered s.own s.home s.few (d.Clone (flag_of q.User)) call (f.UserChild false) m;
+          few = s.few;
+          fewer = refl;
+        },
+      )))
+
+  enters_by : {own : Rule} {args : List ℕ} → (nr : CallAt) → IsCallAt nr → rule_there launch nr ≡ Some own → passes_at launch nr args → choices.Choice (k.ForSpace q.User) own args → Enters own (first_by nr args pay.Nothing)
+  enters_by nr n at t (choices.unshare _) =
+      let m = make launch creds table nr (rule.Known known.Unshare) (one_word 0 (flag_of q.User)) pay.Nothing (d.Unshare (flag_of q.User)) (f.OwnUser false) n (flag_words q.User) tt at refl t refl in
+      record { doing = d.Unshare (flag_of q.User); effect = f.OwnUser false; makes = m; such = refl; pid = 1; small = omega arith; pid_is = refl; inside = by_unshare (first_by nr (one_word 0 (flag_of q.User)) pay.Nothing) m }
+  enters_by nr n at t (choices.clone _) =
+      let m = make launch creds table nr (rule.Known known.Clone) (one_word 0 (flag_of q.User)) pay.Nothing (d.Clone (flag_of q.User)) (f.UserChild false) n (flag_words q.User) tt at refl t refl in
+      record { doing = d.Clone (flag_of q.User); effect = f.UserChild false; makes = m; such = refl; pid = 2; small = omega arith; pid_is = refl; inside = by_clone (first_by nr (one_word 0 (flag_of q.User)) pay.Nothing) m }
+
+  pub enters : (line : Line launch (k.ForSpace q.User)) → Enters line.own (first_by (place_of line.line) line.args pay.Nothing)
+  enters line = enters_by (place_of line.line) line.number line.at line.through (choice_of line)
+
+-- ---- one call inside
+abbrev pub call_by : ℕ → CallAt → List ℕ → Payload → Call
+call_by pid nr args payload = record { pid = pid; abi = nr.abi; nr = nr.nr; args = args; payload = payload }
+
+module _ (launch : Launch) (creds : Creds) (table : Table) (pid : ℕ) (small : pid < 2 ^ 32) where
+  make_in : (nr : CallAt) (own : Rule) (args : List ℕ) (payload : Payload) (doing : Doing) (effect : Effect) → IsCallAt nr → AreWords args → FitsPayload payload
+      → rule_there launch nr ≡ Some own → doing_by own args payload ≡ Some doing → passes_at launch nr args → ((owns : Bool) → effect_of (host_at launch) (newer_at launch (entered creds) table owns) doing ≡ effect) → MakesIn launch (entered creds) table pid doing (call_by pid nr args payload) effect
+  make_in nr own args payload doing effect n w p at is t e = record {
+    fit = record { pid = small; abi = n.abi; nr = n.number; count = w.count; args = w.each; payload = p };
+    by = refl;
+    through = t;
+    asks = ap (λ r. asked_by r (call_by pid nr args payload)) at ∙ ap asked_if is;
+    comes_to = e;
+  }
+
+  -- a call inside that is done and asks for such a thing
+  pub record Inside (p : Doing → Bool) (call : Call) : Type 0 where
+    pub doing : Doing
+    pub effect : Effect
+    pub makes : MakesIn launch (entered creds) table pid doing call effect
+    pub doable : IsDoable effect
+    pub such : p doing ≡ true
+
+  admits : (effect : Effect) → cond (has all 21) effect (f.Refuse eperm) ≡ effect
+  admits effect = ap (λ b. cond b effect (f.Refuse eperm)) admin_inside
+
+  in_space : (space : Space) (nr : CallAt) (own : Rule) (doing : Doing) (effect : Effect) → IsCallAt nr → rule_there launch nr ≡ Some own → passes_at launch nr (one_word 0 (flag_of space)) → doing_by own (one_word 0 (flag_of space)) pay.Nothing ≡ Some doing
+      → ((owns : Bool) → effect_of (host_at launch) (newer_at launch (entered creds) table owns) doing ≡ effect) → IsDoable effect → asks_space space doing ≡ true → Inside (asks_space space) (call_by pid nr (one_word 0 (flag_of space)) pay.Nothing)
+  in_space space nr own doing effect n at t is e h such = record { doing = doing; effect = effect; makes = make_in nr own (one_word 0 (flag_of space)) pay.Nothing doing effect n (flag_words space) tt at is t e; doable = h; such = such }
+
+  unshare_in : (space : Space) → is_user space ≡ false → (nr : CallAt) → IsCallAt nr → rule_there launch nr ≡ Some (rule.Known known.Unshare) → passes_at launch nr (one_word 0 (flag_of space)) → Inside (asks_space space) (call_by pid nr (one_word 0 (flag_of space)) pay.Nothing)
+  unshare_in q.Cgroup u nr n at t = in_space q.Cgroup nr (rule.Known known.Unshare) (d.Unshare (flag_of q.Cgroup)) (f.Answer 0) n at t refl (λ owns. admits (f.Answer 0)) tt refl
+  unshare_in q.Ipc u nr n at t = in_space q.Ipc nr (rule.Known known.Unshare) (d.Unshare (flag_of q.Ipc)) (f.Answer 0) n at t refl (λ owns. admits (f.Answer 0)) tt refl
+  unshare_in q.Net u nr n at t = in_space q.Net nr (rule.Known known.Unshare) (d.Unshare (flag_of q.Net)) (f.Answer 0) n at t refl (λ owns. admits (f.Answer 0)) tt refl
+  unshare_in q.Mnt u nr n at t = in_space q.Mnt nr (rule.Known known.Unshare) (d.Unshare (flag_of q.Mnt)) f.OwnTable n at t refl (λ owns. admits f.OwnTable) tt refl
+  unshare_in q.Pid u nr n at t = in_space q.Pid nr (rule.Known known.Unshare) (d.Unshare (flag_of q.Pid)) (f.Answer 0) n at t refl (λ owns. admits (f.Answer 0)) tt refl
+  unshare_in q.User u nr n at t = cc
+  unshare_in q.Uts u nr n at t = in_space q.Uts nr (rule.Known known.Unshare) (d.Unshare (flag_of q.Uts)) (f.Answer 0) n at t refl (λ owns. admits (f.Answer 0)) tt refl
+
+  clone_in : (space : Space) → is_user space ≡ false → (nr : CallAt) → IsCallAt nr → rule_there launch nr ≡ Some (rule.Known known.Clone) → passes_at launch nr (one_word 0 (flag_of space)) → Inside (asks_space space) (call_by pid nr (one_word 0 (flag_of space)) pay.Nothing)
+  clone_in q.Cgroup u nr n at t = in_space q.Cgroup nr (rule.Known known.Clone) (d.Clone (flag_of q.Cgroup)) (f.Child false) n at t refl (λ owns. admits (f.Child false)) tt refl
+  clone_in q.Ipc u nr n at t = in_space q.Ipc nr (rule.Known known.Clone) (d.Clone (flag_of q.Ipc)) (f.Child false) n at t refl (λ owns. admits (f.Child false)) tt refl
+  clone_in q.Net u nr n at t = in_space q.Net nr (rule.Known known.Clone) (d.Clone (flag_of q.Net)) (f.Child false) n at t refl (λ owns. admits (f.Child false)) tt refl
+  clone_in q.Mnt u nr n at t = in_space q.Mnt nr (rule.Known known.Clone) (d.Clone (flag_of q.Mnt)) (f.Child true) n at t refl (λ owns. admits (f.Child true)) tt refl
+  clone_in q.Pid u nr n at t = in_space q.Pid nr (rule.Known known.Clone) (d.Clone (flag_of q.Pid)) (f.Child false) n at t refl (λ owns. admits (f.Child false)) tt refl
+  clone_in q.User u nr n at t = cc
+  clone_in q.Uts u nr n at t = in_space q.Uts nr (rule.Known known.Clone) (d.Clone (flag_of q.Uts)) (f.Child false) n at t refl (λ owns. admits (f.Child false)) tt refl
+
+  space_in : {own : Rule} {args : List ℕ} → (space : Space) → is_user space ≡ false → (nr : CallAt) → IsCallAt nr → rule_there launch nr ≡ Some own → passes_at launch nr args → choices.Choice (k.ForSpace space) own args → Inside (asks_space space) (call_by pid nr args pay.Nothing)
+  space_in space u nr n at t (choices.unshare _) = unshare_in space u nr n at t
+  space_in space u nr n at t (choices.clone _) = clone_in space u nr n at t
+
+  -- any other namespace
+  pub own_space : (space : Space) → is_user space ≡ false → (line : Line launch (k.ForSpace space)) → Inside (asks_space space) (call_by pid (place_of line.line) line.args pay.Nothing)
+  own_space space u line = space_in space u (place_of line.line) line.number line.at line.through (choice_of line)
+
+  -- a program whose set is not within the bounding set of the launch
+  module _ (path : Path) (fit : IsPath path) (target : Row) (found : finds (row_at launch.site.rows) table path ≡ row target) (exe : is_exe target.kind ≡ true) (runs : fits ToExec (flags_at table path) ≡ true) (known_caps : IsWithin target.caps all) where
+    not_refused : is_refused (entered creds) (marks_of target) (flags_at table path).no_suid ≡ false
+    not_refused = by (not (flags_at table path).no_suid && target.effective)
+      where
+        by : (b : Bool) → (b && not (within target.caps all)) ≡ false
+        by true = ap not (within-from_IsWithin target.caps all known_caps)
+        by false = refl
+
+    abbrev pub after_run : Creds
+    after_run = exec_done_in true (entered creds) (marks_of target) (flags_at table path).no_suid
+
+    exec_is : creds_effect (exec_answer_in true (entered creds) (flags_at (steps_of (map plain table)) path) (finds (row_at launch.site.rows) (steps_of (map plain table)) path)) ≡ SetCreds after_run
+    exec_is = ap (λ (t : Table). creds_effect (exec_answer_in true (entered creds) (flags_at t path) (finds (row_at launch.site.rows) t path))) (steps_plain table)
+        ∙ ap (λ x. creds_effect (exec_answer_in true (entered creds) (flags_at table path) x)) found ∙ by (is_exe target.kind) (flags_at table path).no_exec exe runs
+      where
+        by : (a b : Bool) → a ≡ true → not b ≡ true
+            → creds_effect (executed_in true (entered creds) (cond (not a) (Err eacces) (cond b (Err eacces) (Ok (record { file = marks_of target; no_suid = (flags_at table path).no_suid }))))) ≡ SetCreds after_run
+        by true false g h = ap (λ b. creds_effect (cond {A = Result Creds ℕ} b (Err eperm) (Ok after_run))) not_refused
+        by true true g h = cc
+        by false b g h = cc
+
+    exec_by : {own : Rule} {args : List ℕ} → (nr : CallAt) → IsCallAt nr → rule_there launch nr ≡ Some own → passes_at launch nr args → choices.Choice (k.ForPath ToExec) own args → MakesIn launch (entered creds) table pid (d.Execve path) (call_by pid nr args (pay.OnePath path)) (SetCreds after_run)
+    exec_by nr n at t choices.execs = make_in nr (rule.Known known.Execve) no_words (pay.OnePath path) (d.Execve path) (SetCreds after_run) n zeros fit at refl t (λ owns. exec_is)
+
+    pub exec_inside : (line : Line launch (k.ForPath ToExec)) → MakesIn launch (entered creds) table pid (d.Execve path) (call_by pid (place_of line.line) line.args (pay.OnePath path)) (SetCreds after_run)
+    exec_inside line = exec_by (place_of line.line) line.number line.at line.through (choice_of line)

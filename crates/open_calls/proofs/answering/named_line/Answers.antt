@@ -1,0 +1,14 @@
+use Rattle.std.proofs.Common.{◌≡◌, ◌∙◌, Option, Some, None}
+use Rattle.call_table.specs.Table.{every_call}
+use Rattle.call_table.specs.declared.listed.CallLine.{CallLine}
+use Rattle.chosen_calls.specs.Chosen.{is_called}
+use Rattle.chosen_calls.proofs.Lists.{any_found}
+use Rattle.kernel_laws.specs.Launched.{launch_of}
+use Rattle.open_calls.proofs.answering.named_line.Goals as goal
+
+pub unreachable-requires : goal.unreachable-requires
+unreachable-requires c =
+    let launch = launch_of c.args.world.now in
+    let found = any_found (is_called launch c.args.name.now) (every_call launch.calls) c.requires in
+    let never : ◌≡◌ {A = Option CallLine} None (Some found.0) = c.in-None.ensures.first_that_passes ∙ found.1 in
+    cc

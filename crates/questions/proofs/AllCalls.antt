@@ -1,0 +1,54 @@
+-- All calls of a table, one after the other: those of the native ABI, then those of the other.
+use Rattle.std.proofs.Common.{◌≡◌, ◌<◌, ◌≤◌, ℕ, zero, suc, Bool, List, [], ◌∷◌, ◌++◌, ◌+◌, ◌-◌, Option, Some, None, false, length, drop, refl, ap, ◌∙◌, sym, arith, length-append}
+use Rattle.std.specs.Prelude.{slice_get, ◌&&◌}
+use Rattle.std.specs.Option.{option_map_or, option_to_list}
+use Rattle.call_table.specs.Members.{is_first}
+use Rattle.call_table.specs.Table.{Abi, Table, calls_in, every_call, second_calls}
+use Rattle.call_table.specs.declared.listed.CallLine.{CallLine}
+use Rattle.kernel_calls.specs.Rules.{rule_of}
+use Rattle.kernel_laws.specs.Questions.{Call, if_so, is_plain, of_calls}
+
+second_are : (second : Option Abi) → second_calls second ≡ option_map_or (λ found. found.calls) (slice_get (option_to_list second) 0) []
+second_are None = refl
+second_are (Some second) = refl
+
+at_front : {X : Type 0} (front back : List X) (at : ℕ) → at < length front → slice_get (front ++ back) at ≡ slice_get front at
+at_front [] back at h = absurd (omega arith)
+at_front (x ∷ front) back zero h = refl
+at_front (x ∷ front) back (suc at) h = at_front front back at (omega arith)
+
+at_back : {X : Type 0} (front back : List X) (at : ℕ) → length front ≤ at → slice_get (front ++ back) at ≡ slice_get back (at - length front)
+at_back [] back at h = let n : at ≡ at - 0 = omega arith in ap (slice_get back) n
+at_back (x ∷ front) back zero h = absurd (omega arith)
+at_back (x ∷ front) back (suc at) h = let n : at - length front ≡ suc at - suc (length front) = omega arith in at_back front back at (omega arith) ∙ ap (slice_get back) n
+
+module _ (table : Table) where
+  -- a call of each ABI
+  pub front_call : (at : ℕ) → at < length table.calls → slice_get (every_call table) at ≡ slice_get table.calls at
+  front_call at h = at_front table.calls (second_calls table.second) at h
+
+  pub back_call : (at : ℕ) → length table.calls ≤ at → slice_get (every_call table) at ≡ slice_get (calls_in table 1) (at - length table.calls)
+  back_call at h = at_back table.calls (second_calls table.second) at h ∙ ap (λ lines. slice_get lines (at - length table.calls)) (second_are table.second)
+
+  pub count_all : length table.calls + length (calls_in table 1) ≡ length (every_call table)
+  count_all = ap (λ lines. length table.calls + length lines) (sym (second_are table.second)) ∙ sym (length-append table.calls (second_calls table.second))
+
+-- a list from one of its elements on
+from_here : {X : Type 0} (xs : List X) (at : ℕ) → at < length xs → (x : X) × (slice_get xs at ≡ Some x) × (drop at xs ≡ x ∷ drop (at + 1) xs)
+from_here [] at h = absurd (omega arith)
+from_here (x ∷ xs) zero h = (x, refl, refl)
+from_here (x ∷ xs) (suc at) h =
+    let m = from_here xs at (omega arith) in
+    let n : suc (at + 1) ≡ suc at + 1 = omega arith in
+    (m.0, m.1, m.2 ∙ ap (λ n. m.0 ∷ drop n (x ∷ xs)) n)
+
+-- the line of this number is asked of
+abbrev pub is_asked_at : List CallLine → ℕ → Option CallLine → Bool
+is_asked_at every at line = option_map_or (λ line. is_plain (rule_of line) && is_first every line.name at) line false
+
+-- what is left to ask, one call further
+pub calls_left : (every : List CallLine) (at : ℕ) → at < length every → (b : Bool) → is_asked_at every at (slice_get every at) ≡ b → of_calls every at (drop at every) ≡ if_so b (Call at) ++ of_calls every (at + 1) (drop (at + 1) every)
+calls_left every at h b e =
+    let here = from_here every at h in
+    let asked : is_asked_at every at (Some here.0) ≡ b = ap (is_asked_at every at) (sym here.1) ∙ e in
+    ap (of_calls every at) here.2 ∙ ap (λ b. if_so b (Call at) ++ of_calls every (at + 1) (drop (at + 1) every)) asked
