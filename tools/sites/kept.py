@@ -1,8 +1,16 @@
-"""A site that is kept in a file, and made anew where what it came from is newer."""
+"""A site that is kept in a file, and made anew where what it came from, or an installed package, is newer."""
+import itertools
 import os
 import tempfile
 
 from sites import units
+
+# What changes whenever a package is installed or removed: of dpkg, rpm, pacman and apk.
+PACKAGES = b"""
+    /var/lib/dpkg/status
+    /usr/lib/sysimage/rpm/rpmdb.sqlite /var/lib/rpm/rpmdb.sqlite /var/lib/rpm/Packages /var/lib/rpm/Packages.db
+    /var/lib/pacman/local /lib/apk/db/installed
+""".split()
 
 
 def changed(file):
@@ -17,9 +25,20 @@ def changed(file):
     return max(times)
 
 
+def package_files(root):
+    """The files of this machine that change with the packages of the root, links followed within it."""
+    found = []
+    for path in PACKAGES:
+        try:
+            found.append(root.outside(root.real(path)))
+        except OSError:
+            continue
+    return found
+
+
 def files_behind(root, unit_root, names):
     """The files and folders of this machine that a site is made from, but for those of its rows."""
-    found = [root.outside(path) for path in (b"/etc/passwd", b"/etc/group")]
+    found = [root.outside(path) for path in (b"/etc/passwd", b"/etc/group")] + package_files(root)
     for name in filter(None, map(units.read_name, names)):
         files, folders = units.sources(unit_root, name)
         found += [unit_root.outside(path) for path in files + folders]
@@ -27,15 +46,22 @@ def files_behind(root, unit_root, names):
     return found + [os.path.join(here, file) for file in os.listdir(here) if file.endswith(".py")]
 
 
-def is_fresh(file, head, root, unit_root, names):
-    """Whether the file has a site with this first line that is newer than what it was made from."""
+def heads_of(text):
+    """The lines of comment that a site begins with."""
+    lines = itertools.takewhile(lambda line: line.startswith("# "), text.decode("utf-8").split("\n"))
+    return [line[2:] for line in lines]
+
+
+def fresh(file, head, root, unit_root, names):
+    """The text of the file, if it is a site with this first line that is newer than what it was made from."""
     try:
         with open(file, "rb") as site:
-            first = site.readline()
+            text = site.read()
         written = os.stat(file).st_mtime_ns
     except OSError:
-        return False
-    return first == f"# {head}\n".encode() and all(changed(it) < written for it in files_behind(root, unit_root, names))
+        return None
+    is_ours = text.startswith(f"# {head}\n".encode())
+    return text if is_ours and all(changed(it) < written for it in files_behind(root, unit_root, names)) else None
 
 
 def write_whole(file, text):

@@ -72,6 +72,11 @@ class Rows:
         """Counts a path for which there is no room."""
         self.told.add(f"left out, above the limit of {LIMIT} rows", path)
 
+    def leave_filler(self, path):
+        """Counts a folder that says nothing of a sandbox, where it has no row as the parent of another."""
+        if path not in self.rows:
+            self.told.add("left out, folders of folders and plain files alone that no unit names (--full has them)", path)
+
     def put(self, path, row):
         """Takes a row with the parents that it lacks, if there is room for all of them."""
         if path in self.rows:

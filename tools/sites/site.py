@@ -3,7 +3,8 @@ import stat
 
 from sites import people, places, toml, units
 from sites.root import folded
-from sites.rows import Rows, Row, fault_of
+from sites.rows import Rows, Row, fault_of, parents_of
+from sites.spaces import user_namespaces
 from sites.walk import walk
 
 
@@ -44,11 +45,11 @@ def add_said(rows, says):
             rows.add(path, wanted=True)
     for path in says.paths:
         rows.add(path, wanted=True)
-    for path in says.optional:
+    for path in says.optional + says.emptied:
         rows.add(path)
     for path in says.folders:
         rows.add(path, made="dir")
-    for path in says.paths + says.optional:
+    for path in says.paths + says.optional + says.emptied:
         tell_links(rows, path)
 
 
@@ -80,8 +81,36 @@ def add_sockets(rows, found):
         rows.add(path)
 
 
-def add_folders(rows, found):
-    """Takes the rows of folders level by level, and of links to folders, until there is no room."""
+def parted_folders(says):
+    """The folders of whose children some may be shown and others not: places of empty file systems, and below such a place
+    the folders above what the unit names."""
+    emptied = list(filter(None, map(folded, says.emptied)))
+    named = list(filter(None, map(folded, says.paths + says.optional + says.folders)))
+    above = [folder for path in named for folder in parents_of(path)]
+    return emptied + [folder for folder in above if any(is_below(folder, top) for top in emptied)]
+
+
+def add_parted(rows, says):
+    """Takes the rows of the folders beside what an empty file system shows."""
+    for folder in sorted(set(parted_folders(says))):
+        for path in [folder.rstrip(b"/") + b"/" + name for name in rows.root.names(folder)]:
+            if leads_to_folder(rows.root, path):
+                rows.add(path)
+
+
+def add_telling(rows, found):
+    """Takes the rows of the folders that hold more than folders and plain files, and of the folders of `/` itself."""
+    of_the_root = found[0]
+    taken = {path for level in of_the_root.folders[1:2] for path in level}
+    taken.update(path for path in of_the_root.links[0] if leads_to_folder(rows.root, path))
+    taken.update(path for it in found for path in it.telling)
+    for path in sorted(taken):
+        add_folder(rows, path)
+
+
+def add_folders(rows, found, full):
+    """Takes the rows of folders level by level, and of links to folders, until there is no room; counts them where the
+    site is not to be full."""
     levels = max(len(it.folders) for it in found)
     for level in range(levels):
         here = [it for it in found if level < len(it.folders)]
@@ -91,7 +120,7 @@ def add_folders(rows, found):
             if any(is_below(path, passing) for passing in places.PASSING):
                 continue
             if path in folders or leads_to_folder(rows.root, path):
-                add_folder(rows, path)
+                add_folder(rows, path) if full else rows.leave_filler(path)
 
 
 def leads_to_folder(root, link):
@@ -111,7 +140,7 @@ def add_folder(rows, path):
         rows.put(path, Row("dir"))
 
 
-def add_rows(rows, all_said, also):
+def add_rows(rows, all_said, also, full):
     """Takes all rows, the most telling first."""
     rows.put(b"/", Row("dir"))
     rows.put(b"/proc", Row("dir"))
@@ -128,7 +157,11 @@ def add_rows(rows, all_said, also):
     for pattern in places.SENSITIVE:
         rows.add_pattern(pattern.encode())
     add_sockets(rows, found)
-    add_folders(rows, found)
+    if not full:
+        for says in all_said:
+            add_parted(rows, says)
+        add_telling(rows, found)
+    add_folders(rows, found, full)
 
 
 def read_people(root, says, told):
@@ -168,14 +201,16 @@ def tell_owner(root, told):
         told.add("not owned by root, so that set-user-ID bits may stand for other uids once it runs", b"/")
 
 
-def make_site(head, root, unit_root, names, also, told):
-    """The bytes of site.toml, and how many rows, users and groups it has."""
+def make_site(head, root, unit_root, names, also, full, told):
+    """The bytes of site.toml, which begin with what it has, what it leaves out, and what of the root is otherwise."""
     says = all_said(unit_root, names, told)
     users, groups = read_people(root, says, told)
     rows = Rows(root, told)
     tell_owner(root, told)
-    add_rows(rows, says, also)
-    text = toml.site_text(head, people.dynamic_uid(users, groups), rows.rows, users, groups)
+    add_rows(rows, says, also, full)
+    numbers = people.dynamic_uid(users, groups), user_namespaces(root, told)
+    counts = f"{len(rows.rows)} rows, {len(users)} users, {len(groups)} groups"
+    text = toml.site_text([head, counts, *told.lines()], *numbers, rows.rows, users, groups)
     if len(text) > toml.LONGEST:
         raise Fault(f"the site has {len(text)} bytes, and the program reads {toml.LONGEST}")
-    return text, (len(rows.rows), len(users), len(groups))
+    return text

@@ -43,9 +43,12 @@ def group_text(group):
     return table("group", [("name", quoted(group.name)), ("gid", group.gid)])
 
 
-def site_text(head, dynamic_uid, rows, users, groups):
-    """The whole text, with a first line that says where it comes from. Rows stand in byte order of their paths."""
-    tables = [f"# {head}\ndynamic_uid = {dynamic_uid}\n"]
+def site_text(heads, dynamic_uid, user_namespaces, rows, users, groups):
+    """The whole text, with first lines that say where it comes from. Rows stand in byte order of their paths."""
+    top = f"dynamic_uid = {dynamic_uid}\n"
+    if user_namespaces is not None:
+        top += f"user_namespaces = {user_namespaces}\n"
+    tables = ["".join(f"# {line}\n" for line in heads) + top]
     tables += [row_text(path.decode("utf-8"), row) for path, row in sorted(rows.items())]
     tables += [user_text(user) for user in users]
     tables += [group_text(group) for group in groups]

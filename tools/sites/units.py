@@ -34,12 +34,13 @@ class UnitName(NamedTuple):
 
 
 class Says(NamedTuple):
-    """What a unit says: its programs, paths that are to be there, paths that may be missing, folders that systemd makes, and
-    the names of users and groups."""
+    """What a unit says: its programs, paths that are to be there, paths that may be missing, places of empty file systems
+    (which may be missing too), folders that systemd makes, and the names of users and groups."""
 
     programs: list
     paths: list
     optional: list
+    emptied: list
     folders: list
     users: set
     groups: set
@@ -246,7 +247,7 @@ def add_words(says, key, found):
         names = [word.partition(b":")[0] for word in found if not word.startswith(b"/")]
         says.folders.extend([FOLDERS[key].encode() + name for name in names if name])
     elif key == "TemporaryFileSystem":
-        says.optional.extend([word.partition(b":")[0] for word in found])
+        says.emptied.extend([word.partition(b":")[0] for word in found])
     elif key in PATH_LISTS or key in BINDS:
         for word in found:
             (add_bind if key in BINDS else add_path)(says, word)
@@ -264,7 +265,7 @@ def add_assignment(says, key, value):
 
 def said(root, name, told):
     """What the files of a unit say, whether or not a later assignment takes it back."""
-    says = Says([], [], [], [], set(), set())
+    says = Says([], [], [], [], [], set(), set())
     for path in sources(root, name)[0]:
         if is_mask(root, path):
             continue

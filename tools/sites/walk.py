@@ -9,12 +9,14 @@ from sites.privileges import raw_caps
 class Found(NamedTuple):
     """Paths in the order of the walk.
 
-    `privileged` are regular files with set-id bits or capabilities, `sockets` are sockets, `folders` has the folders of
-    each level and `links` its symbolic links, and `elsewhere` are folders where another file system begins.
+    `privileged` are regular files with set-id bits or capabilities, `sockets` are sockets, `telling` are the folders that
+    hold more than folders, plain files and links: a socket, a pipe or a device. `folders` has the folders of each level and
+    `links` its symbolic links, and `elsewhere` are folders where another file system begins.
     """
 
     privileged: list
     sockets: list
+    telling: set
     folders: list
     links: list
     elsewhere: list
@@ -47,15 +49,22 @@ def entries_of(root, folder, told):
             continue
 
 
-def take(found, path, entry, mode):
+def is_whiteout(status):
+    """Whether it stands for a name that an overlay hides (the device 0/0)."""
+    return stat.S_ISCHR(status.st_mode) and status.st_rdev == 0
+
+
+def take(found, folder, path, entry, status):
     """Notes what is no folder."""
-    if stat.S_ISREG(mode):
-        if has_privileges(entry.path, mode):
+    if stat.S_ISREG(status.st_mode):
+        if has_privileges(entry.path, status.st_mode):
             found.privileged.append(path)
-    elif stat.S_ISLNK(mode):
+    elif stat.S_ISLNK(status.st_mode):
         found.links[-1].append(path)
-    elif stat.S_ISSOCK(mode):
-        found.sockets.append(path)
+    elif not is_whiteout(status):
+        found.telling.add(folder)
+        if stat.S_ISSOCK(status.st_mode):
+            found.sockets.append(path)
 
 
 def look_into(root, folder, device, found, told, seen):
@@ -64,7 +73,7 @@ def look_into(root, folder, device, found, told, seen):
     for entry, status in entries_of(root, folder, told):
         path = front + entry.name
         if not stat.S_ISDIR(status.st_mode):
-            take(found, path, entry, status.st_mode)
+            take(found, folder, path, entry, status)
         elif status.st_dev != device:
             found.elsewhere.append(path)
         elif (status.st_dev, status.st_ino) not in seen:
@@ -74,7 +83,7 @@ def look_into(root, folder, device, found, told, seen):
 
 def walk(root, start, told, seen):
     """What stands at and below a folder that has no links in its path; `seen` has the folders of earlier walks."""
-    found = Found([], [], [], [], [])
+    found = Found([], [], set(), [], [], [])
     device = root.status(start).st_dev
     level = [start]
     while level:

@@ -1,20 +1,15 @@
-#!/usr/bin/env python3
-"""Tells what runs over hostile inputs cost: processor time, the most memory held, and how much is printed.
+"""What runs over hostile inputs cost: processor time, the most memory held, and how much is printed.
 
-tools/bench-hostile [WORD ..]  makes the inputs below (those whose names have one of the words), runs commands of the built
-program over each (crates/sandbox_cli/out/sandbox_cli, or the build that LENTSHEEP_PROGRAM names), and prints a line of each run.
-A run that takes more than a second, 200 MB or prints more than 16 MB is marked `!`. It is no part of the gate.
+The inputs below stand over the files of examples/hardened. A run that takes more than a second, 200 MB or prints more than 16 MB is
+marked `!`.
 """
 import os
 import shutil
 import subprocess
-import sys
 import tempfile
 
-sys.dont_write_bytecode = True
+from benches import CALLS, PROGRAM, TOP
 
-TOP = os.path.dirname(os.path.dirname(os.path.abspath(__file__)))
-PROGRAM = os.environ.get("LENTSHEEP_PROGRAM") or f"{TOP}/crates/sandbox_cli/out/sandbox_cli"
 SYSTEM = "etc/systemd/system"
 NAME = "a" * 245 + ".service"
 HEAD = "[Service]\nExecStart=/usr/bin/web\n"
@@ -32,19 +27,23 @@ def filled(front, piece, behind="\n"):
 
 
 def unit(text):
+    """The unit of a name of 253 bytes."""
     return {f"{SYSTEM}/{NAME}": text}
 
 
 def drop_ins(text, count=16, name=WEB):
+    """A unit with so many drop-ins of this text."""
     return {f"{SYSTEM}/{name}": HEAD} | {f"{SYSTEM}/{name}.d/{at:02}.conf": text for at in range(count)}
 
 
 def mounting(script):
-    with open(f"{TOP}/tables/x86-64/calls.txt") as file:
+    """A script over the real table of calls."""
+    with open(CALLS, encoding="utf-8") as file:
         return unit(HEAD) | {"calls.txt": file.read(), "s.txt": script}
 
 
 def beside(path, text):
+    """A plain unit with another file."""
     return unit(HEAD) | {path: text}
 
 
@@ -110,11 +109,15 @@ def measured(folder, words):
         return run.returncode, count, used.ru_utime + used.ru_stime, used.ru_maxrss / 1024, told.read()
 
 
-def main(*sought):
-    if not os.access(PROGRAM, os.X_OK):
-        sys.exit(f"bench-hostile: no {PROGRAM}: run ./sandbox once")
+def add_words(parser):
+    """The words of the subcommand."""
+    parser.add_argument("sought", nargs="*", metavar="WORD", help="run the inputs whose names have one of these (all where none is given)")
+
+
+def main(found):
+    """Runs the commands, and prints a line of each."""
     for what, made, commands in ROWS:
-        if sought and not any(word in what for word in sought):
+        if found.sought and not any(word in what for word in found.sought):
             continue
         with tempfile.TemporaryDirectory() as folder:
             shutil.copytree(f"{TOP}/examples/hardened", folder, dirs_exist_ok=True)
@@ -126,7 +129,4 @@ def main(*sought):
                 status, size, seconds, memory, told = measured(folder, words)
                 mark = "!" if seconds > 1 or memory > 200 or size > 16_000_000 else " "
                 print(f"{mark} {what}: {words[0]} -> {status}, {seconds:.2f} s, {memory:.1f} MB, {size:,} bytes printed", told[:80] or "", flush=True)
-
-
-if __name__ == "__main__":
-    main(*sys.argv[1:])
+    return 0

@@ -1,0 +1,44 @@
+# make install PREFIX=/usr/local  installs the command lentsheep with its program, tables and manual pages.
+#
+# The program is proved and built first, where ./sandbox has not done so; PROGRAM names another build. DESTDIR is put before
+# each place, as packages want it.
+PREFIX = /usr/local
+DESTDIR =
+PROGRAM = crates/sandbox_cli/out/sandbox_cli
+BIN = $(DESTDIR)$(PREFIX)/bin
+LIB = $(DESTDIR)$(PREFIX)/lib/lentsheep
+MAN = $(DESTDIR)$(PREFIX)/share/man
+DOC = $(DESTDIR)$(PREFIX)/share/doc/lentsheep
+COMPLETION = $(DESTDIR)$(PREFIX)/share/bash-completion/completions
+PAGES = lentsheep.1 lentsheep-calls.5 lentsheep-script.5 lentsheep-site.5
+TOOLS = words with-root link-unit make-site make-calls $(notdir $(wildcard tools/view))
+TREES = tables $(wildcard tools/sites tools/lentsheep)
+
+.PHONY: all install uninstall test FORCE
+
+all: $(PROGRAM)
+
+crates/sandbox_cli/out/sandbox_cli: FORCE
+	LENTSHEEP_PROGRAM= ./sandbox sample 0 >/dev/null
+
+install: $(PROGRAM)
+	mkdir -p $(BIN) $(LIB)/tools $(MAN)/man1 $(MAN)/man5 $(DOC)/docs $(COMPLETION)
+	install -m 755 $(PROGRAM) $(LIB)/program
+	install -m 755 sandbox $(LIB)/sandbox
+	for tool in $(TOOLS); do install -m 755 tools/$$tool $(LIB)/tools/ || exit; done
+	find $(TREES) \( -name __pycache__ -o -name tests \) -prune -o -type f -exec install -D -m 644 {} $(LIB)/{} \;
+	chmod 644 $(LIB)/tools/words
+	ln -sfn ../lib/lentsheep/sandbox $(BIN)/lentsheep
+	for page in $(PAGES); do install -m 644 man/$$page $(MAN)/man$${page##*.}/ || exit; done
+	install -m 644 tools/completion.bash $(COMPLETION)/lentsheep
+	install -m 644 README.md CHANGELOG.md LICENSE-APACHE LICENSE-MIT $(DOC)
+	install -m 644 $(wildcard docs/*.md docs/*.png) $(DOC)/docs
+
+uninstall:
+	rm -rf $(LIB) $(DOC)
+	rm -f $(BIN)/lentsheep $(COMPLETION)/lentsheep
+	for page in $(PAGES); do rm -f $(MAN)/man$${page##*.}/$$page; done
+
+# The quick tests, which need neither the kit nor a proved program; rt ci is the gate.
+test:
+	for test in command sites views docs; do tools/test-$$test || exit; done

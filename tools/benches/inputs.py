@@ -1,0 +1,114 @@
+"""Made inputs: a site of thousands of rows, a unit that speaks of many of them, a hardened unit, and a long script."""
+import os
+import shutil
+
+from benches import CALLS, DEBIAN, POLICY
+
+SYSTEM = "etc/systemd/system"
+# How many folders a large site has, and of them how many the unit speaks of in each of its four ways.
+FOLDERS, SPOKEN_OF = 40, 32
+HARDENED = """\
+[Unit]
+Description=Service
+[Service]
+ExecStart={program}
+User=root
+ProtectSystem=strict
+ProtectHome=yes
+PrivateTmp=yes
+PrivateDevices=yes
+ProtectKernelTunables=yes
+ProtectKernelModules=yes
+ProtectKernelLogs=yes
+ProtectClock=yes
+ProtectControlGroups=yes
+ProtectHostname=yes
+NoNewPrivileges=yes
+RestrictRealtime=yes
+RestrictSUIDSGID=yes
+LockPersonality=yes
+MemoryDenyWriteExecute=yes
+RestrictNamespaces=yes
+RestrictAddressFamilies=AF_UNIX AF_INET AF_INET6
+CapabilityBoundingSet=CAP_NET_BIND_SERVICE
+SystemCallFilter=@system-service
+SystemCallFilter=~@privileged @resources
+SystemCallErrorNumber=EPERM
+ReadWritePaths=-/var/lib/service
+"""
+# What a script does in turns: files, sockets, ids, mounts, forks and plain calls.
+CALLS_IN_TURNS = [
+    "1 openat /etc/passwd 0 0 1", "1 stat {program}", "1 socket 2 1", "1 socket 0x100000011 3",
+    "1 setresuid 0 0 0", "1 mount / /proc 0 0 0 4096", "1 getpid", "1 write 1 0 4096",
+]  # fmt: skip
+SCRIPT_CALLS, FORKS = 16384, 512
+
+
+def write(path, text):
+    """Makes a file with the folders above it."""
+    os.makedirs(os.path.dirname(path), exist_ok=True)
+    with open(path, "w", encoding="utf-8") as file:
+        file.write(text)
+
+
+def large_site(rows):
+    """A site of 40 folders with so many rows in each; every third of these is a program, each 24th with a set-user-id bit."""
+    text = ['dynamic_uid = 61184\nuser = [{ name = "root", uid = 0, gid = 0 }]\ngroup = [{ name = "root", gid = 0 }]\nrow = [\n']
+    for folder in range(FOLDERS):
+        text.append(f'{{ path = "/folder-{folder:02}", kind = "dir" }},\n')
+        for row in range(rows):
+            kind = "file" if row % 3 else "exe"
+            more = "" if row % 24 else ", setuid = 0"
+            text.append(f'{{ path = "/folder-{folder:02}/a-file-with-a-long-name-{row:02}", kind = "{kind}"{more} }},\n')
+    return "".join([*text, "]\n"])
+
+
+def large_unit(rows):
+    """A unit of 128 written paths, 32 of each of four kinds: whole folders, and files in them."""
+    file = "/folder-{:02}/a-file-with-a-long-name-{:02}".format
+    text = [f"[Service]\nExecStart={file(FOLDERS - 1, 3)}\nDynamicUser=yes\nPrivateDevices=yes\nProtectKernelTunables=yes"]
+    text.append("SystemCallFilter=@system-service")
+    for at in range(SPOKEN_OF):
+        text.append(f"ReadOnlyPaths=/folder-{at:02}")
+        text.append(f"ReadWritePaths={file(at, at % rows)}")
+        text.append(f"InaccessiblePaths={file(at, rows - 1 - at % 8)}")
+        text.append(f"BindPaths={file(at, 0)}:{file((at + 1) % (FOLDERS - 2), rows * 4 // 5)}")
+    return "\n".join(text) + "\n"
+
+
+def long_script(program):
+    """A script of as many calls as a script may have."""
+    calls = [CALLS_IN_TURNS[at % len(CALLS_IN_TURNS)].format(program=program) for at in range(SCRIPT_CALLS)]
+    getpid = [at for at, call in enumerate(calls) if call == "1 getpid"]
+    for at in getpid[:FORKS]:
+        calls[at] = "1 fork"
+    return "\n".join(calls) + "\n"
+
+
+def make_large(folder, rows):
+    """A folder with a large site and its unit."""
+    write(f"{folder}/{SYSTEM}/web.service", large_unit(rows))
+    write(f"{folder}/site.toml", large_site(rows))
+    shutil.copy(CALLS, folder)
+
+
+def make_hardened(folder, source=None):
+    """A folder with a hardened unit, a script and a policy, over the tables of a source folder or the small Debian."""
+    os.makedirs(folder)
+    shutil.copy(f"{source}/calls.txt" if source else CALLS, f"{folder}/calls.txt")
+    shutil.copy(f"{source}/site.toml" if source else DEBIAN, f"{folder}/site.toml")
+    program = "/usr/bin/env"
+    with open(f"{folder}/site.toml", encoding="utf-8") as site:
+        if f'"{program}"' not in site.read():
+            program = first_program(f"{folder}/site.toml")
+    write(f"{folder}/{SYSTEM}/web.service", HARDENED.format(program=program))
+    write(f"{folder}/script", long_script(program))
+    shutil.copy(POLICY, f"{folder}/policy.json")
+
+
+def first_program(site):
+    """The path of the first program of a site without a privilege, as make-site writes it."""
+    with open(site, encoding="utf-8") as file:
+        tables = file.read().split("\n\n")
+    plain = [it for it in tables if 'kind = "exe"' in it and "setuid" not in it and "setgid" not in it and "caps" not in it]
+    return plain[0].split('path = "')[1].split('"')[0]

@@ -1,0 +1,65 @@
+"""The commands over made inputs, beside `systemd-analyze security` on the same units, in one table of one run."""
+import os
+import shutil
+import tempfile
+
+from benches import PROGRAM, inputs
+from benches.timing import Timed, in_turns, median
+
+HEAD = ["What", "Status", "Printed", "Fastest", "Median", "Slowest", "Processor", "Memory"]
+
+
+def add_words(parser):
+    """The words of the subcommand."""
+    parser.add_argument("--runs", type=int, default=21, help="how often each is run (21)")
+    parser.add_argument("--rows", type=int, default=50, help="rows in each of the 40 folders of the large site (50)")
+    parser.add_argument("--source", metavar="FOLDER", help="a folder whose calls.txt and site.toml the hardened unit is judged on")
+    parser.add_argument("names", nargs="*", metavar="COMMAND", help="the commands (all where none is given)")
+
+
+def timed_commands(large, hardened):
+    """Each command with its inputs."""
+    rows = [
+        ("start", ["--version"], hardened),
+        ("filter, hardened", ["filter", "web.service"], hardened),
+        ("plan, hardened", ["plan", "web.service"], hardened),
+        ("judge, hardened", ["judge", "web.service"], hardened),
+        ("score, hardened", ["score", "web.service", "policy.json"], hardened),
+        ("replay, 16,384 calls", ["replay", "web.service", "script"], hardened),
+        ("filter, large", ["filter", "web.service"], large),
+        ("plan, large", ["plan", "web.service"], large),
+        ("judge, large", ["judge", "web.service"], large),
+    ]
+    found = [Timed(name, [PROGRAM, *words], folder) for name, words, folder in rows]
+    analyze = shutil.which("systemd-analyze")
+    if analyze:
+        for name, folder in (("hardened", hardened), ("large", large)):
+            words = [analyze, "security", "--offline=true", "--no-pager", f"./{inputs.SYSTEM}/web.service"]
+            found.append(Timed(f"systemd-analyze security, {name}", words, folder))
+    return found
+
+
+def tell(rows):
+    """Prints a table."""
+    widths = [max(len(row[at]) for row in [HEAD, *rows]) for at in range(len(HEAD))]
+    for number, row in enumerate([HEAD, ["-" * width for width in widths], *rows]):
+        cells = [cell.ljust(widths[at]) if at == 0 or number == 0 else cell.rjust(widths[at]) for at, cell in enumerate(row)]
+        print("| " + " | ".join(cells) + " |")
+
+
+def main(found):
+    """Times the commands, and prints the table."""
+    with tempfile.TemporaryDirectory(prefix="bench-") as folder:
+        inputs.make_large(f"{folder}/large", found.rows)
+        inputs.make_hardened(f"{folder}/hardened", found.source and os.path.abspath(found.source))
+        commands = timed_commands(f"{folder}/large", f"{folder}/hardened")
+        if found.names:
+            commands = [it for it in commands if it.name.split(",")[0].split(" ")[0] in found.names]
+        in_turns(commands, found.runs)
+    tell([
+        [it.name, str(it.status), f"{it.printed:,}", *(f"{one:.1f} ms" for one in (min(it.clock), median(it.clock), max(it.clock), median(it.processor))), f"{it.memory:.1f} MB"]
+        for it in commands
+    ])  # fmt: skip
+    if not shutil.which("systemd-analyze"):
+        print("systemd-analyze is not on this machine")
+    return 0

@@ -1,0 +1,47 @@
+# bash completion for lentsheep: commands as its help has them, units of the root, options, files.
+_lentsheep() {
+    local word command='' root='' at current=${COMP_WORDS[COMP_CWORD]} before=${COMP_WORDS[COMP_CWORD - 1]} place
+    COMPREPLY=()
+    case $before in
+        --root | --units)
+            mapfile -t COMPREPLY < <(compgen -d -- "$current")
+            return
+            ;;
+        --calls | --site | --html | --expect | --write)
+            mapfile -t COMPREPLY < <(compgen -f -- "$current")
+            return
+            ;;
+    esac
+    local behind=0
+    for ((at = 1; at < COMP_CWORD; at++)); do
+        word=${COMP_WORDS[at]}
+        case $word in
+            --root | --units) at=$((at + 1)) root=${COMP_WORDS[at]-} ;;
+            --calls | --site | --html | --expect | --write) at=$((at + 1)) ;;
+            -*) ;;
+            *) [ -n "$command" ] && behind=$((behind + 1)) || command=$word ;;
+        esac
+    done
+    local commands
+    commands=$("${COMP_WORDS[0]}" --help 2>/dev/null | awk '/^  [a-z-]+ \[?[A-Z]/ { print $1 }')
+    case $current:$command:$behind in
+        -*) mapfile -t COMPREPLY < <(compgen -W '--root --units --calls --site --fresh --full --brief --json --html --expect --write --compare --help --version' -- "$current") ;;
+        *::*) mapfile -t COMPREPLY < <(compgen -W "$commands" -- "$current") ;;
+        *:sample:* | *:fleet:0) ;;
+        *:0)
+            local units=()
+            for place in etc run usr/lib; do
+                for word in "${root:-.}/$place/systemd/system/"*.service; do
+                    [ ! -e "$word" ] || units+=("${word##*/}")
+                done
+            done
+            mapfile -t COMPREPLY < <(
+                compgen -W "${units[*]}" -- "$current" | sort -u
+                compgen -f -X '!*.service' -- "$current"
+                compgen -d -S / -- "$current"
+            )
+            ;;
+        *) mapfile -t COMPREPLY < <(compgen -f -- "$current") ;;
+    esac
+}
+complete -F _lentsheep lentsheep sandbox ./sandbox

@@ -1,0 +1,225 @@
+"""The verdict on a service in one screen: `brief(view, page)` gives its lines.
+
+Root causes come first, then a table of kinds of questions, files as largest folders, one line for each other kind, blind
+folders, notes, and the partings from systemd that this unit meets.
+"""
+from __future__ import annotations
+
+from dataclasses import dataclass, field
+from typing import Iterable, Sequence
+
+from .causes import Cause, State, causes, closed_by, held_capabilities, state_of, told
+from .notes import ToldNote
+from .partings import Direction, Parting
+from .places import Exceptional, described, is_below
+from .screen import LABEL, Page, braced, counted, covered, parted
+from .table import Table
+from .values import PATH_KINDS, SWITCHES, Launched, LaunchKilled, LaunchPrivileged, LaunchRefused, Plan, Report
+from .words import escaped
+
+#: The columns of the table: a heading, and the kinds of questions that it counts.
+COLUMNS = (
+    *((kind, (kind,)) for kind in (*PATH_KINDS, "call", "socket", "ns")),
+    ("switch", SWITCHES),
+    *((kind, (kind,)) for kind in ("cap", "uid", "gid")),
+)
+#: As many causes are told by themselves.
+MOST_CAUSES = 4
+
+
+@dataclass(frozen=True)
+class View:
+    """What is told of: a report, and beside it what is known of the folder that it was made in."""
+
+    report: Report
+    plan: Plan | None = None
+    table: Table = field(default_factory=Table)
+    notes: Sequence[ToldNote] = ()
+    partings: Sequence[Parting] = ()
+    user_names: dict[int, str] = field(default_factory=dict)
+
+
+def brief(view: View, page: Page) -> list[str]:
+    """The lines of the screen."""
+    report = view.report
+    lines = _head(view, page)
+    if report.answers:
+        lines += ["", *_causes(view, page), "", *_table(report, page), "", *_files(view, page), *_names(view, page)]
+    lines += _blind(report, page) + _notes(view.notes, page) + _partings(view.partings, page)
+    if not report.whole:
+        lines.append(page.line("cut", "the report ends early, so nothing is told of what it does not have"))
+    return lines
+
+
+def _head(view: View, page: Page) -> list[str]:
+    report = view.report
+    if report.refusal:
+        return [page.line("refused", report.refusal.text[len("refused ") :])]
+    counts = report.summary
+    verdict = f"denied {counts.denied}, open {counts.open}" if counts else "no answers"
+    return [page.line("unit", f"{escaped(report.unit)}: {verdict}"), page.line("launched", _launch(view))]
+
+
+def _launch(view: View) -> str:
+    launch = view.report.launch
+    if isinstance(launch, LaunchRefused):
+        return f"no: the kernel refuses step {launch.step} with errno {launch.errno}"
+    if isinstance(launch, LaunchKilled):
+        return f"no: a filter ends it at step {launch.step}"
+    if isinstance(launch, LaunchPrivileged):
+        return f"no: {escaped(launch.program)} has a set-id bit or capabilities"
+    if not isinstance(launch, Launched):
+        return "not told"
+    name = view.user_names.get(launch.uid, "root" if launch.uid == 0 else "")
+    who = f"uid {launch.uid}" + (f" ({name})" if name else "") + f", gid {launch.gid}"
+    held = held_capabilities(view.report)
+    asked = len(view.report.of_kind("cap"))
+    capabilities = f"all {asked} capabilities" if held and len(held) == asked else counted(len(held), "capabilit", "y", "ies")
+    return f"as {who}, with {capabilities}, no_new_privs {'on' if launch.no_new_privs else 'off'}"
+
+
+def _causes(view: View, page: Page) -> list[str]:
+    found = causes(view.report, view.table)
+    if not found:
+        return [page.line("why open", "each open answer needs one call and no privilege, or nothing")]
+    lines = []
+    for cause in found[:MOST_CAUSES]:
+        lines += _cause(cause, view.report, page, "" if lines else "why open")
+    if rest := found[MOST_CAUSES:]:
+        answers = counted(sum(cause.count for cause in rest), "answer")
+        lines.append(page.line("", f"and {counted(len(rest), 'further cause')}, of {answers}"))
+    return lines
+
+
+def _cause(cause: Cause, report: Report, page: Page, label: str) -> list[str]:
+    """A cause, with its kinds and calls where it is the first, or the calls are more than one."""
+    shown = [f"{cause.example.question.text}:", *parted([call.text for call in cause.example.calls], ";")]
+    kinds = ", ".join(f"{kind} {count}" for kind, count in cause.kinds.items())
+    lines = [page.line(label, f"{counted(cause.count, 'answer')}, since {told(cause)}")]
+    if label or len(cause.example.calls) > 1:
+        lines += [page.line("", f"  {kinds}; as"), *page.lines("", shown, 4, "  ")]
+    closing = " or ".join(closed_by(cause, report))
+    return lines + ([page.line("", f"  closed by {closing}")] if closing else [])
+
+
+def _table(report: Report, page: Page) -> list[str]:
+    counts = {state: [0] * len(COLUMNS) for state in State}
+    for at, (_, kinds) in enumerate(COLUMNS):
+        for answer in report.of_kind(*kinds):
+            counts[state_of(answer)][at] += 1
+    opens = [once + steps for once, steps in zip(counts[State.OPEN], counts[State.STEPS])]
+    rows = (("denied", counts[State.DENIED], "green"), ("open", opens, "red"), ("in steps", counts[State.STEPS], "yellow"))
+    headings = [heading for heading, _ in COLUMNS] + ["all"]
+    numbers = [[*row, sum(row)] for _, row, _ in rows]
+    widths = [max(map(len, map(str, column))) + 1 for column in zip(headings, *numbers)]
+    lines = [page.paint(" " * LABEL + "".join(map(str.rjust, headings, widths)), "dim")]
+    for (label, _, style), row in zip(rows, numbers):
+        cells = "".join((str(number) if number else "-").rjust(width) for number, width in zip(row, widths))
+        lines.append(page.paint(label.ljust(LABEL), "bold") + page.paint(cells, style))
+    return lines
+
+
+def _files(view: View, page: Page) -> list[str]:
+    mounts = [mount.place for mount in view.plan.mounts] if view.plan else []
+    parts: dict[str, list[str]] = {}
+    for kind in PATH_KINDS:
+        rows = {answer.question.name: state_of(answer) for answer in view.report.of_kind(kind)}
+        if rows:
+            parts[kind] = _places(*described(rows, mounts))
+    if len(parts) == len(PATH_KINDS) and len(set(map(tuple, parts.values()))) == 1:
+        parts = {"files": parts["see"]}
+    elif "see" in parts and parts["see"] == parts.get("read"):
+        parts = {"see, read": parts.pop("see"), **{kind: told for kind, told in parts.items() if kind != "read"}}
+    return [line for label, told in parts.items() for line in page.lines(label, told)]
+
+
+def _places(whole: State, exceptions: Sequence[Exceptional[State]]) -> list[str]:
+    """How a wish stands: everywhere, and by folders that stand otherwise, in parts that are not broken."""
+    groups: dict[State, list[str]] = {}
+    for told in exceptions:
+        groups.setdefault(told.state, []).append(escaped(told.path) + (" itself" if told.alone else ""))
+    found = [f"{whole.value} everywhere"]
+    for at, (state, paths) in enumerate(groups.items()):
+        listed = parted(braced(paths))
+        found += [f"{'but' if at == 0 else 'and'} {state.value} in {listed[0]}", *listed[1:]]
+    return found
+
+
+def _names(view: View, page: Page) -> list[str]:
+    lines: list[str] = []
+    for label, kinds, groups in (
+        ("calls", ("call",), view.table.groups), ("sockets", ("socket",), {}), ("namespaces", ("ns",), {}),
+        ("switches", SWITCHES, {}), ("caps", ("cap",), {}), ("uids", ("uid",), {}), ("gids", ("gid",), {}),
+    ):  # fmt: skip
+        answers = view.report.of_kind(*kinds)
+        states = {answer.question.name or answer.question.kind: state_of(answer) for answer in answers}
+        if states:
+            lines += page.lines(label, _stands(states, groups), 2)
+    return lines
+
+
+def _stands(states: dict[str, State], groups: dict[str, frozenset[str]]) -> list[str]:
+    """How names stand: the state that would take most words is told first, of all others."""
+    by_state: dict[State, list[str]] = {}
+    for name, state in states.items():
+        by_state.setdefault(state, []).append(name)
+    covers = {state: covered(names, set(states), groups) for state, names in by_state.items()}
+    most = max(covers, key=lambda state: len(covers[state]))
+    if len(by_state) == 1:
+        return [f"{most.value} all {len(states)}"]
+    found = [f"{most.value} {len(by_state[most])}"]
+    for state, names in covers.items():
+        if state != most:
+            found += [f"but {state.value} {len(by_state[state])}:", *names]
+    return found
+
+
+def topmost(folders: Iterable[str]) -> list[str]:
+    """The folders that lie below no other one of them."""
+    found: list[str] = []
+    for folder in sorted(folders):
+        if not any(is_below(folder, other) for other in found):
+            found.append(folder)
+    return found
+
+
+def _blind(report: Report, page: Page) -> list[str]:
+    return page.lines("blind", parted(braced([escaped(folder) for folder in topmost(report.blind)])))
+
+
+def _notes(notes: Sequence[ToldNote], page: Page) -> list[str]:
+    lines: list[str] = []
+    by_themselves = [told for told in notes if told.is_unknown or told.note.cause != "unjudged"]
+    for told in sorted(by_themselves, key=lambda told: not told.nearest)[:6]:
+        cause = "no key of systemd" if told.is_unknown else told.note.cause
+        meant = f" ({told.nearest}= is meant?)" if told.nearest else ""
+        place = f"{escaped(told.note.file.rpartition('/')[2])}:{told.note.line}"
+        lines.append(page.line("note", f"{place} {cause}{meant}: {told.text}"))
+    if len(by_themselves) > 6:
+        lines.append(page.line("", f"and {counted(len(by_themselves) - 6, 'more line')} that cannot be read"))
+    rest = [told for told in notes if told not in by_themselves]
+    if rest:
+        keys = list(dict.fromkeys(told.key for told in rest if told.key))
+        lines += page.lines("not judged", [counted(len(rest), "line") + ":" * bool(keys), *keys], 2)
+    return lines
+
+
+_DIRECTIONS = {
+    Direction.DENIED_HERE: "systemd opens what is denied here:",
+    Direction.OPEN_HERE: "systemd denies what is open here:",
+    Direction.EITHER: "systemd parts either way:",
+}
+
+
+def _partings(found: Sequence[Parting], page: Page) -> list[str]:
+    lines: list[str] = []
+    for direction, text in _DIRECTIONS.items():
+        names = [_parting_name(parting) for parting in found if parting.direction == direction]
+        if names:
+            lines += page.lines("" if lines else "partings", [text, *parted(names)])
+    return lines
+
+
+def _parting_name(parting: Parting) -> str:
+    keys = [f"{key}=" for key in parting.keys]
+    return f"{parting.name} ({' '.join(keys[:2])}{' ..' if len(keys) > 2 else ''})" if keys else parting.name

@@ -1,0 +1,127 @@
+"""Expectations of a report: `denied write /etc/shadow`, `open write /var/lib/web`, `blind /srv`, `exposure <= 40`.
+
+Lines are those of a report; `#` begins a comment. A path with files below it stands for all of them.
+"""
+from __future__ import annotations
+
+import re
+from dataclasses import dataclass
+from typing import Sequence
+
+from .places import is_below
+from .report import read_question
+from .values import PATH_KINDS, Answer, Question, Report
+from .words import escaped, unescaped
+
+_EXPOSURE = re.compile(r"exposure(?: ([^ ]+))? <= ([0-9]{1,3})")
+
+
+class Fault(Exception):
+    """A line that is no expectation."""
+
+
+@dataclass(frozen=True)
+class Expectation:
+    """A line: an answer, a blind folder, or the most that the exposure may be."""
+
+    line: int
+    text: str
+    question: Question | None = None
+    is_open: bool = False
+    blind: str | None = None
+    most: int | None = None
+    policy: str | None = None
+
+
+def read_expectations(text: str) -> list[Expectation]:
+    """The expectations of a file. Raises a fault with the number of the first line that is none."""
+    found = []
+    for number, line in enumerate(text.split("\n"), 1):
+        line = " ".join(re.sub(r"(^|\s)#.*", "", line).split())
+        if line:
+            found.append(_expectation(number, line))
+    return found
+
+
+def _expectation(number: int, line: str) -> Expectation:
+    first, _, rest = line.partition(" ")
+    question = read_question(rest) if first in ("open", "denied") else None
+    if question:
+        return Expectation(number, line, question, first == "open")
+    if first == "blind" and rest.startswith("/") and " " not in rest:
+        return Expectation(number, line, blind=unescaped(rest))
+    if found := _EXPOSURE.fullmatch(line):
+        return Expectation(number, line, most=int(found[2]), policy=found[1] and unescaped(found[1]))
+    raise Fault(f"line {number} is no expectation: {line}")
+
+
+def rows_for(expectations: Sequence[Expectation], report: Report) -> list[tuple[str, str]]:
+    """Rows, each a path and its kind, that a site needs so that each path that is expected something of is asked of.
+
+    A path that is not there becomes a file, or a program where it is to be run; a folder without files gets one below it.
+    """
+    folders = {answer.question.name for answer in report.of_kind("read")}
+    asked = {(answer.question.kind, answer.question.name) for answer in report.of_kind(*PATH_KINDS)}
+    files = {name for kind, name in asked if kind in ("write", "exec")}
+    wanted: dict[str, str] = {}
+    for expectation in expectations:
+        question = expectation.question
+        if question is None or question.kind not in PATH_KINDS or _members(question, asked):
+            continue
+        kind = "exe" if question.kind == "exec" else "file"
+        path = question.name if question.name not in folders else f"{question.name.rstrip('/')}/.lentsheep-expects-{kind}"
+        if question.name not in files:
+            wanted[path] = kind
+    return [*_parents(wanted, folders), *wanted.items()]
+
+
+def _parents(paths: dict[str, str], folders: set[str]) -> list[tuple[str, str]]:
+    """The folders above these paths that are not there, each behind its parent."""
+    found: set[str] = set()
+    for path in paths:
+        parent = path.rpartition("/")[0]
+        while parent and parent not in folders:
+            found.add(parent)
+            parent = parent.rpartition("/")[0]
+    return [(folder, "dir") for folder in sorted(found)]
+
+
+def _members(question: Question, asked: set[tuple[str, str]]) -> list[str]:
+    """The rows of a path and below it of which the question is asked."""
+    if (question.kind, question.name) in asked:
+        return [question.name]
+    return [name for kind, name in asked if kind == question.kind and is_below(name, question.name)]
+
+
+def failures(expectation: Expectation, report: Report) -> list[str]:
+    """Lines that say why an expectation of a report does not hold; none where it holds."""
+    if expectation.blind is not None:
+        if any(is_below(expectation.blind, folder) for folder in report.blind):
+            return []
+        return [_shown(answer) for answer in _seen_below(expectation.blind, report)] or ["it is not blind"]
+    question = expectation.question
+    assert question is not None
+    answers = [answer for answer in report.of_kind(question.kind) if answer.question.name == question.name]
+    if not answers and question.kind in PATH_KINDS:
+        answers = [answer for answer in report.of_kind(question.kind) if is_below(answer.question.name, question.name)]
+    if not answers:
+        return ["the report does not ask this"]
+    return [_shown(answer) for answer in answers if answer.is_open != expectation.is_open][:3]
+
+
+def _seen_below(folder: str, report: Report) -> list[Answer]:
+    """An answer that shows something at or below a folder."""
+    open_ones = [answer for answer in report.of_kind("see", "read") if answer.is_open]
+    return [answer for answer in open_ones if is_below(answer.question.name, folder)][:1]
+
+
+def _shown(answer: Answer) -> str:
+    """An answer with its calls."""
+    calls = "".join(f"\n    {call.text}" for call in answer.calls)
+    return f"{answer.verdict} {answer.question.text}{calls}"
+
+
+def baseline(report: Report) -> str:
+    """A report's own denied lines and blind folders, as a file of expectations."""
+    denied = [f"denied {answer.question.text}" for answer in report.answers if not answer.is_open]
+    return "\n".join([f"# what {escaped(report.unit)} is denied", *denied, *(f"blind {escaped(it)}" for it in report.blind), ""])

@@ -1,0 +1,24 @@
+"""Puts together what views tell of: a run of `judge`, and what the folder that it read says besides."""
+from __future__ import annotations
+
+from .brief import View
+from .notes import told_notes
+from .partings import files_in_force, partings
+from .program import Program, Run
+from .site_text import user_names
+from .table import read_table
+from .values import Plan, Report
+
+def view_of(program: Program, run: Run) -> View:
+    """What is told of a report."""
+    report = run.printed
+    assert isinstance(report, Report)
+    if not report.answers:
+        plan = None
+    else:
+        planned = program.run("plan", *run.words[1:]).printed
+        plan = planned if isinstance(planned, Plan) else None
+    unit = run.words[1] if len(run.words) > 1 else ""
+    files = files_in_force(program.folder, unit)
+    names = user_names((program.read("site.toml") or b"").decode("utf-8", "replace"))
+    return View(report, plan, read_table(program.folder), told_notes(report.notes, files), partings(files), names)

@@ -1,0 +1,37 @@
+"""The table of system calls, as far as views tell its names: groups, and capabilities that calls and families ask for."""
+from __future__ import annotations
+
+from dataclasses import dataclass, field
+from pathlib import Path
+
+
+@dataclass(frozen=True)
+class Table:
+    """What a calls.txt says of names. An empty one stands where the file is not there."""
+
+    #: the calls of each group, groups within it taken apart
+    groups: dict[str, frozenset[str]] = field(default_factory=dict)
+    #: the capability that a call or family asks for
+    capabilities: dict[str, str] = field(default_factory=dict)
+    #: families by their numbers
+    families: dict[int, str] = field(default_factory=dict)
+
+
+def read_table(folder: str) -> Table:
+    """The table of a folder that the program reads."""
+    try:
+        text = Path(folder, "calls.txt").read_text("utf-8", "replace")
+    except OSError:
+        return Table()
+    table = Table()
+    for line in text.split("\n"):
+        words = line.split()
+        if words[:1] == ["group"] and len(words) > 2:
+            members = [table.groups.get(word, frozenset([word])) for word in words[2:]]
+            table.groups[words[1]] = frozenset().union(*members)
+        elif words[:1] in (["call"], ["family"]) and len(words) > 2:
+            if len(words) == 4:
+                table.capabilities[words[1]] = words[3]
+            if words[0] == "family" and words[2].isdecimal():
+                table.families[int(words[2])] = words[1]
+    return table

@@ -1,0 +1,245 @@
+"""Tests the reader of printed texts: each printed form, refused and cut texts, and what no rule reads."""
+import sys
+import unittest
+from pathlib import Path
+
+TOP = Path(__file__).resolve().parents[3]
+sys.path.insert(0, str(TOP / "tools"))
+
+from lentsheep import values
+from lentsheep.calls import Call, read_call
+from lentsheep.report import parse, read_question
+from lentsheep.values import (
+    Answer, CallData, Counts, FleetRow, Launched, LaunchKilled, LaunchPrivileged, LaunchRefused, Mount, Note, Question, Refusal,
+    ScoreTest,
+)  # fmt: skip
+from lentsheep.words import escaped, unescaped
+
+JUDGED = """\
+unit a%20b.service
+note etc/systemd/system/web%25.service 6 unjudged
+note etc/systemd/system/web.service 7 no-equals
+launched uid 33 gid 34 nnp yes steps 56
+open see /
+  1 stat /
+denied write /etc/a%0Ab
+open exec /usr/bin/su
+  1 mount / /proc 0 0 0 4096
+  1 execve /proc/usr/bin/su
+open call read
+  1 read
+open socket AF_INET
+  1 i386:socketcall 2 1
+denied ns user
+open map-wx
+  1 mmap 0 0 6
+open cap CAP_SYS_ADMIN
+open gid 4
+  1 setgroups [1,4]
+blind /home
+blind /tmp/a%20b
+summary denied 2 open 7
+"""
+
+
+def call(text, name, payload=(), args=(), abi=None, pid=1):
+    """A call with its text."""
+    return Call(pid, name, abi, payload, args, text)
+
+
+class Words(unittest.TestCase):
+    """Escaped words."""
+
+    def test_both_ways(self):
+        # the bytes up to 0x20, 0x7f and % are escaped; others, as those of an accented letter, stand as they are
+        for text, word in [("a b", "a%20b"), ("100%", "100%25"), ("\n\x7f", "%0A%7F"), ("/\u00e9\u2028", "/\u00e9\u2028"), ("", "")]:
+            self.assertEqual(word, escaped(text))
+            self.assertEqual(text, unescaped(word))
+
+    def test_what_is_no_escape(self):
+        self.assertEqual(["%", "%g0", " /", "\udcff"], [unescaped(word) for word in ("%", "%g0", "%20/", "%ff")])
+
+
+class Calls(unittest.TestCase):
+    """Lines of scripts."""
+
+    def test_forms(self):
+        for text, wanted in [
+            ("1 open /var/lib/web/db 0 1", call("1 open /var/lib/web/db 0 1", "open", ("/var/lib/web/db",), (0, 1))),
+            ("1 open /a%20b", call("1 open /a%20b", "open", ("/a b",))),
+            ("2 mount / /proc 0 0 0 0x1000", call("2 mount / /proc 0 0 0 0x1000", "mount", ("/", "/proc"), (0, 0, 0, 4096), pid=2)),
+            ("1 capset 1 2 3", call("1 capset 1 2 3", "capset", ("1", "2", "3"))),
+            ("1 setgroups []", call("1 setgroups []", "setgroups", ("[]",))),
+            ("1 seccomp - 1", call("1 seccomp - 1", "seccomp", ("-",), (1,))),
+            ("1 #999 7", call("1 #999 7", "#999", (), (7,))),
+            ("1 i386:#102 1", call("1 i386:#102 1", "#102", (), (1,), "i386")),
+            ("1 i386:socketcall 2 1", call("1 i386:socketcall 2 1", "socketcall", ("2",), (1,), "i386")),
+            ("1 read 18446744073709551615", call("1 read 18446744073709551615", "read", (), (2**64 - 1,))),
+        ]:
+            self.assertEqual(wanted, read_call(text), text)
+
+    def test_what_is_none(self):
+        for text in ["", "1", "x read", "1 open", "1 read 1 2 3 4 5 6 7", "1 read x", "1 mount /", "1  read", "1 re%20ad"]:
+            self.assertIsNone(read_call(text), text)
+
+
+class Judge(unittest.TestCase):
+    """The report."""
+
+    def test_whole(self):
+        report = parse(JUDGED)
+        self.assertEqual((True, (), None), (report.whole, report.unread, report.refusal))
+        self.assertEqual("a b.service", report.unit)
+        notes = (
+            Note("etc/systemd/system/web%.service", 6, "unjudged"), Note("etc/systemd/system/web.service", 7, "no-equals"),
+        )  # fmt: skip
+        self.assertEqual(notes, report.notes)
+        self.assertEqual(Launched(33, 34, True, 56), report.launch)
+        self.assertEqual(Counts(2, 7), report.summary)
+        self.assertEqual(("/home", "/tmp/a b"), report.blind)
+        answers = (
+            Answer(Question("see", "/"), True, (call("1 stat /", "stat", ("/",)),)),
+            Answer(Question("write", "/etc/a\nb"), False),
+            Answer(
+                Question("exec", "/usr/bin/su"), True,
+                (
+                    call("1 mount / /proc 0 0 0 4096", "mount", ("/", "/proc"), (0, 0, 0, 4096)),
+                    call("1 execve /proc/usr/bin/su", "execve", ("/proc/usr/bin/su",)),
+                ),
+            ),
+            Answer(Question("call", "read"), True, (call("1 read", "read"),)),
+            Answer(Question("socket", "AF_INET"), True, (call("1 i386:socketcall 2 1", "socketcall", ("2",), (1,), "i386"),)),
+            Answer(Question("ns", "user"), False),
+            Answer(Question("map-wx"), True, (call("1 mmap 0 0 6", "mmap", (), (0, 0, 6)),)),
+            Answer(Question("cap", "CAP_SYS_ADMIN"), True),
+            Answer(Question("gid", "4"), True, (call("1 setgroups [1,4]", "setgroups", ("[1,4]",)),)),
+        )  # fmt: skip
+        self.assertEqual(answers, report.answers)
+        self.assertEqual(["denied", "open"], [answers[1].verdict, answers[0].verdict])
+
+    def test_launches_that_are_not_made(self):
+        for line, launch in [
+            ("launch refused step 51 errno 2", LaunchRefused(51, 2)), ("launch killed step 5", LaunchKilled(5)),
+            ("launch privileged /usr/bin/a%20b", LaunchPrivileged("/usr/bin/a b")),
+        ]:  # fmt: skip
+            report = parse(f"unit web.service\n{line}\n")
+            self.assertEqual((launch, True, (), None), (report.launch, report.whole, report.answers, report.summary))
+
+    def test_cut_texts(self):
+        # a text is cut anywhere: what was printed whole is read, the rest is not there, and it is not whole
+        answers = parse(JUDGED).answers
+        for at in range(len(JUDGED)):
+            report = parse(JUDGED[:at], "judge")
+            self.assertFalse(report.whole, at)
+            self.assertEqual((), report.unread, at)
+            told = [(answer.question, answer.is_open) for answer in report.answers]
+            self.assertEqual([(answer.question, answer.is_open) for answer in answers[: len(told)]], told)
+        report = parse("unit web.service\nopen read /etc\n  1 open /e", "judge")
+        self.assertEqual((Answer(Question("read", "/etc"), True),), report.answers)
+
+    def test_bytes_that_are_no_text(self):
+        report = parse(b"unit web.service\ndenied see /\xff\n", "judge")
+        self.assertEqual("/\udcff", report.answers[0].question.name)
+
+    def test_lines_end_in_line_feeds_alone(self):
+        report = parse("denied see /a\u2028b\x85c\n", "judge")
+        self.assertEqual(("/a\u2028b\x85c", ()), (report.answers[0].question.name, report.unread))
+
+    def test_unread(self):
+        for line in ["  1 read", "open see", "open uid x", "denied see /a /b", "opened see /", "blind", "summary denied 1", "", "x"]:
+            self.assertEqual((line,), parse(f"unit web.service\n{line}\n").unread)
+
+    def test_questions_read_back(self):
+        for text in ["see /a%20b", "map-wx", "suid-bit", "uid 0", "cap CAP_CHOWN", "ns mnt", "socket AF_UNIX"]:
+            self.assertEqual(text, read_question(text).text)
+        for text in ["", "see", "map-wx 1", "uid", "gid -1", "look /"]:
+            self.assertIsNone(read_question(text))
+
+
+class Others(unittest.TestCase):
+    """The texts of the other commands."""
+
+    def test_plan(self):
+        text = "mount / host / ro exec\nmount /a%20b host /c rw noexec\nmount /tmp empty rw exec\nmount /x hidden\nmounts 4\n"
+        plan = parse(text)
+        mounts = (
+            Mount("/", "host", "/", False, True), Mount("/a b", "host", "/c", True, False),
+            Mount("/tmp", "empty", None, True, True), Mount("/x", "hidden"),
+        )  # fmt: skip
+        self.assertEqual((mounts, 4, True, ()), (plan.mounts, plan.count, plan.whole, plan.unread))
+        self.assertFalse(parse(text[:-1]).whole)
+        self.assertEqual(("mount /x hidden ro exec",), parse("mount /x hidden ro exec\nmounts 1\n").unread)
+
+    def test_filter(self):
+        # code 0x20, the word at 4; code 0x15 jumps 7 and 0, with 0xc000003e; the second program is that of another ABI
+        text = "filter calls 2\n2000000004000000\n150007003e0000c0\nfilter calls 1\n060000000000ff7f\nfilters 2\n"
+        filters = parse(text)
+        self.assertEqual([("calls", 2, 0), ("calls", 1, 1)], [(it.name, it.length, it.abi) for it in filters.filters])
+        jump = filters.filters[0].program[1]
+        self.assertEqual((0x15, 7, 0, 0xC000003E, "150007003e0000c0"), (jump.code, jump.jt, jump.jf, jump.k, jump.text))
+        self.assertEqual((2, True), (filters.count, filters.whole))
+        self.assertEqual((0, True), (parse("filters 0\n").count, parse("filters 0\n").whole))
+
+    def test_replay(self):
+        replay = parse("launched uid 0 gid 0 nnp no steps 2\n1 open /a -> ok 3\n1 #9 -> errno 38\n2 exit -> killed\ncalls 3\n")
+        self.assertEqual([("ok", 3), ("errno", 38), ("killed", None)], [(it.outcome, it.value) for it in replay.replies])
+        self.assertEqual((3, True, Launched(0, 0, False, 2)), (replay.count, replay.whole, replay.launch))
+        # a path may have the arrow in it, but no space
+        self.assertEqual(("/->",), parse("1 open /-> -> ok 3\n", "replay").replies[0].call.payload)
+        self.assertTrue(parse("launch killed step 5\n").whole)
+
+    def test_score(self):
+        score = parse("test A%20 badness 1 range 2 weight 3 term 2\nskip B\nexposure 38 threshold 100\n")
+        self.assertEqual((ScoreTest("A ", 1, 2, 3, 2), ScoreTest("B")), score.tests)
+        self.assertEqual((38, 100, True, True), (score.exposure, score.threshold, score.whole, score.tests[1].skipped))
+
+    def test_sample(self):
+        sample = parse("sample 7\nrows 1045\nquestions 3531\ndenied 1\nopen 3530\n")
+        told = (sample.number, sample.rows, sample.questions, sample.denied, sample.open, sample.whole)
+        self.assertEqual((7, 1045, 3531, 1, 3530, True), told)
+
+    def test_check(self):
+        self.assertEqual((7, None), (parse("same paths 7\n").paths, parse("same paths 7\n").differs))
+        text = "differs nr 39 arch 3221225534 ip 0 args 0 0 0 0 0 9 theirs 2147483648 ours 2147418112\n"
+        wanted = CallData(39, 0xC000003E, 0, (0, 0, 0, 0, 0, 9), 0x80000000, 0x7FFF0000)
+        self.assertEqual(wanted, parse(text).differs)
+
+    def test_fleet(self):
+        fleet = parse("unit a.service exposure 100\nrefused d.service masked\nunits 2 refused 1\n")
+        wanted = (FleetRow("a.service", 100), FleetRow("d.service", None, Refusal("d.service", ("masked",))))
+        self.assertEqual((wanted, 2, 1, True), (fleet.rows, fleet.units, fleet.refused, fleet.whole))
+        self.assertEqual(0, parse("units 0 refused 0\n").units)
+
+    def test_tighten(self):
+        text = "add PrivateTmp=yes\nadd CapabilityBoundingSet=\nbefore denied 1 open 131\nafter denied 84 open 48\nitems 2\n"
+        tighten = parse(text)
+        self.assertEqual(("PrivateTmp=yes", "CapabilityBoundingSet="), tighten.items)
+        self.assertEqual((Counts(1, 131), Counts(84, 48), 2), (tighten.before, tighten.after, tighten.count))
+
+    def test_derive(self):
+        derive = parse("[Service]\nSystemCallFilter=\nSystemCallFilter=@default read\n")
+        self.assertEqual(("[Service]", "SystemCallFilter=", "SystemCallFilter=@default read"), derive.lines)
+        self.assertEqual((True, ()), (derive.whole, derive.unread))
+
+    def test_refusals(self):
+        for text, what, cause in [
+            ("refused words", "words", ()), ("refused a%20b bad-name", "a b", ("bad-name",)),
+            ("refused etc/a.service line 1 header", "etc/a.service", ("line", "1", "header")),
+            ("refused web.service no-path /no%20pe", "web.service", ("no-path", "/no pe")),
+        ]:  # fmt: skip
+            for command in ("judge", "plan", "filter", "replay", "score", "check", "fleet", "tighten", "derive", "what", None):
+                found = parse(f"{text}\n", command)
+                self.assertEqual((Refusal(what, cause), True, ()), (found.refusal, found.whole, found.unread))
+            self.assertEqual(text, found.refusal.text)
+            self.assertIsNone(parse(text).refusal, "cut")
+
+    def test_empty_texts(self):
+        # a read that failed prints nothing
+        for command in ("judge", "plan", "filter", "replay", "score", "sample", "check", "fleet", "tighten"):
+            found = parse("", command)
+            self.assertEqual((command, False, None), (found.command, found.whole, found.refusal))
+        self.assertIsInstance(parse(b"\x00\xff\n"), values.Unknown)
+
+
+if __name__ == "__main__":
+    unittest.main()

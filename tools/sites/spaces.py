@@ -1,0 +1,24 @@
+"""How many user namespaces the kernel of a root makes: user_namespaces(7), namespaces(7), and sysctl/kernel of Debian."""
+
+MOST = 64
+LIMIT = b"/proc/sys/user/max_user_namespaces"
+SWITCH = b"/proc/sys/kernel/unprivileged_userns_clone"
+
+
+def number(root, path):
+    """The number that a file of the root holds, or None where it holds none or cannot be read."""
+    try:
+        return int(root.read(path))
+    except (OSError, ValueError):
+        return None
+
+
+def user_namespaces(root, told):
+    """The kernel's limit, at most what a site may say; None where the root does not show its kernel, as one that does not run."""
+    limit = number(root, LIMIT)
+    if limit is None:
+        told.add("without user namespaces, since the root does not show how many its kernel makes", LIMIT)
+        return None
+    if number(root, SWITCH) == 0:
+        return 0
+    return max(0, min(limit, MOST))
