@@ -1,5 +1,5 @@
 // The table of system calls, as contracts and callers see it.
-ghost use Rattle.std.specs.Prelude.{◌≡◌, ◌<◌, ◌≤◌, None, map, find, length, option_and_then};
+ghost use Rattle.std.specs.Prelude.{◌≡◌, ◌<◌, ◌≤◌, ◌^◌, None, map, find, length, option_and_then, slice_get};
 ghost use Rattle.std.specs.Option.{option_map, option_copied};
 ghost use Rattle.call_table.specs.Lookups.{named, numbered, place_named, group_named};
 ghost use Rattle.call_table.specs.ByNumber.{AscendsByNumber};
@@ -153,6 +153,27 @@ impl CallTable {
         }
     }
 
+    // The architecture of the second ABI, or 0.
+    fn second_arch(&self) -> u32
+        ensures { result ≡ arch_of self.now 1 }
+    {
+        match &self.lists.second {
+            Some(second) => second.arch,
+            None => 0,
+        }
+    }
+
+    /// What holds of every table: it is whole, and its architectures are words of 32 bits. It does nothing.
+    pub fn look_at(&self)
+        ensures whole { IsWhole self.now }
+        ensures native { self.now.arch < 2 ^ 32 }
+        ensures second { arch_of self.now 1 < 2 ^ 32 }
+    {
+        let _abis = self.abis();
+        let _native = self.arch();
+        let _second = self.second_arch();
+    }
+
     // The calls of the ABI at this position, from 0, where there is one.
     fn lines_in(&self, abi: u8) -> Option<&CallLines>
         ensures lists { lines_seen result ≡ calls_in self.now abi }
@@ -173,6 +194,19 @@ impl CallTable {
         ensures of_the_abi { AreOf abi (calls_in self.now abi) }
     {
         lines_of(self.lines_in(abi))
+    }
+
+    /// The call at this position among all calls, from 0: those of the native ABI come first.
+    #[tactic(auto, using(crate::proofs::AllCalls::front_call, crate::proofs::AllCalls::back_call))]
+    pub fn call_at(&self, at: usize) -> Option<&CallLine>
+        ensures by_position { option_copied result ≡ slice_get (every_call self.now) at }
+    {
+        let native = self.calls();
+        if at < native.len() {
+            native.get(at)
+        } else {
+            self.calls_in(1).get(at - native.len())
+        }
     }
 
     /// The numbers of the calls of an ABI with their positions in `calls_in`, ascending by number.

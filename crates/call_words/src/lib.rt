@@ -8,7 +8,7 @@ ghost use Rattle.std.specs.Prelude.{◌≡◌, ◌++◌, OnOk, option_map, slice
 ghost use Rattle.call_table.specs.Table.{every_call};
 ghost use Rattle.call_words.specs.Words.{last_cut, has_abi_name, named_abi, abi_word, place_of_abi, spelled, IsReadBack};
 
-use call_table::{CallLine, CallTable};
+use call_table::CallTable;
 use std::alloc::AllocError;
 
 fn last_cut(word: &str) -> Option<(&str, &str)>
@@ -48,22 +48,11 @@ pub fn spelled<'a>(table: &CallTable, word: &'a str) -> Option<(u8, &'a str)>
     }
 }
 
-fn call_at(table: &CallTable, place: usize) -> Option<&CallLine>
-    ensures { option_map (λ call. call.now) result ≡ slice_get (every_call table.now) place }
-{
-    let native = table.calls();
-    if place < native.len() {
-        native.get(place)
-    } else {
-        table.calls_in(1).get(place - native.len())
-    }
-}
-
 /// The name of the call at a position among all calls, from 0: those of the native ABI come first.
 pub fn name_at(table: &CallTable, place: usize) -> Option<&str>
     ensures by_position { option_map (λ name. name.now) result ≡ option_map (λ call. call.name) (slice_get (every_call table.now) place) }
 {
-    Some(call_at(table, place)?.name.as_str())
+    Some(table.call_at(place)?.name.as_str())
 }
 
 fn push_second(out: &mut Vec<u8>, table: &CallTable) -> Result<(), AllocError>

@@ -17,7 +17,7 @@ use call_table::CallLine;
 use ceilings::{CallKind, Ceiling, can_make_user, lets, plain_line};
 use kernel_model::World;
 use linux_numbers::capabilities::CAP_SYS_ADMIN;
-use questions::{NamespaceType, call_at};
+use questions::NamespaceType;
 
 // Whether the capability, if one is asked for, can become effective.
 fn can_have_cap(top: &Ceiling, cap: Option<u8>) -> bool
@@ -50,7 +50,7 @@ pub(crate) fn is_call_open(world: &World<'_>, top: &Ceiling, at: usize) -> bool
     requires { IsCeilingOf (launch_of world.now) top.now }
     ensures { let launch = launch_of world.now in result ≡ open_at launch (power_of launch) (ceiling launch) (Call at) }
 {
-    match call_at(world.call_table(), at) {
+    match world.call_table().call_at(at) {
         None => false,
         Some(line) => is_called(world, line) && can_have_for(top, line),
     }

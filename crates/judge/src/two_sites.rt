@@ -1,8 +1,6 @@
 //! What lies below a folder that a launched service is blind to, the service cannot tell.
 
-ghost use Rattle.std.specs.Prelude.{◌≡◌, ◌<◌, ◌^◌, Ok, Some};
-ghost use Rattle.call_table.specs.Facts.{IsWhole};
-ghost use Rattle.call_table.specs.Table.{arch_of};
+ghost use Rattle.std.specs.Prelude.{◌≡◌, Ok, Some};
 ghost use Rattle.exec_settings.specs.AreSettings.{AreSettings};
 ghost use Rattle.exec_settings.specs.declared.service.Settings.{Settings};
 ghost use Rattle.kern_mounts.specs.Launch.{CanBeMounted};
@@ -25,28 +23,7 @@ use dropin_merge::Resolved;
 use launcher::FilterProgram;
 use site_table::SiteTable;
 
-// The architecture of the second ABI, or 0.
-fn second_arch(table: &CallTable) -> u32
-    ensures { result ≡ arch_of table.now 1 }
-{
-    if table.abis() == 2 {
-        table.arch_of(1)
-    } else {
-        0
-    }
-}
-
-// What holds of every table and of every site; their parts are lent with it.
-fn know_table(table: &CallTable)
-    ensures whole { IsWhole table.now }
-    ensures native { table.now.arch < 2 ^ 32 }
-    ensures second { arch_of table.now 1 < 2 ^ 32 }
-{
-    let _abis = table.abis();
-    let _native = table.arch();
-    let _second = second_arch(table);
-}
-
+// What holds of every site; its parts are lent with it.
 fn know_site(site: &SiteTable)
     ensures { IsSite site.now }
 {
@@ -77,6 +54,6 @@ pub fn alike(
         → IsBlind service.world folder.now → AgreeForUnit folder.now unit.now site.now other.now
         → IsAlike unit.now calls.now other.now settings plan service }
 {
-    know_table(calls);
+    calls.look_at();
     know_site(site);
 }

@@ -118,11 +118,3 @@ word_archs table own other (suc (suc abi)) = by table.second refl
     by : (o : Option Abi) → table.second ≡ o → option_map_or (λ found. found.arch) (slice_get (option_to_list table.second) (suc abi)) 0 < 2 ^ 32
     by None e = subst (λ (s : Option Abi). option_map_or (λ found. found.arch) (slice_get (option_to_list s) (suc abi)) 0 < 2 ^ 32) (sym e) (omega arith)
     by (Some second) e = subst (λ (s : Option Abi). option_map_or (λ found. found.arch) (slice_get (option_to_list s) (suc abi)) 0 < 2 ^ 32) (sym e) (omega arith)
-
--- a table of one ABI has no second architecture
-pub no_second_arch : (table : Table) → (length (abis table) == 2) ≡ false → 0 ≡ arch_of table 1
-no_second_arch table differs = by table.second refl
-  where
-    by : (o : Option Abi) → table.second ≡ o → 0 ≡ option_map_or (λ found. found.arch) (slice_get (option_to_list table.second) 0) 0
-    by None e = sym (ap (λ (s : Option Abi). option_map_or (λ found. found.arch) (slice_get (option_to_list s) 0) 0) e)
-    by (Some second) e = let two = sym differs ∙ ap (λ (s : Option Abi). length (native table ∷ option_to_list s) == 2) e in cc

@@ -1,8 +1,7 @@
 //! The launch of a service.
 
-ghost use Rattle.std.specs.Prelude.{◌≡◌, ◌+◌, ◌<◌, ◌≤◌, ◌^◌, ◌++◌, length, IfOk};
+ghost use Rattle.std.specs.Prelude.{◌+◌, ◌≤◌, ◌++◌, length, IfOk};
 ghost use Rattle.call_table.specs.Facts.{IsWhole};
-ghost use Rattle.call_table.specs.Table.{arch_of};
 ghost use Rattle.kern_mounts.specs.Launch.{CanBeMounted};
 ghost use Rattle.mount_plan.specs.Host.{host_of};
 ghost use Rattle.dropin_merge.specs.declared.resolved.Resolved.{Resolved};
@@ -27,31 +26,6 @@ use kern_mounts::MountStep;
 use kernel_model::World;
 use site_table::SiteTable;
 use std::alloc::Global;
-
-// The architecture of the second ABI, or 0.
-fn second_arch(table: &CallTable) -> u32
-    ensures { result ≡ arch_of table.now 1 }
-{
-    if table.abis() == 2 {
-        table.arch_of(1)
-    } else {
-        0
-    }
-}
-
-// The facts of every table, which its lists are lent with.
-fn look_at(table: &CallTable)
-    ensures whole { IsWhole table.now }
-    ensures native { table.now.arch < 2 ^ 32 }
-    ensures second { arch_of table.now 1 < 2 ^ 32 }
-{
-    let _abis = table.abis();
-    let _native = table.arch();
-    let _second = second_arch(table);
-    let _calls = table.calls();
-    let _families = table.families();
-    let _groups = table.groups();
-}
 
 // Makes the steps of a launch in the world that a kernel starts with, and counts them.
 fn make_steps(
@@ -93,7 +67,7 @@ pub fn launch<'a>(
     ensures is_a_launched_world { (unit : Resolved) → AreSettings unit calls.now site.now settings.now
         → IfOk result (λ launched. IsLaunchedWorld launched.world) }
 {
-    look_at(calls);
+    calls.look_at();
     if is_privileged(plan, site, &settings.program) {
         return Err(LaunchError::PrivilegedProgram(settings.program.copy(alloc)?));
     }

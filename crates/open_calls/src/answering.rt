@@ -27,14 +27,14 @@ use kernel_calls::{Call, Payload, Rule};
 use kernel_model::World;
 use launcher::Launched;
 use linux_numbers::capabilities::CAP_SYS_ADMIN;
-use questions::{NamespaceType, Question, call_at};
+use questions::{NamespaceType, Question};
 use std::alloc::{AllocError, Global};
 
 // The call of this number.
 fn listed_call<'a>(world: &'a World<'_>, at: usize) -> Option<&'a CallLine>
     ensures { option_copied result ≡ slice_get (every_call (launch_of world.now).calls) at }
 {
-    call_at(world.call_table(), at)
+    world.call_table().call_at(at)
 }
 
 // The family of this number.

@@ -15,4 +15,3 @@ pub use all::questions;
 pub use filter_rules::NamespaceType;
 pub use question::Question;
 pub use reach_paths::Wish;
-pub use tables::call_at;

@@ -1,6 +1,6 @@
 //! The questions of the rows of a site, and of the calls and families of a table.
 
-ghost use Rattle.std.specs.Prelude.{◌≡◌, ◌++◌, ◌&&◌, false, length, map, option_copied, slice_get, OnOk};
+ghost use Rattle.std.specs.Prelude.{◌≡◌, ◌++◌, ◌&&◌, false, length, map, slice_get, OnOk};
 ghost use Rattle.std.specs.Option.{option_map_or};
 ghost use Rattle.call_table.specs.Members.{is_first};
 ghost use Rattle.call_table.specs.Table.{every_call};
@@ -49,19 +49,6 @@ fn is_plain(line: &CallLine) -> bool
     !is_known(line.name.as_str())
 }
 
-/// The line of a call by its number in the table's list of all calls: those of the native ABI come first.
-#[tactic(auto, using(crate::proofs::AllCalls::front_call, crate::proofs::AllCalls::back_call))]
-pub fn call_at(table: &CallTable, at: usize) -> Option<&CallLine>
-    ensures by_position { option_copied result ≡ slice_get (every_call table.now) at }
-{
-    let native = table.calls();
-    if at < native.len() {
-        native.get(at)
-    } else {
-        table.calls_in(1).get(at - native.len())
-    }
-}
-
 // How many calls there are, in all ABIs.
 #[tactic(auto, using(crate::proofs::AllCalls::count_all))]
 fn count_calls(table: &CallTable) -> usize
@@ -85,7 +72,7 @@ fn is_asked(table: &CallTable, at: usize) -> bool
     ensures { let every = every_call table.now in
         result ≡ option_map_or (λ line. is_plain (rule_of line) && is_first every line.name at) (slice_get every at) false }
 {
-    match call_at(table, at) {
+    match table.call_at(at) {
         Some(line) => is_plain(line) && is_first(table, at, line),
         None => false,
     }

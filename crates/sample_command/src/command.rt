@@ -12,7 +12,6 @@ use judge_command::truths;
 use plain_launch::launches_end_well;
 use sample_inputs::made;
 use std::alloc::Global;
-use unit_launch::look_at;
 
 /// Prepares `sample` and a number from 0 to 999: makes the inputs, settles, plans and launches the unit, asks every question of the
 /// service, and counts the answers. It reads nothing, and refuses nothing.
@@ -28,7 +27,7 @@ pub fn prepare(alloc: Global, number: u32) -> Result<Sampled, Stop>
     launches_end_well();
     let inputs = made(alloc, number)?;
     let settings = settle(alloc, &inputs)?;
-    look_at(&inputs.calls);
+    inputs.calls.look_at();
     let plan = plan_sample(alloc, &settings.mentions, &inputs.site)?;
     let counts = judge_sample(alloc, number, &settings, plan.list(), &inputs)?;
     Ok(counts)

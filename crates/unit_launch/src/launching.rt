@@ -1,11 +1,8 @@
 //! The launch of a unit.
-ghost use Rattle.std.specs.Prelude.{◌≡◌, ◌<◌, ◌^◌, IfOk};
-ghost use Rattle.call_table.specs.Facts.{IsWhole};
-ghost use Rattle.call_table.specs.Table.{arch_of};
+ghost use Rattle.std.specs.Prelude.{IfOk};
 ghost use Rattle.dropin_merge.specs.declared.resolved.Resolved.{Resolved};
 ghost use Rattle.exec_settings.specs.AreSettings.{AreSettings};
 ghost use Rattle.kern_mounts.specs.Launch.{CanBeMounted};
-ghost use Rattle.launcher.specs.Alike.{HasWordArchs};
 ghost use Rattle.mount_plan.specs.Host.{host_of};
 ghost use Rattle.unit_launch.specs.Launching.{ComesTo};
 
@@ -26,35 +23,6 @@ pub enum UnitLaunch<'a> {
     Refused(LaunchRefusal),
 }
 
-// The architecture of the second ABI, or 0.
-fn second_arch(table: &CallTable) -> u32
-    ensures { result ≡ arch_of table.now 1 }
-{
-    if table.abis() == 2 {
-        table.arch_of(1)
-    } else {
-        0
-    }
-}
-
-// The architectures of a table are words.
-fn look_at_archs(table: &CallTable)
-    ensures native { table.now.arch < 2 ^ 32 }
-    ensures second { arch_of table.now 1 < 2 ^ 32 }
-{
-    let _native = table.arch();
-    let _second = second_arch(table);
-}
-
-/// The facts of every table of calls, which its lists are lent with. It does nothing.
-pub fn look_at(table: &CallTable)
-    ensures whole { IsWhole table.now }
-    ensures archs { HasWordArchs table.now }
-{
-    let _abis = table.abis();
-    look_at_archs(table);
-}
-
 /// Launches a unit with these settings and this plan of its mounts, over the table of calls and the site that they are by.
 pub fn launch_unit<'a>(
     alloc: Global,
@@ -70,7 +38,7 @@ pub fn launch_unit<'a>(
     // What holds of each site and each path is said by the calls that lend their parts.
     let _uid = site.dynamic_uid();
     let _program = settings.program.text();
-    look_at(calls);
+    calls.look_at();
     match launch(alloc, settings, plan, calls, site) {
         Ok(service) => Ok(UnitLaunch::Launched(service)),
         Err(LaunchError::PrivilegedProgram(program)) => {

@@ -10,6 +10,6 @@ mod launching;
 mod refusal;
 mod telling;
 
-pub use launching::{UnitLaunch, launch_unit, look_at};
+pub use launching::{UnitLaunch, launch_unit};
 pub use refusal::{LaunchRefusal, refusal_line};
 pub use telling::told;

@@ -8,8 +8,8 @@ returns c = record {
   to_what_is_blind = λ settings plan service are kept path planned mounts launches filters blind agree.
       blind_to_others c.args.folder.now c.args.unit.now c.args.calls.now c.args.site.now c.args.other.now settings plan service
       (record {
-        whole = c.know_table.ensures.whole;
-        arch = word_archs c.args.calls.now c.know_table.ensures.native c.know_table.ensures.second;
+        whole = c.look_at.ensures.whole;
+        arch = word_archs c.args.calls.now c.look_at.ensures.native c.look_at.ensures.second;
         is_site = c.know_site.ensures;
         settings = are;
         mentions = kept;

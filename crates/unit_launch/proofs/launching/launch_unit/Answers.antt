@@ -1,6 +1,7 @@
 use Rattle.std.proofs.Common.{ap, subst, List, ℕ, length, ◌≤◌}
 use Rattle.kernel_laws.specs.Launched.{Launch}
 use Rattle.launcher.proofs.Conditions.{settings_can_be_launched}
+use Rattle.launcher.proofs.TwoAbis.{word_archs}
 use Rattle.unit_launch.proofs.OtherPrograms.{whichever}
 use Rattle.unit_launch.proofs.Served.{served, runs_program}
 use Rattle.unit_launch.proofs.launching.launch_unit.Goals as goal
@@ -12,6 +13,7 @@ launch-requires-clause-settings c =
 pub returns-in-Ok : goal.returns-in-Ok
 returns-in-Ok c =
     let table = c.args.calls.now in
+    let archs = word_archs table c.look_at.ensures.native c.look_at.ensures.second in
     let service = c.in-Ok.service in
     let left = c.in-Ok.ensures.leaves_one_process in
     record {
@@ -20,12 +22,12 @@ returns-in-Ok c =
         leaves_one_process = left;
         is_a_launched_world = c.in-Ok.ensures.is_a_launched_world c.requires.settings.0 c.requires.settings.1;
         whichever_programs =
-            whichever table c.args.site.now c.args.settings.now c.args.plan.now service c.look_at.ensures.archs c.requires.settings.0 c.look_at.ensures.whole c.dynamic_uid-uid.ensures.holds_of_each_site c.requires.plan c.requires.settings.1
+            whichever table c.args.site.now c.args.settings.now c.args.plan.now service archs c.requires.settings.0 c.look_at.ensures.whole c.dynamic_uid-uid.ensures.holds_of_each_site c.requires.plan c.requires.settings.1
             c.in-Ok.ensures.ends_as_its_steps_do (ap (λ (launch : Launch). launch.calls) left.leaves.is);
         is_served =
-            served c.requires.settings.0 table c.args.site.now c.args.settings.now c.args.plan.now service c.look_at.ensures.whole c.look_at.ensures.archs c.dynamic_uid-uid.ensures.holds_of_each_site c.requires.plan c.requires.settings.1 c.in-Ok.ensures.ends_as_its_steps_do;
+            served c.requires.settings.0 table c.args.site.now c.args.settings.now c.args.plan.now service c.look_at.ensures.whole archs c.dynamic_uid-uid.ensures.holds_of_each_site c.requires.plan c.requires.settings.1 c.in-Ok.ensures.ends_as_its_steps_do;
         runs_its_program =
-            runs_program c.requires.settings.0 table c.args.site.now c.args.settings.now c.args.plan.now service c.look_at.ensures.whole c.look_at.ensures.archs c.dynamic_uid-uid.ensures.holds_of_each_site c.requires.plan c.requires.settings.1 c.in-Ok.ensures.ends_as_its_steps_do
+            runs_program c.requires.settings.0 table c.args.site.now c.args.settings.now c.args.plan.now service c.look_at.ensures.whole archs c.dynamic_uid-uid.ensures.holds_of_each_site c.requires.plan c.requires.settings.1 c.in-Ok.ensures.ends_as_its_steps_do
             (record { normal = c.text-program.ensures.normal; short = subst (λ (text : List ℕ). length text ≤ 512) c.text-program.ensures.whole c.text-program.ensures.short });
       };
     }
