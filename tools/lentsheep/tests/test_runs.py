@@ -281,7 +281,7 @@ class Runs(unittest.TestCase):
             self.assertEqual((True, [], words), (found["whole"], found["unread"], found["words"]))
 
     def test_json_has_all_that_was_printed(self):
-        for example, unit in (("hardened", "web.service"), ("replay", "web.service"), ("first", "web.service")):
+        for example, unit in (("hardened", "web.service"), ("replay", "web.service"), ("first", "web.service"), ("ssh", "ssh.service")):
             printed = judged(EXAMPLES / example, unit).decode()
             found = json.loads(run(EXAMPLES / example, "--json", "judge", unit)[1])
             lines = []
@@ -289,6 +289,11 @@ class Runs(unittest.TestCase):
                 lines += [f"{answer['verdict']} {answer['question']}", *(f"  {call['text']}" for call in answer["calls"])]
             kept = [line for line in printed.splitlines() if line.startswith(("open ", "denied ", "  "))]
             self.assertEqual(kept, lines)
+            # kinds add up to the summary, and the screen tells the same
+            sums = [sum(kind[verdict] for kind in found["result"]["kinds"].values()) for verdict in ("denied", "open")]
+            screen = run(EXAMPLES / example, "--brief", "judge", unit)[1].splitlines()
+            self.assertEqual(printed.splitlines()[-1], f"summary denied {sums[0]} open {sums[1]}")
+            self.assertEqual(screen[0], f"unit        {unit}: denied {sums[0]}, open {sums[1]}")
 
     def test_expectations(self):
         hardened = EXAMPLES / "hardened"
