@@ -16,16 +16,16 @@ from .program import POLICY, TOP, Program, Run
 from .report import parse
 from .screen import Page
 from .site_text import with_rows
-from .terminal import Paint, show, wants_colour, width_of, write
+from .terminal import COMMAND, NAME, Paint, show, wants_colour, width_of, write
 from .values import Filters, Report, Score
 
-HELP = """\
-usage: ./sandbox [--root DIR ..] --brief judge UNIT          the verdict in one screen
-       ./sandbox [--root DIR ..] --json COMMAND UNIT ..      all that a command prints, as JSON (docs/JSON.md)
-       ./sandbox [--root DIR ..] --html FILE judge UNIT      a page that stands by itself
-       ./sandbox [--root DIR ..] --expect FILE judge UNIT    what does not hold of what FILE expects of the report
-       ./sandbox [--root DIR ..] --write FILE judge UNIT     writes what the unit is denied into FILE, for --expect
-       ./sandbox --compare OLD NEW                           what opened and closed between two reports
+HELP = f"""\
+usage: {COMMAND} [--root DIR ..] --brief judge UNIT          the verdict in one screen
+       {COMMAND} [--root DIR ..] --json COMMAND UNIT ..      all that a command prints, as JSON (docs/JSON.md)
+       {COMMAND} [--root DIR ..] --html FILE judge UNIT      a page that stands by itself
+       {COMMAND} [--root DIR ..] --expect FILE judge UNIT    what does not hold of what FILE expects of the report
+       {COMMAND} [--root DIR ..] --write FILE judge UNIT     writes what the unit is denied into FILE, for --expect
+       {COMMAND} --compare OLD NEW                           what opened and closed between two reports
 
 A line of FILE is one of a report, as `denied write /etc/shadow`, `open write /var/lib/web` and `blind /srv`, or
 `exposure <= 40`; `#` begins a comment. OLD and NEW are texts of judge.
@@ -44,7 +44,7 @@ def main(words: Sequence[str]) -> int:
     try:
         return _run(list(words))
     except Wrong as wrong:
-        print(f"sandbox: {wrong}", file=sys.stderr)
+        print(f"{NAME}: {wrong}", file=sys.stderr)
         return 2
     except BrokenPipeError:
         os.dup2(os.open(os.devnull, os.O_WRONLY), sys.stdout.fileno())
@@ -72,7 +72,7 @@ def _run(words: list[str]) -> int:
         if len(rest) < 2:
             raise Wrong(f"{option} needs a file and a command behind it")
         return _VIEWS_WITH_FILE[option](program, rest[0], _command(option, rest[1:]))
-    raise Wrong(f"no word {option} (./sandbox --brief --help tells the words)")
+    raise Wrong(f"no word {option} ({COMMAND} --brief --help tells the words)")
 
 
 def _command(option: str, words: list[str]) -> list[str]:

@@ -8,7 +8,13 @@ import shutil
 import subprocess
 import sys
 import threading
+from pathlib import Path
 from typing import Iterator, TextIO
+
+#: How the command is called, in a checkout and where it is installed.
+COMMAND = "./sandbox" if (Path(__file__).resolve().parents[2] / "crates.txt").is_file() else "lentsheep"
+#: The same, before what it tells.
+NAME = COMMAND.removeprefix("./")
 
 _CODES = {"bold": "1", "dim": "2", "red": "31", "green": "32", "yellow": "33"}
 
@@ -70,7 +76,7 @@ def doing(what: str) -> Iterator[None]:
         seconds = 0
         while not done.wait(1):
             seconds += 1
-            print(f"\r\x1b[Ksandbox: {what} .. {seconds} s", end="", file=sys.stderr, flush=True)
+            print(f"\r\x1b[K{NAME}: {what} .. {seconds} s", end="", file=sys.stderr, flush=True)
         if seconds:
             print("\r\x1b[K", end="", file=sys.stderr, flush=True)
 
