@@ -3,7 +3,7 @@ use Rattle.std.specs.Prelude.{List, [], ◌∷◌, ℕ, ◌≤◌, nat_le, codes
 use Rattle.std.specs.Str.{bytes_eq}
 use Rattle.text_forms.specs.Numbers.{decimal_value}
 use Rattle.top_call.specs.declared.request.Request.{Request as Code}
-use Rattle.top_call.specs.declared.request.Request.TheVariants.{Help, Version, Filter, Plan, Judge, Replay, Score, Sample}
+use Rattle.top_call.specs.declared.request.Request.TheVariants.{Help, Version, Filter, Plan, Judge, Replay, Score, Check, Sample}
 
 -- what is asked for
 pub data Request : Type 0 where
@@ -14,6 +14,7 @@ pub data Request : Type 0 where
   JudgeOf : (unit : List ℕ) → Request
   ReplayOf : (unit script : List ℕ) → Request
   ScoreOf : (unit policy : List ℕ) (threshold : ℕ) → Request
+  CheckOf : (unit filter path : List ℕ) → Request
   SampleOf : (number : ℕ) → Request
 
 -- a word by itself
@@ -40,10 +41,11 @@ request_with word unit path =
     cond (bytes_eq word (codes "replay")) (Some (ReplayOf unit path))
     (cond (bytes_eq word (codes "score")) (Some (ScoreOf unit path 100)) None)
 
--- a word, a unit, the path of a policy and a threshold, 0 to 100
+-- a word, a unit, the path of a policy and a threshold, 0 to 100; or a word, a unit, the name of a filter and the path of a file
 abbrev pub request_above : List ℕ → List ℕ → List ℕ → List ℕ → Option Request
-request_above word unit policy text =
-    cond (bytes_eq word (codes "score")) (option_map (λ threshold. ScoreOf unit policy threshold) (number_to text 100)) None
+request_above word unit what last =
+    cond (bytes_eq word (codes "score")) (option_map (λ threshold. ScoreOf unit what threshold) (number_to last 100))
+    (cond (bytes_eq word (codes "check")) (Some (CheckOf unit what last)) None)
 
 -- all other words are no command
 abbrev pub request_in : List (List ℕ) → Option Request
@@ -51,8 +53,8 @@ request_in [] = None
 request_in (word ∷ []) = request_alone word
 request_in (word ∷ unit ∷ []) = request_on word unit
 request_in (word ∷ unit ∷ path ∷ []) = request_with word unit path
-request_in (word ∷ unit ∷ path ∷ text ∷ []) = request_above word unit path text
-request_in (word ∷ unit ∷ path ∷ text ∷ more ∷ words) = None
+request_in (word ∷ unit ∷ what ∷ last ∷ []) = request_above word unit what last
+request_in (word ∷ unit ∷ what ∷ last ∷ more ∷ words) = None
 
 -- a request of the code, as contracts see it
 abbrev pub request_of : Code → Request
@@ -63,6 +65,7 @@ request_of (Plan unit) = PlanOf unit.now
 request_of (Judge unit) = JudgeOf unit.now
 request_of (Replay unit script) = ReplayOf unit.now script.now
 request_of (Score unit policy threshold) = ScoreOf unit.now policy.now threshold
+request_of (Check unit filter path) = CheckOf unit.now filter.now path.now
 request_of (Sample number) = SampleOf number
 
 -- the number of a made input is at most 999
@@ -74,4 +77,5 @@ IsNumbered (Plan unit) = Unit {0}
 IsNumbered (Judge unit) = Unit {0}
 IsNumbered (Replay unit script) = Unit {0}
 IsNumbered (Score unit policy threshold) = Unit {0}
+IsNumbered (Check unit filter path) = Unit {0}
 IsNumbered (Sample number) = number ≤ 999

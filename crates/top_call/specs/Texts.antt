@@ -20,7 +20,7 @@ abbrev pub help_lines : List (List ℕ)
 help_lines =
     codes "Lentsheep judges the sandbox of a systemd service without starting it." ∷
     [] ∷
-    codes "usage: lentsheep COMMAND UNIT [FILE [THRESHOLD]]" ∷
+    codes "usage: lentsheep COMMAND UNIT [NAME] [FILE [THRESHOLD]]" ∷
     [] ∷
     codes "  filter UNIT    print the compiled seccomp filters of the unit" ∷
     codes "  plan UNIT      print the mounts that give the service its view of files" ∷
@@ -30,6 +30,8 @@ help_lines =
     codes "                 launch it, make the calls of SCRIPT, print what each comes to" ∷
     codes "  score UNIT POLICY [THRESHOLD]" ∷
     codes "                 weigh what its sandbox leaves open, 0 to 100 in all" ∷
+    codes "  check UNIT NAME FILE" ∷
+    codes "                 tell whether a filter from elsewhere decides every call as NAME does" ∷
     codes "  sample N       judge a made input of the number N, 0 to 999, and print counts" ∷
     codes "  --help         print this text" ∷
     codes "  --version      print the name and the version" ∷
@@ -42,6 +44,7 @@ help_lines =
     codes "  site.toml      the files, the users and the groups of the host" ∷
     codes "  SCRIPT         calls to replay, one a line: PID NAME [PAYLOAD] [NUMBER ..]" ∷
     codes "  POLICY         what tests of the sandbox weigh, as JSON" ∷
+    codes "  FILE           a filter, 16 lower-case hex digits a line; NAME is one of the unit" ∷
     [] ∷
     codes "The status says how it ended:" ∷
     [] ∷
@@ -53,6 +56,7 @@ help_lines =
     codes "  5  a write failed, and the text was cut" ∷
     codes "  6  memory ran out, and the text was cut" ∷
     codes "  7  the launch of judge or replay is refused" ∷
+    codes "  8  the filters of check differ, and the line says where" ∷
     [] ∷
     codes "lentsheep --root / COMMAND UNIT judges a service of this machine; --root --help says more." ∷
     codes "The manual is lentsheep(1). In a checkout the command is ./sandbox, and the manual README.md." ∷

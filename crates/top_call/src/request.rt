@@ -22,6 +22,8 @@ pub enum Request<'a> {
     Replay(&'a str, &'a str),
     /// The exposure of a unit, the first, by a policy, the second, and the threshold that it is held against.
     Score(&'a str, &'a str, u32),
+    /// Whether the program of a file, the third, decides every call as a filter, the second, of a unit, the first.
+    Check(&'a str, &'a str, &'a str),
     /// How much of the made input of a number, 0 to 999, is denied.
     Sample(u32),
 }
@@ -95,18 +97,19 @@ fn request_with<'a>(word: &str, unit: &'a str, path: &'a str) -> Option<Request<
     }
 }
 
-// The request of a word about a unit, a file and a threshold.
+// The request of a word about a unit, a file and a threshold, or about a unit, a filter and a file.
 fn request_above<'a>(
     word: &str,
     unit: &'a str,
-    path: &'a str,
-    threshold: &str,
+    what: &'a str,
+    last: &'a str,
 ) -> Option<Request<'a>>
-    ensures request { option_map request_of result ≡ request_above word.now unit.now path.now threshold.now }
+    ensures request { option_map request_of result ≡ request_above word.now unit.now what.now last.now }
     ensures numbered { IfSome result IsNumbered }
 {
     match word {
-        "score" => Some(Request::Score(unit, path, threshold_of(threshold)?)),
+        "score" => Some(Request::Score(unit, what, threshold_of(last)?)),
+        "check" => Some(Request::Check(unit, what, last)),
         _ => None,
     }
 }
@@ -120,7 +123,7 @@ pub fn parse<'a>(words: &[&'a str]) -> Option<Request<'a>>
         [word] => request_alone(word),
         [word, unit] => request_on(word, unit),
         [word, unit, path] => request_with(word, unit, path),
-        [word, unit, path, threshold] => request_above(word, unit, path, threshold),
+        [word, unit, what, last] => request_above(word, unit, what, last),
         _ => None,
     }
 }

@@ -41,6 +41,11 @@ fn answer_request<S: Shelf, K: Sink>(
             score_command::prepare(alloc, shelf, unit, policy, threshold, tests),
             out,
         ),
+        Request::Check(unit, name, path) => finish(
+            alloc,
+            check_command::prepare(alloc, shelf, unit, name, path),
+            out,
+        ),
         Request::Sample(number) => finish(alloc, sample_command::prepare(alloc, number), out),
     }
 }
@@ -68,7 +73,7 @@ fn answer<S: Shelf, K: Sink>(
 /// Does what the words ask for: prepares it over the shelf, and prints it to the sink.
 ///
 /// The words are those behind the program's name, and the tests those that a score may ask beside the settings. The status
-/// says how it ended: with 0, 1, 2, 3 and 7 a whole text was printed, with 4 nothing, and with 5 and 6 a prefix of one.
+/// says how it ended: with 0, 1, 2, 3, 7 and 8 a whole text was printed, with 4 nothing, and with 5 and 6 a prefix of one.
 pub fn run<S: Shelf, K: Sink>(
     alloc: Global,
     words: &[&str],

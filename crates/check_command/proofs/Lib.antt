@@ -1,0 +1,8 @@
+pub mod Telling
+pub mod Joined
+pub mod Named
+pub mod Once
+pub mod OneReading
+pub mod OneAnswer
+pub mod Steps
+pub mod Together

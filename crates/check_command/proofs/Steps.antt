@@ -1,0 +1,78 @@
+-- What is read for a comparison, and the first refusal.
+use Rattle.std.proofs.Common.{◌≡◌, ℕ, List, Option, Some, None, Result, Ok, Err, refl, sym, subst}
+use Rattle.std.specs.Prelude.{IfSome}
+use Rattle.host_io.specs.Files.{Files}
+use Rattle.bpf_code.specs.declared.machine.Insn.{Insn}
+use Rattle.command_answers.specs.Stops.{Prepares, first_refusal}
+use Rattle.command_answers.specs.declared.stop.Stop.{Stop}
+use Rattle.command_answers.specs.declared.stop.Stop.TheVariants as stop
+use Rattle.unit_inputs.specs.FileRefusals.{bytes_in}
+use Rattle.unit_inputs.specs.Inputs.{input_refusals, inputs_of, inputs_view}
+use Rattle.unit_inputs.specs.declared.inputs.UnitInputs.{UnitInputs}
+use Rattle.unit_settings.specs.Settled.{refusals_of}
+use Rattle.unit_settings.specs.declared.settling.SettledUnit.{SettledUnit}
+use Rattle.check_command.specs.Prepared.{AreReady, IsPrepared, a_setting, an_input, the_file}
+use Rattle.check_command.specs.Programs.{IsProgramIn, IsProgramOf, no_file, of_file}
+use Rattle.check_command.specs.Said.{IsSaid}
+
+-- the inputs are read
+abbrev pub AreRead : Files → List ℕ → UnitInputs → Type 0
+AreRead files unit inputs = (first_refusal (input_refusals files unit) ≡ None) × (inputs_of files unit ≡ Some (inputs_view inputs))
+
+-- an input is refused
+input_stops : (P : UnitInputs → Type 0) (files : Files) (unit path : List ℕ) (why : Stop) → Prepares P (input_refusals files unit) (Err why) → IsPrepared files unit path (Err why)
+input_stops P files unit path (stop.Refused line) said = an_input line.items said
+input_stops P files unit path stop.ReadFault said = tt
+input_stops P files unit path stop.Memory said = tt
+
+pub stops_at_inputs : (P : Files → UnitInputs → Type 0) (told : Option Files) (unit path : List ℕ) (why : Stop) → IfSome told (λ files. Prepares (P files) (input_refusals files unit) (Err why)) → IfSome told (λ files. IsPrepared files unit path (Err why))
+stops_at_inputs P None unit path why said = tt
+stops_at_inputs P (Some files) unit path why said = input_stops (P files) files unit path why said
+
+-- the file is refused
+file_stops : (files : Files) (unit path : List ℕ) (inputs : UnitInputs) (why : Stop) → AreRead files unit inputs → IsSaid {T = List Insn} (λ program. program) (IsProgramIn files path) (Err why) → IsPrepared files unit path (Err why)
+file_stops files unit path inputs (stop.Refused line) read said = the_file line.items (inputs_view inputs) read.1 said
+file_stops files unit path inputs stop.ReadFault read said = tt
+file_stops files unit path inputs stop.Memory read said = tt
+
+pub stops_at_file : (told now : Option Files) (unit path : List ℕ) (inputs : UnitInputs) (why : Stop) → now ≡ told
+    → IfSome told (λ files. AreRead files unit inputs)
+    → IfSome now (λ files. IsSaid {T = List Insn} (λ program. program) (IsProgramIn files path) (Err why))
+    → IfSome told (λ files. IsPrepared files unit path (Err why))
+stops_at_file None now unit path inputs why same read said = tt
+stops_at_file (Some files) now unit path inputs why same read said =
+    file_stops files unit path inputs why read (subst (λ own. IfSome own (λ files. IsSaid {T = List Insn} (λ program. program) (IsProgramIn files path) (Err why))) same said)
+
+-- the program that was read
+pub program_read : (told now : Option Files) (path : List ℕ) (code : List Insn) → now ≡ told
+    → IfSome now (λ files. IsSaid (λ (program : List Insn). program) (IsProgramIn files path) (Ok code)) → IfSome told (λ files. IsProgramIn files path (Ok code))
+program_read None now path code same said = tt
+program_read (Some files) now path code same said = subst (λ own. IfSome own (λ files. IsSaid (λ (program : List Insn). program) (IsProgramIn files path) (Ok code))) same said
+
+-- a setting is refused
+setting_stops : (P : SettledUnit → Type 0) (files : Files) (unit path : List ℕ) (inputs : UnitInputs) (code : List Insn) (why : Stop) → AreRead files unit inputs → IsProgramIn files path (Ok code)
+    → Prepares P (refusals_of unit (inputs_view inputs)) (Err why) → IsPrepared files unit path (Err why)
+setting_stops P files unit path inputs code (stop.Refused line) read program said = a_setting line.items (inputs_view inputs) code read.1 program said
+setting_stops P files unit path inputs code stop.ReadFault read program said = tt
+setting_stops P files unit path inputs code stop.Memory read program said = tt
+
+pub stops_at_settings : (P : SettledUnit → Type 0) (told : Option Files) (unit path : List ℕ) (inputs : UnitInputs) (code : List Insn) (why : Stop)
+    → IfSome told (λ files. AreRead files unit inputs) → IfSome told (λ files. IsProgramIn files path (Ok code))
+    → Prepares P (refusals_of unit (inputs_view inputs)) (Err why) → IfSome told (λ files. IsPrepared files unit path (Err why))
+stops_at_settings P None unit path inputs code why read program said = tt
+stops_at_settings P (Some files) unit path inputs code why read program said = setting_stops P files unit path inputs code why read program said
+
+-- nothing is refused
+pub is_prepared : (told : Option Files) (unit path : List ℕ) (inputs : UnitInputs) (code : List Insn) (one : SettledUnit) → one.inputs ≡ inputs
+    → first_refusal (refusals_of unit (inputs_view inputs)) ≡ None
+    → IfSome told (λ files. AreRead files unit inputs) → IfSome told (λ files. IsProgramIn files path (Ok code))
+    → IfSome told (λ files. IsPrepared files unit path (Ok (record { unit = one; program = code })))
+is_prepared None unit path inputs code one same none read program = tt
+is_prepared (Some files) unit path inputs code one same none read program =
+    subst (λ own. AreReady files unit path (inputs_view own) code) (sym same) (record { inputs_are = read.1; program_is = program; settings_stand = none })
+
+-- the bytes of the file are not there
+missing_stops : (files : Files) (path : List ℕ) (why : Stop) → IsSaid {T = List ℕ} (λ bytes. bytes) (λ said. bytes_in files path ≡ said) (Err why) → IsSaid {T = List Insn} (λ program. program) (IsProgramIn files path) (Err why)
+missing_stops files path (stop.Refused line) said = no_file line.items said
+missing_stops files path stop.ReadFault said = tt
+missing_stops files path stop.Memory said = tt

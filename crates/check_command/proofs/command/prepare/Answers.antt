@@ -1,0 +1,20 @@
+use Rattle.command_answers.specs.Laws.{IsAdmitted}
+use Rattle.command_answers.proofs.FileCommands.{at_stop}
+use Rattle.unit_inputs.proofs.Reading.{read_then}
+use Rattle.check_command.specs.Checked.{checked_text, ending_of}
+use Rattle.check_command.specs.Prints.{check_laws}
+use Rattle.check_command.proofs.Together.{compared_as, stops_before}
+use Rattle.check_command.proofs.command.prepare.Goals as goal
+
+pub returns-in_err-prepared-clause-prepares : goal.returns-in_err-prepared-clause-prepares
+returns-in_err-prepared-clause-prepares g c =
+    at_stop (IsAdmitted (check_laws (g.S.Shelf.told c.args.shelf.now) c.args.unit.now c.args.name.now c.args.path.now) ending_of checked_text) c.from_residual.result c.in_err-prepared.field-0.0 c.from_residual.ensures.1
+    (stops_before c.args.unit.now c.args.name.now c.args.path.now (g.S.Shelf.told c.args.shelf.now) c.in_err-prepared.field-0.0 c.in_err-prepared.ensures.prepares)
+
+pub returns-clause-prepares : goal.returns-clause-prepares
+returns-clause-prepares g c =
+    compared_as c.args.unit.now c.args.name.now c.args.path.now c.in_ok-prepared.prepared (g.S.Shelf.told c.args.shelf.now) c.compare.result c.in_ok-prepared.ensures.prepares c.compare.ensures.compares
+
+pub returns-clause-reads_for_the_unit : goal.returns-clause-reads_for_the_unit
+returns-clause-reads_for_the_unit g c =
+    read_then g.S.Shelf.told g.S.Shelf.faults c.args.unit.now _ _ c.in_ok-prepared.prepared c.in_ok-prepared.ensures.reads_for_the_unit c.compare.result c.compare.ensures.reads_nothing

@@ -1,0 +1,33 @@
+use Rattle.std.proofs.Common.{◌≡◌, Some}
+use Rattle.std.specs.Prelude.{IfSome}
+use Rattle.command_answers.proofs.FileCommands.{at_stop}
+use Rattle.unit_inputs.specs.Inputs.{inputs_of, inputs_view}
+use Rattle.unit_settings.specs.Settled.{AreSettled}
+use Rattle.check_command.specs.Prepared.{IsPrepared}
+use Rattle.check_command.proofs.Steps.{is_prepared, program_read, stops_at_file, stops_at_inputs, stops_at_settings}
+use Rattle.check_command.proofs.preparing.read_all.Goals as goal
+
+pub returns-in_err-inputs-clause-prepares : goal.returns-in_err-inputs-clause-prepares
+returns-in_err-inputs-clause-prepares g c =
+    at_stop (λ result. IfSome (g.S.Shelf.told c.args.shelf.now) (λ files. IsPrepared files c.args.unit.now c.args.path.now result)) c.from_residual.result c.in_err-inputs.field-0.0 c.from_residual.ensures.1
+    (stops_at_inputs (λ files inputs. inputs_of files c.args.unit.now ≡ Some (inputs_view inputs)) (g.S.Shelf.told c.args.shelf.now) c.args.unit.now c.args.path.now c.in_err-inputs.field-0.0 c.in_err-inputs.ensures.reads_by_the_files)
+
+pub returns-in_err-made-clause-prepares : goal.returns-in_err-made-clause-prepares
+returns-in_err-made-clause-prepares g c =
+    at_stop (λ result. IfSome (g.S.Shelf.told c.args.shelf.now) (λ files. IsPrepared files c.args.unit.now c.args.path.now result)) c.from_residual-in_err-made.result c.in_err-made.field-0.0 c.from_residual-in_err-made.ensures.1
+    (stops_at_file (g.S.Shelf.told c.args.shelf.now) (g.S.Shelf.told c.read_inputs.new.shelf) c.args.unit.now c.args.path.now c.in_ok-inputs.inputs c.in_err-made.field-0.0
+    c.in_ok-inputs.ensures.reads_for_the_unit.map_stays c.in_ok-inputs.ensures.reads_by_the_files c.in_err-made.ensures.reads_the_program)
+
+pub returns-in_err-one-clause-prepares : goal.returns-in_err-one-clause-prepares
+returns-in_err-one-clause-prepares g c =
+    at_stop (λ result. IfSome (g.S.Shelf.told c.args.shelf.now) (λ files. IsPrepared files c.args.unit.now c.args.path.now result)) c.from_residual-in_err-one.result c.in_err-one.field-0.0 c.from_residual-in_err-one.ensures.1
+    (stops_at_settings (λ one. (one.inputs ≡ c.in_ok-inputs.inputs) × AreSettled (inputs_view c.in_ok-inputs.inputs) one.settings.value) (g.S.Shelf.told c.args.shelf.now) c.args.unit.now c.args.path.now c.in_ok-inputs.inputs c.in_ok-made.made c.in_err-one.field-0.0
+    c.in_ok-inputs.ensures.reads_by_the_files
+    (program_read (g.S.Shelf.told c.args.shelf.now) (g.S.Shelf.told c.read_inputs.new.shelf) c.args.path.now c.in_ok-made.made c.in_ok-inputs.ensures.reads_for_the_unit.map_stays c.in_ok-made.ensures.reads_the_program)
+    c.in_err-one.ensures.settles)
+
+pub returns-clause-prepares : goal.returns-clause-prepares
+returns-clause-prepares g c =
+    is_prepared (g.S.Shelf.told c.args.shelf.now) c.args.unit.now c.args.path.now c.in_ok-inputs.inputs c.in_ok-made.made c.in_ok-one.one
+    c.in_ok-one.ensures.settles.1.0 c.in_ok-one.ensures.settles.0 c.in_ok-inputs.ensures.reads_by_the_files
+    (program_read (g.S.Shelf.told c.args.shelf.now) (g.S.Shelf.told c.read_inputs.new.shelf) c.args.path.now c.in_ok-made.made c.in_ok-inputs.ensures.reads_for_the_unit.map_stays c.in_ok-made.ensures.reads_the_program)

@@ -1,0 +1,10 @@
+pub mod Said
+pub mod Causes
+pub mod Programs
+pub mod Naming
+pub mod Comparing
+pub mod Prepared
+pub mod Answers
+pub mod Lines
+pub mod Checked
+pub mod Prints

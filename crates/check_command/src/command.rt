@@ -1,0 +1,30 @@
+//! The command `check`, the name of a unit, the name of a filter and the path of a file.
+ghost use Rattle.command_answers.specs.Laws.{IsAdmitted};
+ghost use Rattle.unit_inputs.specs.ReadsFor.{ReadsFor};
+ghost use Rattle.check_command.specs.Checked.{checked_text, ending_of};
+ghost use Rattle.check_command.specs.Prints.{check_laws};
+
+use crate::comparing::compare;
+use crate::preparing::read_all;
+use crate::ready::Checked;
+use command_answers::Stop;
+use host_io::Shelf;
+use std::alloc::Global;
+
+/// Prepares `check`, the name of a unit, the name of a filter and the path of a file: reads the unit, calls.txt, site.toml and the
+/// file, finds the first refusal of them and of the settings, and compares the program of the file with the filter of that name,
+/// `NAME` for the native ABI and `NAME@ABI` for the ABI of that name; a filter that is not on is refused, and so is a program
+/// that is not of the form or has more than 16,384 paths.
+pub fn prepare<S: Shelf>(
+    alloc: Global,
+    shelf: &mut S,
+    unit: &str,
+    name: &str,
+    path: &str,
+) -> Result<Checked, Stop>
+    ensures prepares { IsAdmitted (check_laws (S.told shelf.old) unit.now name.now path.now) ending_of checked_text result }
+    ensures reads_for_the_unit { ReadsFor S.told S.faults unit.now shelf.old shelf.new result }
+{
+    let prepared = read_all(alloc, shelf, unit, path)?;
+    compare(alloc, unit, name, path, &prepared)
+}

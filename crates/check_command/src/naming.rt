@@ -1,0 +1,53 @@
+//! The filter that a name means.
+ghost use Rattle.std.specs.Prelude.{◌≡◌, ◌++◌, ◌∷◌, find, option_copied};
+ghost use Rattle.std.specs.Str.{bytes_eq};
+ghost use Rattle.filter_rules.specs.Installed.{place_of};
+ghost use Rattle.check_command.specs.Naming.{means};
+
+use call_table::CallTable;
+use filter_rules::Filter;
+
+// Whether a word is the name of a filter and that of an ABI, with `@` between them.
+fn is_joined(word: &str, name: &str, abi: &str) -> bool
+    ensures { result ≡ bytes_eq (name.now ++ 64 ∷ abi.now) word.now }
+{
+    match word.strip_prefix(name) {
+        Some(rest) => is_behind_at(rest, abi),
+        None => false,
+    }
+}
+
+// Whether a text is `@` and the name of an ABI.
+fn is_behind_at(text: &str, abi: &str) -> bool
+    ensures { result ≡ bytes_eq (64 ∷ abi.now) text.now }
+{
+    match text.strip_prefix("@") {
+        Some(rest) => abi == rest,
+        None => false,
+    }
+}
+
+// Whether a word means this filter.
+fn means(table: &CallTable, word: &str, filter: &Filter) -> bool
+    ensures { result ≡ means table.now word.now (place_of filter.now) }
+{
+    let name = filter.name.text();
+    if filter.abi == 0 && name == word {
+        return true;
+    }
+    match table.abi_name(filter.abi) {
+        Some(abi) => is_joined(word, name, abi),
+        None => false,
+    }
+}
+
+/// The filter that a name means: `NAME` is the program for the native ABI, and `NAME@ABI` that for the ABI of this name.
+pub fn named_filter<'a>(
+    table: &CallTable,
+    filters: &'a [Filter],
+    word: &str,
+) -> Option<&'a Filter>
+    ensures named { option_copied result ≡ find (λ filter. means table.now word.now (place_of filter)) filters.now }
+{
+    filters.iter().find(|filter| means(table, word, filter))
+}

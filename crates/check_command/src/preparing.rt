@@ -1,0 +1,42 @@
+//! What `check` reads, and what it takes from that.
+ghost use Rattle.std.specs.Prelude.{IfOk, IfSome};
+ghost use Rattle.unit_inputs.specs.ReadsFor.{ReadsFor};
+ghost use Rattle.unit_settings.specs.Settled.{AreSettled};
+ghost use Rattle.check_command.specs.Prepared.{IsPrepared, inputs_in};
+
+use crate::programs::read_program;
+use bpf_code::Program;
+use command_answers::Stop;
+use host_io::Shelf;
+use std::alloc::Global;
+use unit_inputs::read_inputs;
+use unit_settings::{SettledUnit, settle};
+
+/// All that a comparison is made from.
+#[derive(Drop)]
+pub struct Prepared {
+    /// The unit with its settings.
+    pub unit: SettledUnit,
+    /// The program of the file.
+    pub program: Program,
+}
+
+/// Reads the unit, calls.txt, site.toml and the file, and finds the first refusal of them and of the settings.
+pub fn read_all<S: Shelf>(
+    alloc: Global,
+    shelf: &mut S,
+    unit: &str,
+    path: &str,
+) -> Result<Prepared, Stop>
+    ensures prepares { IfSome (S.told shelf.old) (λ files. IsPrepared files unit.now path.now result) }
+    ensures settled { IfOk result (λ prepared. AreSettled (inputs_in prepared) prepared.unit.settings.value) }
+    ensures reads_for_the_unit { ReadsFor S.told S.faults unit.now shelf.old shelf.new result }
+{
+    let inputs = read_inputs(alloc, shelf, unit)?;
+    let made = read_program(alloc, shelf, path)?;
+    let one = settle(alloc, unit, inputs)?;
+    Ok(Prepared {
+        unit: one,
+        program: made,
+    })
+}

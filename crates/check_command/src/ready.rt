@@ -1,0 +1,41 @@
+//! The outcome of a comparison, ready to be printed.
+ghost use Rattle.std.specs.Prelude.{◌≡◌};
+ghost use Rattle.check_command.specs.Lines.{ending_by};
+
+use crate::lines::outcome_line;
+use command_answers::{Ending, Ready, put_line};
+use filter_check::Outcome;
+use host_io::{Sink, SinkError};
+use std::alloc::Global;
+
+/// What the comparison of a program with a filter of a unit found.
+#[derive(Drop)]
+pub struct Checked {
+    pub outcome: Outcome,
+}
+
+// How a run ends behind an outcome.
+fn ending_by(outcome: &Outcome) -> Ending
+    ensures { result ≡ ending_by outcome.now }
+{
+    match outcome {
+        Outcome::Same(_) => Ending::Done,
+        Outcome::Differs { .. } => Ending::Differs,
+    }
+}
+
+impl Ready for Checked {
+    ghost use Rattle.check_command.specs.Checked.{checked_text, ending_of};
+
+    ghost text = { checked_text };
+
+    ghost ending = { ending_of };
+
+    fn ending(&self) -> Ending {
+        ending_by(&self.outcome)
+    }
+
+    fn print<K: Sink>(&mut self, alloc: Global, out: &mut K) -> Result<(), SinkError> {
+        put_line(out, outcome_line(alloc, &self.outcome))
+    }
+}
