@@ -64,6 +64,13 @@ module _ (test : Place → Bool) where
   find_place [] = refl
   find_place (filter ∷ filters) = first_place (test (place_of filter)) filter (find (λ filter. test (place_of filter)) filters) (find test (map place_of filters)) (find_place filters)
 
+-- what is found by a table and among filters that are lent
+pub found_in : (table own : Table) (filters given : List Filter) (name : List ℕ) (found : Option Filter) → own ≡ table → given ≡ filters
+    → found ≡ find (λ filter. means own name (place_of filter)) given → find (λ filter. means table name (place_of filter)) filters ≡ found
+found_in table own filters given name found same_table same_filters is =
+    subst (λ these. find (λ filter. means these name (place_of filter)) filters ≡ found) same_table
+    (subst (λ these. find (λ filter. means own name (place_of filter)) these ≡ found) same_filters (sym is))
+
 module _ (settings : FilterSettings) (table : Table) (filters : List Filter) (are : AreFilters settings table filters) (name : List ℕ) where
   named_as : named_place settings table name ≡ option_map place_of (find (λ filter. means table name (place_of filter)) filters)
   named_as = ap (find (means table name)) (sym are.exactly_those_on) ∙ sym (find_place (means table name) filters)

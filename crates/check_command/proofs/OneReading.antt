@@ -76,9 +76,9 @@ first_once lines one other is is' =
     elim (cases_lt is.place is'.place) [
       | inl lt ↦ absurd (not_before lines one other is is' lt)
       | inr le ↦ elim (cases_lt is'.place is.place) [
-          | inl lt ↦ absurd (not_before lines other one is' is lt)
-          | inr ge ↦ (let e = is.counted in let e' = is'.counted in omega (arith, le, ge, e, e'))
-        ]
+        | inl lt ↦ absurd (not_before lines other one is' is lt)
+        | inr ge ↦ (let e = is.counted in let e' = is'.counted in omega (arith, le, ge, e, e'))
+      ]
     ]
 
 not_all : (lines : List (List ℕ)) (number : ℕ) (code : List ℕ) → IsFirstOther lines number → AreLines lines code → ⊥

@@ -3,7 +3,7 @@ use Rattle.std.proofs.Common.{◌≡◌, ℕ, List, Option, Some, None, Result, 
 use Rattle.std.specs.Prelude.{IfSome}
 use Rattle.host_io.specs.Files.{Files}
 use Rattle.bpf_code.specs.declared.machine.Insn.{Insn}
-use Rattle.command_answers.specs.Stops.{Prepares, first_refusal}
+use Rattle.command_answers.specs.Stops.{IsAnswer, Prepares, first_refusal}
 use Rattle.command_answers.specs.declared.stop.Stop.{Stop}
 use Rattle.command_answers.specs.declared.stop.Stop.TheVariants as stop
 use Rattle.unit_inputs.specs.FileRefusals.{bytes_in}
@@ -14,6 +14,7 @@ use Rattle.unit_settings.specs.declared.settling.SettledUnit.{SettledUnit}
 use Rattle.check_command.specs.Prepared.{AreReady, IsPrepared, a_setting, an_input, the_file}
 use Rattle.check_command.specs.Programs.{IsProgramIn, IsProgramOf, no_file, of_file}
 use Rattle.check_command.specs.Said.{IsSaid}
+use Rattle.check_command.proofs.Telling.{said_as}
 
 -- the inputs are read
 abbrev pub AreRead : Files → List ℕ → UnitInputs → Type 0
@@ -72,7 +73,17 @@ is_prepared (Some files) unit path inputs code one same none read program =
     subst (λ own. AreReady files unit path (inputs_view own) code) (sym same) (record { inputs_are = read.1; program_is = program; settings_stand = none })
 
 -- the bytes of the file are not there
-missing_stops : (files : Files) (path : List ℕ) (why : Stop) → IsSaid {T = List ℕ} (λ bytes. bytes) (λ said. bytes_in files path ≡ said) (Err why) → IsSaid {T = List Insn} (λ program. program) (IsProgramIn files path) (Err why)
-missing_stops files path (stop.Refused line) said = no_file line.items said
-missing_stops files path stop.ReadFault said = tt
-missing_stops files path stop.Memory said = tt
+bytes_stop : {T : Type 0} (see : T → List ℕ) (files : Files) (path : List ℕ) (why : Stop) → IsAnswer see (Err why) (bytes_in files path) → IsSaid {T = List Insn} (λ program. program) (IsProgramIn files path) (Err why)
+bytes_stop see files path (stop.Refused line) said = no_file line.items said
+bytes_stop see files path stop.ReadFault said = tt
+bytes_stop see files path stop.Memory said = tt
+
+pub no_bytes : {T : Type 0} (see : T → List ℕ) (told : Option Files) (path : List ℕ) (why : Stop) → IfSome told (λ files. IsAnswer see (Err why) (bytes_in files path)) → IfSome told (λ files. IsSaid {T = List Insn} (λ program. program) (IsProgramIn files path) (Err why))
+no_bytes see None path why said = tt
+no_bytes see (Some files) path why said = bytes_stop see files path why said
+
+-- or they are some program, or none
+pub some_bytes : (told : Option Files) (path bytes : List ℕ) (result : Result (List Insn) Stop) → IfSome told (λ files. bytes_in files path ≡ Ok bytes) → IsSaid (λ (program : List Insn). program) (IsProgramOf path bytes) result → IfSome told (λ files. IsSaid (λ (program : List Insn). program) (IsProgramIn files path) result)
+some_bytes None path bytes result are said = tt
+some_bytes (Some files) path bytes result are said =
+    said_as (λ (program : List Insn). program) (IsProgramOf path bytes) (IsProgramIn files path) (λ found is. of_file bytes found are is) result said

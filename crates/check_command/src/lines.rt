@@ -26,12 +26,7 @@ fn push_args(out: &mut Vec<u8>, args: &[u64]) -> Result<(), AllocError>
 }
 
 // The call data at which two programs answer otherwise, and both answers.
-fn differs_line(
-    alloc: Global,
-    at: &CallData,
-    theirs: u32,
-    ours: u32,
-) -> Result<Vec<u8>, AllocError>
+fn differs_line(alloc: Global, at: &CallData, theirs: u32, ours: u32) -> Result<Vec<u8>, AllocError>
     ensures { IfOk result (λ line. line.items ≡ differs_line at.now theirs ours) }
 {
     let nr = at.nr;

@@ -2,7 +2,7 @@
 ghost use Rattle.std.specs.Prelude.{◌≡◌, ◌++◌, ◌∷◌, find, option_copied};
 ghost use Rattle.std.specs.Str.{bytes_eq};
 ghost use Rattle.filter_rules.specs.Installed.{place_of};
-ghost use Rattle.check_command.specs.Naming.{means};
+ghost use Rattle.check_command.specs.Naming.{means, means_native, means_with_abi};
 
 use call_table::CallTable;
 use filter_rules::Filter;
@@ -27,26 +27,33 @@ fn is_behind_at(text: &str, abi: &str) -> bool
     }
 }
 
-// Whether a word means this filter.
-fn means(table: &CallTable, word: &str, filter: &Filter) -> bool
-    ensures { result ≡ means table.now word.now (place_of filter.now) }
+// Whether a word is the name of this filter, which is for the native ABI.
+fn means_native(word: &str, filter: &Filter) -> bool
+    ensures { result ≡ means_native word.now (place_of filter.now) }
+{
+    filter.abi == 0 && filter.name.text() == word
+}
+
+// Whether a word is the name of this filter with that of its ABI.
+fn means_with_abi(table: &CallTable, word: &str, filter: &Filter) -> bool
+    ensures { result ≡ means_with_abi table.now word.now (place_of filter.now) }
 {
     let name = filter.name.text();
-    if filter.abi == 0 && name == word {
-        return true;
-    }
     match table.abi_name(filter.abi) {
         Some(abi) => is_joined(word, name, abi),
         None => false,
     }
 }
 
+// Whether a word means this filter.
+fn means(table: &CallTable, word: &str, filter: &Filter) -> bool
+    ensures { result ≡ means table.now word.now (place_of filter.now) }
+{
+    means_native(word, filter) || means_with_abi(table, word, filter)
+}
+
 /// The filter that a name means: `NAME` is the program for the native ABI, and `NAME@ABI` that for the ABI of this name.
-pub fn named_filter<'a>(
-    table: &CallTable,
-    filters: &'a [Filter],
-    word: &str,
-) -> Option<&'a Filter>
+pub fn named_filter<'a>(table: &CallTable, filters: &'a [Filter], word: &str) -> Option<&'a Filter>
     ensures named { option_copied result ≡ find (λ filter. means table.now word.now (place_of filter)) filters.now }
 {
     filters.iter().find(|filter| means(table, word, filter))

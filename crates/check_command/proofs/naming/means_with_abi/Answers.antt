@@ -1,0 +1,11 @@
+use Rattle.std.proofs.Common.{◌∷◌, ◌++◌, sym, ap, ◌∙◌}
+use Rattle.std.specs.Str.{bytes_eq}
+use Rattle.call_table.specs.Table.{abi_at}
+use Rattle.filter_rules.specs.Names.{text_of}
+use Rattle.check_command.proofs.Joined.{with_abi}
+use Rattle.check_command.proofs.naming.means_with_abi.Goals as goal
+
+pub returns-in-Some : goal.returns-in-Some
+returns-in-Some c =
+    c.is_joined.ensures ∙ ap (λ name. bytes_eq (name ++ 64 ∷ c.in-Some.abi.now) c.args.word.now) c.text-name.ensures
+    ∙ sym (with_abi (λ abi. bytes_eq (text_of c.args.filter.now.name ++ 64 ∷ abi) c.args.word.now) (abi_at c.args.table.now c.args.filter.now.abi) c.in-Some.abi.now c.in-Some.ensures.by_position)
