@@ -18,7 +18,7 @@ use Rattle.filter_rules.specs.Installed.{place_of}
 use Rattle.filter_rules.specs.Names.{Place}
 use Rattle.filter_rules.specs.declared.installed.Filter.{Filter}
 use Rattle.filter_rules.specs.declared.settings.FilterSettings.{FilterSettings}
-use Rattle.check_command.specs.Comparing.{Compares, ComparesNamed, not_compared, is_compared, not_on, is_on, wanted_word}
+use Rattle.check_command.specs.Comparing.{Compares, ComparesNamed, not_compared, is_compared, is_on, wanted_word}
 use Rattle.check_command.specs.Naming.{means, named_place}
 use Rattle.check_command.specs.Said.{IsSaid}
 use Rattle.check_command.specs.declared.ready.Checked.{Checked}

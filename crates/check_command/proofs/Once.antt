@@ -1,5 +1,5 @@
 -- What is the same under a constructor.
-use Rattle.std.proofs.Common.{◌≡◌, Option, Some, None, Result, Ok, Err, true, false}
+use Rattle.std.proofs.Common.{◌≡◌, Some, None, Result, Ok, Err, true, false}
 
 pub same_some : {X : Type 0} (one other : X) → Some one ≡ Some other → one ≡ other
 same_some one other is = cc

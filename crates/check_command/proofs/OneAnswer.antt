@@ -1,5 +1,5 @@
 -- Over the same files and words there is one answer.
-use Rattle.std.proofs.Common.{◌≡◌, ◌∙◌, ℕ, List, [], ◌∷◌, Option, Some, None, Result, Ok, Err, refl, sym, ap, subst}
+use Rattle.std.proofs.Common.{◌≡◌, ◌∙◌, ℕ, List, [], ◌∷◌, Some, None, Result, Ok, Err, refl, sym, ap, subst}
 use Rattle.host_io.specs.Files.{Files}
 use Rattle.bpf_code.specs.declared.machine.CallData.{CallData}
 use Rattle.bpf_code.specs.declared.machine.Insn.{Insn}
@@ -8,12 +8,9 @@ use Rattle.command_answers.specs.Stops.{first_refusal, refusal_in}
 use Rattle.dropin_merge.specs.declared.resolved.Resolved.{Resolved}
 use Rattle.exec_settings.specs.Dynamic.{unit_filters}
 use Rattle.filter_check.proofs.OneAnswer.{one_finding}
-use Rattle.filter_check.specs.declared.outcome.CheckError.{CheckError}
 use Rattle.filter_check.specs.declared.outcome.CheckError.TheVariants.{Memory}
 use Rattle.filter_check.specs.declared.outcome.Outcome.{Outcome}
-use Rattle.filter_lines.specs.declared.error.FileError.{FileError}
 use Rattle.filter_lines.specs.declared.error.FileError.TheVariants as file
-use Rattle.filter_rules.specs.Names.{Place}
 use Rattle.filter_rules.specs.declared.settings.FilterSettings.{FilterSettings}
 use Rattle.site_table.specs.Table.{Site}
 use Rattle.unit_inputs.specs.CallsRefusals.{calls_in}
@@ -21,10 +18,9 @@ use Rattle.unit_inputs.specs.Inputs.{Inputs, all_three, input_refusals, inputs_o
 use Rattle.unit_inputs.specs.SiteRefusals.{site_in}
 use Rattle.unit_inputs.specs.UnitRefusals.{unit_in}
 use Rattle.unit_settings.specs.Settled.{refusals_of}
-use Rattle.check_command.specs.Answers.{Answers, OneAnswer, compared, refused_before}
+use Rattle.check_command.specs.Answers.{OneAnswer, compared, refused_before}
 use Rattle.check_command.specs.Causes.{check_line, file_line}
 use Rattle.check_command.specs.Comparing.{Compares, ComparesNamed, is_compared, is_on, not_compared, not_on, wanted_word}
-use Rattle.check_command.specs.Naming.{named_place}
 use Rattle.check_command.specs.Prepared.{AreReady, RefusesBefore, a_setting, an_input, the_file}
 use Rattle.check_command.specs.Programs.{IsProgramIn, IsProgramOf, a_program, no_file, no_program, of_file}
 use Rattle.check_command.proofs.Once.{none_some, not_both, same_err, same_ok, same_some}

@@ -1,20 +1,19 @@
 -- The bytes of a file have one reading.
-use Rattle.std.proofs.Common.{◌≡◌, ◌∙◌, ℕ, zero, suc, ◌+◌, ◌*◌, ◌/◌, ◌%◌, ◌^◌, ◌<◌, ◌≤◌, Bool, true, false, cond, List, [], ◌∷◌, ◌++◌, take, length, Option, Some, None, Result, Ok, Err, refl, sym, ap, subst, arith, inl, inr}
-use Rattle.std.specs.Prelude.{◌≢◌, ◌⊎◌, flat_map, nat_lt, slice_get}
+use Rattle.std.proofs.Common.{◌≡◌, ◌∙◌, ℕ, zero, suc, ◌/◌, ◌%◌, ◌^◌, ◌<◌, List, [], ◌∷◌, ◌++◌, take, Some, Result, Ok, Err, refl, sym, ap, subst, arith, inl, inr}
+use Rattle.std.specs.Prelude.{◌≢◌, flat_map, slice_get}
 use Rattle.std.specs.List.{All}
 use Rattle.std.proofs.lemmas.Bool.{cases_lt}
 use Rattle.std.proofs.lemmas.List.Elements.{All-head, All-tail}
-use Rattle.bpf_code.specs.Reading.{Accepts, Refuses}
+use Rattle.bpf_code.specs.Reading.{Refuses}
 use Rattle.bpf_code.specs.declared.machine.Insn.{Insn}
 use Rattle.bpf_code.specs.declared.program.ProgramError.{ProgramError}
 use Rattle.bpf_code.specs.declared.program.ProgramError.TheVariants as program
 use Rattle.bpf_code.proofs.Refusals.{accepted_unrefused, refusal_alone}
-use Rattle.line_text.specs.Lines.{is_text}
 use Rattle.filter_lines.specs.Digits.{hex_byte, hex_digit}
 use Rattle.filter_lines.specs.Lines.{AreLines, IsFirstOther, IsLine, lines_in}
 use Rattle.filter_lines.specs.Reading.{Reads, ReadsCode, ReadsLines, code_lines, is_program, no_memory, no_memory_lines, no_program, not_text, other_line, text_lines}
 use Rattle.filter_lines.specs.declared.error.FileError.{FileError}
-use Rattle.filter_lines.specs.declared.error.FileError.TheVariants.{NotText, Digits, Program, Memory}
+use Rattle.filter_lines.specs.declared.error.FileError.TheVariants.{Digits, Program, Memory}
 use Rattle.check_command.proofs.Once.{same_err, true_false}
 
 abbrev Answer : Type 0

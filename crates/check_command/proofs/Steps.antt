@@ -1,5 +1,5 @@
 -- What is read for a comparison, and the first refusal.
-use Rattle.std.proofs.Common.{◌≡◌, ℕ, List, Option, Some, None, Result, Ok, Err, refl, sym, subst}
+use Rattle.std.proofs.Common.{◌≡◌, ℕ, List, Option, Some, None, Result, Ok, Err, sym, subst}
 use Rattle.std.specs.Prelude.{IfSome}
 use Rattle.host_io.specs.Files.{Files}
 use Rattle.bpf_code.specs.declared.machine.Insn.{Insn}

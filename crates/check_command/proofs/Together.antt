@@ -1,11 +1,10 @@
 -- What is ready, and the line of a refusal, are what the definitions admit, and the laws go together.
-use Rattle.std.proofs.Common.{◌≡◌, ℕ, List, Option, Some, None, Result, Ok, Err, refl, sym, subst, inl, inr}
-use Rattle.std.specs.Prelude.{◌⊎◌, IfSome, IsTrue}
+use Rattle.std.proofs.Common.{ℕ, List, Option, Some, None, Result, Ok, Err, refl, sym, subst, inl, inr}
+use Rattle.std.specs.Prelude.{IfSome, IsTrue}
 use Rattle.host_io.specs.Files.{Files}
 use Rattle.command_answers.specs.Endings.{is_answer, is_whole}
 use Rattle.command_answers.specs.Laws.{GoTogether, IsAdmitted}
 use Rattle.command_answers.specs.declared.ending.Ending.{Ending}
-use Rattle.command_answers.specs.declared.ending.Ending.TheVariants.{Done, Refused, Differs}
 use Rattle.command_answers.specs.declared.stop.Stop.{Stop}
 use Rattle.command_answers.specs.declared.stop.Stop.TheVariants as stop
 use Rattle.exec_settings.specs.Dynamic.{unit_filters}
@@ -14,7 +13,7 @@ use Rattle.filter_check.specs.declared.outcome.Outcome.TheVariants as outcome
 use Rattle.check_command.specs.Answers.{Answers, compared, refused_before}
 use Rattle.check_command.specs.Checked.{checked_text, ending_of}
 use Rattle.check_command.specs.Comparing.{ComparesNamed}
-use Rattle.check_command.specs.Lines.{ending_by, outcome_text}
+use Rattle.check_command.specs.Lines.{ending_by}
 use Rattle.check_command.specs.Prepared.{IsPrepared, inputs_in}
 use Rattle.check_command.specs.Prints.{Admits, MayEndUntold, check_laws, refuses, tells}
 use Rattle.check_command.specs.Said.{IsSaid}

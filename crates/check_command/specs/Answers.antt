@@ -1,5 +1,5 @@
 -- What `check` is to answer over some files.
-use Rattle.std.specs.Prelude.{◌≡◌, ℕ, List, Result, Ok, Err}
+use Rattle.std.specs.Prelude.{◌≡◌, ℕ, List, Result, Err}
 use Rattle.host_io.specs.Files.{Files}
 use Rattle.bpf_code.specs.declared.machine.Insn.{Insn}
 use Rattle.exec_settings.specs.Dynamic.{unit_filters}
