@@ -98,12 +98,7 @@ fn request_with<'a>(word: &str, unit: &'a str, path: &'a str) -> Option<Request<
 }
 
 // The request of a word about a unit, a file and a threshold, or about a unit, a filter and a file.
-fn request_above<'a>(
-    word: &str,
-    unit: &'a str,
-    what: &'a str,
-    last: &'a str,
-) -> Option<Request<'a>>
+fn request_above<'a>(word: &str, unit: &'a str, what: &'a str, last: &'a str) -> Option<Request<'a>>
     ensures request { option_map request_of result ≡ request_above word.now unit.now what.now last.now }
     ensures numbered { IfSome result IsNumbered }
 {

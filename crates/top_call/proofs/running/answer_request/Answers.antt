@@ -9,6 +9,9 @@ use Rattle.plan_command.proofs.Prepared.{together as plan_together}
 use Rattle.exposure_score.specs.StoredTests.{stored_by}
 use Rattle.score_command.specs.Prints.{score_laws, scored_text, ending_of as score_ending}
 use Rattle.score_command.proofs.Prepared.{together as score_together}
+use Rattle.check_command.specs.Checked.{checked_text, ending_of as check_ending}
+use Rattle.check_command.specs.Prints.{check_laws}
+use Rattle.check_command.proofs.Together.{together as check_together}
 use Rattle.command_answers.proofs.Refusing.{quiet}
 use Rattle.sample_command.specs.Prints.{sample_laws, sampled_text, ending_of as sample_ending}
 use Rattle.sample_command.proofs.Prepared.{together as sample_together}
@@ -50,6 +53,12 @@ returns-in-Score-clause-runs g c =
     (let stored = stored_by (λ test. test.id) (λ test. test.range) (λ test shown answer. (goal.Fn-dyn g).post (test.check.vtable, test.check.value) (shown, tt) answer) c.args.tests.now in
     ran (laws_over (g.S.Shelf.told c.args.shelf.now) (score_laws c.in-Score.unit.now c.in-Score.policy.now c.in-Score.threshold stored)) (score_together (g.S.Shelf.told c.args.shelf.now) c.in-Score.unit.now c.in-Score.policy.now c.in-Score.threshold stored) _ score_ending scored_text c.prepare-in-Score.result c.finish-in-Score.result
     c.prepare-in-Score.ensures.prepares c.prepare-in-Score.ensures.reads_for_the_unit.reads_for_a_name c.prepare-in-Score.ensures.reads_for_the_unit.fault_rose c.finish-in-Score.ensures.finishes)
+
+pub returns-in-Check-clause-runs : goal.returns-in-Check-clause-runs
+returns-in-Check-clause-runs g c =
+    rw c.in-Check.is
+    (ran (check_laws (g.S.Shelf.told c.args.shelf.now) c.in-Check.unit.now c.in-Check.name.now c.in-Check.path.now) (check_together c.in-Check.unit.now c.in-Check.name.now c.in-Check.path.now (g.S.Shelf.told c.args.shelf.now)) _ check_ending checked_text c.prepare-in-Check.result c.finish-in-Check.result
+    c.prepare-in-Check.ensures.prepares c.prepare-in-Check.ensures.reads_for_the_unit.reads_for_a_name c.prepare-in-Check.ensures.reads_for_the_unit.fault_rose c.finish-in-Check.ensures.finishes)
 
 pub returns-in-Sample-clause-runs : goal.returns-in-Sample-clause-runs
 returns-in-Sample-clause-runs g c =
