@@ -7,6 +7,7 @@ use Rattle.exposure_score.specs.StoredTests.{StoredTests}
 use Rattle.exposure_score.specs.declared.facts.Facts.{Facts}
 use Rattle.exposure_score.specs.declared.rows.Score.{Score}
 use Rattle.policy_file.specs.declared.policy.PolicyTest.{PolicyTest}
+use Rattle.policy_weights.proofs.Weights.{weighs_alike}
 use Rattle.service_facts.specs.Facts.{AreFacts}
 use Rattle.command_answers.specs.Endings.{is_answer}
 use Rattle.command_answers.specs.Laws.{AcceptsFiles, GoTogether, IsAdmitted, laws_over}
@@ -27,7 +28,6 @@ use Rattle.score_command.specs.Texts.{ending_by}
 use Rattle.score_command.specs.Weighed.{IsScoreOf}
 use Rattle.score_command.specs.Weights.{weight_refusal}
 use Rattle.score_command.specs.declared.preparing.Prepared.{Prepared}
-use Rattle.score_command.proofs.Weights.{weighs_alike}
 
 module _ (told : Option Files) (unit path : List ℕ) (threshold : ℕ) (stored : StoredTests) where
   -- each ending behind a score is an answer

@@ -4,11 +4,12 @@ use Rattle.host_io.specs.Files.{Files}
 use Rattle.call_table.specs.Table.{Table}
 use Rattle.policy_file.specs.declared.policy.PolicyTest.{PolicyTest}
 use Rattle.exposure_score.specs.StoredTests.{StoredTests}
+use Rattle.policy_weights.specs.Weights.{weight_of}
 use Rattle.command_answers.specs.Stops.{refusal_in}
 use Rattle.unit_inputs.specs.Inputs.{Inputs, input_refusals, inputs_of}
 use Rattle.unit_settings.specs.Settled.{refusals_by, refusals_of}
 use Rattle.score_command.specs.Policies.{policy_in}
-use Rattle.score_command.specs.Weights.{weight_of, weight_refusal}
+use Rattle.score_command.specs.Weights.{weight_refusal}
 
 -- what is refused behind the inputs before anything is weighed
 abbrev pub refusals_behind : Files → List ℕ → List ℕ → Inputs → List (Option (List ℕ))

@@ -15,4 +15,5 @@ mod ready;
 mod weighing;
 
 pub use command::prepare;
+pub use policies::read_policy;
 pub use ready::Scored;

@@ -3,7 +3,7 @@ use Rattle.std.specs.Prelude.{List, [], ◌∷◌, ℕ, ◌≤◌, nat_le, codes
 use Rattle.std.specs.Str.{bytes_eq}
 use Rattle.text_forms.specs.Numbers.{decimal_value}
 use Rattle.top_call.specs.declared.request.Request.{Request as Code}
-use Rattle.top_call.specs.declared.request.Request.TheVariants.{Help, Version, Filter, Plan, Judge, Replay, Score, Check, Sample}
+use Rattle.top_call.specs.declared.request.Request.TheVariants.{Help, Version, Filter, Plan, Judge, Replay, Score, Check, Fleet, Sample}
 
 -- what is asked for
 pub data Request : Type 0 where
@@ -15,6 +15,7 @@ pub data Request : Type 0 where
   ReplayOf : (unit script : List ℕ) → Request
   ScoreOf : (unit policy : List ℕ) (threshold : ℕ) → Request
   CheckOf : (unit filter path : List ℕ) → Request
+  FleetOf : (policy : List ℕ) → Request
   SampleOf : (number : ℕ) → Request
 
 -- a word by itself
@@ -27,13 +28,14 @@ request_alone word =
 abbrev pub number_to : List ℕ → ℕ → Option ℕ
 number_to text most = option_and_then (λ number. cond (nat_le number most) (Some number) None) (decimal_value text)
 
--- a word and a unit, or the number of a made input, 0 to 999
+-- a word and a unit, the path of a policy, or the number of a made input, 0 to 999
 abbrev pub request_on : List ℕ → List ℕ → Option Request
-request_on word unit =
-    cond (bytes_eq word (codes "filter")) (Some (FilterOf unit))
-    (cond (bytes_eq word (codes "plan")) (Some (PlanOf unit))
-    (cond (bytes_eq word (codes "judge")) (Some (JudgeOf unit))
-    (cond (bytes_eq word (codes "sample")) (option_map SampleOf (number_to unit 999)) None)))
+request_on word what =
+    cond (bytes_eq word (codes "filter")) (Some (FilterOf what))
+    (cond (bytes_eq word (codes "plan")) (Some (PlanOf what))
+    (cond (bytes_eq word (codes "judge")) (Some (JudgeOf what))
+    (cond (bytes_eq word (codes "fleet")) (Some (FleetOf what))
+    (cond (bytes_eq word (codes "sample")) (option_map SampleOf (number_to what 999)) None))))
 
 -- a word, a unit, and the path of a script or of a policy; without a threshold no exposure is above it
 abbrev pub request_with : List ℕ → List ℕ → List ℕ → Option Request
@@ -51,7 +53,7 @@ request_above word unit what last =
 abbrev pub request_in : List (List ℕ) → Option Request
 request_in [] = None
 request_in (word ∷ []) = request_alone word
-request_in (word ∷ unit ∷ []) = request_on word unit
+request_in (word ∷ what ∷ []) = request_on word what
 request_in (word ∷ unit ∷ path ∷ []) = request_with word unit path
 request_in (word ∷ unit ∷ what ∷ last ∷ []) = request_above word unit what last
 request_in (word ∷ unit ∷ what ∷ last ∷ more ∷ words) = None
@@ -66,6 +68,7 @@ request_of (Judge unit) = JudgeOf unit.now
 request_of (Replay unit script) = ReplayOf unit.now script.now
 request_of (Score unit policy threshold) = ScoreOf unit.now policy.now threshold
 request_of (Check unit filter path) = CheckOf unit.now filter.now path.now
+request_of (Fleet policy) = FleetOf policy.now
 request_of (Sample number) = SampleOf number
 
 -- the number of a made input is at most 999
@@ -78,4 +81,5 @@ IsNumbered (Judge unit) = Unit {0}
 IsNumbered (Replay unit script) = Unit {0}
 IsNumbered (Score unit policy threshold) = Unit {0}
 IsNumbered (Check unit filter path) = Unit {0}
+IsNumbered (Fleet policy) = Unit {0}
 IsNumbered (Sample number) = number ≤ 999

@@ -32,6 +32,7 @@ help_lines =
     codes "                 weigh what its sandbox leaves open, 0 to 100 in all" ∷
     codes "  check UNIT NAME FILE" ∷
     codes "                 tell whether a filter from elsewhere decides every call as NAME does" ∷
+    codes "  fleet POLICY   score all units, the greatest exposure first" ∷
     codes "  sample N       judge a made input of the number N, 0 to 999, and print counts" ∷
     codes "  --help         print this text" ∷
     codes "  --version      print the name and the version" ∷

@@ -24,6 +24,8 @@ pub enum Request<'a> {
     Score(&'a str, &'a str, u32),
     /// Whether the program of a file, the third, decides every call as a filter, the second, of a unit, the first.
     Check(&'a str, &'a str, &'a str),
+    /// The exposures of all units by a policy.
+    Fleet(&'a str),
     /// How much of the made input of a number, 0 to 999, is denied.
     Sample(u32),
 }
@@ -71,16 +73,17 @@ fn sample_of(text: &str) -> Option<u32>
     }
 }
 
-// The request of a word about a unit, or about the number of a made input.
-fn request_on<'a>(word: &str, unit: &'a str) -> Option<Request<'a>>
-    ensures request { option_map request_of result ≡ request_on word.now unit.now }
+// The request of a word about a unit, about all units by a policy, or about the number of a made input.
+fn request_on<'a>(word: &str, what: &'a str) -> Option<Request<'a>>
+    ensures request { option_map request_of result ≡ request_on word.now what.now }
     ensures numbered { IfSome result IsNumbered }
 {
     match word {
-        "filter" => Some(Request::Filter(unit)),
-        "plan" => Some(Request::Plan(unit)),
-        "judge" => Some(Request::Judge(unit)),
-        "sample" => Some(Request::Sample(sample_of(unit)?)),
+        "filter" => Some(Request::Filter(what)),
+        "plan" => Some(Request::Plan(what)),
+        "judge" => Some(Request::Judge(what)),
+        "fleet" => Some(Request::Fleet(what)),
+        "sample" => Some(Request::Sample(sample_of(what)?)),
         _ => None,
     }
 }
@@ -116,7 +119,7 @@ pub fn parse<'a>(words: &[&'a str]) -> Option<Request<'a>>
 {
     match words {
         [word] => request_alone(word),
-        [word, unit] => request_on(word, unit),
+        [word, what] => request_on(word, what),
         [word, unit, path] => request_with(word, unit, path),
         [word, unit, what, last] => request_above(word, unit, what, last),
         _ => None,

@@ -46,6 +46,11 @@ fn answer_request<S: Shelf, K: Sink>(
             check_command::prepare(alloc, shelf, unit, name, path),
             out,
         ),
+        Request::Fleet(policy) => finish(
+            alloc,
+            fleet_command::prepare(alloc, shelf, policy, tests),
+            out,
+        ),
         Request::Sample(number) => finish(alloc, sample_command::prepare(alloc, number), out),
     }
 }

@@ -23,6 +23,7 @@ const HELP: &[&str] = &[
     "                 weigh what its sandbox leaves open, 0 to 100 in all\n",
     "  check UNIT NAME FILE\n",
     "                 tell whether a filter from elsewhere decides every call as NAME does\n",
+    "  fleet POLICY   score all units, the greatest exposure first\n",
     "  sample N       judge a made input of the number N, 0 to 999, and print counts\n",
     "  --help         print this text\n",
     "  --version      print the name and the version\n",

@@ -3,7 +3,8 @@
 //! They are read in this order, and the first that is refused gives the line that is printed. It stands on
 //! `dropin_merge`, `call_table` and `site_table` for what each of them says, and on `command_answers`.
 //!
-//! `read_inputs(alloc, &mut shelf, "web.service")?` has the three, or stops with the line of the first refusal.
+//! `read_inputs(alloc, &mut shelf, "web.service")?` has the three, or stops with the line of the first refusal. A command on
+//! all units reads the two tables alone.
 #![tactic(auto)]
 
 mod calls;
@@ -12,5 +13,8 @@ mod inputs;
 mod site;
 mod units;
 
+pub use calls::read_table;
 pub use files::read_input;
 pub use inputs::{UnitInputs, read_inputs};
+pub use site::read_site;
+pub use units::unit_line;

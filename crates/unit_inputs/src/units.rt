@@ -33,9 +33,13 @@ fn text_refused(alloc: Global, path: &str, fault: UnitError) -> Result<Vec<u8>, 
     refused_line(alloc, path, cause.as_slice())
 }
 
-// The line of a unit that is not resolved. A failed read and want of memory have none.
-fn unit_line(alloc: Global, unit: &str, refusal: &ResolveError) -> Result<Vec<u8>, AllocError>
-    ensures { IfOk result (λ line. line.items ≡ unit_line unit.now refusal.now) }
+/// The line of a unit that is not resolved. A failed read and want of memory have none.
+pub fn unit_line(
+    alloc: Global,
+    unit: &str,
+    refusal: &ResolveError,
+) -> Result<Vec<u8>, AllocError>
+    ensures tells_the_refusal { IfOk result (λ line. line.items ≡ unit_line unit.now refusal.now) }
 {
     match refusal {
         ResolveError::BadName => refused_line(alloc, unit, b"bad-name"),

@@ -9,4 +9,5 @@
 mod refusals;
 mod settling;
 
+pub use refusals::settings_line;
 pub use settling::{SettledUnit, settle, settle_unit};

@@ -12,6 +12,8 @@ use Rattle.score_command.proofs.Prepared.{together as score_together}
 use Rattle.check_command.specs.Checked.{checked_text, ending_of as check_ending}
 use Rattle.check_command.specs.Prints.{check_laws}
 use Rattle.check_command.proofs.Together.{together as check_together}
+use Rattle.fleet_command.specs.Prints.{fleet_laws, ending_of as fleet_ending, text_of as fleet_text}
+use Rattle.fleet_command.proofs.Prepared.{together as fleet_together}
 use Rattle.command_answers.proofs.Refusing.{quiet}
 use Rattle.sample_command.specs.Prints.{sample_laws, sampled_text, ending_of as sample_ending}
 use Rattle.sample_command.proofs.Prepared.{together as sample_together}
@@ -59,6 +61,13 @@ returns-in-Check-clause-runs g c =
     rw c.in-Check.is
     (ran (check_laws (g.S.Shelf.told c.args.shelf.now) c.in-Check.unit.now c.in-Check.name.now c.in-Check.path.now) (check_together c.in-Check.unit.now c.in-Check.name.now c.in-Check.path.now (g.S.Shelf.told c.args.shelf.now)) _ check_ending checked_text c.prepare-in-Check.result c.finish-in-Check.result
     c.prepare-in-Check.ensures.prepares c.prepare-in-Check.ensures.reads_for_the_unit.reads_for_a_name c.prepare-in-Check.ensures.reads_for_the_unit.fault_rose c.finish-in-Check.ensures.finishes)
+
+pub returns-in-Fleet-clause-runs : goal.returns-in-Fleet-clause-runs
+returns-in-Fleet-clause-runs g c =
+    rw c.in-Fleet.is
+    (let stored = stored_by (λ test. test.id) (λ test. test.range) (λ test shown answer. (goal.Fn-dyn g).post (test.check.vtable, test.check.value) (shown, tt) answer) c.args.tests.now in
+    ran (laws_over (g.S.Shelf.told c.args.shelf.now) (fleet_laws c.in-Fleet.policy.now stored)) (fleet_together (g.S.Shelf.told c.args.shelf.now) c.in-Fleet.policy.now stored) _ fleet_ending fleet_text c.prepare-in-Fleet.result c.finish-in-Fleet.result
+    c.prepare-in-Fleet.ensures.prepares (λ fault. tt) c.prepare-in-Fleet.ensures.fault_rose c.finish-in-Fleet.ensures.finishes)
 
 pub returns-in-Sample-clause-runs : goal.returns-in-Sample-clause-runs
 returns-in-Sample-clause-runs g c =

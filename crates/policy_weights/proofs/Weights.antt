@@ -1,7 +1,6 @@
 -- What counts by the facts counts by the table of tests.
-use Rattle.std.proofs.Common.{◌≡◌, ◌∙◌, Bool, true, false, List, [], ◌∷◌, refl, ap}
-use Rattle.std.specs.Prelude.{cond, filter, find, is_some, sum_by, ◌||◌}
-use Rattle.std.specs.List.{list_any}
+use Rattle.std.proofs.Common.{◌≡◌, ◌∙◌, Bool, List, [], ◌∷◌, refl, ap}
+use Rattle.std.specs.Prelude.{cond, filter, is_some, sum_by, ◌||◌}
 use Rattle.std.specs.Str.{bytes_eq}
 use Rattle.call_table.specs.Table.{Table}
 use Rattle.dropin_merge.specs.declared.resolved.Resolved.{Resolved}
@@ -15,17 +14,8 @@ use Rattle.policy_file.specs.declared.policy.PolicyTest.{PolicyTest}
 use Rattle.service_facts.specs.Facts.{AreFacts}
 use Rattle.service_facts.specs.Sandbox.{sandbox_of}
 use Rattle.service_facts.proofs.Known.{have_facts}
-use Rattle.score_command.specs.Weights.{is_counted, weight_of}
-
-module _ {X : Type 0} (p : X → Bool) where
-  step : (x : X) (xs : List X) (b : Bool) → p x ≡ b → is_some (find p xs) ≡ list_any p xs → is_some (find p (x ∷ xs)) ≡ list_any p (x ∷ xs)
-  step x xs true is rest = cc
-  step x xs false is rest = cc
-
-  -- one is found where there is any
-  found : (xs : List X) → is_some (find p xs) ≡ list_any p xs
-  found [] = refl
-  found (x ∷ xs) = step x xs (p x) refl (found xs)
+use Rattle.policy_weights.specs.Weights.{is_counted, weight_of}
+use Rattle.policy_weights.proofs.Weighing.{found}
 
 module _ (p q : PolicyTest → Bool) (same : (test : PolicyTest) → p test ≡ q test) where
   -- what is filtered alike
@@ -40,7 +30,7 @@ pub weighs_alike : (unit : Resolved) (table : Table) (settings : Settings) (fact
     → counted_weight stored.id_of facts.tests stored.tests policy ≡ weight_of table stored policy
 weighs_alike unit table settings facts stored policy are =
     ap (λ (these : List PolicyTest). sum_by (λ (test : PolicyTest). test.weight) these)
-    (filtered (λ test. is_known_by stored.id_of facts.tests stored.tests test.id) (λ test. is_counted table stored test.id)
+    (filtered (λ test. is_known_by stored.id_of facts.tests stored.tests test.id) (λ test. is_counted table stored.id_of stored.tests test.id)
     (λ test. ap (λ b. b || is_some (stored_of stored.id_of stored.tests test.id))
     (found (λ (fact : Fact). bytes_eq fact.id test.id) facts.tests ∙ have_facts (sandbox_of unit table settings) table facts.tests test.id are.tests))
     policy)

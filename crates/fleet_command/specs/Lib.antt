@@ -1,0 +1,5 @@
+pub mod Inputs
+pub mod Refusals
+pub mod Reports
+pub mod Texts
+pub mod Prints

@@ -1,0 +1,37 @@
+-- What `fleet` prints, by the files.
+use Rattle.std.specs.Prelude.{◌≡◌, ℕ, List}
+use Rattle.host_io.specs.Files.{Files}
+use Rattle.exposure_score.specs.StoredTests.{StoredTests}
+use Rattle.command_answers.specs.Laws.{FileLaws}
+use Rattle.command_answers.specs.declared.ending.Ending.{Ending}
+use Rattle.command_answers.specs.declared.ending.Ending.TheVariants.{Done}
+use Rattle.fleet_report.specs.declared.rows.FleetRow.{FleetRow}
+use Rattle.fleet_command.specs.Inputs.{AreInputs, Inputs}
+use Rattle.fleet_command.specs.Refusals.{fleet_refusals}
+use Rattle.fleet_command.specs.Reports.{AreFleet}
+use Rattle.fleet_command.specs.Texts.{fleet_text}
+use Rattle.fleet_command.specs.declared.ready.Fleet.{Fleet}
+
+-- the report of all units by the policy
+pub record PrintsFleet (files : Files) (path : List ℕ) (stored : StoredTests) (text : List ℕ) : Type 0 where
+  pub inputs : Inputs
+  pub are_inputs : AreInputs files path inputs
+  pub rows : List FleetRow
+  pub are_rows : AreFleet files inputs stored rows
+  pub is_their_text : text ≡ fleet_text rows
+
+-- the refusals in their order; files are read whatever the policy is called
+abbrev pub fleet_laws : List ℕ → StoredTests → FileLaws
+fleet_laws path stored = record {
+  refusals = λ files. fleet_refusals files path stored;
+  prints = λ files ending text. PrintsFleet files path stored text;
+  may_end = λ ending. ending ≡ Done;
+  reads = Unit {0};
+}
+
+-- what is ready
+abbrev pub text_of : Fleet → List ℕ
+text_of fleet = fleet_text fleet.rows.items
+
+abbrev pub ending_of : Fleet → Ending
+ending_of fleet = Done

@@ -1,0 +1,15 @@
+-- A report of all units.
+use Rattle.std.specs.Prelude.{List, map, IsPermutation}
+use Rattle.std.specs.List.{All}
+use Rattle.host_io.specs.Files.{Files}
+use Rattle.exposure_score.specs.StoredTests.{StoredTests}
+use Rattle.fleet_report.specs.Order.{AreInOrder}
+use Rattle.fleet_report.specs.Outcomes.{IsRowOf}
+use Rattle.fleet_report.specs.declared.rows.FleetRow.{FleetRow}
+use Rattle.fleet_command.specs.Inputs.{Inputs}
+
+-- a row for each name, what came of each unit by its own files, the least protected first
+pub record AreFleet (files : Files) (inputs : Inputs) (stored : StoredTests) (rows : List FleetRow) : Type 0 where
+  pub a_row_a_name : IsPermutation inputs.names (map (λ row. row.name) rows)
+  pub by_their_files : All (IsRowOf files inputs.calls inputs.site inputs.policy stored) rows
+  pub least_protected_first : AreInOrder rows

@@ -1,0 +1,35 @@
+-- The text of a report of all units.
+use Rattle.std.specs.Prelude.{ℕ, Bool, true, false, List, [], ◌∷◌, ◌++◌, codes, count_by, flat_map, length}
+use Rattle.std.specs.Fmt.{decimal}
+use Rattle.text_forms.specs.Escaped.{escaped_word}
+use Rattle.unit_names.specs.Names.{text_of}
+use Rattle.unit_inputs.specs.UnitRefusals.{unit_line}
+use Rattle.unit_settings.specs.Refusals.{settings_line}
+use Rattle.fleet_report.specs.declared.rows.FleetOutcome.{FleetOutcome}
+use Rattle.fleet_report.specs.declared.rows.FleetOutcome.TheVariants.{Scored, Unresolved, Unset}
+use Rattle.fleet_report.specs.declared.rows.FleetRow.{FleetRow}
+
+-- a unit and its exposure
+abbrev pub exposure_line : List ℕ → ℕ → List ℕ
+exposure_line unit exposure = codes "unit " ++ (escaped_word unit ++ (codes " exposure " ++ (decimal exposure ++ 10 ∷ [])))
+
+-- a refused unit has the line that a command on it alone prints
+abbrev pub outcome_line : List ℕ → FleetOutcome → List ℕ
+outcome_line unit (Scored exposure) = exposure_line unit exposure
+outcome_line unit (Unresolved refusal) = unit_line unit refusal
+outcome_line unit (Unset refusal) = settings_line unit refusal
+
+abbrev pub row_line : FleetRow → List ℕ
+row_line row = outcome_line (text_of row.name) row.outcome
+
+abbrev pub is_refused : FleetOutcome → Bool
+is_refused (Scored exposure) = false
+is_refused (Unresolved refusal) = true
+is_refused (Unset refusal) = true
+
+-- how many units there are, and how many of them are refused
+abbrev pub counts_line : ℕ → ℕ → List ℕ
+counts_line units refused = codes "units " ++ (decimal units ++ (codes " refused " ++ (decimal refused ++ 10 ∷ [])))
+
+abbrev pub fleet_text : List FleetRow → List ℕ
+fleet_text rows = flat_map row_line rows ++ counts_line (length rows) (count_by (λ row. is_refused row.outcome) rows)

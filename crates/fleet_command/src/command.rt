@@ -1,0 +1,34 @@
+//! The command `fleet` and the path of a policy.
+ghost use Rattle.std.specs.Prelude.{◌≡◌};
+ghost use Rattle.exposure_score.specs.StoredTests.{stored_by};
+ghost use Rattle.command_answers.specs.Laws.{IsAdmitted, laws_over};
+ghost use Rattle.command_answers.specs.Stops.{HasReadCause};
+ghost use Rattle.fleet_command.specs.Prints.{ending_of, fleet_laws, text_of};
+
+use crate::preparing::read_all;
+use crate::ready::Fleet;
+use crate::reporting::report;
+use command_answers::Stop;
+use exposure_score::{CustomTest, Facts};
+use host_io::Shelf;
+use std::alloc::Global;
+
+/// Prepares `fleet` and the path of a policy: names the units, reads calls.txt, site.toml and the policy, finds the first refusal
+/// of them, and scores the units one by one in byte order of their names.
+///
+/// A host of more than 1,024 units is refused, and a policy that weighs nothing, before a unit is read. A unit that is refused is
+/// a row like the others.
+pub fn prepare<S: Shelf>(
+    alloc: Global,
+    shelf: &mut S,
+    path: &str,
+    tests: &[CustomTest],
+) -> Result<Fleet, Stop>
+    ensures prepares { IsAdmitted (laws_over (S.told shelf.old) (fleet_laws path.now (stored_by (λ test. test.id) (λ test. test.range) (λ test. ⟦<Box<dyn Fn(&Facts) -> u32> as Fn(&Facts) -> u32>⟧.post test.check) tests.now))) ending_of text_of result }
+    ensures map_stays { S.told shelf.new ≡ S.told shelf.old }
+    ensures fault_rose { HasReadCause (S.faults shelf.old) (S.faults shelf.new) result }
+{
+    let inputs = read_all(alloc, shelf, path)?;
+    let rows = report(alloc, shelf, path, &inputs, tests)?;
+    Ok(Fleet { rows })
+}

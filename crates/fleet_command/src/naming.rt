@@ -1,0 +1,24 @@
+//! The names of the units, with the line of their refusal.
+ghost use Rattle.std.specs.Prelude.{◌≡◌, IfSome};
+ghost use Rattle.command_answers.specs.Stops.{HasReadCause, IsAnswer};
+ghost use Rattle.fleet_command.specs.Refusals.{names_in};
+
+use command_answers::{Stop, refuse, refused_line};
+use fleet_names::{NamesError, fleet_names};
+use host_io::Shelf;
+use std::alloc::Global;
+use unit_names::UnitName;
+
+/// The names of the units in byte order, or the line that there are too many.
+pub fn read_names<S: Shelf>(alloc: Global, shelf: &mut S) -> Result<Vec<UnitName>, Stop>
+    ensures reads_the_names { IfSome (S.told shelf.old) (λ files. IsAnswer (λ names. names.items) result (names_in files)) }
+    ensures map_stays { S.told shelf.new ≡ S.told shelf.old }
+    ensures fault_rose { HasReadCause (S.faults shelf.old) (S.faults shelf.new) result }
+{
+    match fleet_names(alloc, shelf) {
+        Ok(names) => Ok(names),
+        Err(NamesError::TooMany) => Err(refuse(refused_line(alloc, "fleet", b"too-many"))),
+        Err(NamesError::ReadFault) => Err(Stop::ReadFault),
+        Err(NamesError::Memory) => Err(Stop::Memory),
+    }
+}

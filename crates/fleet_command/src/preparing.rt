@@ -1,0 +1,47 @@
+//! What `fleet` reads before the first unit.
+ghost use Rattle.std.specs.Prelude.{◌≡◌, IfSome};
+ghost use Rattle.command_answers.specs.Stops.{HasReadCause, Prepares};
+ghost use Rattle.fleet_command.specs.Inputs.{AreInputs, inputs_view};
+ghost use Rattle.fleet_command.specs.Refusals.{read_refusals};
+
+use crate::naming::read_names;
+use call_table::CallTable;
+use command_answers::Stop;
+use host_io::Shelf;
+use policy_file::Policy;
+use score_command::read_policy;
+use site_table::SiteTable;
+use std::alloc::Global;
+use unit_inputs::{read_site, read_table};
+use unit_names::UnitName;
+
+/// What is asked of which units.
+#[derive(Drop)]
+pub struct FleetInputs {
+    /// The names of the units in byte order.
+    pub names: Vec<UnitName>,
+    /// The table of system calls.
+    pub calls: Box<CallTable>,
+    /// The site.
+    pub site: Box<SiteTable>,
+    /// The policy.
+    pub policy: Policy,
+}
+
+/// Reads the names of the units, calls.txt, site.toml and the policy, and finds the first refusal of them.
+pub fn read_all<S: Shelf>(alloc: Global, shelf: &mut S, path: &str) -> Result<FleetInputs, Stop>
+    ensures prepares { IfSome (S.told shelf.old) (λ files. Prepares (λ inputs. AreInputs files path.now (inputs_view inputs)) (read_refusals files path.now) result) }
+    ensures map_stays { S.told shelf.new ≡ S.told shelf.old }
+    ensures fault_rose { HasReadCause (S.faults shelf.old) (S.faults shelf.new) result }
+{
+    let names = read_names(alloc, shelf)?;
+    let calls = read_table(alloc, shelf)?;
+    let site = read_site(alloc, shelf)?;
+    let policy = read_policy(alloc, shelf, path)?;
+    Ok(FleetInputs {
+        names,
+        calls,
+        site,
+        policy,
+    })
+}

@@ -1,0 +1,30 @@
+//! Reports of all units, printed line by line.
+ghost use Rattle.std.specs.Prelude.{flat_map};
+ghost use Rattle.command_answers.specs.Printing.{HasWriteCause, TakesText};
+ghost use Rattle.fleet_command.specs.Texts.{fleet_text, row_line};
+
+use crate::wording::{count_refused, counts_line, row_line};
+use command_answers::put_line;
+use fleet_report::FleetRow;
+use host_io::{Sink, SinkError};
+use std::alloc::Global;
+
+// Prints what came of each unit.
+fn print_rows<K: Sink>(alloc: Global, rows: &[FleetRow], out: &mut K) -> Result<(), SinkError>
+    ensures takes_the_text { TakesText (K.taken out.old) (K.taken out.new) (flat_map row_line rows.now) result }
+    ensures fault_rose { HasWriteCause (K.faults out.old) (K.faults out.new) result }
+{
+    for row in rows {
+        put_line(out, row_line(alloc, row))?;
+    }
+    Ok(())
+}
+
+/// Prints a report: a line for each unit, and how many there are.
+pub fn print_fleet<K: Sink>(alloc: Global, rows: &[FleetRow], out: &mut K) -> Result<(), SinkError>
+    ensures takes_the_text { TakesText (K.taken out.old) (K.taken out.new) (fleet_text rows.now) result }
+    ensures fault_rose { HasWriteCause (K.faults out.old) (K.faults out.new) result }
+{
+    print_rows(alloc, rows, out)?;
+    put_line(out, counts_line(alloc, rows.len(), count_refused(rows)))
+}

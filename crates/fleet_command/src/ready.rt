@@ -1,0 +1,30 @@
+//! A report of all units, ready to be printed.
+
+use crate::printing::print_fleet;
+use command_answers::{Ending, Ready};
+use fleet_report::FleetRow;
+use host_io::{Sink, SinkError};
+use std::alloc::Global;
+
+/// What came of all units.
+#[derive(Drop)]
+pub struct Fleet {
+    /// A row for each unit, in their order.
+    pub rows: Vec<FleetRow>,
+}
+
+impl Ready for Fleet {
+    ghost use Rattle.fleet_command.specs.Prints.{ending_of, text_of};
+
+    ghost text = { text_of };
+
+    ghost ending = { ending_of };
+
+    fn ending(&self) -> Ending {
+        Ending::Done
+    }
+
+    fn print<K: Sink>(&mut self, alloc: Global, out: &mut K) -> Result<(), SinkError> {
+        print_fleet(alloc, &self.rows, out)
+    }
+}

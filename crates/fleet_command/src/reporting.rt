@@ -1,0 +1,46 @@
+//! The rows of all units.
+ghost use Rattle.std.specs.Prelude.{◌≡◌, ◌∷◌, [], IfSome};
+ghost use Rattle.exposure_score.specs.StoredTests.{stored_by};
+ghost use Rattle.policy_weights.specs.Weights.{weight_of};
+ghost use Rattle.command_answers.specs.Stops.{HasReadCause, Prepares};
+ghost use Rattle.score_command.specs.Weights.{weight_refusal};
+ghost use Rattle.fleet_command.specs.Inputs.{inputs_view};
+ghost use Rattle.fleet_command.specs.Reports.{AreFleet};
+
+use crate::preparing::FleetInputs;
+use command_answers::{Stop, refuse, refused_line};
+use exposure_score::{CustomTest, Facts};
+use fleet_report::{FleetError, FleetRow, fleet};
+use host_io::Shelf;
+use std::alloc::Global;
+
+/// The rows of the units by the policy of this path, or the line of a policy that weighs nothing, which is told before a unit is
+/// read.
+pub fn report<S: Shelf>(
+    alloc: Global,
+    shelf: &mut S,
+    path: &str,
+    inputs: &FleetInputs,
+    tests: &[CustomTest],
+) -> Result<Vec<FleetRow>, Stop>
+    ensures reports { IfSome (S.told shelf.old) (λ files. Prepares (λ rows. AreFleet files (inputs_view inputs.now) (stored_by (λ test. test.id) (λ test. test.range) (λ test. ⟦<Box<dyn Fn(&Facts) -> u32> as Fn(&Facts) -> u32>⟧.post test.check) tests.now) rows.items)
+        (weight_refusal path.now (weight_of (inputs_view inputs.now).calls (stored_by (λ test. test.id) (λ test. test.range) (λ test. ⟦<Box<dyn Fn(&Facts) -> u32> as Fn(&Facts) -> u32>⟧.post test.check) tests.now) (inputs_view inputs.now).policy) ∷ []) result) }
+    ensures map_stays { S.told shelf.new ≡ S.told shelf.old }
+    ensures fault_rose { HasReadCause (S.faults shelf.old) (S.faults shelf.new) result }
+{
+    let rows = fleet(
+        alloc,
+        shelf,
+        &inputs.names,
+        &inputs.calls,
+        &inputs.site,
+        &inputs.policy,
+        tests,
+    );
+    match rows {
+        Ok(rows) => Ok(rows),
+        Err(FleetError::NoWeight) => Err(refuse(refused_line(alloc, path, b"no-weight"))),
+        Err(FleetError::ReadFault) => Err(Stop::ReadFault),
+        Err(FleetError::Memory) => Err(Stop::Memory),
+    }
+}

@@ -1,0 +1,52 @@
+//! The lines of a report of all units.
+ghost use Rattle.std.specs.Prelude.{◌≡◌, IfOk, count_by};
+ghost use Rattle.fleet_command.specs.Texts.{counts_line, exposure_line, is_refused, row_line};
+
+use fleet_report::{FleetOutcome, FleetRow};
+use std::alloc::{AllocError, Global};
+use text_forms::push_word;
+use unit_inputs::unit_line;
+use unit_settings::settings_line;
+
+// The line of a unit that is scored.
+fn exposure_line(alloc: Global, unit: &str, exposure: u32) -> Result<Vec<u8>, AllocError>
+    ensures { IfOk result (λ line. line.items ≡ exposure_line unit.now exposure) }
+{
+    let mut line = b"unit ".to_vec(alloc)?;
+    push_word(&mut line, unit)?;
+    let end = format!(in alloc; " exposure {exposure}\n")?;
+    line.extend_from_slice(end.as_bytes())?;
+    Ok(line)
+}
+
+/// The line of a unit: its exposure in hundredths, or its refusal as a command on it alone tells it.
+pub fn row_line(alloc: Global, row: &FleetRow) -> Result<Vec<u8>, AllocError>
+    ensures tells_the_row { IfOk result (λ line. line.items ≡ row_line row.now) }
+{
+    let unit = row.name.text();
+    match &row.outcome {
+        FleetOutcome::Scored(exposure) => exposure_line(alloc, unit, *exposure),
+        FleetOutcome::Unresolved(refusal) => unit_line(alloc, unit, refusal),
+        FleetOutcome::Unset(refusal) => settings_line(alloc, unit, refusal),
+    }
+}
+
+fn is_refused(outcome: &FleetOutcome) -> bool
+    ensures { result ≡ is_refused outcome.now }
+{
+    !matches!(outcome, FleetOutcome::Scored(_))
+}
+
+/// How many units are refused.
+pub fn count_refused(rows: &[FleetRow]) -> usize
+    ensures counts_them { result ≡ count_by (λ row. is_refused row.outcome) rows.now }
+{
+    rows.iter().filter(|row| is_refused(&row.outcome)).count()
+}
+
+/// The last line: how many units there are, and how many of them are refused.
+pub fn counts_line(alloc: Global, units: usize, refused: usize) -> Result<Vec<u8>, AllocError>
+    ensures tells_both { IfOk result (λ line. line.items ≡ counts_line units refused) }
+{
+    Ok(format!(in alloc; "units {units} refused {refused}\n")?.into_bytes())
+}

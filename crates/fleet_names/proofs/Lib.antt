@@ -1,0 +1,3 @@
+pub mod Taking
+pub mod Keyed
+pub mod Named

@@ -1,0 +1,62 @@
+//! The units among the files of some folders.
+ghost use Rattle.std.specs.Prelude.{◌≡◌, List, ℕ, IfErr, IfSome, OnOk, map};
+ghost use Rattle.std.specs.BTreeMap.{get_by_text};
+ghost use Rattle.std.specs.Option.{option_or};
+ghost use Rattle.std.specs.String.{string_bytes};
+ghost use Rattle.fleet_names.specs.Answers.{HasCause};
+ghost use Rattle.fleet_names.specs.Steps.{CollectsUnits, unit_among, unit_called};
+ghost use Rattle.fleet_names.specs.declared.errors.NamesError.TheVariants.{Memory};
+
+use crate::errors::NamesError;
+use crate::listing::list_folder;
+use host_io::Shelf;
+use std::alloc::Global;
+use std::collections::BTreeMap;
+use unit_names::{NameError, UnitName};
+
+/// Units by the texts of their names.
+pub type Units = BTreeMap<String, UnitName>;
+
+// Takes the unit of a file's name, where the name is one.
+fn take_name(alloc: Global, units: &mut Units, name: &str) -> Result<(), NamesError>
+    ensures takes_the_unit { OnOk result ((q : List ℕ) → get_by_text units.new q ≡ option_or (unit_called name.now q) (get_by_text units.old q)) }
+    ensures only_memory_fails { IfErr result (λ error. error ≡ Memory) }
+{
+    match UnitName::read(alloc, name) {
+        Ok(unit) => {
+            units.insert(String::from_str(alloc, name)?, unit)?;
+            Ok(())
+        }
+        Err(NameError::BadName) => Ok(()),
+        Err(NameError::Memory) => Err(NamesError::Memory),
+    }
+}
+
+// Takes the units of the names of files.
+fn take_names(alloc: Global, units: &mut Units, names: &[String]) -> Result<(), NamesError>
+    ensures takes_the_units { OnOk result ((q : List ℕ) → get_by_text units.new q ≡ option_or (unit_among (map string_bytes names.now) q) (get_by_text units.old q)) }
+    ensures only_memory_fails { IfErr result (λ error. error ≡ Memory) }
+{
+    for name in names {
+        take_name(alloc, units, name.as_str())?;
+    }
+    Ok(())
+}
+
+/// The units among the files of some folders.
+pub fn collect_units<S: Shelf>(
+    alloc: Global,
+    shelf: &mut S,
+    folders: &[&str],
+) -> Result<Units, NamesError>
+    ensures collects_the_units { IfSome (S.told shelf.old) (λ files. CollectsUnits files (map (λ folder. folder.now) folders.now) result) }
+    ensures map_stays { S.told shelf.new ≡ S.told shelf.old }
+    ensures fault_rose { HasCause (S.faults shelf.old) (S.faults shelf.new) result }
+{
+    let mut units = BTreeMap::new(alloc);
+    for folder in folders {
+        let names = list_folder(alloc, shelf, folder)?;
+        take_names(alloc, &mut units, names.as_slice())?;
+    }
+    Ok(units)
+}

@@ -1,0 +1,36 @@
+//! The units of a host.
+ghost use Rattle.std.specs.Prelude.{◌≡◌, IfSome};
+ghost use Rattle.fleet_names.specs.Answers.{AreNamed, HasCause};
+
+use crate::collecting::collect_units;
+use crate::errors::NamesError;
+use host_io::Shelf;
+use std::alloc::Global;
+use unit_names::UnitName;
+
+/// The folders of units (systemd.unit(5), Unit File Load Path).
+const FOLDERS: [&str; 3] = [
+    "etc/systemd/system",
+    "run/systemd/system",
+    "usr/lib/systemd/system",
+];
+
+/// The most units of a host.
+const MOST_UNITS: usize = 1024;
+
+/// The names of the units of a host, each once, in byte order: those that files have directly in `etc/systemd/system`,
+/// `run/systemd/system` and `usr/lib/systemd/system`, and that are names of services. A folder that is missing has none.
+///
+/// `TooMany` comes exactly where one of the folders has more than 4,096 files, or there are more than 1,024 units. `ReadFault`
+/// comes where the shelf's count of faults rose, and any other answer leaves it.
+pub fn fleet_names<S: Shelf>(alloc: Global, shelf: &mut S) -> Result<Vec<UnitName>, NamesError>
+    ensures names_the_units { IfSome (S.told shelf.old) (λ files. AreNamed files result) }
+    ensures map_stays { S.told shelf.new ≡ S.told shelf.old }
+    ensures fault_rose { HasCause (S.faults shelf.old) (S.faults shelf.new) result }
+{
+    let units = collect_units(alloc, shelf, &FOLDERS)?;
+    if units.len() > MOST_UNITS {
+        return Err(NamesError::TooMany);
+    }
+    Ok(units.into_values().collect(alloc)?)
+}

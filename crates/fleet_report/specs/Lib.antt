@@ -1,0 +1,4 @@
+pub mod Outcomes
+pub mod Order
+pub mod Comparing
+pub mod Answers

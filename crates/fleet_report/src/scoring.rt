@@ -1,0 +1,120 @@
+//! What comes of a unit, by its own files.
+ghost use Rattle.std.specs.Prelude.{◌≡◌, ◌<◌, ◌≤◌, IfErr, IfOk, IfSome, None, length};
+ghost use Rattle.exec_settings.specs.AreSettings.{AreSettings};
+ghost use Rattle.exec_settings.specs.Refusals.{refusal_of};
+ghost use Rattle.exposure_score.specs.StoredTests.{stored_by};
+ghost use Rattle.mount_settings.specs.Written.{unit_written};
+ghost use Rattle.policy_weights.specs.Weights.{weight_of};
+ghost use Rattle.dropin_merge.specs.Resolving.{resolved_of};
+ghost use Rattle.unit_names.specs.Names.{text_of};
+ghost use Rattle.fleet_report.specs.Answers.{HasCause};
+ghost use Rattle.fleet_report.specs.Outcomes.{HasExposure, IsOutcome, IsRowOf, TellsNoFault};
+ghost use Rattle.fleet_report.specs.declared.errors.FleetError.TheVariants.{Memory};
+ghost use Rattle.std.specs.Prelude.{Ok};
+
+use crate::errors::FleetError;
+use crate::rows::{FleetOutcome, FleetRow};
+use call_table::CallTable;
+use dropin_merge::{ResolveError, Resolved, resolve};
+use exec_settings::{Settings, SettingsError, settings};
+use exposure_score::{CustomTest, Facts, ScoreError, score};
+use host_io::Shelf;
+use policy_file::Policy;
+use service_facts::facts;
+use site_table::SiteTable;
+use std::alloc::Global;
+use unit_names::UnitName;
+
+// The exposure of a unit by its settings, which are accepted, and a policy that weighs something.
+fn exposure_of(
+    alloc: Global,
+    unit: &Resolved,
+    calls: &CallTable,
+    site: &SiteTable,
+    policy: &Policy,
+    tests: &[CustomTest],
+    made: &Settings,
+) -> Result<u32, FleetError>
+    requires accepted { refusal_of unit.now calls.now site.now ≡ None }
+    requires are_settings { AreSettings unit.now calls.now site.now made.now }
+    requires weighs { 0 < weight_of calls.now (stored_by (λ test. test.id) (λ test. test.range) (λ test. ⟦<Box<dyn Fn(&Facts) -> u32> as Fn(&Facts) -> u32>⟧.post test.check) tests.now) policy.now }
+    ensures exposes { IfOk result (HasExposure calls.now site.now policy.now (stored_by (λ test. test.id) (λ test. test.range) (λ test. ⟦<Box<dyn Fn(&Facts) -> u32> as Fn(&Facts) -> u32>⟧.post test.check) tests.now) unit.now) }
+    ensures only_memory_fails { IfErr result (λ error. error ≡ Memory) }
+{
+    let known = facts(alloc, unit, calls, site, made)?;
+    match score(alloc, policy, &known, tests) {
+        Ok(score) => Ok(score.exposure),
+        Err(ScoreError::NoWeight) => unreachable!(),
+        Err(ScoreError::Memory) => Err(FleetError::Memory),
+    }
+}
+
+// What comes of a unit that is resolved.
+fn outcome_of(
+    alloc: Global,
+    unit: &Resolved,
+    calls: &CallTable,
+    site: &SiteTable,
+    policy: &Policy,
+    tests: &[CustomTest],
+) -> Result<FleetOutcome, FleetError>
+    requires weighs { 0 < weight_of calls.now (stored_by (λ test. test.id) (λ test. test.range) (λ test. ⟦<Box<dyn Fn(&Facts) -> u32> as Fn(&Facts) -> u32>⟧.post test.check) tests.now) policy.now }
+    ensures comes_of_it { IfOk result (IsOutcome calls.now site.now policy.now (stored_by (λ test. test.id) (λ test. test.range) (λ test. ⟦<Box<dyn Fn(&Facts) -> u32> as Fn(&Facts) -> u32>⟧.post test.check) tests.now) (Ok unit.now)) }
+    ensures tells_no_fault { IfOk result TellsNoFault }
+    ensures only_memory_fails { IfErr result (λ error. error ≡ Memory) }
+{
+    match settings(alloc, unit, calls, site) {
+        Ok(made) => {
+            let exposure = exposure_of(alloc, unit, calls, site, policy, tests, &made)?;
+            Ok(FleetOutcome::Scored(exposure))
+        }
+        Err(SettingsError::Memory) => Err(FleetError::Memory),
+        Err(refusal) => Ok(FleetOutcome::Unset(refusal)),
+    }
+}
+
+// What comes of the unit of a name.
+fn outcome_by_files<S: Shelf>(
+    alloc: Global,
+    shelf: &mut S,
+    name: &UnitName,
+    calls: &CallTable,
+    site: &SiteTable,
+    policy: &Policy,
+    tests: &[CustomTest],
+) -> Result<FleetOutcome, FleetError>
+    requires weighs { 0 < weight_of calls.now (stored_by (λ test. test.id) (λ test. test.range) (λ test. ⟦<Box<dyn Fn(&Facts) -> u32> as Fn(&Facts) -> u32>⟧.post test.check) tests.now) policy.now }
+    ensures comes_of_its_files { IfSome (S.told shelf.old) (λ files. IfOk result (IsOutcome calls.now site.now policy.now (stored_by (λ test. test.id) (λ test. test.range) (λ test. ⟦<Box<dyn Fn(&Facts) -> u32> as Fn(&Facts) -> u32>⟧.post test.check) tests.now) (resolved_of files (text_of name.now)))) }
+    ensures tells_no_fault { IfOk result TellsNoFault }
+    ensures map_stays { S.told shelf.new ≡ S.told shelf.old }
+    ensures fault_rose { HasCause (S.faults shelf.old) (S.faults shelf.new) result }
+{
+    match resolve(alloc, shelf, name.text()) {
+        Ok(unit) => outcome_of(alloc, &unit, calls, site, policy, tests),
+        Err(ResolveError::ReadFault) => Err(FleetError::ReadFault),
+        Err(ResolveError::Memory) => Err(FleetError::Memory),
+        Err(refusal) => Ok(FleetOutcome::Unresolved(refusal)),
+    }
+}
+
+/// The row of a name, by the files of its unit, which is let go. The policy weighs something.
+pub fn row_of<S: Shelf>(
+    alloc: Global,
+    shelf: &mut S,
+    name: &UnitName,
+    calls: &CallTable,
+    site: &SiteTable,
+    policy: &Policy,
+    tests: &[CustomTest],
+) -> Result<FleetRow, FleetError>
+    requires weighs { 0 < weight_of calls.now (stored_by (λ test. test.id) (λ test. test.range) (λ test. ⟦<Box<dyn Fn(&Facts) -> u32> as Fn(&Facts) -> u32>⟧.post test.check) tests.now) policy.now }
+    ensures same_name { IfOk result (λ row. row.name ≡ name.now) }
+    ensures is_the_row { IfSome (S.told shelf.old) (λ files. IfOk result (IsRowOf files calls.now site.now policy.now (stored_by (λ test. test.id) (λ test. test.range) (λ test. ⟦<Box<dyn Fn(&Facts) -> u32> as Fn(&Facts) -> u32>⟧.post test.check) tests.now))) }
+    ensures tells_no_fault { IfOk result (λ row. TellsNoFault row.outcome) }
+    ensures map_stays { S.told shelf.new ≡ S.told shelf.old }
+    ensures fault_rose { HasCause (S.faults shelf.old) (S.faults shelf.new) result }
+{
+    let outcome = outcome_by_files(alloc, shelf, name, calls, site, policy, tests)?;
+    let name = name.copy(alloc)?;
+    Ok(FleetRow { name, outcome })
+}

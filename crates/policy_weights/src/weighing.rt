@@ -1,0 +1,33 @@
+//! Whether a policy weighs anything.
+ghost use Rattle.std.specs.Prelude.{◌≡◌, ◌&&◌, nat_lt, is_some};
+ghost use Rattle.std.specs.List.{list_any};
+ghost use Rattle.exposure_score.specs.Badness.{stored_of};
+ghost use Rattle.policy_weights.specs.Weights.{is_counted, weight_by};
+
+use call_table::CallTable;
+use exposure_score::CustomTest;
+use policy_file::{Policy, PolicyTest};
+use service_facts::known_test;
+
+// Whether a stored test has the identifier.
+fn is_stored(tests: &[CustomTest], id: &str) -> bool
+    ensures { result ≡ is_some (stored_of (λ test. test.id) tests.now id.now) }
+{
+    tests.iter().any(|test| test.id() == id)
+}
+
+// Whether a test counts, and has a weight.
+fn adds_weight(calls: &CallTable, test: &PolicyTest, tests: &[CustomTest]) -> bool
+    ensures { result ≡ (nat_lt 0 test.now.weight && is_counted calls.now (λ test. test.id) tests.now test.now.id) }
+{
+    let id = test.id.as_str();
+    test.weight > 0 && (known_test(id, calls) || is_stored(tests, id))
+}
+
+/// Whether the weights of the policy's tests that are not skipped sum to more than nothing, for a table of calls and the tests
+/// that are handed in.
+pub fn weighs(calls: &CallTable, policy: &Policy, tests: &[CustomTest]) -> bool
+    ensures some_weight { result ≡ nat_lt 0 (weight_by calls.now (λ test. test.id) tests.now policy.now) }
+{
+    policy.list().iter().any(|test| adds_weight(calls, test, tests))
+}
