@@ -64,11 +64,11 @@ module _ {X : Type 0} (f : List ℕ → Option X) where
       by_found rest (Some x) = ap (λ xs. x ∷ xs) rest
 
 -- ---- entries of a map, and lists of pairs
-module _ {X : Type 0} where
-  both_hold : (a b : Bool) → T a → T b → T (a && b)
-  both_hold true b f g = g
-  both_hold false b f g = f
+both_hold : (a b : Bool) → T a → T b → T (a && b)
+both_hold true b f g = g
+both_hold false b f g = f
 
+module _ {X : Type 0} where
   below_test : (first : List ℕ) (es : List (List ℕ × X)) → AllByRecursion (λ y. byte_cmp first y ≡ Less) (keys_of es) → T (below_all byte_cmp first es)
   below_test first [] all = tt
   below_test first (entry ∷ es) all = both_hold _ _ (subst (λ o. T (is_lt o)) (sym all.0) tt) (below_test first es all.1)

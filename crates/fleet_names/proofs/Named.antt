@@ -34,9 +34,6 @@ or_true true = refl
 or_true false = refl
 
 module _ (files : Files) (units : BTreeMap (String Global) Name) (ordered : IsOrdered string_cmp units) (collected : CollectsUnits files locations (Ok units)) where
-  texts : List (List ℕ)
-  texts = in_byte_order (flat_map (names_in files) locations)
-
   entries_are : map keyed units.entries ≡ given name_of (in_byte_order (flat_map (names_in files) locations))
   entries_are =
       same_from_lookups (map keyed units.entries) (given name_of (in_byte_order (flat_map (names_in files) locations)))
@@ -63,26 +60,24 @@ module _ (files : Files) (units : BTreeMap (String Global) Name) (ordered : IsOr
   few h = ap (λ b. b || nat_lt 1024 (length (units_of files))) collected.1 ∙ ap (nat_lt 1024) count_is ∙ not_above (length units.entries) h
 
 -- what was answered of the files that are told
-module _ (told : Option Files) (folders : List (List ℕ)) (same : folders ≡ locations) where
-  pub refuses_many : (units : BTreeMap (String Global) Name) → IsOrdered string_cmp units → IfSome told (λ files. CollectsUnits files folders (Ok units)) → 1024 < length units.entries
+module _ (told : Option Files) where
+  pub refuses_many : (units : BTreeMap (String Global) Name) → IsOrdered string_cmp units → IfSome told (λ files. CollectsUnits files locations (Ok units)) → 1024 < length units.entries
       → IfSome told (λ files. AreNamed files (Err TooMany))
   refuses_many units ordered collected h =
       told_to (λ files. AreNamed files (Err TooMany)) told
-      (λ files known.
-      too_many files units ordered (subst (λ own. CollectsUnits files own (Ok units)) same (told_from (λ files. CollectsUnits files folders (Ok units)) told collected files known)) h)
+      (λ files known. too_many files units ordered (told_from (λ files. CollectsUnits files locations (Ok units)) told collected files known) h)
 
-  pub names_units : (units : BTreeMap (String Global) Name) (names : Vec Name Global) → IsOrdered string_cmp units → IfSome told (λ files. CollectsUnits files folders (Ok units)) → length units.entries ≤ 1024
+  pub names_units : (units : BTreeMap (String Global) Name) (names : Vec Name Global) → IsOrdered string_cmp units → IfSome told (λ files. CollectsUnits files locations (Ok units)) → length units.entries ≤ 1024
       → names.items ≡ values_of units.entries → IfSome told (λ files. AreNamed files (Ok names))
   names_units units names ordered collected h given =
       told_to (λ files. AreNamed files (Ok names)) told
       (λ files known.
-      let own = subst (λ own. CollectsUnits files own (Ok units)) same (told_from (λ files. CollectsUnits files folders (Ok units)) told collected files known) in
+      let own = told_from (λ files. CollectsUnits files locations (Ok units)) told collected files known in
       (few files units ordered own h, given ∙ values_are files units ordered own))
 
-  pub refuses_folder : (error : NamesError) → IfSome told (λ files. CollectsUnits files folders (Err error)) → IfSome told (λ files. AreNamed files (Err error))
+  pub refuses_folder : (error : NamesError) → IfSome told (λ files. CollectsUnits files locations (Err error)) → IfSome told (λ files. AreNamed files (Err error))
   refuses_folder error collected =
-      told_to (λ files. AreNamed files (Err error)) told
-      (λ files known. by_error files error (subst (λ own. CollectsUnits files own (Err error)) same (told_from (λ files. CollectsUnits files folders (Err error)) told collected files known)))
+      told_to (λ files. AreNamed files (Err error)) told (λ files known. by_error files error (told_from (λ files. CollectsUnits files locations (Err error)) told collected files known))
     where
       by_error : (files : Files) (error : NamesError) → CollectsUnits files locations (Err error) → AreNamed files (Err error)
       by_error files TooMany said = ap (λ b. b || nat_lt 1024 (length (units_of files))) said

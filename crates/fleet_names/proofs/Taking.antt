@@ -1,11 +1,12 @@
 -- The units that were taken, name by name and folder by folder.
-use Rattle.std.proofs.Common.{◌≡◌, ℕ, ◌+◌, ◌<◌, ◌≤◌, Bool, true, false, cond, List, [], ◌∷◌, ◌++◌, length, drop, get_or, Option, Some, None, Ok, Err, map, Vec, String, Global, refl, sym, ap, ◌∙◌, subst}
+use Rattle.std.proofs.Common.{◌≡◌, ℕ, ◌+◌, ◌<◌, ◌≤◌, Bool, true, false, cond, List, [], ◌∷◌, ◌++◌, length, drop, get_or, Option, Some, None, Ok, Err, map, Vec, String, Global, Bor, refl, sym, ap, ◌∙◌, subst, arith}
 use Rattle.std.specs.Prelude.{◌||◌, nat_lt, IfSome, flat_map, string_bytes}
 use Rattle.std.specs.Option.{option_or}
 use Rattle.std.specs.Str.{bytes_eq}
 use Rattle.std.specs.String.{string_cmp}
 use Rattle.std.specs.List.{list_any}
 use Rattle.std.specs.BTreeMap.{BTreeMap, UpdatesBy, get_by_text}
+use Rattle.std.proofs.lemmas.List.{drop_more}
 use Rattle.std.proofs.lemmas.List.Folds.{list_any-append}
 use Rattle.std.proofs.lemmas.List.Sorted.{list_any-IsPermutation}
 use Rattle.std.proofs.lemmas.Bool.Decides.{nat_tests}
@@ -126,3 +127,36 @@ pub collected_stops : (files : Files) (m : BTreeMap (String Global) Name) (folde
 collected_stops files m folder left all TooMany before said = sym before.overfull ∙ ap (λ b. b || list_any (is_overfull files) left) said
 collected_stops files m folder left all ReadFault before said = tt
 collected_stops files m folder left all Memory before said = tt
+
+-- a turn of the loop over folders
+texts_left : (folders : List (Bor (List ℕ))) (i : ℕ) (d : Bor (List ℕ)) → i < length folders → map (λ folder. folder.now) (drop i folders) ≡ (get_or folders i d).now ∷ map (λ folder. folder.now) (drop (i + 1) folders)
+texts_left folders i d h = ap (map (λ (folder : Bor (List ℕ)). folder.now)) (drop_more folders i d h)
+
+pub collected_turn : (files : Files) (told : Option Files) (m n : BTreeMap (String Global) Name) (folders : List (Bor (List ℕ))) (i : ℕ) (d : Bor (List ℕ)) (names : Vec (String Global) Global) (slice : List (String Global)) (all : List (List ℕ))
+    → told ≡ Some files → i < length folders → slice ≡ names.items
+    → IfSome told (λ files. ListsFolder (names_in files (get_or folders i d).now) (Ok names))
+    → ((q : List ℕ) → get_by_text n q ≡ option_or (unit_among (map string_bytes slice) q) (get_by_text m q))
+    → Collected files m (map (λ folder. folder.now) (drop i folders)) all
+    → Collected files n (map (λ folder. folder.now) (drop (i + 1) folders)) all
+collected_turn files told m n folders i d names slice all known h sliced listed step before =
+    collected_more files m n (get_or folders i d).now (map (λ folder. folder.now) (drop (i + 1) folders)) all names
+    (subst (λ left. Collected files m left all) (texts_left folders i d h) before)
+    (told_from (λ files. ListsFolder (names_in files (get_or folders i d).now) (Ok names)) told listed files known)
+    (λ q. step q ∙ ap (λ own. option_or (unit_among (map string_bytes own) q) (get_by_text m q)) sliced)
+
+-- the loop stops at a folder that is refused
+pub collected_refused : (start told : Option Files) (m : BTreeMap (String Global) Name) (folders : List (Bor (List ℕ))) (i : ℕ) (d : Bor (List ℕ)) (error : NamesError)
+    → told ≡ start → i < length folders
+    → IfSome told (λ files. ListsFolder (names_in files (get_or folders i d).now) (Err error))
+    → ((files : Files) → start ≡ Some files → Collected files m (map (λ folder. folder.now) (drop i folders)) (map (λ folder. folder.now) folders))
+    → IfSome start (λ files. CollectsUnits files (map (λ folder. folder.now) folders) (Err error))
+collected_refused start told m folders i d error same h listed before =
+    told_to (λ files. CollectsUnits files (map (λ folder. folder.now) folders) (Err error)) start
+    (λ files known.
+    collected_stops files m (get_or folders i d).now (map (λ folder. folder.now) (drop (i + 1) folders)) (map (λ folder. folder.now) folders) error
+    (subst (λ left. Collected files m left (map (λ folder. folder.now) folders)) (texts_left folders i d h) (before files known))
+    (told_from (λ files. ListsFolder (names_in files (get_or folders i d).now) (Err error)) told listed files (same ∙ known)))
+
+-- the loop is through
+pub collected_through : (start : Option Files) (m : BTreeMap (String Global) Name) (left all : List (List ℕ)) → left ≡ [] → ((files : Files) → start ≡ Some files → Collected files m left all) → IfSome start (λ files. CollectsUnits files all (Ok m))
+collected_through start m left all none is = told_to (λ files. CollectsUnits files all (Ok m)) start (λ files known. collected_all files m left all none (is files known))

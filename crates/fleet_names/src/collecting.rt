@@ -1,8 +1,10 @@
 //! The units among the files of some folders.
-ghost use Rattle.std.specs.Prelude.{◌≡◌, List, ℕ, IfErr, IfSome, OnOk, map};
+ghost use Rattle.std.specs.Prelude.{◌≡◌, List, ℕ, IfErr, IfOk, IfSome, OnOk, map};
 ghost use Rattle.std.specs.BTreeMap.{get_by_text};
+ghost use Rattle.std.specs.Map.{values_of};
 ghost use Rattle.std.specs.Option.{option_or};
 ghost use Rattle.std.specs.String.{string_bytes};
+ghost use Rattle.dropin_merge.specs.Places.{locations};
 ghost use Rattle.fleet_names.specs.Answers.{HasCause};
 ghost use Rattle.fleet_names.specs.Steps.{CollectsUnits, unit_among, unit_called};
 ghost use Rattle.fleet_names.specs.declared.errors.NamesError.TheVariants.{Memory};
@@ -10,9 +12,16 @@ ghost use Rattle.fleet_names.specs.declared.errors.NamesError.TheVariants.{Memor
 use crate::errors::NamesError;
 use crate::listing::list_folder;
 use host_io::Shelf;
-use std::alloc::Global;
+use std::alloc::{AllocError, Global};
 use std::collections::BTreeMap;
 use unit_names::{NameError, UnitName};
+
+/// The folders of units (systemd.unit(5), Unit File Load Path).
+const FOLDERS: [&str; 3] = [
+    "etc/systemd/system",
+    "run/systemd/system",
+    "usr/lib/systemd/system",
+];
 
 /// Units by the texts of their names.
 pub type Units = BTreeMap<String, UnitName>;
@@ -43,8 +52,8 @@ fn take_names(alloc: Global, units: &mut Units, names: &[String]) -> Result<(), 
     Ok(())
 }
 
-/// The units among the files of some folders.
-pub fn collect_units<S: Shelf>(
+// The units among the files of some folders.
+fn collect_units<S: Shelf>(
     alloc: Global,
     shelf: &mut S,
     folders: &[&str],
@@ -59,4 +68,20 @@ pub fn collect_units<S: Shelf>(
         take_names(alloc, &mut units, names.as_slice())?;
     }
     Ok(units)
+}
+
+/// The units among the files of the folders of units.
+pub fn collect_all<S: Shelf>(alloc: Global, shelf: &mut S) -> Result<Units, NamesError>
+    ensures collects_the_units { IfSome (S.told shelf.old) (λ files. CollectsUnits files locations result) }
+    ensures map_stays { S.told shelf.new ≡ S.told shelf.old }
+    ensures fault_rose { HasCause (S.faults shelf.old) (S.faults shelf.new) result }
+{
+    collect_units(alloc, shelf, &FOLDERS)
+}
+
+/// The units alone, in byte order of their texts.
+pub fn in_byte_order(alloc: Global, units: Units) -> Result<Vec<UnitName>, AllocError>
+    ensures { IfOk result (λ names. names.items ≡ values_of units.entries) }
+{
+    units.into_values().collect(alloc)
 }

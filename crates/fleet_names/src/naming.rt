@@ -2,18 +2,11 @@
 ghost use Rattle.std.specs.Prelude.{◌≡◌, IfSome};
 ghost use Rattle.fleet_names.specs.Answers.{AreNamed, HasCause};
 
-use crate::collecting::collect_units;
+use crate::collecting::{collect_all, in_byte_order};
 use crate::errors::NamesError;
 use host_io::Shelf;
 use std::alloc::Global;
 use unit_names::UnitName;
-
-/// The folders of units (systemd.unit(5), Unit File Load Path).
-const FOLDERS: [&str; 3] = [
-    "etc/systemd/system",
-    "run/systemd/system",
-    "usr/lib/systemd/system",
-];
 
 /// The most units of a host.
 const MOST_UNITS: usize = 1024;
@@ -28,9 +21,9 @@ pub fn fleet_names<S: Shelf>(alloc: Global, shelf: &mut S) -> Result<Vec<UnitNam
     ensures map_stays { S.told shelf.new ≡ S.told shelf.old }
     ensures fault_rose { HasCause (S.faults shelf.old) (S.faults shelf.new) result }
 {
-    let units = collect_units(alloc, shelf, &FOLDERS)?;
+    let units = collect_all(alloc, shelf)?;
     if units.len() > MOST_UNITS {
         return Err(NamesError::TooMany);
     }
-    Ok(units.into_values().collect(alloc)?)
+    Ok(in_byte_order(alloc, units)?)
 }

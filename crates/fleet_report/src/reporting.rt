@@ -36,6 +36,7 @@ fn rows_of<S: Shelf>(
     ensures tells_no_fault { IfOk result (λ rows. All (λ row. TellsNoFault row.outcome) rows.items) }
     ensures map_stays { S.told shelf.new ≡ S.told shelf.old }
     ensures fault_rose { HasCause (S.faults shelf.old) (S.faults shelf.new) result }
+    ensures never_weightless { IsErrOf result FleetError.NoWeight → ⊥ }
 {
     let mut rows = Vec::new(alloc);
     for name in names {

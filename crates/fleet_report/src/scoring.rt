@@ -1,16 +1,14 @@
 //! What comes of a unit, by its own files.
-ghost use Rattle.std.specs.Prelude.{◌≡◌, ◌<◌, ◌≤◌, IfErr, IfOk, IfSome, None, length};
+ghost use Rattle.std.specs.Prelude.{◌≡◌, ◌<◌, IfErr, IfOk, IfSome, IsErrOf, None, Ok};
 ghost use Rattle.exec_settings.specs.AreSettings.{AreSettings};
 ghost use Rattle.exec_settings.specs.Refusals.{refusal_of};
 ghost use Rattle.exposure_score.specs.StoredTests.{stored_by};
-ghost use Rattle.mount_settings.specs.Written.{unit_written};
 ghost use Rattle.policy_weights.specs.Weights.{weight_of};
 ghost use Rattle.dropin_merge.specs.Resolving.{resolved_of};
 ghost use Rattle.unit_names.specs.Names.{text_of};
 ghost use Rattle.fleet_report.specs.Answers.{HasCause};
 ghost use Rattle.fleet_report.specs.Outcomes.{HasExposure, IsOutcome, IsRowOf, TellsNoFault};
 ghost use Rattle.fleet_report.specs.declared.errors.FleetError.TheVariants.{Memory};
-ghost use Rattle.std.specs.Prelude.{Ok};
 
 use crate::errors::FleetError;
 use crate::rows::{FleetOutcome, FleetRow};
@@ -88,6 +86,7 @@ fn outcome_by_files<S: Shelf>(
     ensures tells_no_fault { IfOk result TellsNoFault }
     ensures map_stays { S.told shelf.new ≡ S.told shelf.old }
     ensures fault_rose { HasCause (S.faults shelf.old) (S.faults shelf.new) result }
+    ensures never_weightless { IsErrOf result FleetError.NoWeight → ⊥ }
 {
     match resolve(alloc, shelf, name.text()) {
         Ok(unit) => outcome_of(alloc, &unit, calls, site, policy, tests),
@@ -113,6 +112,7 @@ pub fn row_of<S: Shelf>(
     ensures tells_no_fault { IfOk result (λ row. TellsNoFault row.outcome) }
     ensures map_stays { S.told shelf.new ≡ S.told shelf.old }
     ensures fault_rose { HasCause (S.faults shelf.old) (S.faults shelf.new) result }
+    ensures never_weightless { IsErrOf result FleetError.NoWeight → ⊥ }
 {
     let outcome = outcome_by_files(alloc, shelf, name, calls, site, policy, tests)?;
     let name = name.copy(alloc)?;

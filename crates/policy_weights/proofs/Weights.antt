@@ -15,7 +15,7 @@ use Rattle.service_facts.specs.Facts.{AreFacts}
 use Rattle.service_facts.specs.Sandbox.{sandbox_of}
 use Rattle.service_facts.proofs.Known.{have_facts}
 use Rattle.policy_weights.specs.Weights.{is_counted, weight_of}
-use Rattle.policy_weights.proofs.Weighing.{found}
+use Rattle.policy_weights.proofs.Sums.{found}
 
 module _ (p q : PolicyTest → Bool) (same : (test : PolicyTest) → p test ≡ q test) where
   -- what is filtered alike
@@ -28,6 +28,7 @@ module _ (p q : PolicyTest → Bool) (same : (test : PolicyTest) → p test ≡ 
 -- by facts that are those of a unit
 pub weighs_alike : (unit : Resolved) (table : Table) (settings : Settings) (facts : Facts) (stored : StoredTests) (policy : List PolicyTest) → AreFacts unit table settings facts
     → counted_weight stored.id_of facts.tests stored.tests policy ≡ weight_of table stored policy
+unfolding is_counted
 weighs_alike unit table settings facts stored policy are =
     ap (λ (these : List PolicyTest). sum_by (λ (test : PolicyTest). test.weight) these)
     (filtered (λ test. is_known_by stored.id_of facts.tests stored.tests test.id) (λ test. is_counted table stored.id_of stored.tests test.id)

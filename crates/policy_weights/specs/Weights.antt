@@ -7,7 +7,7 @@ use Rattle.policy_file.specs.declared.policy.PolicyTest.{PolicyTest}
 use Rattle.service_facts.specs.Facts.{is_known}
 
 -- settings decide the test, by the table of calls, or a stored test does
-abbrev pub is_counted : {T : Type 0} → Table → (T → List ℕ) → List T → List ℕ → Bool
+unfoldable pub is_counted : {T : Type 0} → Table → (T → List ℕ) → List T → List ℕ → Bool
 is_counted table id_of tests id = is_known id table || is_some (stored_of id_of tests id)
 
 -- the sum of the weights that count

@@ -13,15 +13,38 @@ use service_facts::known_test;
 fn is_stored(tests: &[CustomTest], id: &str) -> bool
     ensures { result ≡ is_some (stored_of (λ test. test.id) tests.now id.now) }
 {
-    tests.iter().any(|test| test.id() == id)
+    for test in tests {
+        if test.id() == id {
+            return true;
+        }
+    }
+    false
+}
+
+// Whether settings decide the test of an identifier, or a stored test does.
+fn counts(calls: &CallTable, id: &str, tests: &[CustomTest]) -> bool
+    ensures { result ≡ is_counted calls.now (λ test. test.id) tests.now id.now }
+{
+    known_test(id, calls) || is_stored(tests, id)
 }
 
 // Whether a test counts, and has a weight.
 fn adds_weight(calls: &CallTable, test: &PolicyTest, tests: &[CustomTest]) -> bool
     ensures { result ≡ (nat_lt 0 test.now.weight && is_counted calls.now (λ test. test.id) tests.now test.now.id) }
 {
-    let id = test.id.as_str();
-    test.weight > 0 && (known_test(id, calls) || is_stored(tests, id))
+    test.weight > 0 && counts(calls, test.id.as_str(), tests)
+}
+
+// Whether one of some tests does.
+fn have_weight(calls: &CallTable, policy: &[PolicyTest], tests: &[CustomTest]) -> bool
+    ensures { result ≡ list_any (λ test. nat_lt 0 test.weight && is_counted calls.now (λ test. test.id) tests.now test.id) policy.now }
+{
+    for test in policy {
+        if adds_weight(calls, test, tests) {
+            return true;
+        }
+    }
+    false
 }
 
 /// Whether the weights of the policy's tests that are not skipped sum to more than nothing, for a table of calls and the tests
@@ -29,5 +52,5 @@ fn adds_weight(calls: &CallTable, test: &PolicyTest, tests: &[CustomTest]) -> bo
 pub fn weighs(calls: &CallTable, policy: &Policy, tests: &[CustomTest]) -> bool
     ensures some_weight { result ≡ nat_lt 0 (weight_by calls.now (λ test. test.id) tests.now policy.now) }
 {
-    policy.list().iter().any(|test| adds_weight(calls, test, tests))
+    have_weight(calls, policy.list(), tests)
 }

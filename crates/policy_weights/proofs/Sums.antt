@@ -16,6 +16,13 @@ module _ {X : Type 0} (p : X → Bool) where
   found [] = refl
   found (x ∷ xs) = step x xs (p x) refl (found xs)
 
+-- what settings or a stored test decide
+pub known_then : (known listed stored : Bool) → known ≡ listed → known ≡ true → known ≡ (listed || stored)
+known_then known listed stored is holds = holds ∙ sym (ap (λ b. b || stored) (sym is ∙ holds))
+
+pub known_else : (known listed answer stored : Bool) → known ≡ listed → known ≡ false → answer ≡ stored → answer ≡ (listed || stored)
+known_else known listed answer stored is fails found = found ∙ sym (ap (λ b. b || stored) (sym is ∙ fails))
+
 either_weighs : (one other : ℕ) → (nat_lt 0 one || nat_lt 0 other) ≡ nat_lt 0 (one + other)
 either_weighs one other = by_tests (nat_lt 0 one) refl (nat_lt 0 other) refl
   where
@@ -26,9 +33,6 @@ either_weighs one other = by_tests (nat_lt 0 one) refl (nat_lt 0 other) refl
 
 -- of the tests that count
 module _ (counts : PolicyTest → Bool) where
-  weigh : List PolicyTest → ℕ
-  weigh policy = sum_by (λ test. test.weight) (filter counts policy)
-
   pub any_weighs : (policy : List PolicyTest) → list_any (λ test. nat_lt 0 test.weight && counts test) policy ≡ nat_lt 0 (sum_by (λ test. test.weight) (filter counts policy))
   any_weighs [] = refl
   any_weighs (test ∷ policy) = by_test (any_weighs policy) (counts test)

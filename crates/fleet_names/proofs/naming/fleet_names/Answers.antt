@@ -1,0 +1,13 @@
+use Rattle.std.proofs.Common.{arith}
+use Rattle.fleet_names.proofs.Named.{names_units, refuses_many}
+use Rattle.fleet_names.proofs.naming.fleet_names.Goals as goal
+
+pub returns-then-len-gt-MOST_UNITS-clause-names_the_units : goal.returns-then-len-gt-MOST_UNITS-clause-names_the_units
+returns-then-len-gt-MOST_UNITS-clause-names_the_units g c =
+    refuses_many (g.S.Shelf.told c.args.shelf.now) c.in_ok-units.units c.len.ensures.ordered c.in_ok-units.ensures.collects_the_units
+    (omega (arith, c.if-len-gt-MOST_UNITS.true, c.len.ensures.len))
+
+pub returns-clause-names_the_units : goal.returns-clause-names_the_units
+returns-clause-names_the_units g c =
+    names_units (g.S.Shelf.told c.args.shelf.now) c.in_ok-units.units c.in_ok-in_byte_order.field-0 c.len.ensures.ordered c.in_ok-units.ensures.collects_the_units
+    (omega (arith, c.if-len-gt-MOST_UNITS.false, c.len.ensures.len)) c.in_ok-in_byte_order.ensures

@@ -1,0 +1,27 @@
+use Rattle.std.proofs.Common.{◌∙◌}
+use Rattle.std.proofs.lemmas.List.Elements.{All-push}
+use Rattle.exposure_score.specs.StoredTests.{stored_by}
+use Rattle.fleet_report.specs.Outcomes.{IsRowOf, TellsNoFault}
+use Rattle.fleet_report.proofs.Gathered.{names_more, rows_all, rows_more}
+use Rattle.fleet_report.proofs.reporting.rows_of.Goals as goal
+
+pub loop-name-preserved : goal.loop-name-preserved
+loop-name-preserved g c =
+    let stored = stored_by (λ test. test.id) (λ test. test.range) (λ test shown answer. (goal.Fn-dyn g).post (test.check.vtable, test.check.value) (shown, tt) answer) c.args.tests.now in
+    record {
+      told = c.row_of.ensures.map_stays ∙ c.loop-name.invariant.told;
+      stays = c.in_ok-row_of.ensures.fault_rose.no_other_fault ∙ c.loop-name.invariant.stays;
+      names =
+          rw c.in_ok-push.ensures.items
+          (names_more c.loop-name.rows.items c.in_ok-row_of.field-0 c.args.names.now c.loop-name.name-index c.name-item.result c.name-item.result c.loop-name-test.true c.name-item.is c.in_ok-row_of.ensures.same_name c.loop-name.invariant.names);
+      rows = λ files known.
+          rw c.in_ok-push.ensures.items
+          (rows_more (λ files. IsRowOf files c.args.calls.now c.args.site.now c.args.policy.now stored) (g.S.Shelf.told c.args.shelf.now) (g.S.Shelf.told c.loop-name.shelf) c.loop-name.rows.items c.in_ok-row_of.field-0
+          c.loop-name.invariant.told c.in_ok-row_of.ensures.is_the_row c.loop-name.invariant.rows files known);
+      faultless = rw c.in_ok-push.ensures.items (All-push (λ row. TellsNoFault row.outcome) c.loop-name.rows.items c.in_ok-row_of.field-0 c.loop-name.invariant.faultless c.in_ok-row_of.ensures.tells_no_fault);
+    }
+
+pub returns-clause-by_their_files : goal.returns-clause-by_their_files
+returns-clause-by_their_files g c =
+    let stored = stored_by (λ test. test.id) (λ test. test.range) (λ test shown answer. (goal.Fn-dyn g).post (test.check.vtable, test.check.value) (shown, tt) answer) c.args.tests.now in
+    rows_all (λ files. IsRowOf files c.args.calls.now c.args.site.now c.args.policy.now stored) (g.S.Shelf.told c.args.shelf.now) c.loop-name.rows.items c.loop-name.invariant.rows

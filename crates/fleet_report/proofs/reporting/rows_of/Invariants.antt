@@ -1,0 +1,16 @@
+use Rattle.std.proofs.Common.{◌≡◌, map, take, Some}
+use Rattle.std.specs.List.{All}
+use Rattle.exposure_score.specs.StoredTests.{stored_by}
+use Rattle.host_io.specs.Files.{Files}
+use Rattle.fleet_report.specs.Outcomes.{IsRowOf, TellsNoFault}
+use Rattle.fleet_report.proofs.reporting.rows_of.Given as goal
+
+abbrev pub invariant-loop-name : goal.invariant-loop-name
+invariant-loop-name g l = record {
+  told : g.S.Shelf.told l.shelf ≡ g.S.Shelf.told l.fn.shelf;
+  stays : g.S.Shelf.faults l.shelf ≡ g.S.Shelf.faults l.fn.shelf;
+  names : map (λ row. row.name) l.rows.items ≡ take l.name-index l.names;
+  rows : (files : Files) → g.S.Shelf.told l.fn.shelf ≡ Some files
+      → All (IsRowOf files l.calls l.site l.policy (stored_by (λ test. test.id) (λ test. test.range) (λ test shown answer. (goal.Fn-dyn g).post (test.check.vtable, test.check.value) (shown, tt) answer) l.tests)) l.rows.items;
+  faultless : All (λ row. TellsNoFault row.outcome) l.rows.items;
+}
