@@ -28,6 +28,9 @@ _lentsheep() {
         -*) mapfile -t COMPREPLY < <(compgen -W '--root --units --calls --site --fresh --full --brief --json --html --expect --write --compare --help --version' -- "$current") ;;
         *::*) mapfile -t COMPREPLY < <(compgen -W "$commands" -- "$current") ;;
         *:sample:* | *:fleet:0) ;;
+        *:check:1)
+            mapfile -t COMPREPLY < <(compgen -W 'families mdwe realtime suid namespaces hostname modules logs clock devices personality calls archs' -- "$current")
+            ;;
         *:0)
             local units=()
             for place in etc run usr/lib; do

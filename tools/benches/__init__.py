@@ -1,5 +1,6 @@
 """What tools/bench is made of, one thing a module: `inputs` (made units, sites and scripts), `timing` (runs in turns), `table` (the
-commands beside systemd-analyze), `site` (a row of site.toml), `filters` (what their programs cost), `hostile`, and `step`.
+commands beside systemd-analyze), `site` (a row of site.toml), `filters` (what their programs cost), `foreign` (what
+`check` takes for those of another maker), `hostile`, and `step`.
 """
 import os
 
