@@ -1,10 +1,11 @@
 //! Rule sets, what they say of a call, and the programs that they are compiled to.
-use crate::data::{data_of, shown};
+use crate::data::{data_of, program_of as read_program, shown};
 use crate::largest::{even_calls, even_families, most_calls};
 use bpf_code::{CallData, Program, run};
 use call_rules::{
     Action, CallRule, CallRules, Case, Cases, RuleSet, Test, Tests, action, are_ascending,
 };
+use filter_check::{CheckError, Outcome, check};
 use row_text::{number, number32, said, yes_or_no};
 use seccomp_compile::{can_compile, compile};
 use std::alloc::{AllocError, Global};
@@ -38,7 +39,8 @@ impl Rules {
         match row {
             ["case", tests, action] => self.add_case(alloc, tests, action_of(action)),
             ["call", number, rest] => self.add_call(alloc, number32(number), action_of(rest)),
-            ["set", arch, rest] => self.settle(alloc, number32(arch), action_of(rest)),
+            ["set", arch, rest] => self.settle(alloc, arch, rest, "kill"),
+            ["set", arch, rest, other] => self.settle(alloc, arch, rest, other),
             ["largest"] => {
                 self.calls = most_calls(alloc)?;
                 said(alloc, "held")
@@ -53,6 +55,7 @@ impl Rules {
             }
             ["word", action] => format!(in alloc; "{:08x}", action_of(action).word()),
             ["can compile"] => yes_or_no(alloc, can_compile(&self.set)),
+            ["check", words] => checked(alloc, words, &self.set),
             ["ask", arch, nr, args] => asked(alloc, &self.set, &data_of(arch, nr, args)),
             ["compile" | "differ" | "differ at", ..] => match &program_of(alloc, &self.set)? {
                 Some(program) => of_program(alloc, program, &self.set, row),
@@ -86,16 +89,22 @@ impl Rules {
     }
 
     // Makes the set of the calls, where their numbers ascend.
-    fn settle(&mut self, alloc: Global, arch: u32, rest: Action) -> Result<String, AllocError> {
+    fn settle(
+        &mut self,
+        alloc: Global,
+        arch: &str,
+        rest: &str,
+        other: &str,
+    ) -> Result<String, AllocError> {
         let calls = replace(&mut self.calls, Vec::new(alloc));
         if !are_ascending(calls.as_slice()) {
             return said(alloc, "the numbers do not ascend");
         }
         self.set = RuleSet {
-            arch,
+            arch: number32(arch),
             calls: CallRules::new(calls),
-            rest,
-            other: Action::KillProcess,
+            rest: action_of(rest),
+            other: action_of(other),
         };
         format!(in alloc; "{} calls", self.set.calls.list().len())
     }
@@ -155,6 +164,29 @@ fn asked(alloc: Global, rules: &RuleSet, call: &CallData) -> Result<String, Allo
     match &program_of(alloc, rules)? {
         Some(program) => format!(in alloc; "{action}, {:08x}", run(program, call)),
         None => Ok(action),
+    }
+}
+
+// What the comparison of a program in hex with the rules finds.
+fn checked(alloc: Global, words: &str, rules: &RuleSet) -> Result<String, AllocError> {
+    if !can_compile(rules) {
+        return said(alloc, "cannot be compiled");
+    }
+    match &read_program(alloc, words) {
+        Ok(program) => outcome_shown(alloc, &check(alloc, program, rules)),
+        Err(error) => error.to_string(alloc),
+    }
+}
+
+// How many paths are the same; or the number, the architecture and the first argument of the least call, and both answers.
+fn outcome_shown(alloc: Global, found: &Result<Outcome, CheckError>) -> Result<String, AllocError> {
+    match found {
+        Ok(Outcome::Same(count)) => format!(in alloc; "same {count}"),
+        Ok(Outcome::Differs { at, theirs, ours }) => format!(in alloc;
+            "{} {:08x} {:x}, {theirs:08x} {ours:08x}",
+            at.nr, at.arch, at.args[0]
+        ),
+        Err(error) => error.to_string(alloc),
     }
 }
 
