@@ -22,14 +22,17 @@ outcome_line unit (Unset refusal) = settings_line unit refusal
 abbrev pub row_line : FleetRow → List ℕ
 row_line row = outcome_line (text_of row.name) row.outcome
 
-abbrev pub is_refused : FleetOutcome → Bool
-is_refused (Scored exposure) = false
-is_refused (Unresolved refusal) = true
-is_refused (Unset refusal) = true
+abbrev pub is_refusal : FleetOutcome → Bool
+is_refusal (Scored exposure) = false
+is_refusal (Unresolved refusal) = true
+is_refusal (Unset refusal) = true
+
+unfoldable pub is_refused : FleetRow → Bool
+is_refused row = is_refusal row.outcome
 
 -- how many units there are, and how many of them are refused
 abbrev pub counts_line : ℕ → ℕ → List ℕ
 counts_line units refused = codes "units " ++ (decimal units ++ (codes " refused " ++ (decimal refused ++ 10 ∷ [])))
 
 abbrev pub fleet_text : List FleetRow → List ℕ
-fleet_text rows = flat_map row_line rows ++ counts_line (length rows) (count_by (λ row. is_refused row.outcome) rows)
+fleet_text rows = flat_map row_line rows ++ counts_line (length rows) (count_by is_refused rows)

@@ -31,17 +31,28 @@ pub fn row_line(alloc: Global, row: &FleetRow) -> Result<Vec<u8>, AllocError>
     }
 }
 
-fn is_refused(outcome: &FleetOutcome) -> bool
-    ensures { result ≡ is_refused outcome.now }
+// Whether a unit is refused.
+#[tactic(auto, unfolding(crate::specs::Texts::is_refused))]
+fn is_refused(row: &FleetRow) -> bool
+    ensures { result ≡ is_refused row.now }
 {
-    !matches!(outcome, FleetOutcome::Scored(_))
+    match &row.outcome {
+        FleetOutcome::Scored(_) => false,
+        FleetOutcome::Unresolved(_) | FleetOutcome::Unset(_) => true,
+    }
 }
 
 /// How many units are refused.
 pub fn count_refused(rows: &[FleetRow]) -> usize
-    ensures counts_them { result ≡ count_by (λ row. is_refused row.outcome) rows.now }
+    ensures counts_them { result ≡ count_by is_refused rows.now }
 {
-    rows.iter().filter(|row| is_refused(&row.outcome)).count()
+    let mut count = 0;
+    for row in rows {
+        if is_refused(row) {
+            count += 1;
+        }
+    }
+    count
 }
 
 /// The last line: how many units there are, and how many of them are refused.

@@ -34,11 +34,7 @@ fn text_refused(alloc: Global, path: &str, fault: UnitError) -> Result<Vec<u8>, 
 }
 
 /// The line of a unit that is not resolved. A failed read and want of memory have none.
-pub fn unit_line(
-    alloc: Global,
-    unit: &str,
-    refusal: &ResolveError,
-) -> Result<Vec<u8>, AllocError>
+pub fn unit_line(alloc: Global, unit: &str, refusal: &ResolveError) -> Result<Vec<u8>, AllocError>
     ensures tells_the_refusal { IfOk result (λ line. line.items ≡ unit_line unit.now refusal.now) }
 {
     match refusal {
