@@ -1,11 +1,11 @@
 -- A search among all calls of a table goes over those of the native ABI, then over those of the other.
-use Rattle.std.proofs.Common.{◌≡◌, ℕ, zero, suc, Bool, true, false, cond, List, [], ◌∷◌, Option, Some, None, refl, ap, ◌∙◌, sym, length, ◌≤◌, Bor}
+use Rattle.std.proofs.Common.{◌≡◌, ℕ, Bool, true, false, cond, List, [], ◌∷◌, Option, Some, None, refl, ap, ◌∙◌, sym, length, ◌≤◌, Bor}
 use Rattle.std.specs.Prelude.{find, is_some, option_copied, slice_get, ◌||◌}
 use Rattle.std.specs.List.{list_any}
 use Rattle.std.specs.Option.{option_map_or, option_or, option_to_list}
 use Rattle.std.proofs.lemmas.List.Folds.{find-append}
 use Rattle.std.proofs.lemmas.Option.{slice_get_past}
-use Rattle.call_table.specs.Table.{Abi, Table, abi_at, abis, arch_of, calls_in, every_call, second_calls}
+use Rattle.call_table.specs.Table.{Abi, Table, abis, arch_of, calls_in, every_call, second_calls}
 use Rattle.call_table.specs.declared.listed.CallLine.{CallLine}
 
 second_are : (second : Option Abi) → second_calls second ≡ option_map_or (λ found. found.calls) (slice_get (option_to_list second) 0) []

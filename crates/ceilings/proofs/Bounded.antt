@@ -14,7 +14,7 @@ use Rattle.kernel_ways.specs.Spared.{uids_of, gids_of}
 use Rattle.ceilings.proofs.Given.{has_id}
 use Rattle.ceilings.proofs.Spares.{uid_either, gid_either}
 
-not_listed : (id : ℕ) (ids : List ℕ) → ¬ Contains ids id → has_id id ids ≡ false
+pub not_listed : (id : ℕ) (ids : List ℕ) → ¬ Contains ids id → has_id id ids ≡ false
 not_listed id ids n = by (has_id id ids) refl
   where
     by : (b : Bool) → has_id id ids ≡ b → b ≡ false

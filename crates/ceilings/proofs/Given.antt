@@ -17,7 +17,7 @@ use Rattle.kernel_ways.specs.Spared.{power_using, uids_of, gids_of}
 abbrev pub has_id : ℕ → List ℕ → Bool
 has_id id ids = list_any (λ own. eqb id own) ids
 
-eqb_comm : (a b : ℕ) → eqb a b ≡ eqb b a
+pub eqb_comm : (a b : ℕ) → eqb a b ≡ eqb b a
 eqb_comm a b = grind (arith, nat_tests)
 
 -- what one row gives before the others

@@ -4,3 +4,4 @@ pub mod Spares
 pub mod Given
 pub mod Bounded
 pub mod AllCalls
+pub mod Sparing

@@ -5,13 +5,14 @@ ghost use Rattle.linux_numbers.specs.Capabilities.{cap_sys_admin};
 ghost use Rattle.cap_sets.specs.Sets.{has};
 ghost use Rattle.kernel_laws.specs.Bound.{power_by};
 ghost use Rattle.kernel_laws.specs.Denied.{IsDenied};
-ghost use Rattle.kernel_laws.specs.Kinds.{ChangesMounts, RemovesMounts};
+ghost use Rattle.kernel_laws.specs.Kinds.{ChangesMounts, RemovesMounts, TakesUid, TakesGid};
 ghost use Rattle.kernel_laws.specs.Launched.{IsLaunchedWorld, launch_of, lets};
 ghost use Rattle.kernel_laws.specs.Questions.{Cap, Uid, Gid};
 ghost use Rattle.kernel_ways.specs.Laws.{IsServedWorld, IsShown};
 ghost use Rattle.reach_paths.specs.Meanings.{meant_power};
 ghost use Rattle.site_table.specs.Ids.{greatest_id};
 ghost use Rattle.ceilings.specs.Own.{IsCeilingOf};
+ghost use Rattle.ceilings.specs.Sparing.{AreHadSparing};
 
 use crate::bounds::Ceiling;
 use crate::gains::caps_by;
@@ -60,6 +61,13 @@ pub fn ceiling(alloc: Global, launched: &Launched<'_>) -> Result<Ceiling, AllocE
         → top.any_uid ≡ true → id ≤ greatest_id → IsShown launched.now.world (Uid id)) }
     ensures every_gid_is_had { IfOk result (λ top. IsServedWorld launched.now.world → (id : ℕ)
         → top.any_gid ≡ true → id ≤ greatest_id → IsShown launched.now.world (Gid id)) }
+
+    // The uids are those that are had without a use of CAP_SETUID, whatever use is made of CAP_SETGID where a call passes that
+    // takes a gid; and the gids the other way round.
+    ensures uids_are_had_without_setuid { IfOk result (λ top. IsServedWorld launched.now.world
+        → AreHadSparing false (lets (launch_of launched.now.world) TakesGid) launched.now.world Uid top.uids) }
+    ensures gids_are_had_without_setgid { IfOk result (λ top. IsServedWorld launched.now.world
+        → AreHadSparing (lets (launch_of launched.now.world) TakesUid) false launched.now.world Gid top.gids) }
 {
     let world = &launched.world;
     let passing = Passing::of(world);

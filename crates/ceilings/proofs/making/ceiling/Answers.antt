@@ -11,6 +11,7 @@ use Rattle.kernel_ways.specs.Spared.{caps_by, power_using}
 use Rattle.ceilings.proofs.Bounded.{cap_denied, uid_denied, gid_denied}
 use Rattle.ceilings.proofs.Given.{has_id, uids_given, gids_given}
 use Rattle.ceilings.proofs.Spares.{power_once}
+use Rattle.ceilings.proofs.Sparing.{uids_spared, gids_spared}
 use Rattle.ceilings.proofs.making.ceiling.Goals as goal
 
 pub returns-clause-is_its_own : goal.returns-clause-is_its_own
@@ -66,3 +67,13 @@ pub returns-clause-every_gid_is_had : goal.returns-clause-every_gid_is_had
 returns-clause-every_gid_is_had c =
     let own = returns-clause-is_its_own c in
     λ served id e small. (ceiling_is_exact c.args.launched.now.world served).any_gid (sym own.any_gid ∙ e) id small
+
+pub returns-clause-uids_are_had_without_setuid : goal.returns-clause-uids_are_had_without_setuid
+returns-clause-uids_are_had_without_setuid c =
+    let own = returns-clause-is_its_own c in
+    λ served. uids_spared c.args.launched.now.world served c.in_ok-uids.field-0 own.uids
+
+pub returns-clause-gids_are_had_without_setgid : goal.returns-clause-gids_are_had_without_setgid
+returns-clause-gids_are_had_without_setgid c =
+    let own = returns-clause-is_its_own c in
+    λ served. gids_spared c.args.launched.now.world served c.in_ok-gids.field-0 own.gids
