@@ -1,5 +1,5 @@
 -- The first call of a kind is one that the filters let through, where there is one.
-use Rattle.std.proofs.Common.{◌≡◌, ℕ, true, false, List, [], ◌++◌, ◌+◌, Option, Some, None, length, refl, ap, ◌∙◌, sym, subst}
+use Rattle.std.proofs.Common.{◌≡◌, ℕ, true, false, List, [], ◌+◌, Option, Some, None, length, refl, ap, ◌∙◌, sym, subst}
 use Rattle.std.specs.Prelude.{find, slice_get, option_and_then, unwrap_or}
 use Rattle.std.specs.Option.{option_or, option_map_or, option_to_list}
 use Rattle.call_table.specs.declared.listed.CallLine.{CallLine}
@@ -10,7 +10,7 @@ use Rattle.kernel_calls.specs.declared.rule.Rule.{Rule}
 use Rattle.kernel_calls.specs.declared.rule.Rule.TheVariants.{Plain}
 use Rattle.kernel_laws.specs.Kinds.{Kind, words, no_words}
 use Rattle.kernel_laws.specs.Launched.{Launch, IsLaunched, lets, lets_line}
-use Rattle.kernel_ways.specs.Ways.{CallAt, place_of}
+use Rattle.kernel_ways.specs.Ways.{place_of}
 use Rattle.kernel_ways.proofs.Lines.{Line, first_by, line_at}
 use Rattle.chosen_calls.specs.First.{names_of, lets_name, line_in, first_line, no_line, line_of, args_of, own_rule, call_by}
 use Rattle.chosen_calls.proofs.Lists.{found_at, any_found, get_front, get_back}

@@ -1,6 +1,6 @@
 -- The chosen call that makes a user namespace, and the first call of a kind behind it.
-use Rattle.std.proofs.Common.{◌≡◌, ℕ, Bool, true, List, [], ◌∷◌, Some, refl, ap, ◌∙◌, sym, subst, zero, suc, ◌<◌}
-use Rattle.std.specs.Prelude.{◌^◌, ◌&&◌, nat_lt, slice_get}
+use Rattle.std.proofs.Common.{◌≡◌, ℕ, true, List, [], ◌∷◌, Some, ap, ◌∙◌, sym, subst, zero, suc, ◌<◌}
+use Rattle.std.specs.Prelude.{◌^◌, nat_lt, slice_get}
 use Rattle.std.specs.List.{AllByRecursion}
 use Rattle.std.proofs.lemmas.Bool.{and_parts}
 use Rattle.kern_creds.specs.declared.creds.Creds.{Creds}

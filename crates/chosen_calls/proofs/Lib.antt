@@ -9,3 +9,4 @@ pub mod Rows
 pub mod Ids
 pub mod Shown
 pub mod Leading
+pub mod Makers

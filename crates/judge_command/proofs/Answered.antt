@@ -9,7 +9,7 @@ use Rattle.kernel_laws.specs.Questions.{Question, questions}
 use Rattle.kernel_model.specs.World.{World}
 use Rattle.kernel_ways.specs.Laws.{IsExact, IsFit, IsServedWorld, ListedAreFit, QuestionsAreExact}
 use Rattle.kernel_ways.specs.Offers.{RunsProgram}
-use Rattle.chosen_calls.specs.Laws.{ChoiceShows}
+use Rattle.chosen_calls.specs.Laws.{ChoiceIsMade, ChoiceShows}
 use Rattle.chosen_calls.specs.Chosen.{calls_for}
 use Rattle.judge_command.specs.Answers.{Denied, Open, IsTrueAnswer, question_of}
 use Rattle.judge_command.specs.ByRule.{AnswersAreTrue, answer_of}
@@ -25,19 +25,19 @@ module _ (world : World) (program : Path) where
   ask_each [] = refl
   ask_each (question ∷ list) = ap₂ (λ one rest. one ∷ rest) (asks_it question) (ask_each list)
 
-  module _ (served : IsServedWorld world) (runs : RunsProgram (launch_of world) program) (choice : ChoiceShows) where
+  module _ (served : IsServedWorld world) (runs : RunsProgram (launch_of world) program) (choice : ChoiceShows) (made : ChoiceIsMade) where
     is_true : (question : Question) → IsExact world question → IsFit world.site question → IsTrueAnswer world (answer_of (launch_of world) program question)
     is_true question exact fit = by (is_open (launch_of world) question) refl where
       by : (open' : Bool) → is_open (launch_of world) question ≡ open' → IsTrueAnswer world (if open' then Open question (calls_for (launch_of world) program question) else Denied question)
-      by true e = (choice world program question served runs fit e, λ denied. (let both : true ≡ false = sym e ∙ exact.stays_denied denied in cc))
+      by true e = (choice world program question served runs fit e, made world program question served.launched e, λ denied. (let both : true ≡ false = sym e ∙ exact.stays_denied denied in cc))
       by false e = exact.denies e
 
     each_true : (list : List Question) → AllByRecursion (IsExact world) list → AllByRecursion (IsFit world.site) list → AllByRecursion (IsTrueAnswer world) (map (answer_of (launch_of world) program) list)
     each_true [] exact fit = tt
     each_true (question ∷ list) exact fit = (is_true question exact.0 fit.0, each_true list exact.1 fit.1)
 
-pub answers_are_true : QuestionsAreExact → ListedAreFit → ChoiceShows → AnswersAreTrue
-answers_are_true exact fit choice world program served runs = record {
+pub answers_are_true : QuestionsAreExact → ListedAreFit → ChoiceShows → ChoiceIsMade → AnswersAreTrue
+answers_are_true exact fit choice made world program served runs = record {
   one_each = ask_each world program (questions world.calls world.site);
-  each_is_true = each_true world program served runs choice (questions world.calls world.site) (exact world served) (fit world.calls world.site served.offers.site);
+  each_is_true = each_true world program served runs choice made (questions world.calls world.site) (exact world served) (fit world.calls world.site served.offers.site);
 }

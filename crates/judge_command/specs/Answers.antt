@@ -7,6 +7,7 @@ use Rattle.kernel_calls.specs.declared.call.Call.{Call}
 use Rattle.kernel_model.specs.World.{World}
 use Rattle.kernel_laws.specs.Denied.{IsDenied, Shows}
 use Rattle.kernel_laws.specs.Questions.{Question, questions}
+use Rattle.chosen_calls.specs.Makers.{AreMadeByService}
 
 -- what is answered to a question: that it is denied, or that it is open, with a list of calls
 pub data Answer : Type 0 where
@@ -22,10 +23,10 @@ is_denied (Denied question) = true
 is_denied (Open question list) = false
 
 -- denied where no list of calls of the service and its descendants reaches the question; open where the list shows it, so that
--- it is not denied
+-- it is not denied, and process 1 makes each call of the list, but for one behind a clone(2) that makes a user namespace
 abbrev pub IsTrueAnswer : World → Answer → Type 0
 IsTrueAnswer world (Denied question) = IsDenied world question
-IsTrueAnswer world (Open question list) = Shows world question list × (IsDenied world question → ⊥)
+IsTrueAnswer world (Open question list) = Shows world question list × AreMadeByService world.calls list × (IsDenied world question → ⊥)
 
 -- one answer to each question of the tables, in their order, each of them true
 pub record AreAnswers (table : calls.Table) (site : Site) (world : World) (answers : List Answer) : Type 0 where

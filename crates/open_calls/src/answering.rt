@@ -5,6 +5,7 @@ ghost use Rattle.std.specs.List.{list_any};
 ghost use Rattle.call_table.specs.Table.{every_call};
 ghost use Rattle.chosen_calls.specs.Chosen.{calls_for, plain_cap, space_calls, is_called, plain_calls, plain_line};
 ghost use Rattle.chosen_calls.specs.First.{call_by};
+ghost use Rattle.chosen_calls.specs.Makers.{AreMadeByService};
 ghost use Rattle.kernel_calls.specs.declared.payload.Payload.TheVariants.{Nothing};
 ghost use Rattle.kernel_calls.specs.Rules.{rule_of};
 ghost use Rattle.kernel_laws.specs.Bound.{is_open};
@@ -168,8 +169,9 @@ impl Service<'_> {
 }
 
 /// The calls that are chosen to reach an open question of a launched service, by its own ceiling. They are made by process 1, one
-/// behind the other, and each is done; the last one does what is asked, or the process then has it. What the service has at
-/// launch needs no call.
+/// behind the other, and each is done; the last one does what is asked, or the process then has it. Where process 1 makes a child
+/// in a user namespace by clone(2), the child, process 2, makes the one call behind that. What the service has at launch needs
+/// no call.
 ///
 /// Short lists come first: what can be done on the launched mount table is done there, and CAP_SYS_ADMIN is gained only for what
 /// cannot (capabilities(7), mount(2), umount2(2)).
@@ -186,6 +188,7 @@ pub fn calls(
     requires reachable { is_open (launch_of launched.now.world) (meant question.now) ≡ true }
     ensures the_choice { IfOk result (λ list. list.items ≡ calls_for (launch_of launched.now.world) launched.now.program (meant question.now)) }
     ensures shown { IfOk result (λ list. Shows launched.now.world (meant question.now) list.items) }
+    ensures made_by_the_service { IfOk result (λ list. AreMadeByService launched.now.world.calls list.items) }
 {
     let service = Service {
         alloc,

@@ -1,6 +1,8 @@
 use Rattle.std.proofs.Common.{◌∙◌, ◌++◌, ap, sym, subst, List}
 use Rattle.kernel_calls.specs.declared.call.Call.{Call}
 use Rattle.chosen_calls.specs.Chosen.{calls_for}
+use Rattle.chosen_calls.specs.Makers.{AreMadeByService}
+use Rattle.chosen_calls.proofs.Makers.{choice_is_made}
 use Rattle.chosen_calls.proofs.Shown.{choice_shows}
 use Rattle.kernel_laws.specs.Denied.{Shows}
 use Rattle.kernel_laws.specs.Launched.{launch_of}
@@ -16,3 +18,11 @@ returns-clause-shown c =
     let same = c.in_ok-push_calls.ensures ∙ ap (λ (calls : List Call). calls ++ calls_for (launch_of world) c.args.launched.now.program question) c.new-calls.ensures.items in
     let P : List Call → Type 0 = λ calls. Shows world question calls in
     subst P (sym same) chosen
+
+pub returns-clause-made_by_the_service : goal.returns-clause-made_by_the_service
+returns-clause-made_by_the_service c =
+    let world = c.args.launched.now.world in
+    let question = meant c.args.question.now in
+    let made = choice_is_made world c.args.launched.now.program question c.requires.served.launched c.requires.reachable in
+    let same = c.in_ok-push_calls.ensures ∙ ap (λ (calls : List Call). calls ++ calls_for (launch_of world) c.args.launched.now.program question) c.new-calls.ensures.items in
+    subst (λ (calls : List Call). AreMadeByService world.calls calls) (sym same) made
