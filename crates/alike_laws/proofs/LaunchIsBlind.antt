@@ -150,6 +150,19 @@ living_solo lines site Q stack plan world at process lives =
     by : (process : Process) → ◌≡◌ {A = Option Process} (Some (record { creds = at.creds; stack = stack; namespace = at.namespace; user = 1; alive = true })) (Some process) → process.namespace ≡ at.namespace
     by process e = let same : record { creds = at.creds; stack = stack; namespace = at.namespace; user = 1; alive = true } ≡ process = cc in ap (λ (p : Process). p.namespace) (sym same)
 
+-- what a launch leaves: process 1 lives, and has the plan as its table
+pub record HasPlan (plan : Table) (last : World) : Type 0 where
+  pub process : Process
+  pub lives : living_of last 1 ≡ Some process
+  pub own : table_of last process.namespace ≡ plan
+
+pub has_plan : {lines : calls.Table} {site : Site} {wanted : Wanted} {plan : Table} {last : World} → Leaves lines site wanted plan last → HasPlan plan last
+has_plan {plan = plan} l = record {
+  process = record { creds = l.creds; stack = l.stack; namespace = l.namespace; user = 1; alive = true };
+  lives = ap (λ (ps : List Process). if_alive (of_number ps 1)) l.alone;
+  own = ap (λ o. steps_of (table_or o)) l.own ∙ steps_plain plan;
+}
+
 abbrev before_filters : calls.Table → Wanted → Table → List LaunchStep
 before_filters lines wanted plan = with_unshare lines.calls (mount_steps plan) ++ identity_steps lines.calls wanted
 
@@ -162,11 +175,9 @@ launch_is_blind folder lines site other wanted plan last steps whole can small f
     -- the program finds the same: the launched service is blind, and has the plan as its table
     same : FindsSame site other plan wanted.program
     same =
-        let l : Leaves lines site wanted plan last = (launch_leaves lines site wanted plan last steps whole can small e).0 in
-        let process : Process = record { creds = l.creds; stack = l.stack; namespace = l.namespace; user = 1; alive = true } in
-        let lives : living_of last 1 ≡ Some process = ap (λ (ps : List Process). if_alive (of_number ps 1)) l.alone in
-        let table : table_of last l.namespace ≡ plan = ap (λ o. steps_of (table_or o)) l.own ∙ steps_plain plan in
-        subst (λ (t : Table). FindsSame site other t wanted.program) table (finds_same folder site other agree (table_of last l.namespace) wanted.program (not_shown folder site other agree last 1 process wanted.program lives fit (blind [] tt)))
+        let has = has_plan (launch_leaves lines site wanted plan last steps whole can small e).0 in
+        subst (λ (t : Table). FindsSame site other t wanted.program) has.own
+        (finds_same folder site other agree (table_of last has.process.namespace) wanted.program (not_shown folder site other agree last 1 has.process wanted.program has.lives fit (blind [] tt)))
 
     joined : launch_steps lines.calls wanted plan ≡ before_program lines wanted plan ++ program_steps lines.calls wanted.program
     joined = sym (append_parts (with_unshare lines.calls (mount_steps plan)) (identity_steps lines.calls wanted) (filter_steps lines.calls wanted.programs) (program_steps lines.calls wanted.program))

@@ -1,4 +1,4 @@
--- A launched service that is blind to a folder is shown neither the folder nor what lies below it.
+-- A process of a world that is blind to a folder is shown neither the folder nor what lies below it.
 use Rattle.std.proofs.Common.{◌≡◌, ◌∙◌, Bool, true, false, [], ◌++◌, Some, refl, ap, sym}
 use Rattle.std.specs.Prelude.{◌&&◌, not}
 use Rattle.std.proofs.lemmas.Bool.{or_right, and_from}
@@ -11,10 +11,10 @@ use Rattle.kern_mounts.specs.Split.{Table}
 use Rattle.kern_mounts.specs.declared.step.What.TheVariants.{Host}
 use Rattle.kern_mounts.proofs.Splits.{split_some}
 use Rattle.kernel_laws.specs.Blind.{is_clear, shows_below, exposes}
-use Rattle.kernel_laws.specs.Launched.{launch_of}
 use Rattle.kernel_laws.proofs.Blind.{exposes_at, placed, seen_exposes}
-use Rattle.kernel_laws.proofs.Exposed.{exposed_at_once}
+use Rattle.kernel_laws.proofs.Exposed.{exposes_seen}
 use Rattle.kernel_laws.proofs.Reach.{none_any}
+use Rattle.kernel_model.specs.World.{table_of}
 use Rattle.mount_plan.specs.Resting.{ShowsNothingOf}
 use Rattle.alike_laws.specs.Worlds.{BlindIsShownNothing}
 use Rattle.alike_laws.proofs.Sites.{clash}
@@ -45,8 +45,10 @@ shows_nothing folder table none path place shown = by (is_prefix folder place) r
         absurd (clash (exposes false folder table) (itself_exposes folder table path (shown ∙ ap (λ (p : Path). Some p) (sym is))) none)
 
 pub blind_is_shown_nothing : BlindIsShownNothing
-blind_is_shown_nothing world folder launched small fit blind = shows_nothing folder (launch_of world).table (by (exposes false folder (launch_of world).table) refl)
+blind_is_shown_nothing folder world pid process lives small fit blind = shows_nothing folder (table_of world process.namespace) (by (exposes false folder (table_of world process.namespace)) refl)
   where
-    by : (b : Bool) → exposes false folder (launch_of world).table ≡ b → b ≡ false
+    by : (b : Bool) → exposes false folder (table_of world process.namespace) ≡ b → b ≡ false
     by false is = refl
-    by true is = absurd (blind [] tt (exposed_at_once world folder launched small fit (ap not is)))
+    by true is =
+        let x = exposes_seen folder (table_of world process.namespace) small fit is in
+        absurd (blind [] tt (record { pid = pid; process = process; lives = lives; path = x.seen.path; fits = x.fits; place = x.seen.place; shown = x.seen.shown; below = x.seen.below }))

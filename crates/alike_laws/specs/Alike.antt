@@ -1,5 +1,5 @@
 -- Two sites that agree but below a folder which a launched service is blind to: the service cannot tell them apart.
-use Rattle.std.specs.Prelude.{◌≡◌, ◌<◌, ◌^◌, List, Ok}
+use Rattle.std.specs.Prelude.{◌≡◌, ℕ, List, Ok}
 use Rattle.abs_path.specs.Paths.{Path}
 use Rattle.call_table.specs.Facts.{IsWhole}
 use Rattle.call_table.specs.Table as calls
@@ -13,9 +13,9 @@ use Rattle.kernel_calls.specs.declared.call.Call.{Call}
 use Rattle.kernel_model.specs.Runs.{replies}
 use Rattle.kernel_laws.specs.Blind.{IsFolder}
 use Rattle.kernel_laws.specs.Denied.{IsBlind}
-use Rattle.launcher.specs.Alike.{HasWordArchs}
-use Rattle.launcher.specs.Answers.{LaunchesTo}
-use Rattle.launcher.specs.declared.launched.Launched.{Launched}
+use Rattle.kernel_model.specs.World.{World}
+use Rattle.launcher.specs.Answers.{launch_with}
+use Rattle.launcher.specs.Launch.{Launched}
 use Rattle.mount_plan.specs.Answers.{Plans}
 use Rattle.mount_plan.specs.Host.{host_of}
 use Rattle.path_settings.specs.Mentions.{AreKept}
@@ -24,32 +24,27 @@ use Rattle.alike_laws.specs.Sites.{AgreeForUnit}
 use Rattle.alike_laws.specs.Worlds.{with_site}
 
 -- a service of the unit on the site: a table and a site that were read, the settings of the unit, whose paths are paths as they are
--- kept, their plan, and its launch with one program for each filter
-pub record IsServiceOf (unit : Resolved) (table : calls.Table) (site : Site) (made : Settings) (plan : Table) (service : Launched) : Type 0 where
+-- kept, their plan, and a launch with the bytes of any programs, whether they match the filters or not, which ends in this world
+pub record IsServiceOf (unit : Resolved) (table : calls.Table) (site : Site) (made : Settings) (plan : Table) (programs : List (List ℕ)) (last : World) (steps : ℕ) : Type 0 where
   pub whole : IsWhole table
-  pub arch : HasWordArchs table
   pub is_site : IsSite site
   pub settings : AreSettings unit table site made
   pub mentions : AreKept made.mentions
   pub program : IsPath made.program
   pub planned : Plans (host_of site) made.mentions (Ok plan)
   pub mounts : CanBeMounted (host_of site) plan
-  pub launches : LaunchesTo table site made plan service
-
--- the same service, but for the site
-abbrev pub moved_to : Site → Launched → Launched
-moved_to site service = record service { world = with_site site service.world }
+  pub launches : launch_with table site made plan programs ≡ Launched last steps
 
 -- on the other site the unit has the same settings and the same plan, its launch with the same programs leaves the same world but for
 -- the site, after as many steps, and every list of calls has the same replies
-pub record IsAlike (unit : Resolved) (table : calls.Table) (other : Site) (made : Settings) (plan : Table) (service : Launched) : Type 0 where
+pub record IsAlike (unit : Resolved) (table : calls.Table) (other : Site) (made : Settings) (plan : Table) (programs : List (List ℕ)) (last : World) (steps : ℕ) : Type 0 where
   pub settings : AreSettings unit table other made
   pub planned : Plans (host_of other) made.mentions (Ok plan)
-  pub launches : LaunchesTo table other made plan (moved_to other service)
-  pub replies : (calls : List Call) → AreCalls calls → replies (with_site other service.world) calls ≡ replies service.world calls
+  pub launches : launch_with table other made plan programs ≡ Launched (with_site other last) steps
+  pub replies : (calls : List Call) → AreCalls calls → replies (with_site other last) calls ≡ replies last calls
 
 -- for every two sites that agree outside a folder for the unit, where the service is blind to the folder on one of them
 abbrev pub BlindToOthers : Type 0
-BlindToOthers = (folder : Path) (unit : Resolved) (table : calls.Table) (site other : Site) (made : Settings) (plan : Table) (service : Launched)
-    → IsServiceOf unit table site made plan service → IsFolder folder → IsBlind service.world folder → AgreeForUnit folder unit site other
-    → IsAlike unit table other made plan service
+BlindToOthers = (folder : Path) (unit : Resolved) (table : calls.Table) (site other : Site) (made : Settings) (plan : Table) (programs : List (List ℕ)) (last : World) (steps : ℕ)
+    → IsServiceOf unit table site made plan programs last steps → IsFolder folder → IsBlind last folder → AgreeForUnit folder unit site other
+    → IsAlike unit table other made plan programs last steps

@@ -1,5 +1,5 @@
 -- Worlds on sites that agree but below a folder, and launches on them.
-use Rattle.std.specs.Prelude.{◌≡◌, ℕ, ◌<◌, List}
+use Rattle.std.specs.Prelude.{◌≡◌, ℕ, ◌<◌, List, Some}
 use Rattle.abs_path.specs.Paths.{Path}
 use Rattle.call_table.specs.Facts.{IsWhole}
 use Rattle.call_table.specs.Table as calls
@@ -8,10 +8,10 @@ use Rattle.kern_mounts.specs.Split.{Table}
 use Rattle.kernel_calls.specs.Calls.{IsPath, AreCalls}
 use Rattle.kernel_calls.specs.declared.call.Call.{Call}
 use Rattle.kernel_model.specs.Runs.{run, replies}
-use Rattle.kernel_model.specs.World.{World}
+use Rattle.kernel_model.specs.World.{World, living_of, table_of}
+use Rattle.kernel_model.specs.declared.process.Process.{Process}
 use Rattle.kernel_laws.specs.Blind.{IsSmall, IsFolder}
 use Rattle.kernel_laws.specs.Denied.{IsBlind}
-use Rattle.kernel_laws.specs.Launched.{IsLaunchedWorld, launch_of}
 use Rattle.linux_numbers.specs.Limits.{no_id}
 use Rattle.mount_plan.specs.Host.{host_of}
 use Rattle.mount_plan.specs.Resting.{ShowsNothingOf}
@@ -40,7 +40,8 @@ LaunchIsBlind = (folder : Path) (table : calls.Table) (site other : Site) (wante
     → AgreeOutside folder site other → IsBlind last folder → launch table site wanted plan ≡ Launched last steps
     → launch table other wanted plan ≡ Launched (with_site other last) steps
 
--- a launched service that is blind to a folder is shown neither the folder nor what lies below it
+-- a process of such a world, with a table of the size of a plan, is shown neither the folder nor what lies below it
 abbrev pub BlindIsShownNothing : Type 0
-BlindIsShownNothing = (world : World) (folder : Path)
-    → IsLaunchedWorld world → IsSmall (launch_of world).table → IsFolder folder → IsBlind world folder → ShowsNothingOf (launch_of world).table folder
+BlindIsShownNothing = (folder : Path) (world : World) (pid : ℕ) (process : Process)
+    → living_of world pid ≡ Some process → IsSmall (table_of world process.namespace) → IsFolder folder → IsBlind world folder
+    → ShowsNothingOf (table_of world process.namespace) folder

@@ -9,6 +9,8 @@
 //! A row `pairs|COUNT|seeing` does so with a unit that sees the folder. A line that begins with `#` says what the next rows show.
 #![tactic(auto)]
 
+mod asked;
+mod elsewhere;
 mod numbers;
 mod pairs;
 mod rows;

@@ -1,8 +1,9 @@
 //! Pairs of sites, and whether a service can tell them apart.
+use crate::asked::Asked;
 use crate::numbers::Numbers;
 use crate::scripts::script_text;
 use crate::sites::with_rows;
-use crate::traces::{Asked, Trace, trace_of};
+use crate::traces::{Trace, trace_of};
 use row_inputs::{inputs_of, site_of};
 use row_text::said;
 use script_text::read_script;
@@ -41,6 +42,7 @@ pub fn pair_of(alloc: Global, texts: &PairTexts<'_>) -> Result<Option<Pair>, All
         unit: &inputs.unit,
         calls: &inputs.calls,
         site: &inputs.site,
+        other: &other_site,
         folder: texts.folder,
         script: script.list(),
     };
@@ -49,6 +51,7 @@ pub fn pair_of(alloc: Global, texts: &PairTexts<'_>) -> Result<Option<Pair>, All
         alloc,
         &Asked {
             site: &other_site,
+            other: &inputs.site,
             ..asked
         },
     )?;

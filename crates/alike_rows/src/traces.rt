@@ -1,20 +1,19 @@
 //! What a unit comes to on a site: its settings, its plan, its launch and the replies to calls.
+ghost use Rattle.std.specs.Prelude.{Ok};
 ghost use Rattle.exec_settings.specs.AreSettings.{AreSettings};
 ghost use Rattle.kern_mounts.specs.Launch.{CanBeMounted};
-ghost use Rattle.kernel_laws.specs.Launched.{IsLaunchedWorld};
+ghost use Rattle.mount_plan.specs.Answers.{Plans};
 ghost use Rattle.mount_plan.specs.Host.{host_of};
+ghost use Rattle.unit_launch.specs.Launching.{IsLaunched};
 
-use call_table::CallTable;
-use ceilings::ceiling;
-use dropin_merge::Resolved;
+use crate::asked::Asked;
+use crate::elsewhere::is_blind_there;
 use exec_settings::{Settings, settings};
-use judge::blind;
 use kern_mounts::{MountStep, What};
 use kernel_calls::Call;
 use kernel_model::{Reply, World};
 use launcher::Launched;
 use mount_plan::plan;
-use site_table::{RowKind, SiteTable};
 use std::alloc::{AllocError, Global};
 use unit_launch::{UnitLaunch, launch_unit};
 
@@ -42,16 +41,6 @@ impl Trace {
         self.launch.as_str() == other.launch.as_str()
             && self.replies.as_str() == other.replies.as_str()
     }
-}
-
-/// A unit with the tables that it is launched over, the folder that is asked for, and the calls that are made.
-#[derive(Drop)]
-pub struct Asked<'a> {
-    pub unit: &'a Resolved,
-    pub calls: &'a CallTable,
-    pub site: &'a SiteTable,
-    pub folder: &'a str,
-    pub script: &'a [Call],
 }
 
 /// What the unit comes to on the site, and the replies to the calls.
@@ -86,10 +75,11 @@ fn launched(
     text: String,
 ) -> Result<Trace, AllocError>
     requires settings { AreSettings asked.now.unit.now asked.now.calls.now asked.now.site.now settings.now }
-    requires plan { CanBeMounted (host_of asked.now.site.now) plan.now }
+    requires plan { Plans (host_of asked.now.site.now) settings.now.mentions (Ok plan.now) }
+    requires mounts { CanBeMounted (host_of asked.now.site.now) plan.now }
 {
     match launch_unit(alloc, settings, plan, asked.calls, asked.site)? {
-        UnitLaunch::Launched(service) => told(alloc, asked, service, text),
+        UnitLaunch::Launched(service) => told(alloc, asked, settings, plan, service, text),
         UnitLaunch::Refused(_) => Ok(Trace::stopped(text, alloc)),
     }
 }
@@ -97,12 +87,17 @@ fn launched(
 fn told(
     alloc: Global,
     asked: &Asked<'_>,
+    settings: &Settings,
+    plan: &[MountStep],
     service: Launched<'_>,
     launch: String,
 ) -> Result<Trace, AllocError>
-    requires { IsLaunchedWorld service.world }
+    requires settings { AreSettings asked.now.unit.now asked.now.calls.now asked.now.site.now settings.now }
+    requires plan { Plans (host_of asked.now.site.now) settings.now.mentions (Ok plan.now) }
+    requires mounts { CanBeMounted (host_of asked.now.site.now) plan.now }
+    requires launched { IsLaunched asked.now.calls.now asked.now.site.now settings.now plan.now service }
 {
-    let is_blind = is_blind_to(alloc, &service, asked.folder)?;
+    let is_blind = is_blind_there(alloc, asked, settings, plan, &service)?;
     let mut service = service;
     let mut text = launch;
     text.push_str(format!(in alloc; " launched {}", service.steps)?.as_str())?;
@@ -112,21 +107,6 @@ fn told(
         is_blind,
         replies,
     })
-}
-
-// Whether the folder of this text is one of the site that the service is blind to.
-fn is_blind_to(alloc: Global, service: &Launched<'_>, folder: &str) -> Result<bool, AllocError>
-    requires { IsLaunchedWorld service.now.world }
-{
-    let top = ceiling(alloc, service)?;
-    for row in service.world.site_table().rows() {
-        if let RowKind::Dir = row.kind {
-            if row.path.text() == folder {
-                return Ok(blind(service, &top, &row.path));
-            }
-        }
-    }
-    Ok(false)
 }
 
 // The replies to calls that are made one behind the other, with commas between them.

@@ -1,15 +1,14 @@
 use Rattle.alike_laws.proofs.Noninterference.{blind_to_others}
-use Rattle.launcher.proofs.TwoAbis.{word_archs}
+use Rattle.launcher.specs.Answers.{given_bytes}
 use Rattle.judge.proofs.Folders.{dir_is_folder}
 use Rattle.judge.proofs.two_sites.alike.Goals as goal
 
 pub returns : goal.returns
 returns c = record {
-  to_what_is_blind = λ settings plan service are kept path planned mounts launches filters blind agree.
-      blind_to_others c.args.folder.now c.args.unit.now c.args.calls.now c.args.site.now c.args.other.now settings plan service
+  to_what_is_blind = λ settings plan last steps are kept path planned mounts launches blind agree.
+      blind_to_others c.args.folder.now c.args.unit.now c.args.calls.now c.args.site.now c.args.other.now settings plan (given_bytes c.args.programs.now) last steps
       (record {
         whole = c.look_at.ensures.whole;
-        arch = word_archs c.args.calls.now c.look_at.ensures.native c.look_at.ensures.second;
         is_site = c.know_site.ensures;
         settings = are;
         mentions = kept;
