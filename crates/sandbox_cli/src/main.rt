@@ -5,9 +5,11 @@
 #![tactic(auto)]
 
 mod process;
+mod running;
+mod stored;
 
 use std::process::ExitCode;
 
 fn main(rt: HostRuntime) -> ExitCode {
-    ExitCode::from(process::run_here(&rt).code)
+    process::run_process(&rt)
 }

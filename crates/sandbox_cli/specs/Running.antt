@@ -1,0 +1,34 @@
+-- What the program does with its arguments.
+use Rattle.std.specs.Prelude.{◌≡◌, ◌⊎◌, ℕ, List, [], drop, map, string_bytes, Option, Result, Ok, Err, String, Vec}
+use Rattle.std.specs.Process.{exit_status}
+use Rattle.std.specs.declared.alloc.Global.{Global}
+use Rattle.std.specs.declared.process.ExitCode.{ExitCode}
+use Rattle.host_io.specs.Files.{Files}
+use Rattle.exposure_score.specs.StoredTests.{StoredTests}
+use Rattle.command_answers.specs.Endings.{code_of}
+use Rattle.command_answers.specs.Runs.{IsRun, Outside}
+use Rattle.command_answers.specs.declared.ending.Ending.{Ending}
+use Rattle.command_answers.specs.declared.ending.Ending.TheVariants.{OutOfMemory}
+use Rattle.top_call.specs.Asked.{Asked, ReadsFiles, laws_of}
+
+-- the words behind the program's name, in their order; none where the arguments are not to be had
+abbrev pub words_behind : {E : Type 0} → Result (Vec (String Global) Global) E → List (List ℕ)
+words_behind (Ok all) = map string_bytes (drop 1 all.items)
+words_behind (Err error) = []
+
+-- what is asked of a run: these words, over the files that are told, with these tests
+abbrev pub asked_by : List (List ℕ) → Option Files → StoredTests → Asked
+asked_by words told stored = record { words = words; told = told; stored = stored }
+
+-- it ran to this ending; where no files are read for it, the shelf is untouched
+pub record RunsWords (asked : Asked) (outside : Outside) (untouched : Type 0) (ending : Ending) : Type 0 where
+  pub runs : IsRun (laws_of asked) ending outside
+  pub reads_only_for_a_command : (ReadsFiles asked → ⊥) → untouched
+
+-- or there was no memory for as much as the words, and nothing was read or written
+abbrev pub EndsWords : Asked → Outside → Type 0 → Type 0 → Ending → Type 0
+EndsWords asked outside untouched unwritten ending = RunsWords asked outside untouched ending ⊎ ((ending ≡ OutOfMemory) × untouched × unwritten)
+
+-- the exit status is that of an ending
+abbrev pub ExitsBy : (Ending → Type 0) → ExitCode → Type 0
+ExitsBy Ends code = (ending : Ending) × Ends ending × (exit_status code ≡ code_of ending)

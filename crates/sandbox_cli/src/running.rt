@@ -1,0 +1,105 @@
+//! A run of the program's arguments, over any files and any output.
+ghost use Rattle.std.specs.Prelude.{◌≡◌, IfOk, drop, map, string_bytes};
+ghost use Rattle.std.specs.Process.{exit_status};
+ghost use Rattle.exposure_score.specs.StoredTests.{stored_by};
+ghost use Rattle.command_answers.specs.Endings.{code_of};
+ghost use Rattle.sandbox_cli.specs.Running.{EndsWords, ExitsBy, asked_by, words_behind};
+ghost use Rattle.sandbox_cli.specs.Tests.{AreProgramTests};
+
+use command_answers::Ending;
+use exposure_score::{CustomTest, Facts};
+use host_io::{Shelf, Sink};
+use std::alloc::{AllocError, Global};
+use std::io;
+use std::process::ExitCode;
+use top_call::{Status, run};
+
+// The words behind the program's name, which is the first argument.
+fn behind_name(all: &[String]) -> &[String]
+    ensures in_order { result.now ≡ drop 1 all.now }
+{
+    match all {
+        [] => all,
+        [_, words @ ..] => words,
+    }
+}
+
+// The same words, lent as texts.
+fn texts_of<'a>(alloc: Global, words: &'a [String]) -> Result<Vec<&'a str>, AllocError>
+    ensures same_words { IfOk result (λ texts. map (λ text. text.now) texts.items ≡ map string_bytes words.now) }
+{
+    let mut texts = Vec::new(alloc);
+    for word in words {
+        texts.push(word.as_str())?;
+    }
+    Ok(texts)
+}
+
+/// The exit status of a run that ends so.
+pub fn exit_code(status: Status) -> ExitCode
+    ensures of_the_status { exit_status result ≡ code_of status }
+{
+    ExitCode::from(status.code)
+}
+
+// The status of a run of these words with these tests.
+fn run_words<S: Shelf, K: Sink>(
+    alloc: Global,
+    words: &[String],
+    tests: Vec<CustomTest>,
+    shelf: &mut S,
+    out: &mut K,
+) -> Status
+    ensures ends_as_the_words_run { EndsWords
+        (asked_by (map string_bytes words.now) (S.told shelf.old) (stored_by (λ test. test.id) (λ test. test.range) (λ test. ⟦<Box<dyn Fn(&Facts) -> u32> as Fn(&Facts) -> u32>⟧.post test.check) tests.items))
+        (record { shelf_before = S.faults shelf.old; shelf_after = S.faults shelf.new; sink = record { faults_before = K.faults out.old; faults_after = K.faults out.new; taken_before = K.taken out.old; taken_after = K.taken out.new } })
+        (shelf.new ≡ shelf.old) (out.new ≡ out.old) result }
+    ensures map_stays { S.told shelf.new ≡ S.told shelf.old }
+{
+    match texts_of(alloc, words) {
+        Ok(texts) => run(alloc, texts.as_slice(), shelf, out, tests),
+        Err(_) => Status::of(Ending::OutOfMemory),
+    }
+}
+
+// The same of all arguments. Where one of them is not text there are no words, and these are no command either.
+fn run_arguments<S: Shelf, K: Sink>(
+    alloc: Global,
+    arguments: &io::Result<Vec<String>>,
+    tests: Vec<CustomTest>,
+    shelf: &mut S,
+    out: &mut K,
+) -> Status
+    ensures ends_as_the_words_run { EndsWords
+        (asked_by (words_behind arguments.now) (S.told shelf.old) (stored_by (λ test. test.id) (λ test. test.range) (λ test. ⟦<Box<dyn Fn(&Facts) -> u32> as Fn(&Facts) -> u32>⟧.post test.check) tests.items))
+        (record { shelf_before = S.faults shelf.old; shelf_after = S.faults shelf.new; sink = record { faults_before = K.faults out.old; faults_after = K.faults out.new; taken_before = K.taken out.old; taken_after = K.taken out.new } })
+        (shelf.new ≡ shelf.old) (out.new ≡ out.old) result }
+    ensures map_stays { S.told shelf.new ≡ S.told shelf.old }
+{
+    match arguments {
+        Ok(all) => run_words(alloc, behind_name(all), tests, shelf, out),
+        Err(error) if error.kind() == io::ErrorKind::InvalidData => {
+            run_words(alloc, &[], tests, shelf, out)
+        }
+        Err(_) => Status::of(Ending::OutOfMemory),
+    }
+}
+
+/// Runs the words behind the program's name, in their order, over a shelf and a sink, with the two stored tests of the program. The
+/// exit status is the status of that run, or that of want of memory.
+pub fn run_here<S: Shelf, K: Sink>(
+    alloc: Global,
+    arguments: &io::Result<Vec<String>>,
+    tests: Vec<CustomTest>,
+    shelf: &mut S,
+    out: &mut K,
+) -> ExitCode
+    requires the_programs_tests { AreProgramTests (λ test. test.id) (λ test. test.range) (λ test. ⟦<Box<dyn Fn(&Facts) -> u32> as Fn(&Facts) -> u32>⟧.post test.check) tests.items }
+    ensures exits_as_the_words_run { ExitsBy (EndsWords
+        (asked_by (words_behind arguments.now) (S.told shelf.old) (stored_by (λ test. test.id) (λ test. test.range) (λ test. ⟦<Box<dyn Fn(&Facts) -> u32> as Fn(&Facts) -> u32>⟧.post test.check) tests.items))
+        (record { shelf_before = S.faults shelf.old; shelf_after = S.faults shelf.new; sink = record { faults_before = K.faults out.old; faults_after = K.faults out.new; taken_before = K.taken out.old; taken_after = K.taken out.new } })
+        (shelf.new ≡ shelf.old) (out.new ≡ out.old)) result }
+    ensures map_stays { S.told shelf.new ≡ S.told shelf.old }
+{
+    exit_code(run_arguments(alloc, arguments, tests, shelf, out))
+}
