@@ -21,13 +21,7 @@ fn run_arguments<R: Env + Files + Print + AllocGlobal + Clone + Drop>(
     let mut shelf = DirShelf::new(rt.clone()?);
     let mut sink = StdSink::new(rt.clone()?);
     let tests = stored_tests(rt.alloc())?;
-    Ok(run_here(
-        rt.alloc(),
-        &arguments(rt),
-        tests,
-        &mut shelf,
-        &mut sink,
-    ))
+    Ok(run_here(rt.alloc(), &arguments(rt), tests, &mut shelf, &mut sink))
 }
 
 /// Runs the words of the process over the current folder and the standard output, and answers the status that it ends with.
