@@ -14,3 +14,4 @@ mod refusals;
 
 pub use command::{Mounts, prepare};
 pub use planning::plan_mounts;
+pub use refusals::plan_line;

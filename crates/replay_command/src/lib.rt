@@ -16,3 +16,4 @@ mod ready;
 mod script;
 
 pub use command::answer;
+pub use script::read_script;

@@ -20,6 +20,8 @@ pub enum Request<'a> {
     Judge(&'a str),
     /// What the sandbox of a unit, the first, answers to the calls of a script, the second.
     Replay(&'a str, &'a str),
+    /// The least list of calls that a unit, the first, has to be allowed for a script, the second.
+    Derive(&'a str, &'a str),
     /// The exposure of a unit, the first, by a policy, the second, and the threshold that it is held against.
     Score(&'a str, &'a str, u32),
     /// Whether the program of a file, the third, decides every call as a filter, the second, of a unit, the first.
@@ -95,6 +97,7 @@ fn request_with<'a>(word: &str, unit: &'a str, path: &'a str) -> Option<Request<
 {
     match word {
         "replay" => Some(Request::Replay(unit, path)),
+        "derive" => Some(Request::Derive(unit, path)),
         "score" => Some(Request::Score(unit, path, MOST_EXPOSURE)),
         _ => None,
     }

@@ -36,6 +36,11 @@ fn answer_request<S: Shelf, K: Sink>(
         Request::Plan(unit) => finish(alloc, plan_command::prepare(alloc, shelf, unit), out),
         Request::Judge(unit) => judge_command::answer(alloc, shelf, unit, out),
         Request::Replay(unit, script) => replay_command::answer(alloc, shelf, unit, script, out),
+        Request::Derive(unit, script) => finish(
+            alloc,
+            derive_command::prepare(alloc, shelf, unit, script),
+            out,
+        ),
         Request::Score(unit, policy, threshold) => finish(
             alloc,
             score_command::prepare(alloc, shelf, unit, policy, threshold, tests),

@@ -6,6 +6,8 @@ use Rattle.filter_command.specs.Prints.{filter_laws, filters_text, ending_of as 
 use Rattle.filter_command.proofs.Prepared.{together as filter_together}
 use Rattle.plan_command.specs.Prints.{plan_laws, mounts_text, ending_of as plan_ending}
 use Rattle.plan_command.proofs.Prepared.{together as plan_together}
+use Rattle.derive_command.specs.Prints.{derive_laws, ending_of as derive_ending, text_of as derive_text}
+use Rattle.derive_command.proofs.Prepared.{together as derive_together}
 use Rattle.exposure_score.specs.StoredTests.{stored_by}
 use Rattle.score_command.specs.Prints.{score_laws, scored_text, ending_of as score_ending}
 use Rattle.score_command.proofs.Prepared.{together as score_together}
@@ -48,6 +50,12 @@ returns-in-Judge-clause-runs g c = rw c.in-Judge.is c.answer.ensures.runs
 
 pub returns-in-Replay-clause-runs : goal.returns-in-Replay-clause-runs
 returns-in-Replay-clause-runs g c = rw c.in-Replay.is c.answer-in-Replay.ensures.runs
+
+pub returns-in-Derive-clause-runs : goal.returns-in-Derive-clause-runs
+returns-in-Derive-clause-runs g c =
+    rw c.in-Derive.is
+    (ran (laws_over (g.S.Shelf.told c.args.shelf.now) (derive_laws c.in-Derive.unit.now c.in-Derive.script.now)) (derive_together (g.S.Shelf.told c.args.shelf.now) c.in-Derive.unit.now c.in-Derive.script.now) _ derive_ending derive_text c.prepare-in-Derive.result c.finish-in-Derive.result
+    c.prepare-in-Derive.ensures.prepares c.prepare-in-Derive.ensures.reads_for_the_unit.reads_for_a_name c.prepare-in-Derive.ensures.reads_for_the_unit.fault_rose c.finish-in-Derive.ensures.finishes)
 
 pub returns-in-Score-clause-runs : goal.returns-in-Score-clause-runs
 returns-in-Score-clause-runs g c =

@@ -1,0 +1,225 @@
+-- What is ready, and the line of a refusal, are what the definitions admit.
+use Rattle.std.proofs.Common.{◌≡◌, ◌≢◌, ◌∙◌, ℕ, Option, Some, None, List, [], ◌∷◌, ◌++◌, Result, Ok, Err, Vec, Global, refl, sym, ap, subst, inl, inr}
+use Rattle.std.specs.Prelude.{◌⊎◌, IfOk, IfSome, IsErrOf, IsSome, IsTrue, option_map}
+use Rattle.std.specs.declared.alloc.AllocError.{AllocError}
+use Rattle.host_io.specs.Files.{Files}
+use Rattle.call_table.specs.Table.{Table}
+use Rattle.kernel_calls.specs.declared.call.Call.{Call}
+use Rattle.command_answers.specs.Endings.{is_answer}
+use Rattle.command_answers.specs.Laws.{AcceptsFiles, GoTogether, IsAdmitted, laws_over}
+use Rattle.command_answers.specs.Stops.{HasReadCause, IsAnswer, Prepares, first_refusal, or_line, refusal_in, stop_of}
+use Rattle.command_answers.specs.declared.ending.Ending.{Ending}
+use Rattle.command_answers.specs.declared.ending.Ending.TheVariants.{Done, LaunchRefused}
+use Rattle.command_answers.specs.declared.stop.Stop.{Stop}
+use Rattle.command_answers.specs.declared.stop.Stop.TheVariants as stop
+use Rattle.command_answers.proofs.FileCommands.{go_together, ready_is_admitted, stop_is_admitted}
+use Rattle.command_answers.proofs.Refusing.{quiet, stops_as, stops_before}
+use Rattle.exec_settings.specs.Mounts.{unit_mentions}
+use Rattle.exec_settings.specs.Refusals.{refusal_of}
+use Rattle.exec_settings.specs.declared.errors.SettingsError.{SettingsError}
+use Rattle.mount_plan.specs.Answers.{Plans}
+use Rattle.mount_plan.specs.Host.{host_of}
+use Rattle.kern_mounts.specs.declared.step.MountStep.{MountStep}
+use Rattle.mount_plan.specs.declared.error.PlanError.{PlanError}
+use Rattle.mount_plan.specs.declared.error.PlanError.TheVariants as plan
+use Rattle.path_settings.specs.declared.mentions.Mention.{Mention}
+use Rattle.view_map.specs.Kept.{Refusal, kept_of}
+use Rattle.plan_command.specs.Refusals.{error_line, plan_line}
+use Rattle.replay_command.specs.Scripts.{script_in}
+use Rattle.trace_profile.specs.Derived.{Derives, IsDerived}
+use Rattle.trace_profile.specs.Extended.{drop_in_text, open_unit}
+use Rattle.trace_profile.specs.Launching.{IsRefusedUnit, RefusesPath}
+use Rattle.trace_profile.specs.Scripts.{first_seccomp}
+use Rattle.unit_inputs.specs.Inputs.{Inputs, input_refusals, inputs_of, inputs_view}
+use Rattle.unit_inputs.specs.ReadsFor.{ReadsFor}
+use Rattle.unit_names.specs.Cutting.{name_of}
+use Rattle.unit_inputs.specs.declared.inputs.UnitInputs.{UnitInputs}
+use Rattle.unit_launch.specs.Refusals.{refusal_line}
+use Rattle.unit_launch.specs.declared.refusal.LaunchRefusal.{LaunchRefusal}
+use Rattle.unit_settings.specs.Refusals.{settings_line}
+use Rattle.unit_settings.specs.Settled.{refusals_by}
+use Rattle.unit_settings.proofs.Steps.{refusals_with}
+use Rattle.derive_command.specs.Prints.{PrintsAnswer, PrintsDerived, derived, refused, derive_laws, ending_of, text_of}
+use Rattle.dropin_merge.specs.declared.resolved.Resolved.{Resolved}
+use Rattle.site_table.specs.Table.{Site}
+use Rattle.derive_command.specs.Refusals.{derive_refusals, given, refusals_behind, refusals_behind_script, refusals_by_script, seccomp_line}
+use Rattle.derive_command.specs.declared.answering.Allowing.{Allowing}
+
+-- ---- behind the script
+-- the line of the first refusal stops
+pub stops_with : {T : Type 0} (P : T → Type 0) (refusals : List (Option (List ℕ))) (line : Result (Vec ℕ Global) AllocError) (text : List ℕ) → first_refusal refusals ≡ Some text → IfOk line (λ l. l.items ≡ text) → Prepares P refusals (Err (stop_of line))
+stops_with P refusals (Err none) text is said = tt
+stops_with P refusals (Ok line) text is said = is ∙ ap Some (sym said)
+
+module _ (unit path : List ℕ) (inputs : Inputs) (script : List Call) where
+  -- the refusals, by what each of the three finds
+  refusals_from : Option ℕ → Option SettingsError → Result (List Mention) Refusal → List (Option (List ℕ))
+  refusals_from seccomp settings kept = option_map (seccomp_line path) seccomp ∷ (option_map (settings_line unit) settings ∷ (refusal_in (or_line (plan_line unit) kept) ∷ []))
+
+  opened_settings : Option SettingsError
+  opened_settings = refusal_of (open_unit inputs.unit inputs.calls) inputs.calls inputs.site
+
+  opened_paths : Result (List Mention) Refusal
+  opened_paths = kept_of (host_of inputs.site) (unit_mentions (open_unit inputs.unit inputs.calls) inputs.site)
+
+  -- a call asks to push a program
+  pub at_seccomp : (number : ℕ) → first_seccomp inputs.calls script ≡ Some number → first_refusal (refusals_behind_script unit path inputs script) ≡ Some (seccomp_line path number)
+  at_seccomp number is = ap (λ found. first_refusal (refusals_from found opened_settings opened_paths)) is
+
+  -- a setting is refused
+  pub at_settings : (error : SettingsError) → first_seccomp inputs.calls script ≡ None → opened_settings ≡ Some error → first_refusal (refusals_behind_script unit path inputs script) ≡ Some (settings_line unit error)
+  at_settings error none is =
+      ap (λ found. first_refusal (refusals_from found opened_settings opened_paths)) none
+      ∙ ap (λ found. first_refusal (refusals_from None found opened_paths)) is
+
+  behind_settings : first_seccomp inputs.calls script ≡ None → opened_settings ≡ None → first_refusal (refusals_behind_script unit path inputs script) ≡ first_refusal (refusals_from None None opened_paths)
+  behind_settings none accepted =
+      ap (λ found. first_refusal (refusals_from found opened_settings opened_paths)) none
+      ∙ ap (λ found. first_refusal (refusals_from None found opened_paths)) accepted
+
+  -- a path is refused
+  pub at_paths : (error : PlanError) → first_seccomp inputs.calls script ≡ None → opened_settings ≡ None → RefusesPath (host_of inputs.site) (unit_mentions (open_unit inputs.unit inputs.calls) inputs.site) error
+      → first_refusal (refusals_behind_script unit path inputs script) ≡ Some (error_line unit error)
+  at_paths (plan.Missing at) none accepted is = behind_settings none accepted ∙ ap (λ found. first_refusal (refusals_from None None found)) is
+  at_paths (plan.Kind at) none accepted is = behind_settings none accepted ∙ ap (λ found. first_refusal (refusals_from None None found)) is
+  at_paths plan.Memory none accepted is = absurd is
+
+  -- nothing is refused
+  pub none_refused : (table : List MountStep) → first_seccomp inputs.calls script ≡ None → opened_settings ≡ None → Plans (host_of inputs.site) (unit_mentions (open_unit inputs.unit inputs.calls) inputs.site) (Ok table)
+      → first_refusal (refusals_behind_script unit path inputs script) ≡ None
+  none_refused table none accepted planned = behind_settings none accepted ∙ ap (λ found. first_refusal (refusals_from None None found)) planned.1.0
+
+  -- the list is derived
+  pub answers_derived : (names : List ℕ) (allowing : Allowing) → first_seccomp inputs.calls script ≡ None → IsDerived inputs.unit inputs.calls inputs.site script names
+      → allowing.text.items ≡ drop_in_text inputs.calls names → allowing.ending ≡ Done
+      → (first_refusal (refusals_behind_script unit path inputs script) ≡ None) × PrintsAnswer inputs script (ending_of allowing) (text_of allowing)
+  answers_derived names allowing none is text ending = (
+    none_refused is.opened.plan none is.opened.accepted is.opened.is_plan,
+    subst (λ e. PrintsAnswer inputs script e (text_of allowing)) (sym ending) (subst (PrintsAnswer inputs script Done) (sym text) (derived names is)),
+  )
+
+  -- the launch is refused
+  pub answers_refused : (refusal : LaunchRefusal) (allowing : Allowing) → first_seccomp inputs.calls script ≡ None → IsRefusedUnit (open_unit inputs.unit inputs.calls) inputs.calls inputs.site refusal
+      → allowing.text.items ≡ refusal_line refusal → allowing.ending ≡ LaunchRefused
+      → (first_refusal (refusals_behind_script unit path inputs script) ≡ None) × PrintsAnswer inputs script (ending_of allowing) (text_of allowing)
+  answers_refused refusal allowing none is text ending = (
+    none_refused is.plan none is.accepted is.is_plan,
+    subst (λ e. PrintsAnswer inputs script e (text_of allowing)) (sym ending) (subst (PrintsAnswer inputs script LaunchRefused) (sym text) (refused refusal is)),
+  )
+
+-- ---- the whole
+-- the inputs, as their parts are lent
+pub same_inputs : (inputs : Inputs) (unit : Resolved) (calls : Table) (site : Site) → unit ≡ inputs.unit → calls ≡ inputs.calls → site ≡ inputs.site → given unit calls site ≡ inputs
+same_inputs inputs unit calls site one two three =
+    ap (λ own. given own calls site) one ∙ ap (λ own. given inputs.unit own site) two ∙ ap (λ own. given inputs.unit inputs.calls own) three
+
+module _ (told : Option Files) (unit path : List ℕ) where
+  -- each ending behind what is derived is an answer
+  answered : (ending : Ending) → (derive_laws unit path).may_end ending → IsTrue (is_answer ending)
+  answered ending (inl done) = subst (λ e. IsTrue (is_answer e)) (sym done) refl
+  answered ending (inr launch) = subst (λ e. IsTrue (is_answer e)) (sym launch) refl
+
+  pub together : GoTogether (laws_over told (derive_laws unit path))
+  together = go_together (derive_laws unit path) told answered
+
+-- the inputs are read and none is refused
+abbrev pub AreRead : Files → List ℕ → UnitInputs → Type 0
+AreRead files unit inputs = (first_refusal (input_refusals files unit) ≡ None) × (inputs_of files unit ≡ Some (inputs_view inputs))
+
+-- an input is refused
+pub stops_at_inputs : (P : UnitInputs → Type 0) (told : Option Files) (unit path : List ℕ) (stop : Stop) → IfSome told (λ files. Prepares P (input_refusals files unit) (Err stop)) → IsAdmitted (laws_over told (derive_laws unit path)) ending_of text_of (Err stop)
+stops_at_inputs P told unit path stop said = stop_is_admitted (derive_laws unit path) ending_of text_of (λ (allowing : Allowing). Unit {0}) told stop (before told said)
+  where
+    before : (told : Option Files) → IfSome told (λ files. Prepares P (input_refusals files unit) (Err stop)) → IfSome told (λ files. Prepares (λ (allowing : Allowing). Unit {0}) (derive_refusals files unit path) (Err stop))
+    before None said = tt
+    before (Some files) said = stops_before P (λ (allowing : Allowing). Unit {0}) stop (input_refusals files unit) (refusals_by (refusals_behind files unit path) (inputs_of files unit)) said
+
+-- behind inputs that are read
+behind_inputs : (files : Files) (unit path : List ℕ) (inputs : UnitInputs) → AreRead files unit inputs → first_refusal (derive_refusals files unit path) ≡ first_refusal (refusals_by_script unit path (inputs_view inputs) (script_in files path (inputs_view inputs).calls))
+behind_inputs files unit path inputs read = refusals_with files unit (input_refusals files unit) (refusals_behind files unit path) (inputs_view inputs) read.0 read.1
+
+-- the script is refused
+refused_script : (unit path : List ℕ) (inputs : Inputs) (found : Result (List Call) (List ℕ)) (stop : Stop) → IsAnswer {T = List Call} (λ script. script) (Err stop) found → Prepares (λ (allowing : Allowing). Unit {0}) (refusals_by_script unit path inputs found) (Err stop)
+refused_script unit path inputs found (stop.Refused line) is = ap (λ one. first_refusal (refusals_by_script unit path inputs one)) is
+refused_script unit path inputs found stop.ReadFault is = tt
+refused_script unit path inputs found stop.Memory is = tt
+
+pub stops_at_script : (told now : Option Files) (unit path : List ℕ) (inputs : UnitInputs) (table : Table) (stop : Stop) → now ≡ told → table ≡ (inputs_view inputs).calls
+    → IfSome told (λ files. AreRead files unit inputs)
+    → IfSome now (λ files. IsAnswer {T = List Call} (λ script. script) (Err stop) (script_in files path table))
+    → IsAdmitted (laws_over told (derive_laws unit path)) ending_of text_of (Err stop)
+stops_at_script told now unit path inputs table stop same by read said = stop_is_admitted (derive_laws unit path) ending_of text_of (λ (allowing : Allowing). Unit {0}) told stop (at_script told same read)
+  where
+    at_script : (told : Option Files) → now ≡ told → IfSome told (λ files. AreRead files unit inputs) → IfSome told (λ files. Prepares (λ (allowing : Allowing). Unit {0}) (derive_refusals files unit path) (Err stop))
+    at_script None same read = tt
+    at_script (Some files) same read =
+        stops_as (λ (allowing : Allowing). Unit {0}) stop (refusals_by_script unit path (inputs_view inputs) (script_in files path (inputs_view inputs).calls)) (derive_refusals files unit path) (behind_inputs files unit path inputs read)
+        (refused_script unit path (inputs_view inputs) (script_in files path (inputs_view inputs).calls) stop
+        (subst (λ own. IsAnswer {T = List Call} (λ script. script) (Err stop) (script_in files path own)) by
+        (subst (λ own. IfSome own (λ files. IsAnswer {T = List Call} (λ script. script) (Err stop) (script_in files path table))) same said)))
+
+-- behind a script that was read
+module _ (told now : Option Files) (unit path : List ℕ) (inputs : UnitInputs) (table : Table) (script : List Call) (same : now ≡ told) (by : table ≡ (inputs_view inputs).calls)
+    (are : IfSome told (λ files. AreRead files unit inputs)) (said : IfSome now (λ files. IsAnswer (λ (script : List Call). script) (Ok script) (script_in files path table))) where
+  script_is : (files : Files) → told ≡ Some files → script_in files path (inputs_view inputs).calls ≡ Ok script
+  script_is files e =
+      subst (λ own. script_in files path own ≡ Ok script) by
+      (subst (λ own. IfSome own (λ files. IsAnswer (λ (script : List Call). script) (Ok script) (script_in files path table))) (same ∙ e) said)
+
+  read_is : (files : Files) → told ≡ Some files → AreRead files unit inputs
+  read_is files e = subst (λ own. IfSome own (λ files. AreRead files unit inputs)) e are
+
+  behind_script : (files : Files) → told ≡ Some files → first_refusal (derive_refusals files unit path) ≡ first_refusal (refusals_behind_script unit path (inputs_view inputs) script)
+  behind_script files e =
+      behind_inputs files unit path inputs (read_is files e)
+      ∙ ap (λ one. first_refusal (refusals_by_script unit path (inputs_view inputs) one)) (script_is files e)
+
+  -- what is answered is admitted
+  admitted : (result : Result Allowing Stop) → Prepares (λ allowing. PrintsAnswer (inputs_view inputs) script (ending_of allowing) (text_of allowing)) (refusals_behind_script unit path (inputs_view inputs) script) result
+      → IsAdmitted (laws_over told (derive_laws unit path)) ending_of text_of result
+  admitted (Err stop) answers = stop_is_admitted (derive_laws unit path) ending_of text_of (λ allowing. PrintsAnswer (inputs_view inputs) script (ending_of allowing) (text_of allowing)) told stop (at_stop told refl)
+    where
+      at_stop : (own : Option Files) → told ≡ own → IfSome own (λ files. Prepares (λ allowing. PrintsAnswer (inputs_view inputs) script (ending_of allowing) (text_of allowing)) (derive_refusals files unit path) (Err stop))
+      at_stop None e = tt
+      at_stop (Some files) e = stops_as (λ allowing. PrintsAnswer (inputs_view inputs) script (ending_of allowing) (text_of allowing)) stop (refusals_behind_script unit path (inputs_view inputs) script) (derive_refusals files unit path) (behind_script files e) answers
+  admitted (Ok allowing) answers = ready_is_admitted (derive_laws unit path) ending_of text_of told allowing (ends_so (ending_of allowing) (text_of allowing) answers.1) (printed told refl)
+    where
+      ends_so : (ending : Ending) (text : List ℕ) → PrintsAnswer (inputs_view inputs) script ending text → (ending ≡ Done) ⊎ (ending ≡ LaunchRefused)
+      ends_so _ _ (derived names is) = inl refl
+      ends_so _ _ (refused refusal is) = inr refl
+
+      printed : (own : Option Files) → told ≡ own → IfSome own (λ files. AcceptsFiles (derive_laws unit path) files × PrintsDerived files unit path (ending_of allowing) (text_of allowing))
+      printed None e = tt
+      printed (Some files) e = (
+        behind_script files e ∙ answers.0,
+        record {
+          inputs = inputs_view inputs;
+          inputs_are = (read_is files e).1;
+          script = script;
+          script_is = script_is files e;
+          is_the_answer = answers.1;
+        },
+      )
+
+  -- also where the inputs are lent
+  pub admitted_as : (own : Inputs) (lent : List Call) (result : Result Allowing Stop) → own ≡ inputs_view inputs → lent ≡ script
+      → Prepares (λ allowing. PrintsAnswer own lent (ending_of allowing) (text_of allowing)) (refusals_behind_script unit path own lent) result
+      → IsAdmitted (laws_over told (derive_laws unit path)) ending_of text_of result
+  admitted_as own lent result is lends answers =
+      admitted result
+      (subst (λ these. Prepares (λ allowing. PrintsAnswer (inputs_view inputs) these (ending_of allowing) (text_of allowing)) (refusals_behind_script unit path (inputs_view inputs) these) result) lends
+      (subst (λ these. Prepares (λ allowing. PrintsAnswer these lent (ending_of allowing) (text_of allowing)) (refusals_behind_script unit path these lent) result) is answers))
+
+pub named : {X : Type 0} (found : Option X) (name : X) → found ≡ Some name → IsSome found
+named None name is = cc
+named (Some own) name is = tt
+
+-- what reads nothing, behind a script that was read for a unit with a name
+module _ {S T U : Type 0} (told : S → Option Files) (faults : S → ℕ) (unit : List ℕ) (before mid now : S) (value : T) (more : U) (reads : ReadsFor told faults unit before mid (Ok value)) (name : IsSome (name_of unit)) (stays : told now ≡ told mid) (cause : HasReadCause (faults mid) (faults now) (Ok more)) where
+  pub read_behind : {V : Type 0} (result : Result V Stop) → (IsErrOf result stop.ReadFault → ⊥) → ReadsFor told faults unit before now result
+  read_behind result nothing = record {
+    reads_for_a_name = λ e. absurd (nothing e);
+    unread_without_a_name = λ none. absurd (none name);
+    map_stays = stays ∙ reads.map_stays;
+    fault_rose = quiet (faults before) (faults now) result (cause.no_other_fault ∙ reads.fault_rose.no_other_fault) nothing;
+  }

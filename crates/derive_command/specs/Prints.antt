@@ -1,0 +1,46 @@
+-- What `derive` prints, by the files.
+use Rattle.std.specs.Prelude.{◌≡◌, ◌⊎◌, ℕ, IsSome, List, Some, Ok}
+use Rattle.host_io.specs.Files.{Files}
+use Rattle.kernel_calls.specs.declared.call.Call.{Call}
+use Rattle.command_answers.specs.Laws.{FileLaws}
+use Rattle.command_answers.specs.declared.ending.Ending.{Ending}
+use Rattle.command_answers.specs.declared.ending.Ending.TheVariants.{Done, LaunchRefused}
+use Rattle.replay_command.specs.Scripts.{script_in}
+use Rattle.trace_profile.specs.Derived.{IsDerived}
+use Rattle.trace_profile.specs.Extended.{drop_in_text, open_unit}
+use Rattle.trace_profile.specs.Launching.{IsRefusedUnit}
+use Rattle.unit_inputs.specs.Inputs.{Inputs, inputs_of}
+use Rattle.unit_launch.specs.Refusals.{refusal_line}
+use Rattle.unit_launch.specs.declared.refusal.LaunchRefusal.{LaunchRefusal}
+use Rattle.unit_names.specs.Cutting.{name_of}
+use Rattle.derive_command.specs.Refusals.{derive_refusals}
+use Rattle.derive_command.specs.declared.answering.Allowing.{Allowing}
+
+-- the drop-in that allows the least list; or the line of the launch that is refused though every call is allowed
+pub data PrintsAnswer (inputs : Inputs) (script : List Call) : Ending → List ℕ → Type 0 where
+  derived : (names : List ℕ) → IsDerived inputs.unit inputs.calls inputs.site script names → PrintsAnswer inputs script Done (drop_in_text inputs.calls names)
+  refused : (refusal : LaunchRefusal) → IsRefusedUnit (open_unit inputs.unit inputs.calls) inputs.calls inputs.site refusal → PrintsAnswer inputs script LaunchRefused (refusal_line refusal)
+
+-- the inputs of the unit and the script, as the table of calls reads it, and what is derived from them
+pub record PrintsDerived (files : Files) (unit path : List ℕ) (ending : Ending) (text : List ℕ) : Type 0 where
+  pub inputs : Inputs
+  pub inputs_are : inputs_of files unit ≡ Some inputs
+  pub script : List Call
+  pub script_is : script_in files path inputs.calls ≡ Ok script
+  pub is_the_answer : PrintsAnswer inputs script ending text
+
+-- the refusals in their order; a launch that is refused is told with status 7
+abbrev pub derive_laws : List ℕ → List ℕ → FileLaws
+derive_laws unit path = record {
+  refusals = λ files. derive_refusals files unit path;
+  prints = λ files ending text. PrintsDerived files unit path ending text;
+  may_end = λ ending. (ending ≡ Done) ⊎ (ending ≡ LaunchRefused);
+  reads = IsSome (name_of unit);
+}
+
+-- what is ready
+abbrev pub text_of : Allowing → List ℕ
+text_of allowing = allowing.text.items
+
+abbrev pub ending_of : Allowing → Ending
+ending_of allowing = allowing.ending

@@ -1,0 +1,47 @@
+-- What `derive` refuses, in the order of refusals.
+use Rattle.std.specs.Prelude.{ℕ, List, [], ◌∷◌, ◌++◌, codes, Option, Some, Result, Ok, Err, option_map}
+use Rattle.std.specs.Fmt.{decimal}
+use Rattle.host_io.specs.Files.{Files}
+use Rattle.call_table.specs.Table.{Table}
+use Rattle.dropin_merge.specs.declared.resolved.Resolved.{Resolved}
+use Rattle.kernel_calls.specs.declared.call.Call.{Call}
+use Rattle.command_answers.specs.Refusals.{refused_line}
+use Rattle.plan_command.specs.Prints.{refused_paths}
+use Rattle.replay_command.specs.Scripts.{script_in}
+use Rattle.site_table.specs.Table.{Site}
+use Rattle.trace_profile.specs.Extended.{open_unit}
+use Rattle.trace_profile.specs.Scripts.{first_seccomp}
+use Rattle.unit_inputs.specs.Inputs.{Inputs, input_refusals, inputs_of}
+use Rattle.unit_settings.specs.Settled.{refusals_by, refusals_of}
+
+-- the first call, from 1, that asks to push a program, seccomp(2)
+abbrev pub seccomp_cause : ℕ → List ℕ
+seccomp_cause number = codes "call " ++ (decimal number ++ codes " seccomp")
+
+abbrev pub seccomp_line : List ℕ → ℕ → List ℕ
+seccomp_line path number = refused_line path (seccomp_cause number)
+
+-- what is read of a unit
+abbrev pub given : Resolved → Table → Site → Inputs
+given unit calls site = record { unit = unit; calls = calls; site = site }
+
+-- the inputs with the unit that allows every call
+abbrev pub opened : Inputs → Inputs
+opened inputs = record { unit = open_unit inputs.unit inputs.calls; calls = inputs.calls; site = inputs.site }
+
+-- behind a script that was read: such a call, then the settings and the paths of the unit that allows every call
+abbrev pub refusals_behind_script : List ℕ → List ℕ → Inputs → List Call → List (Option (List ℕ))
+refusals_behind_script unit path inputs script =
+    option_map (seccomp_line path) (first_seccomp inputs.calls script) ∷ (refusals_of unit (opened inputs) ++ refused_paths unit (opened inputs))
+
+-- the script, and what is refused behind it
+abbrev pub refusals_by_script : List ℕ → List ℕ → Inputs → Result (List Call) (List ℕ) → List (Option (List ℕ))
+refusals_by_script unit path inputs (Ok script) = refusals_behind_script unit path inputs script
+refusals_by_script unit path inputs (Err line) = Some line ∷ []
+
+abbrev pub refusals_behind : Files → List ℕ → List ℕ → Inputs → List (Option (List ℕ))
+refusals_behind files unit path inputs = refusals_by_script unit path inputs (script_in files path inputs.calls)
+
+-- the order of refusals: the inputs, and what is refused behind them
+abbrev pub derive_refusals : Files → List ℕ → List ℕ → List (Option (List ℕ))
+derive_refusals files unit path = input_refusals files unit ++ refusals_by (refusals_behind files unit path) (inputs_of files unit)

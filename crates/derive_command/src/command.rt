@@ -1,0 +1,36 @@
+//! The command `derive`, the name of a unit and the path of a script.
+
+ghost use Rattle.command_answers.specs.Laws.{IsAdmitted, laws_over};
+ghost use Rattle.unit_inputs.specs.ReadsFor.{ReadsFor};
+ghost use Rattle.derive_command.specs.Prints.{derive_laws, ending_of, text_of};
+
+use crate::answering::{Allowing, answer};
+use command_answers::Stop;
+use host_io::Shelf;
+use replay_command::read_script;
+use std::alloc::Global;
+use unit_inputs::read_inputs;
+
+/// Prepares `derive`, the name of a unit and the path of a script: reads the unit, calls.txt, site.toml and the script, finds the
+/// first refusal of them, of the script's calls, and of the unit that allows every call, and derives the list.
+pub fn prepare<S: Shelf>(
+    alloc: Global,
+    shelf: &mut S,
+    unit: &str,
+    script: &str,
+) -> Result<Allowing, Stop>
+    ensures prepares { IsAdmitted (laws_over (S.told shelf.old) (derive_laws unit.now script.now)) ending_of text_of result }
+    ensures reads_for_the_unit { ReadsFor S.told S.faults unit.now shelf.old shelf.new result }
+{
+    let inputs = read_inputs(alloc, shelf, unit)?;
+    let made = read_script(alloc, shelf, script, &inputs.calls)?;
+    answer(
+        alloc,
+        unit,
+        script,
+        &inputs.unit,
+        &inputs.calls,
+        &inputs.site,
+        &made,
+    )
+}

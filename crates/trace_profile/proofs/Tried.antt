@@ -1,0 +1,150 @@
+-- Units that are launched, and lists that are tried.
+use Rattle.std.proofs.Common.{◌≡◌, ◌≢◌, ◌⊎◌, inl, inr, ℕ, Bool, true, false, List, [], ◌∷◌, ◌++◌, filter, Option, Some, None, Result, Ok, Err, refl, sym, ap, ◌∙◌, subst}
+use Rattle.std.specs.Prelude.{IfOk}
+use Rattle.std.specs.Result.{IsErrAnd}
+use Rattle.std.specs.declared.alloc.AllocError.{AllocError}
+use Rattle.call_table.specs.Table as calls
+use Rattle.dropin_merge.specs.declared.resolved.Resolved.{Resolved}
+use Rattle.dropin_merge.specs.declared.resolved.UnitFile.{UnitFile}
+use Rattle.exec_settings.specs.AreSettings.{AreSettings}
+use Rattle.exec_settings.specs.Refusals.{refusal_of}
+use Rattle.exec_settings.specs.declared.service.Settings.{Settings}
+use Rattle.kern_mounts.specs.declared.step.MountStep.{MountStep}
+use Rattle.kernel_calls.specs.declared.call.Call.{Call}
+use Rattle.kernel_model.specs.Runs.{replies}
+use Rattle.kernel_model.specs.declared.reply.Reply.{Reply}
+use Rattle.launcher.specs.declared.launched.Launched.{Launched as Service}
+use Rattle.mount_plan.specs.Answers.{Plans}
+use Rattle.mount_plan.specs.Host.{host_of}
+use Rattle.path_settings.specs.declared.mentions.Mention.{Mention}
+use Rattle.site_table.specs.Table.{Site}
+use Rattle.unit_grammar.specs.declared.unit.UnitText.{UnitText}
+use Rattle.unit_names.specs.Names.{Name}
+use Rattle.unit_launch.specs.Launching.{ComesTo}
+use Rattle.unit_launch.specs.declared.launching.UnitLaunch.{UnitLaunch}
+use Rattle.unit_launch.specs.declared.launching.UnitLaunch.TheVariants.{Launched, Refused}
+use Rattle.unit_launch.specs.declared.refusal.LaunchRefusal.{LaunchRefusal}
+use Rattle.trace_profile.specs.Derived.{Fails, IsDerived, IsLeast, Replies, Serves, Tells, Tried, not_launched, other_reply, tried_with}
+use Rattle.trace_profile.specs.Extended.{drop_in_text, every_name, extended, open_unit, says}
+use Rattle.trace_profile.specs.Launching.{IsLaunchedUnit, IsNotLaunched, IsRefusedUnit, LaysOut}
+use Rattle.trace_profile.specs.Names.{AreNames, is_marked, without}
+use Rattle.trace_profile.specs.Replies.{Compares}
+use Rattle.trace_profile.specs.Searching.{AreServing, LeavesOut}
+use Rattle.trace_profile.specs.declared.derived.DeriveError.{DeriveError}
+use Rattle.trace_profile.specs.declared.derived.DeriveError.TheVariants.{Memory}
+use Rattle.trace_profile.proofs.Lists.{every_are_names, some_are_names}
+
+abbrev unit_with : (name : Name) (files : List UnitFile) → Resolved
+unit_with name files = record { name = name; files = files }
+
+-- the unit is the extended one
+pub extended_is : (unit : Resolved) (table : calls.Table) (names text : List ℕ) (more : UnitText) (result : Result Resolved AllocError) → text ≡ drop_in_text table names → more ≡ says text
+    → IfOk result (λ longer. longer.name ≡ unit.name) → IfOk result (λ longer. longer.files ≡ unit.files ++ record { path = []; text = more } ∷ [])
+    → IfOk result (λ longer. longer ≡ extended unit table names)
+extended_is unit table names text more (Err error) is said named filed = tt
+extended_is unit table names text more (Ok longer) is said named filed =
+    ap (λ name. unit_with name longer.files) named
+    ∙ ap (unit_with unit.name) (filed ∙ ap (λ (own : UnitText). unit.files ++ record { path = []; text = own } ∷ []) (said ∙ ap says is))
+
+-- what holds of an error holds of a result that passes it on
+pub at_error : {R : Type 0} (P : Result R DeriveError → Type 0) (result : Result R DeriveError) (error : DeriveError) → IsErrAnd result (λ own. own ≡ error) → P (Err error) → P result
+at_error P (Ok made) error is holds = absurd is
+at_error P (Err own) error is holds = subst (λ one. P (Err one)) (sym is) holds
+
+module _ (unit : Resolved) (table : calls.Table) (site : Site) (made : Settings) (steps lent : List MountStep) (settled : (refusal_of unit table site ≡ None) × AreSettings unit table site made) (laid : LaysOut (host_of site) made.mentions (Ok steps)) (lends : lent ≡ steps) where
+  planned : Plans (host_of site) made.mentions (Ok lent)
+  planned = subst (λ plan. Plans (host_of site) made.mentions (Ok plan)) (sym lends) laid.0
+
+  -- the unit is launched
+  pub launched_unit : (service : Service) → ComesTo table site made lent (Launched service) → IsLaunchedUnit unit table site service
+  launched_unit service comes = record {
+    settings = made;
+    accepted = settled.0;
+    are_settings = settled.1;
+    plan = lent;
+    is_plan = subst (λ (mentions : List Mention). Plans (host_of site) mentions (Ok lent)) settled.1.mentions_written_and_implied planned;
+    launched = comes;
+  }
+
+  -- its launch is refused
+  pub refused_unit : (refusal : LaunchRefusal) → ComesTo table site made lent (Refused refusal) → IsRefusedUnit unit table site refusal
+  refused_unit refusal comes = record {
+    settings = made;
+    accepted = settled.0;
+    are_settings = settled.1;
+    plan = lent;
+    is_plan = subst (λ (mentions : List Mention). Plans (host_of site) mentions (Ok lent)) settled.1.mentions_written_and_implied planned;
+    refused = comes;
+  }
+
+module _ (tried : Tried) (names : List ℕ) (unit : Resolved) (is : unit ≡ extended tried.unit tried.table names) where
+  -- the unit is launched, and its replies are these or others
+  pub tells_replies : (service : Service) (result : Result Bool AllocError) → IsLaunchedUnit unit tried.table tried.site service
+      → IfOk result (Compares (replies service.world tried.script) tried.said) → IfOk result (Tells tried names)
+  tells_replies service (Ok true) launched same = record { service = service; launched = subst (λ own. IsLaunchedUnit own tried.table tried.site service) is launched; replies = same }
+  tells_replies service (Ok false) launched others =
+      other_reply (replies service.world tried.script) (record { service = service; launched = subst (λ own. IsLaunchedUnit own tried.table tried.site service) is launched; replies = refl }) others
+  tells_replies service (Err error) launched none = tt
+
+  -- the unit is not launched
+  pub tells_no_launch : (error : DeriveError) (result : Result Bool AllocError) → IsNotLaunched unit tried.table tried.site error
+      → IfOk result (λ serves. (serves ≡ false) × (error ≢ Memory)) → IfOk result (Tells tried names)
+  tells_no_launch error (Ok serves) refused told =
+      subst (Tells tried names) (sym told.0) (not_launched error told.1 (subst (λ own. IsNotLaunched own tried.table tried.site error) is refused))
+  tells_no_launch error (Err none) refused told = tt
+
+-- what was told of a list that was lent
+told_of : (tried : Tried) (lent names : List ℕ) (told answer : Bool) → lent ≡ names → Tells tried lent told → told ≡ answer → Tells tried names answer
+told_of tried lent names told answer lends tells is = subst (Tells tried names) is (subst (λ these. Tells tried these told) lends tells)
+
+module _ (tried : Tried) (names lent fewer lent_fewer : List ℕ) (name : ℕ) (told : Bool) (lends : lent ≡ names) (is : fewer ≡ without name lent) (lends_fewer : lent_fewer ≡ fewer) (tells : Tells tried lent_fewer told) where
+  -- the others serve
+  pub leaves_it : told ≡ true → LeavesOut tried names name fewer
+  leaves_it does = inl (is ∙ ap (without name) lends, told_of tried lent_fewer fewer told true lends_fewer tells does)
+
+  -- they do not
+  pub keeps_it : told ≡ false → LeavesOut tried names name names
+  keeps_it does = inr (refl, told_of tried lent_fewer (without name names) told false (lends_fewer ∙ is ∙ ap (without name) lends) tells does)
+
+-- the names that are marked serve
+pub marked_serve : (tried : Tried) (marks : List Bool) (every lent used lent_used : List ℕ) (told : Bool) → AreServing tried every → lent ≡ every → used ≡ filter (is_marked marks) lent → lent_used ≡ used → Tells tried lent_used told → told ≡ true → AreServing tried used
+marked_serve tried marks every lent used lent_used told serving lends is lends_used tells does = record {
+  are_names = subst (λ these. AreNames tried.table these) (sym (is ∙ ap (filter (is_marked marks)) lends)) (some_are_names tried.table (is_marked marks) every serving.are_names);
+  serves = told_of tried lent_used used told true lends_used tells does;
+}
+
+module _ (unit : Resolved) (table : calls.Table) (site : Site) (script : List Call) (own : Resolved) (every lent_every : List ℕ) (all : every ≡ every_name table) (lends : lent_every ≡ every) (is : own ≡ extended unit table lent_every) where
+  opened_is : own ≡ open_unit unit table
+  opened_is = is ∙ ap (extended unit table) (lends ∙ all)
+
+  -- the unit that allows every call is not launched
+  pub not_opened : (error : DeriveError) → IsNotLaunched own table site error → IsNotLaunched (open_unit unit table) table site error
+  not_opened error refused = subst (λ these. IsNotLaunched these table site error) opened_is refused
+
+  module _ (service : Service) (launched : IsLaunchedUnit own table site service) (said lent_said : List Reply) (first lent : List Call) (replied : said ≡ replies service.world first) (lends_first : first ≡ script) (lends_script : lent ≡ script) (lends_said : lent_said ≡ said) where
+    opened : IsLaunchedUnit (open_unit unit table) table site service
+    opened = subst (λ these. IsLaunchedUnit these table site service) opened_is launched
+
+    says_so : lent_said ≡ replies service.world script
+    says_so = lends_said ∙ replied ∙ ap (replies service.world) lends_first
+
+    -- all names serve
+    pub every_serve : AreServing (tried_with unit table site lent lent_said) every
+    every_serve = record {
+      are_names = subst (AreNames table) (sym all) (every_are_names table);
+      serves = record {
+        service = service;
+        launched = subst (λ these. IsLaunchedUnit (extended unit table these) table site service) (sym all) opened;
+        replies = ap (replies service.world) lends_script ∙ sym says_so;
+      };
+    }
+
+    -- the least list is derived
+    pub derived_is : (names made : List ℕ) → made ≡ names → IsLeast (tried_with unit table site lent lent_said) names → IsDerived unit table site script made
+    derived_is names made same least = record {
+      service = service;
+      opened = opened;
+      least = subst (IsLeast (tried_with unit table site script (replies service.world script))) (sym same)
+          (subst (λ these. IsLeast (tried_with unit table site script these) names) says_so
+          (subst (λ (calls : List Call). IsLeast (tried_with unit table site calls lent_said) names) lends_script least));
+    }

@@ -1,0 +1,20 @@
+use Rattle.trace_profile.specs.Finding.{DerivesOpen}
+use Rattle.trace_profile.proofs.Tried.{at_error, derived_is, every_serve, not_opened}
+use Rattle.trace_profile.proofs.finding.derive_open.Goals as goal
+
+pub returns-in_err-service : goal.returns-in_err-service
+returns-in_err-service c =
+    at_error (DerivesOpen c.args.unit.now c.args.calls.now c.args.site.now c.args.script.now) c.from_residual-in_err-service.result c.in_err-service.field-0.0 c.from_residual-in_err-service.ensures.1
+    (not_opened c.args.unit.now c.args.calls.now c.args.site.now c.args.script.now c.in_ok-open.open c.in_ok-every.every.items c.deref.result.now c.in_ok-every.ensures c.deref.ensures.value c.in_ok-open.ensures
+    c.in_err-service.field-0.0 c.in_err-service.ensures)
+
+pub begin-requires-clause-serving : goal.begin-requires-clause-serving
+begin-requires-clause-serving c =
+    every_serve c.args.unit.now c.args.calls.now c.args.site.now c.args.script.now c.in_ok-open.open c.in_ok-every.every.items c.deref.result.now c.in_ok-every.ensures c.deref.ensures.value c.in_ok-open.ensures
+    c.in_ok-service.service c.in_ok-service.ensures c.in_ok-said.said.items c.deref-2.result.now c.list.result.now c.list-2.result.now c.in_ok-said.ensures.replies c.list.ensures c.list-2.ensures c.deref-2.ensures.value
+
+pub returns : goal.returns
+returns c =
+    derived_is c.args.unit.now c.args.calls.now c.args.site.now c.args.script.now c.in_ok-open.open c.in_ok-every.every.items c.deref.result.now c.in_ok-every.ensures c.deref.ensures.value c.in_ok-open.ensures
+    c.in_ok-service.service c.in_ok-service.ensures c.in_ok-said.said.items c.deref-2.result.now c.list.result.now c.list-2.result.now c.in_ok-said.ensures.replies c.list.ensures c.list-2.ensures c.deref-2.ensures.value
+    c.in_ok-names.names.items c.new.result c.new.ensures c.in_ok-names.ensures

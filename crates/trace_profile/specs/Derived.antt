@@ -1,0 +1,68 @@
+-- The least list of names with which a unit answers a script as with all names.
+use Rattle.std.specs.Prelude.{◌≡◌, ◌≢◌, ⊤, ℕ, Bool, true, false, List, Option, Some, None, Result, Ok, Err}
+use Rattle.std.specs.List.{All}
+use Rattle.call_table.specs.Table as calls
+use Rattle.dropin_merge.specs.declared.resolved.Resolved.{Resolved}
+use Rattle.kernel_calls.specs.declared.call.Call.{Call}
+use Rattle.kernel_model.specs.Runs.{replies}
+use Rattle.kernel_model.specs.declared.reply.Reply.{Reply}
+use Rattle.launcher.specs.declared.launched.Launched.{Launched as Service}
+use Rattle.site_table.specs.Table.{Site}
+use Rattle.trace_profile.specs.Extended.{extended, open_unit}
+use Rattle.trace_profile.specs.Launching.{IsLaunchedUnit, IsNotLaunched}
+use Rattle.trace_profile.specs.Names.{AreNames, without}
+use Rattle.trace_profile.specs.Scripts.{first_seccomp}
+use Rattle.trace_profile.specs.declared.derived.DeriveError.{DeriveError}
+use Rattle.trace_profile.specs.declared.derived.DeriveError.TheVariants.{Seccomp, Settings, Plan, Launch, Memory}
+use Rattle.trace_profile.specs.declared.derived.Derived.{Derived}
+
+-- what lists of names are tried on: a unit over a table of calls and a site, a script, and the replies that are wanted
+pub record Tried : Type 0 where
+  pub unit : Resolved
+  pub table : calls.Table
+  pub site : Site
+  pub script : List Call
+  pub said : List Reply
+
+-- the unit that allows these names is launched, and the calls of the script have these replies
+pub record Replies (tried : Tried) (names : List ℕ) (said : List Reply) : Type 0 where
+  pub service : Service
+  pub launched : IsLaunchedUnit (extended tried.unit tried.table names) tried.table tried.site service
+  pub replies : replies service.world tried.script ≡ said
+
+abbrev pub Serves : Tried → List ℕ → Type 0
+Serves tried names = Replies tried names tried.said
+
+-- it is not launched, or some reply is another
+pub data Fails (tried : Tried) (names : List ℕ) : Type 0 where
+  not_launched : (error : DeriveError) → error ≢ Memory → IsNotLaunched (extended tried.unit tried.table names) tried.table tried.site error → Fails tried names
+  other_reply : (own : List Reply) → Replies tried names own → own ≢ tried.said → Fails tried names
+
+-- the list serves, and without any of its names it does not
+pub record IsLeast (tried : Tried) (names : List ℕ) : Type 0 where
+  pub are_names : AreNames tried.table names
+  pub serves : Serves tried names
+  pub needed : All (λ name. Fails tried (without name names)) names
+
+abbrev pub tried_with : Resolved → calls.Table → Site → List Call → List Reply → Tried
+tried_with unit table site script said = record { unit = unit; table = table; site = site; script = script; said = said }
+
+-- with the replies that the unit gives which allows every call, this is the least list
+pub record IsDerived (unit : Resolved) (table : calls.Table) (site : Site) (script : List Call) (names : List ℕ) : Type 0 where
+  pub service : Service
+  pub opened : IsLaunchedUnit (open_unit unit table) table site service
+  pub least : IsLeast (tried_with unit table site script (replies service.world script)) names
+
+-- what is derived: nothing where the script asks to push a program, and where the unit that allows every call is not launched
+abbrev pub Derives : Resolved → calls.Table → Site → List Call → Result Derived DeriveError → Type 0
+Derives unit table site script (Ok derived) = (first_seccomp table script ≡ None) × IsDerived unit table site script derived.names
+Derives unit table site script (Err (Seccomp number)) = first_seccomp table script ≡ Some number
+Derives unit table site script (Err (Settings error)) = (first_seccomp table script ≡ None) × IsNotLaunched (open_unit unit table) table site (Settings error)
+Derives unit table site script (Err (Plan error)) = (first_seccomp table script ≡ None) × IsNotLaunched (open_unit unit table) table site (Plan error)
+Derives unit table site script (Err (Launch refusal)) = (first_seccomp table script ≡ None) × IsNotLaunched (open_unit unit table) table site (Launch refusal)
+Derives unit table site script (Err Memory) = ⊤
+
+-- a list that was tried serves or fails
+abbrev pub Tells : Tried → List ℕ → Bool → Type 0
+Tells tried names true = Serves tried names
+Tells tried names false = Fails tried names

@@ -1,0 +1,44 @@
+//! What is derived, and why nothing is.
+
+ghost use Rattle.std.specs.Prelude.{◌≡◌};
+ghost use Rattle.trace_profile.specs.declared.derived.DeriveError.TheVariants.{Memory};
+
+use exec_settings::SettingsError;
+use item_list::ItemList;
+use mount_plan::PlanError;
+use std::alloc::AllocError;
+use unit_launch::LaunchRefusal;
+
+/// Places of call lines among those of calls.txt, from 0, ascending; contracts see them as a list.
+pub type Names = ItemList<u32>;
+
+/// What is derived.
+#[derive(Drop)]
+pub struct Derived {
+    /// The calls to be allowed beside `@default`, each by the first line of its name.
+    pub names: Names,
+}
+
+/// Why no list is derived.
+#[derive(Drop)]
+pub enum DeriveError {
+    /// This call of the script, counted from 1, is the first that asks to push a program, seccomp(2). Its answer rests on the
+    /// lengths of the launch's programs, which are not the same for all lists.
+    Seccomp(u64),
+    /// The unit that allows every call has no settings.
+    Settings(SettingsError),
+    /// It has no plan of mounts.
+    Plan(PlanError),
+    /// It is not launched.
+    Launch(LaunchRefusal),
+    /// Memory ran out.
+    Memory,
+}
+
+impl From<AllocError> for DeriveError {
+    ghost from_gives = { λ _ e. e ≡ Memory };
+
+    fn from(_: AllocError) -> Self {
+        DeriveError::Memory
+    }
+}

@@ -1,0 +1,67 @@
+//! A unit, extended by the drop-in that allows some calls.
+
+ghost use Rattle.std.specs.Prelude.{◌≡◌, ◌∷◌, ◌++◌, IfOk, OnOk, flat_map};
+ghost use Rattle.trace_profile.specs.Extended.{drop_in_text, extended, name_at, says};
+
+use call_table::CallTable;
+use dropin_merge::Resolved;
+use std::alloc::{AllocError, Global};
+use unit_grammar::{Assignments, Notes, UnitError, UnitText, read_unit};
+
+/// The name of the call line at a place.
+pub fn name_at(calls: &CallTable, place: u32) -> &str
+    ensures { result.now ≡ name_at calls.now place }
+{
+    match calls.call_at(place as usize) {
+        Some(line) => line.name.as_str(),
+        None => "",
+    }
+}
+
+// Appends the names of these places, each behind a space.
+fn push_names(text: &mut Vec<u8>, calls: &CallTable, names: &[u32]) -> Result<(), AllocError>
+    ensures { OnOk result (text.new.items ≡ text.old.items ++ flat_map (λ place. 32 ∷ name_at calls.now place) names.now) }
+{
+    for place in names {
+        text.push(b' ')?;
+        text.extend_from_slice(name_at(calls, *place).as_bytes())?;
+    }
+    Ok(())
+}
+
+/// The drop-in by which the calls at these places are allowed, and those of `@default`, and no others, systemd.exec(5).
+pub fn drop_in(alloc: Global, calls: &CallTable, names: &[u32]) -> Result<Vec<u8>, AllocError>
+    ensures allows_exactly_these { IfOk result (λ text. text.items ≡ drop_in_text calls.now names.now) }
+{
+    let mut text = b"[Service]\nSystemCallFilter=\nSystemCallFilter=@default".to_vec(alloc)?;
+    push_names(&mut text, calls, names)?;
+    text.push(b'\n')?;
+    Ok(text)
+}
+
+// What a file of these bytes says; one that is refused says nothing.
+fn said(alloc: Global, bytes: &[u8]) -> Result<UnitText, AllocError>
+    ensures { IfOk result (λ text. text ≡ says bytes.now) }
+{
+    match read_unit(alloc, bytes) {
+        Ok(text) => Ok(text),
+        Err(UnitError::Memory) => Err(AllocError),
+        Err(_) => Ok(UnitText {
+            assignments: Assignments::empty(alloc),
+            notes: Notes::empty(alloc),
+        }),
+    }
+}
+
+/// The unit with that drop-in behind its files.
+pub fn extended(
+    alloc: Global,
+    unit: &Resolved,
+    calls: &CallTable,
+    names: &[u32],
+) -> Result<Resolved, AllocError>
+    ensures { IfOk result (λ longer. longer ≡ extended unit.now calls.now names.now) }
+{
+    let text = drop_in(alloc, calls, names)?;
+    unit.extended(alloc, said(alloc, text.as_slice())?)
+}

@@ -1,0 +1,81 @@
+//! The least list, derived.
+
+ghost use Rattle.trace_profile.specs.Derived.{Derives};
+ghost use Rattle.trace_profile.specs.Finding.{DerivesOpen};
+ghost use Rattle.std.specs.Prelude.{◌≡◌, IfOk, None, length};
+ghost use Rattle.trace_profile.specs.Derived.{IsLeast};
+ghost use Rattle.trace_profile.specs.Searching.{AreServing, tried_of};
+
+use crate::derived::{DeriveError, Derived, Names};
+use crate::extending::extended;
+use crate::launching::launch_whole;
+use crate::names::{every_name, marked};
+use crate::replies::replies_of;
+use crate::scripts::first_seccomp;
+use crate::searching::Trial;
+use crate::used::used_marks;
+use call_table::CallTable;
+use dropin_merge::Resolved;
+use script_text::Script;
+use site_table::SiteTable;
+use std::alloc::{AllocError, Global};
+
+// Names that serve: those that the script uses, which as a rule do, or else all.
+fn begin(alloc: Global, trial: &Trial, every: Vec<u32>) -> Result<Vec<u32>, AllocError>
+    requires one_each { length trial.now.said.now ≡ length trial.now.script.now }
+    requires serving { AreServing (tried_of trial.now) every.items }
+    ensures { IfOk result (λ names. AreServing (tried_of trial.now) names.items) }
+{
+    let marks = used_marks(alloc, trial.calls, trial.script)?;
+    let used = marked(alloc, &every, &marks)?;
+    let serves = trial.serves(alloc, &used)?;
+    if serves { Ok(used) } else { Ok(every) }
+}
+
+// The least list, for a script that asks to push no program.
+fn derive_open(
+    alloc: Global,
+    unit: &Resolved,
+    calls: &CallTable,
+    site: &SiteTable,
+    script: &Script,
+) -> Result<Derived, DeriveError>
+    ensures { DerivesOpen unit.now calls.now site.now script.now result }
+{
+    let every = every_name(alloc, calls)?;
+    let open = extended(alloc, unit, calls, &every)?;
+    let mut service = launch_whole(alloc, &open, calls, site)?;
+    let said = replies_of(alloc, &mut service.world, script.list())?;
+    let trial = Trial {
+        unit,
+        calls,
+        site,
+        script: script.list(),
+        said: &said,
+    };
+    let names = trial.least(alloc, begin(alloc, &trial, every)?)?;
+    Ok(Derived {
+        names: Names::new(names),
+    })
+}
+
+/// The least list of names with which the unit answers the calls of a script as with all names.
+///
+/// With these names and `@default` allowed, and no other call, the unit is launched and each call of the script has the reply
+/// that it has where every call of the table is allowed. Without any of them it is not launched, or some reply is another.
+/// Seccomp tells the first call of the script that asks to push a program, before all else; Settings, Plan and Launch come, in
+/// this order, exactly where the unit that allows every call is refused so. Memory may come at any unit.
+pub fn derive(
+    alloc: Global,
+    unit: &Resolved,
+    calls: &CallTable,
+    site: &SiteTable,
+    script: &Script,
+) -> Result<Derived, DeriveError>
+    ensures derives { Derives unit.now calls.now site.now script.now result }
+{
+    if let Some(number) = first_seccomp(calls, script.list()) {
+        return Err(DeriveError::Seccomp(number));
+    }
+    derive_open(alloc, unit, calls, site, script)
+}

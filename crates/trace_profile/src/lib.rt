@@ -1,0 +1,22 @@
+//! The least list of calls that a service has to be allowed for a script of calls.
+//!
+//! Whoever knows what a service calls, by a trace or a test run, gets the one `SystemCallFilter=` that lets it through. The list
+//! is searched by launching the unit with lists of names and making the calls of the script: it rests on `unit_launch` for
+//! launches, on `kernel_model`, whose step makes each call, and on `unit_grammar` for what a drop-in says.
+//!
+//! `derive(alloc, &unit, &calls, &site, &script)?.names` are places of call lines, and `drop_in` is the text that allows them.
+#![tactic(auto)]
+
+mod derived;
+mod extending;
+mod finding;
+mod launching;
+mod names;
+mod replies;
+mod scripts;
+mod searching;
+mod used;
+
+pub use derived::{DeriveError, Derived, Names};
+pub use extending::drop_in;
+pub use finding::derive;
