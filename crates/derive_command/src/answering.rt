@@ -1,9 +1,11 @@
 //! What `derive` prints.
 
-ghost use Rattle.std.specs.Prelude.{◌≡◌, IfOk, IsErrOf};
+ghost use Rattle.std.specs.Prelude.{IsErrOf};
 ghost use Rattle.command_answers.specs.Stops.{Prepares};
 ghost use Rattle.unit_launch.specs.Refusals.{refusal_line};
 ghost use Rattle.trace_profile.specs.Extended.{drop_in_text};
+ghost use Rattle.command_answers.specs.declared.ending.Ending.TheVariants.{Done, LaunchRefused};
+ghost use Rattle.derive_command.specs.Telling.{IsReady, Tells};
 ghost use Rattle.derive_command.specs.Prints.{PrintsAnswer, ending_of, text_of};
 ghost use Rattle.derive_command.specs.Refusals.{given, refusals_behind_script};
 
@@ -15,7 +17,7 @@ use host_io::{Sink, SinkError};
 use plan_command::plan_line;
 use script_text::Script;
 use site_table::SiteTable;
-use std::alloc::{AllocError, Global};
+use std::alloc::Global;
 use trace_profile::{DeriveError, derive, drop_in};
 use unit_launch::{LaunchRefusal, refusal_line};
 use unit_settings::settings_line;
@@ -44,9 +46,8 @@ impl Ready for Allowing {
 }
 
 // The drop-in that allows these names.
-fn allowing(alloc: Global, calls: &CallTable, names: &[u32]) -> Result<Allowing, AllocError>
-    ensures text { IfOk result (λ made. made.text.items ≡ drop_in_text calls.now names.now) }
-    ensures done { IfOk result (λ made. made.ending ≡ Ending.Done) }
+fn allow_names(alloc: Global, calls: &CallTable, names: &[u32]) -> Result<Allowing, Stop>
+    ensures { IsReady (drop_in_text calls.now names.now) Done result }
 {
     Ok(Allowing {
         text: drop_in(alloc, calls, names)?,
@@ -55,14 +56,27 @@ fn allowing(alloc: Global, calls: &CallTable, names: &[u32]) -> Result<Allowing,
 }
 
 // The line of a launch that is refused.
-fn refusing(alloc: Global, refusal: &LaunchRefusal) -> Result<Allowing, AllocError>
-    ensures text { IfOk result (λ made. made.text.items ≡ refusal_line refusal.now) }
-    ensures not_launched { IfOk result (λ made. made.ending ≡ Ending.LaunchRefused) }
+fn refuse_launch(alloc: Global, refusal: &LaunchRefusal) -> Result<Allowing, Stop>
+    ensures { IsReady (refusal_line refusal.now) LaunchRefused result }
 {
     Ok(Allowing {
         text: refusal_line(alloc, refusal)?,
         ending: Ending::LaunchRefused,
     })
+}
+
+// Why nothing is derived, as it is told.
+#[tactic(auto, using(crate::proofs::Told::stop_tells))]
+fn tell(alloc: Global, name: &str, path: &str, error: DeriveError) -> Result<Allowing, Stop>
+    ensures { Tells name.now path.now error result }
+{
+    match error {
+        DeriveError::Seccomp(number) => Err(refuse(seccomp_line(alloc, path, number))),
+        DeriveError::Settings(error) => Err(refuse(settings_line(alloc, name, &error))),
+        DeriveError::Plan(error) => Err(refuse(plan_line(alloc, name, &error))),
+        DeriveError::Launch(refusal) => refuse_launch(alloc, &refusal),
+        DeriveError::Memory => Err(Stop::Memory),
+    }
 }
 
 /// Derives the list for the calls of a script, or finds the first refusal behind the script: a call that asks to push a program,
@@ -80,11 +94,7 @@ pub fn answer(
     ensures reads_nothing { IsErrOf result Stop.ReadFault → ⊥ }
 {
     match derive(alloc, unit, calls, site, script) {
-        Ok(derived) => Ok(allowing(alloc, calls, derived.names.list())?),
-        Err(DeriveError::Seccomp(number)) => Err(refuse(seccomp_line(alloc, path, number))),
-        Err(DeriveError::Settings(error)) => Err(refuse(settings_line(alloc, name, &error))),
-        Err(DeriveError::Plan(error)) => Err(refuse(plan_line(alloc, name, &error))),
-        Err(DeriveError::Launch(refusal)) => Ok(refusing(alloc, &refusal)?),
-        Err(DeriveError::Memory) => Err(Stop::Memory),
+        Ok(derived) => allow_names(alloc, calls, derived.names.list()),
+        Err(error) => tell(alloc, name, path, error),
     }
 }

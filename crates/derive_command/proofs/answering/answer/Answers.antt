@@ -1,9 +1,18 @@
-use Rattle.unit_settings.specs.Refusals.{settings_line}
-use Rattle.plan_command.specs.Refusals.{error_line}
-use Rattle.derive_command.specs.Prints.{PrintsAnswer, ending_of, text_of}
-use Rattle.derive_command.specs.Refusals.{given, refusals_behind_script, seccomp_line}
-use Rattle.derive_command.proofs.Prepared.{answers_derived, answers_refused, at_paths, at_seccomp, at_settings, stops_with}
+use Rattle.command_answers.specs.declared.ending.Ending.TheVariants.{Done}
+use Rattle.trace_profile.specs.Extended.{drop_in_text}
+use Rattle.derive_command.proofs.Told.{derived_answers, error_answers, ready_reads_nothing, telling_reads_nothing}
 use Rattle.derive_command.proofs.answering.answer.Goals as goal
 
-pub returns-in_ok-allowing-clause-answers : goal.returns-in_ok-allowing-clause-answers
-returns-in_ok-allowing-clause-answers c = ?
+pub returns-in-Ok-clause-answers : goal.returns-in-Ok-clause-answers
+returns-in-Ok-clause-answers c =
+    derived_answers c.args.name.now c.args.path.now c.args.unit.now c.args.calls.now c.args.site.now c.args.script.now c.in-Ok.derived c.list.result.now c.allow_names.result c.in-Ok.ensures.derives c.list.ensures c.allow_names.ensures
+
+pub returns-in-Ok-clause-reads_nothing : goal.returns-in-Ok-clause-reads_nothing
+returns-in-Ok-clause-reads_nothing c = ready_reads_nothing (drop_in_text c.args.calls.now c.list.result.now) Done c.allow_names.result c.allow_names.ensures
+
+pub returns-clause-answers : goal.returns-clause-answers
+returns-clause-answers c =
+    error_answers c.args.name.now c.args.path.now c.args.unit.now c.args.calls.now c.args.site.now c.args.script.now c.in-Err.error c.tell.result c.in-Err.ensures.derives c.tell.ensures
+
+pub returns-clause-reads_nothing : goal.returns-clause-reads_nothing
+returns-clause-reads_nothing c = telling_reads_nothing c.args.name.now c.args.path.now c.in-Err.error c.tell.result c.tell.ensures
