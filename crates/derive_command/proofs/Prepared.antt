@@ -53,13 +53,13 @@ stops_with P refusals (Ok line) text is said = is ∙ ap Some (sym said)
 
 module _ (unit path : List ℕ) (inputs : Inputs) (script : List Call) where
   -- the refusals, by what each of the three finds
-  refusals_from : Option ℕ → Option SettingsError → Result (List Mention) Refusal → List (Option (List ℕ))
+  abbrev pub refusals_from : Option ℕ → Option SettingsError → Result (List Mention) Refusal → List (Option (List ℕ))
   refusals_from seccomp settings kept = option_map (seccomp_line path) seccomp ∷ (option_map (settings_line unit) settings ∷ (refusal_in (or_line (plan_line unit) kept) ∷ []))
 
-  opened_settings : Option SettingsError
+  abbrev pub opened_settings : Option SettingsError
   opened_settings = refusal_of (open_unit inputs.unit inputs.calls) inputs.calls inputs.site
 
-  opened_paths : Result (List Mention) Refusal
+  abbrev pub opened_paths : Result (List Mention) Refusal
   opened_paths = kept_of (host_of inputs.site) (unit_mentions (open_unit inputs.unit inputs.calls) inputs.site)
 
   -- a call asks to push a program
@@ -87,7 +87,7 @@ module _ (unit path : List ℕ) (inputs : Inputs) (script : List Call) where
   -- nothing is refused
   pub none_refused : (table : List MountStep) → first_seccomp inputs.calls script ≡ None → opened_settings ≡ None → Plans (host_of inputs.site) (unit_mentions (open_unit inputs.unit inputs.calls) inputs.site) (Ok table)
       → first_refusal (refusals_behind_script unit path inputs script) ≡ None
-  none_refused table none accepted planned = behind_settings none accepted ∙ ap (λ found. first_refusal (refusals_from None None found)) planned.1.0
+  none_refused table none accepted planned = behind_settings none accepted ∙ ap (λ found. first_refusal (refusals_from None None found)) planned.1
 
   -- the list is derived
   pub answers_derived : (names : List ℕ) (allowing : Allowing) → first_seccomp inputs.calls script ≡ None → IsDerived inputs.unit inputs.calls inputs.site script names
@@ -127,12 +127,12 @@ abbrev pub AreRead : Files → List ℕ → UnitInputs → Type 0
 AreRead files unit inputs = (first_refusal (input_refusals files unit) ≡ None) × (inputs_of files unit ≡ Some (inputs_view inputs))
 
 -- an input is refused
-pub stops_at_inputs : (P : UnitInputs → Type 0) (told : Option Files) (unit path : List ℕ) (stop : Stop) → IfSome told (λ files. Prepares P (input_refusals files unit) (Err stop)) → IsAdmitted (laws_over told (derive_laws unit path)) ending_of text_of (Err stop)
+pub stops_at_inputs : (P : Files → UnitInputs → Type 0) (told : Option Files) (unit path : List ℕ) (stop : Stop) → IfSome told (λ files. Prepares (P files) (input_refusals files unit) (Err stop)) → IsAdmitted (laws_over told (derive_laws unit path)) ending_of text_of (Err stop)
 stops_at_inputs P told unit path stop said = stop_is_admitted (derive_laws unit path) ending_of text_of (λ (allowing : Allowing). Unit {0}) told stop (before told said)
   where
-    before : (told : Option Files) → IfSome told (λ files. Prepares P (input_refusals files unit) (Err stop)) → IfSome told (λ files. Prepares (λ (allowing : Allowing). Unit {0}) (derive_refusals files unit path) (Err stop))
+    before : (told : Option Files) → IfSome told (λ files. Prepares (P files) (input_refusals files unit) (Err stop)) → IfSome told (λ files. Prepares (λ (allowing : Allowing). Unit {0}) (derive_refusals files unit path) (Err stop))
     before None said = tt
-    before (Some files) said = stops_before P (λ (allowing : Allowing). Unit {0}) stop (input_refusals files unit) (refusals_by (refusals_behind files unit path) (inputs_of files unit)) said
+    before (Some files) said = stops_before (P files) (λ (allowing : Allowing). Unit {0}) stop (input_refusals files unit) (refusals_by (refusals_behind files unit path) (inputs_of files unit)) said
 
 -- behind inputs that are read
 behind_inputs : (files : Files) (unit path : List ℕ) (inputs : UnitInputs) → AreRead files unit inputs → first_refusal (derive_refusals files unit path) ≡ first_refusal (refusals_by_script unit path (inputs_view inputs) (script_in files path (inputs_view inputs).calls))
@@ -212,7 +212,7 @@ module _ (told now : Option Files) (unit path : List ℕ) (inputs : UnitInputs) 
 
 pub named : {X : Type 0} (found : Option X) (name : X) → found ≡ Some name → IsSome found
 named None name is = cc
-named (Some own) name is = tt
+named (Some own) name is = refl
 
 -- what reads nothing, behind a script that was read for a unit with a name
 module _ {S T U : Type 0} (told : S → Option Files) (faults : S → ℕ) (unit : List ℕ) (before mid now : S) (value : T) (more : U) (reads : ReadsFor told faults unit before mid (Ok value)) (name : IsSome (name_of unit)) (stays : told now ≡ told mid) (cause : HasReadCause (faults mid) (faults now) (Ok more)) where

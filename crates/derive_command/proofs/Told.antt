@@ -22,11 +22,6 @@ use Rattle.derive_command.specs.Telling.{IsOutOfMemory, IsReady, StopsWith, Tell
 use Rattle.derive_command.specs.declared.answering.Allowing.{Allowing}
 use Rattle.derive_command.proofs.Prepared.{answers_derived, answers_refused, at_paths, at_seccomp, at_settings}
 
--- a stop is that of its line
-pub stop_tells : (line : Result (Vec ℕ Global) AllocError) (text : List ℕ) (told : Stop) → told ≡ stop_of line → IfOk line (λ l. l.items ≡ text) → StopsWith text (Err told)
-stop_tells (Ok line) text told is holds = subst (λ one. StopsWith text (Err one)) (sym is) holds
-stop_tells (Err none) text told is holds = subst (λ one. StopsWith text (Err one)) (sym is) tt
-
 -- nothing was read
 pub ready_reads_nothing : (text : List ℕ) (ending : Ending) (result : Result Allowing Stop) → IsReady text ending result → IsErrOf result stop.ReadFault → ⊥
 ready_reads_nothing text ending (Ok allowing) ready e = cc

@@ -66,7 +66,6 @@ fn refuse_launch(alloc: Global, refusal: &LaunchRefusal) -> Result<Allowing, Sto
 }
 
 // Why nothing is derived, as it is told.
-#[tactic(auto, using(crate::proofs::Told::stop_tells))]
 fn tell(alloc: Global, name: &str, path: &str, error: DeriveError) -> Result<Allowing, Stop>
     ensures { Tells name.now path.now error result }
 {

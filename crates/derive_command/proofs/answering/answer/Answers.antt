@@ -10,9 +10,9 @@ returns-in-Ok-clause-answers c =
 pub returns-in-Ok-clause-reads_nothing : goal.returns-in-Ok-clause-reads_nothing
 returns-in-Ok-clause-reads_nothing c = ready_reads_nothing (drop_in_text c.args.calls.now c.list.result.now) Done c.allow_names.result c.allow_names.ensures
 
-pub returns-clause-answers : goal.returns-clause-answers
-returns-clause-answers c =
+pub returns-in-Err-clause-answers : goal.returns-in-Err-clause-answers
+returns-in-Err-clause-answers c =
     error_answers c.args.name.now c.args.path.now c.args.unit.now c.args.calls.now c.args.site.now c.args.script.now c.in-Err.error c.tell.result c.in-Err.ensures.derives c.tell.ensures
 
-pub returns-clause-reads_nothing : goal.returns-clause-reads_nothing
-returns-clause-reads_nothing c = telling_reads_nothing c.args.name.now c.args.path.now c.in-Err.error c.tell.result c.tell.ensures
+pub returns-in-Err-clause-reads_nothing : goal.returns-in-Err-clause-reads_nothing
+returns-in-Err-clause-reads_nothing c = telling_reads_nothing c.args.name.now c.args.path.now c.in-Err.error c.tell.result c.tell.ensures

@@ -1,8 +1,8 @@
-use Rattle.std.proofs.Common.{refl}
+use Rattle.std.proofs.Common.{◌≡◌, Some, refl}
 use Rattle.command_answers.specs.Laws.{IsAdmitted, laws_over}
 use Rattle.command_answers.proofs.FileCommands.{at_stop}
 use Rattle.unit_names.specs.Cutting.{name_of}
-use Rattle.unit_inputs.specs.Inputs.{inputs_view}
+use Rattle.unit_inputs.specs.Inputs.{inputs_of, inputs_view}
 use Rattle.derive_command.specs.Refusals.{given}
 use Rattle.derive_command.specs.Prints.{derive_laws, ending_of, text_of}
 use Rattle.derive_command.proofs.Prepared.{admitted_as, named, read_behind, same_inputs, stops_at_inputs, stops_at_script}
@@ -11,7 +11,7 @@ use Rattle.derive_command.proofs.command.prepare.Goals as goal
 pub returns-in_err-inputs-clause-prepares : goal.returns-in_err-inputs-clause-prepares
 returns-in_err-inputs-clause-prepares g c =
     at_stop (IsAdmitted (laws_over (g.S.Shelf.told c.args.shelf.now) (derive_laws c.args.unit.now c.args.script.now)) ending_of text_of) c.from_residual.result c.in_err-inputs.field-0.0 c.from_residual.ensures.1
-    (stops_at_inputs _ (g.S.Shelf.told c.args.shelf.now) c.args.unit.now c.args.script.now c.in_err-inputs.field-0.0 c.in_err-inputs.ensures.reads_by_the_files)
+    (stops_at_inputs (λ files inputs. inputs_of files c.args.unit.now ≡ Some (inputs_view inputs)) (g.S.Shelf.told c.args.shelf.now) c.args.unit.now c.args.script.now c.in_err-inputs.field-0.0 c.in_err-inputs.ensures.reads_by_the_files)
 
 pub returns-in_err-made-clause-prepares : goal.returns-in_err-made-clause-prepares
 returns-in_err-made-clause-prepares g c =

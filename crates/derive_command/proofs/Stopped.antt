@@ -1,0 +1,12 @@
+-- A refusal with a line.
+use Rattle.std.proofs.Common.{◌≡◌, ℕ, List, Result, Ok, Err, Vec, Global, sym, subst}
+use Rattle.std.specs.Prelude.{IfOk}
+use Rattle.std.specs.declared.alloc.AllocError.{AllocError}
+use Rattle.command_answers.specs.Stops.{stop_of}
+use Rattle.command_answers.specs.declared.stop.Stop.{Stop}
+use Rattle.derive_command.specs.Telling.{StopsWith}
+
+-- a stop is that of its line
+pub stop_tells : (line : Result (Vec ℕ Global) AllocError) (text : List ℕ) (told : Stop) → told ≡ stop_of line → IfOk line (λ l. l.items ≡ text) → StopsWith text (Err told)
+stop_tells (Ok line) text told is holds = subst (λ one. StopsWith text (Err one)) (sym is) holds
+stop_tells (Err none) text told is holds = subst (λ one. StopsWith text (Err one)) (sym is) tt
