@@ -8,3 +8,6 @@ pub returns-in-None-clause-runs : goal.returns-in-None-clause-runs
 returns-in-None-clause-runs g c =
     rw c.in-None.is
     (ran_fixed c.no_command.result NoCommand words_line ⊥ _ c.finish.result refl (λ none. absurd none) c.no_command.ensures.ending c.no_command.ensures.text refl c.finish.ensures.finishes)
+
+pub returns-in-Some-clause-reads_only_for_it : goal.returns-in-Some-clause-reads_only_for_it
+returns-in-Some-clause-reads_only_for_it g c = rw c.in-Some.is c.answer_request.ensures.reads_only_for_it
