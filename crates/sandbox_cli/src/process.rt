@@ -1,6 +1,6 @@
 //! The process around a run: its arguments, the current folder and the standard output. Of what these hold nothing is known.
-use crate::running::{exit_code, run_here};
-use crate::stored::stored_tests;
+use crate::running::exit_code;
+use crate::stored::run_with_tests;
 use command_answers::Ending;
 use host_io::{DirShelf, StdSink};
 use std::alloc::AllocError;
@@ -20,8 +20,7 @@ fn run_arguments<R: Env + Files + Print + AllocGlobal + Clone + Drop>(
 ) -> Result<ExitCode, AllocError> {
     let mut shelf = DirShelf::new(rt.clone()?);
     let mut sink = StdSink::new(rt.clone()?);
-    let tests = stored_tests(rt.alloc())?;
-    Ok(run_here(rt.alloc(), &arguments(rt), tests, &mut shelf, &mut sink))
+    run_with_tests(rt.alloc(), &arguments(rt), &mut shelf, &mut sink)
 }
 
 /// Runs the words of the process over the current folder and the standard output, and answers the status that it ends with.
