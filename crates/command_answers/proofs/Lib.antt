@@ -1,3 +1,5 @@
+pub mod Asking
+pub mod Ended
 pub mod FileCommands
 pub mod Refusing
 pub mod Texts

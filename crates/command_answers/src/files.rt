@@ -1,5 +1,7 @@
 // Files of the shelf, as the commands read them.
-ghost use Rattle.std.specs.Prelude.{◌≡◌, IfOk};
+ghost use Rattle.std.specs.Prelude.{◌≡◌, ◌∷◌, [], IfOk};
+ghost use Rattle.host_io.specs.Calls.{Went};
+ghost use Rattle.command_answers.specs.Asking.{course, input_file};
 ghost use Rattle.command_answers.specs.Stops.{HasReadCause, RefusesNothing};
 ghost use Rattle.command_answers.specs.ReadFiles.{ReadsContent};
 
@@ -28,6 +30,7 @@ pub enum FileRead {
 pub fn read_file<S: Shelf>(alloc: Global, shelf: &mut S, path: &str) -> Result<FileRead, Stop>
     ensures reads_the_file { IfOk result (ReadsContent path.now (S.told shelf.old)) }
     ensures refuses_nothing { RefusesNothing result }
+    ensures asks_for_it { Went S.asks shelf.old shelf.new (input_file path.now ∷ []) (course result) }
     ensures map_stays { S.told shelf.new ≡ S.told shelf.old }
     ensures fault_rose { HasReadCause (S.faults shelf.old) (S.faults shelf.new) result }
 {

@@ -42,21 +42,27 @@ module _ (files : Files) (unit : Name) (places : List (List ℕ)) (m : BTreeMap 
   count_is : length (winners_of files unit) ≡ length m.entries
   count_is = ap length (sym winners_are) ∙ length-map m.entries entry_texts
 
-  pub too_many : (fragment : UnitFile) → 256 < length m.entries → files_of files unit fragment ≡ Err DropIns
-  too_many fragment h =
-      let crowded : is_crowded files unit ≡ true =
+  pub is_crowded_by_many : 256 < length m.entries → is_crowded files unit ≡ true
+  is_crowded_by_many h =
       ap (λ n. list_any (is_overfull files) (dropin_places unit) || nat_lt 256 n) count_is
       ∙ ap (λ b. list_any (is_overfull files) (dropin_places unit) || b) (above (length m.entries) h)
-      ∙ or_true (list_any (is_overfull files) (dropin_places unit)) in
-      ap (λ b. cond b (Err DropIns) (joined_by (fragment ∷ []) (dropins_read files (winning_paths files unit)))) crowded
+      ∙ or_true (list_any (is_overfull files) (dropin_places unit))
+
+  pub is_not_crowded : length m.entries ≤ 256 → is_crowded files unit ≡ false
+  is_not_crowded h =
+      ap (λ b. b || nat_lt 256 (length (winners_of files unit))) (subst (λ ps. CollectsWinners files ps (Ok m)) named collected).1
+      ∙ ap (nat_lt 256) count_is ∙ not_above (length m.entries) h
+
+  pub winning_are : map string_bytes (values_of m.entries) ≡ winning_paths files unit
+  winning_are = paths_of_entries m.entries ∙ ap (map (λ winner. winner.1)) winners_are
+
+  pub too_many : (fragment : UnitFile) → 256 < length m.entries → files_of files unit fragment ≡ Err DropIns
+  too_many fragment h = ap (λ b. cond b (Err DropIns) (joined_by (fragment ∷ []) (dropins_read files (winning_paths files unit)))) (is_crowded_by_many h)
 
   pub in_force : (fragment : UnitFile) → length m.entries ≤ 256 → joined_by (fragment ∷ []) (dropins_read files (map string_bytes (values_of m.entries))) ≡ files_of files unit fragment
   in_force fragment h =
-      let crowded : is_crowded files unit ≡ false =
-      ap (λ b. b || nat_lt 256 (length (winners_of files unit))) (subst (λ ps. CollectsWinners files ps (Ok m)) named collected).1
-      ∙ ap (nat_lt 256) count_is ∙ not_above (length m.entries) h in
-      ap (λ ps. joined_by (fragment ∷ []) (dropins_read files ps)) (paths_of_entries m.entries ∙ ap (map (λ winner. winner.1)) winners_are)
-      ∙ sym (ap (λ b. cond b (Err DropIns) (joined_by (fragment ∷ []) (dropins_read files (winning_paths files unit)))) crowded)
+      ap (λ ps. joined_by (fragment ∷ []) (dropins_read files ps)) winning_are
+      ∙ sym (ap (λ b. cond b (Err DropIns) (joined_by (fragment ∷ []) (dropins_read files (winning_paths files unit)))) (is_not_crowded h))
 
 -- what was answered of the files that are told
 pub refuses_many : (told : Option Files) (unit : Name) (places : List (List ℕ)) (m : BTreeMap (String Global) (String Global)) (fragment : UnitFile) → places ≡ dropin_places unit → IsOrdered string_cmp m

@@ -2,8 +2,10 @@ pub mod Left
 pub mod Listed
 pub mod Ordered
 pub mod Winning
+pub mod Asking
 pub mod Collected
 pub mod Ranked
 pub mod InForce
 pub mod Pathed
 pub mod Reading
+pub mod Behind

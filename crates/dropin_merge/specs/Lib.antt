@@ -1,4 +1,5 @@
 pub mod Answers
+pub mod Asking
 pub mod Judging
 pub mod Places
 pub mod Ranks

@@ -1,9 +1,11 @@
 // A unit, resolved over a shelf.
 ghost use Rattle.std.specs.Prelude.{◌≡◌, ◌↔◌, List, ℕ, Some, IfOk, IfSome};
+ghost use Rattle.host_io.specs.Calls.{Went};
 ghost use Rattle.host_io.specs.Causes.{StaysUnless};
 ghost use Rattle.host_io.specs.Files.{Files};
 ghost use Rattle.unit_names.specs.Names.{Name};
 ghost use Rattle.dropin_merge.specs.Answers.{AreUnitFiles, HasCause, IsUnitPath, IsUnlessFailed, LiesInPlaces, NamesUnit};
+ghost use Rattle.dropin_merge.specs.Asking.{course, resolve_asks, unit_asks};
 ghost use Rattle.dropin_merge.specs.Ranks.{AreWinners};
 ghost use Rattle.dropin_merge.specs.Resolving.{for_unit, resolved_of};
 ghost use Rattle.dropin_merge.specs.Steps.{RefusesAt};
@@ -29,6 +31,7 @@ fn resolve_unit<S: Shelf>(
     ensures has_its_files { IfOk result (λ resolved. AreUnitFiles unit resolved.files) }
     ensures refuses_a_file { RefusesAt (IsUnitPath unit) result }
     ensures resolves_by_the_files { IfSome (S.told shelf.old) (λ files. IsUnlessFailed result (for_unit files (Some unit))) }
+    ensures asks_in_order { IfSome (S.told shelf.old) (λ files. Went S.asks shelf.old shelf.new (unit_asks files unit) (course result)) }
     ensures map_stays { S.told shelf.new ≡ S.told shelf.old }
     ensures fault_rose { HasCause (S.faults shelf.old) (S.faults shelf.new) result }
     ensures no_other_fault { StaysUnless ReadFault (S.faults shelf.old) (S.faults shelf.new) result }
@@ -48,6 +51,7 @@ fn resolve_text<S: Shelf>(
     ensures resolves_by_the_files { IfSome (S.told shelf.old) (λ files. IsUnlessFailed result (resolved_of files text.now)) }
     ensures names_the_unit { NamesUnit text.now result }
     ensures lies_in_its_places { LiesInPlaces text.now result }
+    ensures asks_in_order { IfSome (S.told shelf.old) (λ files. Went S.asks shelf.old shelf.new (resolve_asks files text.now) (course result)) }
     ensures map_stays { S.told shelf.new ≡ S.told shelf.old }
     ensures fault_rose { HasCause (S.faults shelf.old) (S.faults shelf.new) result }
     ensures no_other_fault { StaysUnless ReadFault (S.faults shelf.old) (S.faults shelf.new) result }
@@ -70,12 +74,14 @@ fn resolve_text<S: Shelf>(
 /// The first of these refuses: `BadName`; `NotFound`; the fragment is `TooLarge` (above 1 MiB); it has zero
 /// bytes (`Masked`); `Text` of the fragment; `DropIns`, where a folder in one location has more than 4,096 files,
 /// or more than 256 drop-ins win; then `TooLarge` and `Text` of each drop-in in order. A file is judged before
-/// the next is read. `ReadFault` comes where the shelf's count of faults rose, and any other answer leaves it. A drop-in that a shelf lists
+/// the next is read, so that what is asked of the shelf, over files that are told, is in this order: the paths of the fragment up to
+/// the first that is there, the folders, and the drop-ins that win, up to the first that is refused. `ReadFault` comes where the shelf's count of faults rose, and any other answer leaves it. A drop-in that a shelf lists
 /// and then answers `Missing` contributes nothing.
 pub fn resolve<S: Shelf>(alloc: Global, shelf: &mut S, name: &str) -> Result<Resolved, ResolveError>
     ensures resolves_by_the_files { IfSome (S.told shelf.old) (λ files. IsUnlessFailed result (resolved_of files name.now)) }
     ensures names_the_unit { NamesUnit name.now result }
     ensures lies_in_its_places { LiesInPlaces name.now result }
+    ensures asks_in_order { IfSome (S.told shelf.old) (λ files. Went S.asks shelf.old shelf.new (resolve_asks files name.now) (course result)) }
     ensures map_stays { S.told shelf.new ≡ S.told shelf.old }
     ensures fault_rose { HasCause (S.faults shelf.old) (S.faults shelf.new) result }
     ensures no_other_fault { StaysUnless ReadFault (S.faults shelf.old) (S.faults shelf.new) result }

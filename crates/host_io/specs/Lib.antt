@@ -1,4 +1,5 @@
 pub mod Causes
+pub mod Calls
 pub mod Files
 pub mod Reading
 pub mod Turns

@@ -2,7 +2,8 @@
 use Rattle.std.specs.Prelude.{Vec, String, string_bytes, ℕ, ◌≡◌, List, cond, Bool, true, false, IsTrue, Option, Some, None, IfSome, refl}
 use Rattle.std.specs.declared.alloc.Global.{Global}
 use Rattle.host_io.specs.Files.{Files, is_file_map}
-use Rattle.host_io.specs.Turns.{TurnCounts}
+use Rattle.host_io.specs.Calls.{ShelfCall}
+use Rattle.host_io.specs.Turns.{TurnCounts, after_turn, fails_now}
 
 -- its files, and its calls so far
 pub record MemFiles : Type 0 where
@@ -22,3 +23,7 @@ told_by files false e = tt
 
 pub told_files-is_file_map : (files : Files) → IfSome (told_files files) (λ f. IsTrue (is_file_map f))
 told_files-is_file_map files = told_by files (is_file_map files) refl
+
+-- a call counts as one more, and it fails where its number is one of those that fail
+abbrev pub AsksMemory : MemFiles → ShelfCall → MemFiles → Type 0
+AsksMemory before call now = (call.failed ≡ fails_now before.turns) × (now ≡ record before { turns = after_turn before.turns })

@@ -4,9 +4,10 @@
 ghost use Rattle.std.specs.Prelude.{◌≡◌, ◌≤◌, ◌↔◌, map, IfOk, IsTrue, IsErrOf, vec_len, string_bytes};
 ghost use Rattle.std.specs.Option.{option_map};
 ghost use Rattle.host_io.specs.declared.reading.ShelfError.TheVariants.{Failed};
+ghost use Rattle.host_io.specs.Calls.{FileAt, NamesIn, call_of};
 ghost use Rattle.host_io.specs.Causes.{StaysUnless};
 ghost use Rattle.host_io.specs.Files.{is_file_map, is_new_path, behind, bytes_at, name_in, names_in};
-ghost use Rattle.host_io.specs.MemoryFiles.{file_of, told_files};
+ghost use Rattle.host_io.specs.MemoryFiles.{AsksMemory, file_of, told_files};
 ghost use Rattle.host_io.specs.Reading.{Reads, Lists, HasCause};
 ghost use Rattle.host_io.specs.Turns.{fails_now, after_turn};
 
@@ -113,16 +114,19 @@ fn names_of(
 }
 
 impl Shelf for MemShelf {
-    ghost use Rattle.host_io.specs.MemoryFiles.{told_files, told_files-is_file_map};
+    ghost use Rattle.host_io.specs.MemoryFiles.{AsksMemory, told_files, told_files-is_file_map};
 
     ghost told = { λ shelf. told_files shelf.files };
 
     ghost faults = { λ shelf. shelf.turns.faults };
 
+    ghost asks = { AsksMemory };
+
     ghost tells_a_map = { λ shelf. told_files-is_file_map shelf.files };
 
     fn read(&mut self, alloc: Global, path: &str, limit: u64) -> Result<Vec<u8>, ShelfError>
         ensures answers_by_the_map { Reads (told_files self.old.files) path.now limit result }
+        ensures asks_for_it { AsksMemory self.old (call_of (FileAt path.now limit) result) self.new }
         ensures within_limit { IfOk result (λ bytes. vec_len bytes ≤ limit) }
         ensures map_stays { told_files self.new.files ≡ told_files self.old.files }
         ensures fault_rose { HasCause self.old.turns.faults self.new.turns.faults result }
@@ -142,6 +146,7 @@ impl Shelf for MemShelf {
 
     fn list(&mut self, alloc: Global, dir: &str) -> Result<Vec<String>, ShelfError>
         ensures answers_by_the_map { Lists (told_files self.old.files) dir.now result }
+        ensures asks_for_it { AsksMemory self.old (call_of (NamesIn dir.now) result) self.new }
         ensures within_limit { IfOk result (λ names. vec_len names ≤ 4096) }
         ensures map_stays { told_files self.new.files ≡ told_files self.old.files }
         ensures fault_rose { HasCause self.old.turns.faults self.new.turns.faults result }

@@ -1,9 +1,10 @@
 //! The folder that the program runs in, and its standard output: the trusted edge.
 //!
-//! Neither tells what it holds. A missing file and want of memory are no faults; every other error of the
-//! system is one.
-ghost use Rattle.std.specs.Prelude.{◌≡◌, ◌≢◌, ◌≤◌, None, Err, IfOk, IsTrue, vec_len};
+//! Neither tells what it holds. A missing file, want of memory and a signal in the middle of a write are no
+//! faults; every other error of the system is one.
+ghost use Rattle.std.specs.Prelude.{◌≡◌, ◌≢◌, ◌≤◌, None, Err, IfOk, IsTrue, length, vec_len};
 ghost use Rattle.host_io.specs.declared.reading.ShelfError.TheVariants.{Missing, Failed};
+ghost use Rattle.host_io.specs.Calls.{AsksOutside, FileAt, NamesIn, call_of};
 ghost use Rattle.host_io.specs.Causes.{Rose, StaysUnless};
 ghost use Rattle.host_io.specs.Files.{begins_with_slash};
 ghost use Rattle.host_io.specs.Reading.{Reads, Lists, HasCause};
@@ -127,10 +128,13 @@ impl<R: Files + AllocGlobal + Clone + Drop> Shelf for DirShelf<R> {
 
     ghost faults = { λ shelf. shelf.faults };
 
+    ghost asks = { λ before call now. AsksOutside before.faults call now.faults };
+
     ghost tells_a_map = { λ _. tt };
 
     fn read(&mut self, alloc: Global, path: &str, limit: u64) -> Result<Vec<u8>, ShelfError>
         ensures answers_by_the_map { Reads None path.now limit result }
+        ensures asks_for_it { AsksOutside self.old.faults (call_of (FileAt path.now limit) result) self.new.faults }
         ensures within_limit { IfOk result (λ bytes. vec_len bytes ≤ limit) }
         ensures fault_rose { HasCause self.old.faults self.new.faults result }
         ensures no_other_fault { StaysUnless Failed self.old.faults self.new.faults result }
@@ -149,6 +153,7 @@ impl<R: Files + AllocGlobal + Clone + Drop> Shelf for DirShelf<R> {
 
     fn list(&mut self, alloc: Global, dir: &str) -> Result<Vec<String>, ShelfError>
         ensures answers_by_the_map { Lists None dir.now result }
+        ensures asks_for_it { AsksOutside self.old.faults (call_of (NamesIn dir.now) result) self.new.faults }
         ensures within_limit { IfOk result (λ names. vec_len names ≤ 4096) }
         ensures fault_rose { HasCause self.old.faults self.new.faults result }
         ensures no_other_fault { StaysUnless Failed self.old.faults self.new.faults result }
@@ -182,13 +187,26 @@ impl<R: Print + Clone + Drop> StdSink<R> {
     }
 }
 
+// Writes once, and again where a signal came before a byte was taken (write(2), EINTR).
+fn write_some<R: Print>(rt: &R, piece: &[u8]) -> io::Result<usize>
+    ensures takes_at_most_the_piece { IfOk result (λ count. count ≤ length piece.now) }
+{
+    for _ in 0..u64::MAX {
+        match io::writer(rt).write(piece) {
+            Err(error) if error.kind() == ErrorKind::Interrupted => {}
+            written => return written,
+        }
+    }
+    Err(io::Error::from(ErrorKind::Interrupted))
+}
+
 impl<R: Print + Clone + Drop> Sink for StdSink<R> {
     ghost taken = { λ _. None };
 
     ghost faults = { λ sink. sink.faults };
 
     fn put(&mut self, piece: &[u8]) -> Result<usize, SinkError> {
-        match io::writer(&self.rt).write(piece) {
+        match write_some(&self.rt, piece) {
             Ok(count) if count > 0 || piece.is_empty() => Ok(count),
             _ => {
                 self.faults = self.faults.saturating_add(1);

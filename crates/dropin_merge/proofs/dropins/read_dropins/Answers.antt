@@ -6,6 +6,7 @@ use Rattle.dropin_merge.specs.Resolving.{dropins_read, joined_by}
 use Rattle.dropin_merge.specs.Steps.{file_in}
 use Rattle.dropin_merge.specs.declared.files.Found.{Found}
 use Rattle.dropin_merge.specs.declared.resolved.UnitFile.{UnitFile}
+use Rattle.dropin_merge.proofs.Asking as asked
 use Rattle.dropin_merge.proofs.Pathed.{contains_read, refuses_wider, led_next}
 use Rattle.dropin_merge.proofs.Reading.{dropin_more, dropin_stops}
 use Rattle.dropin_merge.proofs.dropins.read_dropins.Goals as goal
@@ -29,6 +30,13 @@ returns-in_err-dropin-clause-reads_in_order g c =
     c.loop-path.files c.args.paths.now c.loop-path.path-index c.path-item.result c.as_str.result.now c.in_err-dropin.field-0.0
     c.loop-path.invariant.told c.loop-path-test.true c.path-item.is c.as_str.ensures.value c.in_err-dropin.ensures.reads_the_file c.loop-path.invariant.left)
 
+pub returns-in_err-dropin-clause-asks_in_order : goal.returns-in_err-dropin-clause-asks_in_order
+returns-in_err-dropin-clause-asks_in_order g c =
+    let p = err_from_is_err_and c.from_residual-in_err-dropin.result c.from_residual-in_err-dropin.ensures.1 in
+    rw (p.1, p.2)
+    (asked.dropin_stops g.S.Shelf.asks (g.S.Shelf.told c.args.shelf.now) (g.S.Shelf.told c.loop-path.shelf) c.loop-path.invariant.told c.args.shelf.now c.loop-path.shelf _ c.args.paths.now c.loop-path.path-index c.path-item.result c.as_str.result.now
+    c.loop-path-test.true c.path-item.is c.as_str.ensures.value c.in_err-dropin.field-0.0 c.in_err-dropin.ensures.reads_the_file c.in_err-dropin.ensures.asks_for_it c.loop-path.invariant.asks)
+
 pub loop-path-preserved : goal.loop-path-preserved
 loop-path-preserved g c =
     let made : c.match-branch-3.files ≡ c.loop-path.files ++ file_in c.in_ok-dropin.field-0 =
@@ -44,4 +52,14 @@ loop-path-preserved g c =
           c.loop-path.invariant.led c.in_ok-dropin.ensures.has_the_path
           (contains_read c.args.paths.now c.loop-path.path-index c.path-item.result c.as_str.result.now c.loop-path-test.true c.path-item.is c.as_str.ensures.value)
           made;
+      asks =
+          asked.dropin_more g.S.Shelf.asks (g.S.Shelf.told c.args.shelf.now) (g.S.Shelf.told c.loop-path.shelf) c.loop-path.invariant.told c.args.shelf.now c.loop-path.shelf _ c.args.paths.now c.loop-path.path-index c.path-item.result c.as_str.result.now
+          c.loop-path-test.true c.path-item.is c.as_str.ensures.value c.in_ok-dropin.field-0 c.in_ok-dropin.ensures.reads_the_file c.in_ok-dropin.ensures.asks_for_it c.loop-path.invariant.asks;
     }
+
+pub returns-in_err-push-2-clause-asks_in_order : goal.returns-in_err-push-2-clause-asks_in_order
+returns-in_err-push-2-clause-asks_in_order g c =
+    let p = err_from_is_err_and c.from_residual-in_err-push-2.result c.from_residual-in_err-push-2.ensures.1 in
+    rw (p.1, p.2)
+    (asked.dropin_cut g.S.Shelf.asks (g.S.Shelf.told c.args.shelf.now) (g.S.Shelf.told c.loop-path.shelf) c.loop-path.invariant.told c.args.shelf.now c.loop-path.shelf _ c.args.paths.now c.loop-path.path-index c.path-item.result c.as_str.result.now
+    c.loop-path-test.true c.path-item.is c.as_str.ensures.value c.in_ok-dropin.field-0 c.in_ok-dropin.ensures.reads_the_file c.in_ok-dropin.ensures.asks_for_it c.loop-path.invariant.asks)

@@ -1,6 +1,8 @@
 use Rattle.std.proofs.Common.{◌≡◌, drop, map, Some}
 use Rattle.std.specs.String.{string_bytes}
 use Rattle.host_io.specs.Files.{Files}
+use Rattle.host_io.proofs.Calling.{Going}
+use Rattle.dropin_merge.specs.Asking.{fragment_asks}
 use Rattle.dropin_merge.specs.Resolving.{fragment_of, fragment_read}
 use Rattle.dropin_merge.proofs.fragment.read_fragment.Given as goal
 
@@ -9,4 +11,5 @@ invariant-loop-path g l = record {
   told : g.S.Shelf.told l.shelf ≡ g.S.Shelf.told l.fn.shelf;
   stays : g.S.Shelf.faults l.shelf ≡ g.S.Shelf.faults l.fn.shelf;
   left : (files : Files) → g.S.Shelf.told l.fn.shelf ≡ Some files → fragment_read files (fragment_of files (map string_bytes (drop l.path-index l.paths))) ≡ fragment_read files (fragment_of files (map string_bytes l.paths));
+  asks : (files : Files) → g.S.Shelf.told l.fn.shelf ≡ Some files → Going g.S.Shelf.asks l.fn.shelf l.shelf (fragment_asks files (map string_bytes l.paths)) (fragment_asks files (map string_bytes (drop l.path-index l.paths)));
 }

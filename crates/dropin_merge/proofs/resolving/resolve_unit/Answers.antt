@@ -1,10 +1,15 @@
-use Rattle.std.proofs.Common.{map, ap, ◌∙◌, subst, inl}
+use Rattle.std.proofs.Common.{List, map, ap, ◌∙◌, subst, inl}
+use Rattle.std.specs.Prelude.{IfSome}
 use Rattle.std.specs.List.{Contains}
 use Rattle.std.specs.String.{string_bytes}
 use Rattle.std.proofs.lemmas.Result.{err_from_is_err_and}
+use Rattle.host_io.specs.Calls.{Went, Whole}
 use Rattle.dropin_merge.specs.Answers.{IsUnitPath}
+use Rattle.dropin_merge.specs.Asking.{unit_asks}
 use Rattle.dropin_merge.specs.declared.resolved.Resolved.{Resolved}
 use Rattle.dropin_merge.specs.declared.resolved.UnitFile.{UnitFile}
+use Rattle.dropin_merge.proofs.Behind.{behind_it, fragment_alone}
+use Rattle.dropin_merge.proofs.Asking.{course_as}
 use Rattle.dropin_merge.proofs.InForce.{fragment_refused, files_refused}
 use Rattle.dropin_merge.proofs.Pathed.{refuses_wider}
 use Rattle.dropin_merge.proofs.resolving.resolve_unit.Goals as goal
@@ -31,3 +36,23 @@ returns-in_err-files-clause-resolves_by_the_files g c =
     (files_refused (g.S.Shelf.told c.args.shelf.now) c.args.unit (map string_bytes c.as_slice.result.now) c.in_ok-fragment.fragment c.in_err-files.field-0.0
     (ap (map string_bytes) c.as_slice.ensures.value ∙ c.in_ok-paths.ensures) c.in_ok-fragment.ensures.reads_the_first
     (rw c.in_ok-fragment.ensures.map_stays at c.in_err-files.ensures.reads_the_files))
+
+pub returns-in_err-fragment-clause-asks_in_order : goal.returns-in_err-fragment-clause-asks_in_order
+returns-in_err-fragment-clause-asks_in_order g c =
+    let p = err_from_is_err_and c.from_residual-in_err-fragment.result c.from_residual-in_err-fragment.ensures.1 in
+    rw (p.1, p.2)
+    (fragment_alone g.S.Shelf.asks (g.S.Shelf.told c.args.shelf.now) c.args.unit c.args.shelf.now _ (map string_bytes c.as_slice.result.now) (ap (map string_bytes) c.as_slice.ensures.value ∙ c.in_ok-paths.ensures)
+    c.in_err-fragment.field-0.0 c.in_err-fragment.ensures.reads_the_first c.in_err-fragment.ensures.asks_in_order)
+
+pub returns-in_err-files-clause-asks_in_order : goal.returns-in_err-files-clause-asks_in_order
+returns-in_err-files-clause-asks_in_order g c =
+    let p = err_from_is_err_and c.from_residual-in_err-files.result c.from_residual-in_err-files.ensures.1 in
+    rw (p.1, p.2)
+    (subst (λ how. IfSome (g.S.Shelf.told c.args.shelf.now) (λ files. Went g.S.Shelf.asks c.args.shelf.now c.read_files.new.shelf (unit_asks files c.args.unit) how)) (course_as (List UnitFile) Resolved c.in_err-files.field-0.0)
+    (behind_it g.S.Shelf.asks (g.S.Shelf.told c.args.shelf.now) c.args.unit c.args.shelf.now _ (map string_bytes c.as_slice.result.now) (ap (map string_bytes) c.as_slice.ensures.value ∙ c.in_ok-paths.ensures)
+    _ _ c.in_ok-fragment.fragment _ c.in_ok-fragment.ensures.map_stays c.in_ok-fragment.ensures.reads_the_first c.in_ok-fragment.ensures.asks_in_order c.in_err-files.ensures.asks_in_order))
+
+pub returns-clause-asks_in_order : goal.returns-clause-asks_in_order
+returns-clause-asks_in_order g c =
+    behind_it g.S.Shelf.asks (g.S.Shelf.told c.args.shelf.now) c.args.unit c.args.shelf.now c.read_fragment.new.shelf (map string_bytes c.as_slice.result.now) (ap (map string_bytes) c.as_slice.ensures.value ∙ c.in_ok-paths.ensures)
+    c.read_files.new.shelf (g.S.Shelf.told c.read_fragment.new.shelf) c.in_ok-fragment.fragment Whole c.in_ok-fragment.ensures.map_stays c.in_ok-fragment.ensures.reads_the_first c.in_ok-fragment.ensures.asks_in_order c.in_ok-files.ensures.asks_in_order
