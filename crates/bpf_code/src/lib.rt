@@ -15,6 +15,7 @@ mod laws;
 mod machine;
 mod ops;
 mod program;
+mod shared;
 mod stack;
 mod unstored;
 

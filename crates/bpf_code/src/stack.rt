@@ -1,14 +1,14 @@
 // Stacks of programs: all that a process has installed.
 //
-// A call is put to every program (`interpreter`), and one answer decides (`decision`).
+// A call is put to every program (`interpreter`), and one answer decides (`decision`). Equal stacks share their programs (`shared`).
 ghost use Rattle.std.specs.Prelude.{◌≡◌, ◌+◌, ◌≤◌, ◌<◌, ◌↔◌, [], ◌∷◌, ◌++◌, length, IfOk, OnOk, OnErr};
 ghost use Rattle.linux_numbers.specs.Limits.{max_insns_per_path};
 ghost use Rattle.bpf_code.specs.Stack.{room_of, answers_of, deciding, pushed, AnswerEach, Decides, decision_on};
 
 use crate::decision::{Decision, decision_for, stronger_answer};
-use crate::interpreter::run;
 use crate::machine::CallData;
 use crate::program::Program;
+use crate::shared::SharedProgram;
 use linux_numbers::limits::MAX_INSNS_PER_PATH;
 use std::alloc::{AllocError, Global};
 use std::marker::Model;
@@ -31,7 +31,7 @@ const PROGRAM_ROOM: usize = 4;
 /// The programs of a process, the oldest first.
 #[derive(Drop)]
 pub struct Stack {
-    programs: Vec<Program>,
+    programs: Vec<SharedProgram>,
 }
 
 impl Model for Stack {
@@ -47,13 +47,13 @@ impl Model for Stack {
 }
 
 // The room that the programs take.
-fn room(programs: &[Program]) -> usize
+fn room(programs: &[SharedProgram]) -> usize
     requires { room_of programs.now ≤ 32772 }
     ensures { result ≡ room_of programs.now }
 {
     let mut room = 0;
     for program in programs {
-        room += program.insns().len() + PROGRAM_ROOM;
+        room += program.len() + PROGRAM_ROOM;
     }
     room
 }
@@ -66,25 +66,26 @@ fn with_newer(strongest: Option<u32>, newest: u32) -> u32
 }
 
 // The answer that decides.
-fn deciding_answer(programs: &[Program], input: &CallData) -> Option<u32>
+fn deciding_answer(programs: &[SharedProgram], input: &CallData) -> Option<u32>
     ensures deciding { result ≡ deciding (answers_of programs.now input.now) }
     ensures each { AnswerEach programs.now input.now (answers_of programs.now input.now) }
 {
     let mut strongest = None;
     for program in programs {
-        strongest = Some(with_newer(strongest, run(program, input)));
+        strongest = Some(with_newer(strongest, program.run(input)));
     }
     strongest
 }
 
-fn copies(alloc: Global, programs: &[Program]) -> Result<Vec<Program>, AllocError>
-    ensures { IfOk result (λ copies. copies.items ≡ programs.now) }
+// The same programs, for one more who has them.
+fn shares(alloc: Global, programs: &[SharedProgram]) -> Result<Vec<SharedProgram>, AllocError>
+    ensures { IfOk result (λ shares. shares.items ≡ programs.now) }
 {
-    let mut copies = Vec::new(alloc);
+    let mut shares = Vec::new(alloc);
     for program in programs {
-        copies.push(program.copy()?)?;
+        shares.push(program.share()?)?;
     }
-    Ok(copies)
+    Ok(shares)
 }
 
 impl Stack {
@@ -97,12 +98,12 @@ impl Stack {
         }
     }
 
-    /// An equal stack.
+    /// An equal stack, which shares its programs with this one.
     pub fn copy(&self) -> Result<Stack, AllocError>
         ensures { IfOk result (λ stack. stack ≡ self.now) }
     {
         Ok(Stack {
-            programs: copies(*self.programs.allocator(), &self.programs)?,
+            programs: shares(*self.programs.allocator(), &self.programs)?,
         })
     }
 
@@ -116,7 +117,10 @@ impl Stack {
         if room(&self.programs) + program.insns().len() > MAX_INSNS_PER_PATH {
             return Err(PushError::TooLong);
         }
-        self.programs.push(program).or(Err(PushError::Memory))
+        match SharedProgram::new(*self.programs.allocator(), program) {
+            Ok(shared) => self.programs.push(shared).or(Err(PushError::Memory)),
+            Err(_) => Err(PushError::Memory),
+        }
     }
 
     /// What the programs decide about a call: all of them answer, and the least action decides, the newest of

@@ -14,6 +14,8 @@ pub mod Alike
 pub mod Leaving
 pub mod Bindable
 pub mod Places
+pub mod Known
+pub mod Going
 pub mod Keeping
 pub mod Covering
 pub mod Copied

@@ -1,5 +1,5 @@
 -- What every mount table has, the table that a namespace starts with, and when there is no room for another entry.
-use Rattle.std.specs.Prelude.{◌≡◌, ◌≤◌, false, List, [], ◌∷◌, ◌++◌, length, map, Result, Ok, Err, ⊤}
+use Rattle.std.specs.Prelude.{◌≡◌, ◌≤◌, ℕ, false, List, [], ◌∷◌, length, map, take, Result, Ok, Err, ⊤}
 use Rattle.abs_path.specs.Paths.{Path}
 use Rattle.linux_numbers.specs.Errnos.{enospc}
 use Rattle.linux_numbers.specs.Limits.{mount_max}
@@ -41,6 +41,7 @@ places_of steps = map (λ step. step.place) steps
 abbrev pub HasPlaces : List MountStep → List Path → Type 0
 HasPlaces table places = places ≡ places_of table
 
--- there may be more behind the front
-abbrev pub StartsWith : List Path → List Path → Type 0
-StartsWith places front = (more : List Path) × (places ≡ front ++ more)
+-- the places are those of the first entries, this many
+pub record Knows (count : ℕ) (table : List MountStep) (places : List Path) : Type 0 where
+  pub in_range : count ≤ length table
+  pub first : HasPlaces (take count table) places

@@ -1,15 +1,17 @@
 //! The type of a mount table: its start, its entries, the entry of a path, and tables that are copied or grow.
 //!
-//! A contract sees a table as the list of its entries. A tree over the parts of their places finds the entry of a path.
+//! A contract sees a table as the list of its entries. A tree over the parts of their places finds the entry of a path among the
+//! first, those that a launch makes. Those behind them are looked at one by one, so copies of many come and go without the tree.
 
 mod bind;
+mod finding;
 mod remount;
 mod umount;
 
 ghost use Rattle.std.specs.Prelude.{◌≡◌, ◌+◌, drop, ◌++◌, ◌∷◌, [], ◌<◌, ◌≤◌, ◌↔◌, length, map, slice_get, option_map, Some, IfOk, OnOk, OnErr, IsErrOf};
 ghost use Rattle.linux_numbers.specs.Errnos.{enospc};
 ghost use Rattle.linux_numbers.specs.Limits.{mount_max};
-ghost use Rattle.kern_mounts.specs.Table.{IsTable, IsFullOrMemory, places_of, StartsWith};
+ghost use Rattle.kern_mounts.specs.Table.{IsTable, IsFullOrMemory};
 ghost use Rattle.kern_mounts.specs.Mounts.{steps_of, plain, first_mounts};
 ghost use Rattle.kern_mounts.specs.Entry.{Belongs, entry_of};
 ghost use Rattle.kern_mounts.specs.MountsPush.{mounts_after_push};
@@ -19,6 +21,7 @@ ghost use Rattle.kern_mounts.specs.Answer.{BecomesOrMemory};
 use crate::error::MountError;
 use crate::step::{Flags, Mount, MountStep, What};
 use abs_path::AbsPath;
+use finding::last_leading;
 use linux_numbers::errnos::ENOSPC;
 use linux_numbers::limits::MOUNT_MAX;
 use place_tree::PlaceTree;
@@ -30,21 +33,24 @@ use std::marker::Model;
 #[derive(Drop)]
 pub struct MountTable {
     mounts: Vec<Mount>,
-    // the places of the mounts
+    // the places of the first mounts, this many
     places: PlaceTree,
+    known: usize,
+    // no mount was taken away yet, so the places of mounts that are added may become known
+    only_grew: bool,
 }
 
 impl Model for MountTable {
     ghost use Rattle.std.specs.Prelude.{List};
     ghost use Rattle.kern_mounts.specs.declared.step.Mount.{Mount};
     ghost use Rattle.kern_mounts.specs.Mounts.{steps_of};
-    ghost use Rattle.kern_mounts.specs.Table.{IsTable, HasPlaces};
+    ghost use Rattle.kern_mounts.specs.Table.{IsTable, Knows};
 
     ghost Value = { List Mount };
 
     ghost view = { λ table. table.mounts.items };
 
-    ghost invariant = { λ table. IsTable (steps_of table.mounts.items) × HasPlaces (steps_of table.mounts.items) table.places };
+    ghost invariant = { λ table. IsTable (steps_of table.mounts.items) × Knows table.known (steps_of table.mounts.items) table.places };
 }
 
 impl MountTable {
@@ -60,7 +66,12 @@ impl MountTable {
             what: What::Host(AbsPath::root(alloc)),
             flags: Flags::default(),
         }))?;
-        Ok(MountTable { mounts, places })
+        Ok(MountTable {
+            mounts,
+            places,
+            known: 1,
+            only_grew: true,
+        })
     }
 
     /// How many entries there are.
@@ -101,7 +112,7 @@ impl MountTable {
         ensures last_that_leads { Belongs (steps_of self.now) path.now result }
         ensures entry_of_the_path { slice_get (steps_of self.now) result ≡ entry_of (steps_of self.now) path.now }
     {
-        match self.places.last_leading(path) {
+        match last_leading(&self.mounts, &self.places, self.known, path) {
             Some(at) => at,
             None => unreachable!(),
         }
@@ -121,21 +132,30 @@ impl MountTable {
         let mut more = Vec::new(*self.mounts.allocator());
         more.push(Mount::plain(step))?;
         self.grow(more)?;
+        self.learn();
         Ok(())
     }
 
-    // Adds mounts behind the others, or where there is no memory none.
+    // Adds mounts behind the others, or where there is no memory none. Their places do not become known.
     fn grow(&mut self, more: Vec<Mount>) -> Result<(), AllocError>
         requires few { length (self.old ++ more.items) ≤ mount_max }
         ensures appended { OnOk result (self.new ≡ self.old ++ more.items) }
         ensures unchanged_on_error { OnErr result (self.new ≡ self.old) }
     {
-        let len = self.mounts.len();
-        let grown = add_all(&mut self.mounts, &mut self.places, more);
-        if grown.is_err() {
-            self.places.truncate(len);
+        add_all(&mut self.mounts, more)
+    }
+
+    // The place of the last mount becomes known, where all others are and none was taken away. Where there is no memory it does not.
+    fn learn(&mut self)
+        ensures { self.new ≡ self.old }
+    {
+        let at = self.known;
+        if self.only_grew && at + 1 == self.mounts.len() {
+            match self.places.push(&self.mounts[at].step.place) {
+                Ok(()) => self.known = at + 1,
+                Err(_) => {}
+            }
         }
-        grown
     }
 
     /// An equal table, as for a mount namespace that starts with the mounts of another, mount_namespaces(7).
@@ -145,6 +165,8 @@ impl MountTable {
         Ok(MountTable {
             mounts: copied(*self.mounts.allocator(), &self.mounts)?,
             places: self.places.copy()?,
+            known: self.known,
+            only_grew: self.only_grew,
         })
     }
 
@@ -156,6 +178,8 @@ impl MountTable {
         Ok(MountTable {
             mounts: copied_locked(*self.mounts.allocator(), &self.mounts)?,
             places: self.places.copy()?,
+            known: self.known,
+            only_grew: self.only_grew,
         })
     }
 }
@@ -190,29 +214,11 @@ fn copied_locked(alloc: Global, mounts: &[Mount]) -> Result<Vec<Mount>, AllocErr
     Ok(copies)
 }
 
-// Adds the places of these mounts behind the others; where there is no memory, maybe some of them.
-fn add_places(places: &mut PlaceTree, more: &[Mount]) -> Result<(), AllocError>
-    ensures added { OnOk result (places.new ≡ places.old ++ places_of (steps_of more.now)) }
-    ensures only_behind { OnErr result (StartsWith places.new places.old) }
+// Adds mounts behind the others, or where there is no memory none.
+fn add_all(mounts: &mut Vec<Mount>, mut more: Vec<Mount>) -> Result<(), AllocError>
+    ensures added { OnOk result (mounts.new.items ≡ mounts.old.items ++ more.items) }
+    ensures stay { OnErr result (mounts.new.items ≡ mounts.old.items) }
 {
-    for mount in more {
-        places.push(&mount.step.place)?;
-    }
-    Ok(())
-}
-
-// Adds mounts and their places behind the others; where there is no memory no mount, and maybe some places.
-fn add_all(
-    mounts: &mut Vec<Mount>,
-    places: &mut PlaceTree,
-    mut more: Vec<Mount>,
-) -> Result<(), AllocError>
-    ensures mounts { OnOk result (mounts.new.items ≡ mounts.old.items ++ more.items) }
-    ensures places { OnOk result (places.new ≡ places.old ++ places_of (steps_of more.items)) }
-    ensures mounts_stay { OnErr result (mounts.new.items ≡ mounts.old.items) }
-    ensures places_behind { OnErr result (StartsWith places.new places.old) }
-{
-    add_places(places, &more)?;
     mounts.append(&mut more)?;
     Ok(())
 }

@@ -53,6 +53,7 @@ impl MountTable {
         let alloc = *self.mounts.allocator();
         let more = added(alloc, &self.mounts, at, source, target, recursive)?;
         self.grow(more)?;
+        self.learn();
         Ok(())
     }
 }

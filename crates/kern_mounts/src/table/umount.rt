@@ -1,15 +1,21 @@
 //! umount2(2): an entry goes, and with MNT_DETACH the later ones below it.
 
-ghost use Rattle.std.specs.Prelude.{◌≡◌, ◌+◌, ◌<◌, ◌++◌, length, take, drop, filter, not};
+ghost use Rattle.std.specs.Prelude.{◌≡◌, ◌+◌, ◌<◌, ◌≤◌, ◌++◌, length, take, drop, filter, not};
 ghost use Rattle.std.specs.List.{list_any};
 ghost use Rattle.kern_mounts.specs.Answer.{Becomes};
 ghost use Rattle.kern_mounts.specs.Mounts.{stands_below};
+ghost use Rattle.kern_mounts.specs.Split.{Table};
+ghost use Rattle.kern_mounts.specs.Table.{Knows};
 ghost use Rattle.kern_mounts.specs.MountsUmount.{mounts_after_umount};
 
 use super::{MountTable, later_than};
 use crate::step::Mount;
 use abs_path::AbsPath;
 use linux_numbers::errnos::{EBUSY, EINVAL};
+use place_tree::PlaceTree;
+
+// How many places are known at most once one of those was taken away, which numbers what is left of them anew.
+const MOST_LEFT: usize = 256;
 
 impl MountTable {
     /// Takes away the entry that stands at the path, and with `detach` (MNT_DETACH) the later ones strictly below it,
@@ -34,9 +40,22 @@ impl MountTable {
             return Err(EBUSY);
         }
         take_away(&mut self.mounts, at, path);
-        self.places.take_away(at, path);
+        self.known = known_still(&mut self.places, self.known, at);
+        self.only_grew = false;
         Ok(())
     }
+}
+
+// How many places are known still, once the mount of this number and maybe later ones went.
+fn known_still(places: &mut PlaceTree, known: usize, at: usize) -> usize
+    ensures knows_those { (table rest : Table) → Knows known table places.old → at ≤ length table → Knows result (take at table ++ rest) places.new }
+{
+    if known <= at {
+        return known;
+    }
+    let left = at.min(MOST_LEFT);
+    places.truncate(left);
+    left
 }
 
 // Whether one of these mounts stands strictly below the path.
@@ -52,10 +71,13 @@ fn take_away(mounts: &mut Vec<Mount>, at: usize, path: &AbsPath)
     ensures the_mount_and_below { mounts.new.items
         ≡ take at mounts.old.items ++ filter (λ mount. not (stands_below path.now mount)) (drop (at + 1) mounts.old.items) }
 {
-    for index in (at + 1..mounts.len()).rev() {
+    let mut kept = at;
+    for index in at + 1..mounts.len() {
         if mounts[index].step.place.is_below(path) {
-            mounts.remove(index);
+            continue;
         }
+        mounts.swap(kept, index);
+        kept += 1;
     }
-    mounts.remove(at);
+    mounts.truncate(kept);
 }

@@ -7,6 +7,7 @@ use Rattle.kern_mounts.specs.Mounts.{Mounts, stands_at}
 use Rattle.kern_mounts.proofs.Mounts.{in_range}
 use Rattle.kern_mounts.proofs.Changing.{Stands, remount_refused, remount_kept, remount_done}
 use Rattle.kern_mounts.proofs.Places.{mounts_stay, mount_places_stay}
+use Rattle.kern_mounts.proofs.Known.{knows_same}
 use Rattle.kern_mounts.proofs.table.MountTable.remount.Goals as goal
 
 was_false : (b : Bool) → true ≡ not b → b ≡ false
@@ -52,5 +53,5 @@ returns c =
 pub invariant_of-self : goal.invariant_of-self
 invariant_of-self c = (
   mounts_stay c.self.inside.mounts.items c.resolve-at.result c.index_mut.result.now _ c.self.invariant.0 c.index_mut.ensures.value refl,
-  c.self.invariant.1 ∙ sym (mount_places_stay c.self.inside.mounts.items c.resolve-at.result c.index_mut.result.now _ c.index_mut.ensures.value refl),
+  knows_same _ _ _ _ c.self.invariant.1 (mount_places_stay c.self.inside.mounts.items c.resolve-at.result c.index_mut.result.now _ c.index_mut.ensures.value refl),
 )

@@ -1,7 +1,8 @@
-use Rattle.std.proofs.Common.{◌∙◌, sym, ap, refl}
+use Rattle.std.proofs.Common.{◌∙◌, ap, refl}
 use Rattle.kern_mounts.specs.MountsRemount.{with_root_flags}
 use Rattle.kern_mounts.proofs.Changing.{root_set}
 use Rattle.kern_mounts.proofs.Places.{mounts_stay, mount_places_stay}
+use Rattle.kern_mounts.proofs.Known.{knows_same}
 use Rattle.kern_mounts.proofs.table.MountTable.set_root_flags.Goals as goal
 
 pub returns : goal.returns
@@ -10,5 +11,5 @@ returns c = record { sets = root_set c.self.inside.mounts.items c.index_mut.resu
 pub invariant_of-self : goal.invariant_of-self
 invariant_of-self c = (
   mounts_stay c.self.inside.mounts.items 0 c.index_mut.result.now _ c.self.invariant.0 c.index_mut.ensures.value refl,
-  c.self.invariant.1 ∙ sym (mount_places_stay c.self.inside.mounts.items 0 c.index_mut.result.now _ c.index_mut.ensures.value refl),
+  knows_same _ _ _ _ c.self.invariant.1 (mount_places_stay c.self.inside.mounts.items 0 c.index_mut.result.now _ c.index_mut.ensures.value refl),
 )

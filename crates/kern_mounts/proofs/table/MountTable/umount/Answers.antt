@@ -9,7 +9,7 @@ use Rattle.kern_mounts.specs.Table.{IsTable}
 use Rattle.kern_mounts.proofs.Mounts.{in_range}
 use Rattle.kern_mounts.proofs.Changing.{Stands, umount_elsewhere, umount_locked, umount_busy, umount_done}
 use Rattle.kern_mounts.proofs.Steps.{unmounted_mounts}
-use Rattle.kern_mounts.proofs.Places.{in_range_of_places, mount_places_without}
+use Rattle.kern_mounts.proofs.Known.{mounts_known}
 use Rattle.kern_mounts.proofs.table.MountTable.umount.Goals as goal
 use Rattle.kern_mounts.proofs.table.MountTable.umount.Goals.{else-not-detach-via-then-not-detach+else-any_below, else-not-detach-via-else-not-detach}
 
@@ -61,7 +61,7 @@ returns-then-any_below c =
     let busy = umount_busy _ _ c.args.path.now c.resolve-at.result c.index-2.result.now stands (sym c.if-is_root.ensures.without_parts) (ap (λ (m : Mount). stands_at c.args.path.now m) (sym same) ∙ was_true _ c.if-ne.ensures) c.if-index.false some in
     record { unmounts = (ap (mounts_after_umount c.args.self.now c.args.path.now) c.if-not-detach.true ∙ busy, refl) }
 
-done : (c : goal.After-take_away-2) → mounts_after_umount c.args.self.now c.args.path.now c.args.detach ≡ Ok c.take_away.new.mounts.items
+done : (c : goal.After-self-2-1) → mounts_after_umount c.args.self.now c.args.path.now c.args.detach ≡ Ok c.take_away.new.mounts.items
 done c =
     let stands : Stands c.args.self.now c.self.inside.mounts.items c.args.path.now c.resolve-at.result c.index-2.result.now =
     record { view = c.self.view_is; belongs = c.resolve-at.ensures.last_that_leads; entry_is = c.index-2.ensures } in
@@ -75,15 +75,13 @@ done c =
     umount_done _ _ c.args.path.now c.args.detach c.resolve-at.result c.index-2.result.now stands (sym c.if-is_root.ensures.without_parts) (ap (λ (m : Mount). stands_at c.args.path.now m) (sym same) ∙ was_true _ c.if-ne.ensures) c.if-index.false none
     ∙ ap Ok (sym c.take_away.ensures.the_mount_and_below)
 
-pub take_away-requires-2 : goal.take_away-requires-2
-take_away-requires-2 c = record { in_range = in_range_of_places (steps_of c.self.inside.mounts.items) c.self.inside.places c.resolve-at.result c.self.invariant.1 (subst (λ (mounts : Mounts). c.resolve-at.result < length (steps_of mounts)) (sym c.self.view_is) c.resolve-at.ensures.last_that_leads.in_range) }
-
 pub invariant_of-self : goal.invariant_of-self
 invariant_of-self c =
-    let is : IsTable (steps_of c.args.self.now) = subst (λ (mounts : Mounts). IsTable (steps_of mounts)) c.self.view_is c.self.invariant.0 in (
+    let is : IsTable (steps_of c.args.self.now) = subst (λ (mounts : Mounts). IsTable (steps_of mounts)) c.self.view_is c.self.invariant.0 in
+    let lt : c.resolve-at.result < length c.self.inside.mounts.items = subst (λ (mounts : Mounts). c.resolve-at.result < length mounts) (sym c.self.view_is) (in_range c.args.self.now c.args.path.now c.resolve-at.result c.resolve-at.ensures.last_that_leads) in (
       unmounted_mounts c.args.path.now c.args.detach c.args.self.now c.take_away.new.mounts.items is (done c),
-      mount_places_without c.self.inside.mounts.items c.take_away.new.mounts.items c.self.inside.places c.take_away-2.new.self c.args.path.now c.resolve-at.result c.self.invariant.1
-          c.take_away.ensures.the_mount_and_below c.take_away-2.ensures.place_and_below,
+      mounts_known c.self.inside.mounts.items c.take_away.new.mounts.items _ c.self.inside.places c.known_still-self-inside.new.places c.self.inside.known c.known_still-self-inside.result c.resolve-at.result
+          c.known_still-self-inside.ensures.knows_those c.self.invariant.1 lt c.take_away.ensures.the_mount_and_below,
     )
 
 pub returns : goal.returns
