@@ -1,21 +1,20 @@
-//! Rows over what a launched service can do, have and see.
+//! Rows over questions, verdicts, and what a service that is blind to a folder is told.
 //!
-//! The standard input has the rows. Lines that begin with two spaces are a text; `calls` takes it as calls.txt and `site` as
-//! site.toml. A row `judge|LINES|ASK|ASK ..` launches the unit with these lines in its section of the service, where `\n` ends
-//! a line, and answers each ask on a line: a question by its verdict, `summary` by how many questions are denied and how many
-//! open, `some PREFIX` by the same of the questions that begin so, `denied` by every denied question, and `blind` by every folder
-//! that the service is blind to. A line that begins with `#` says what the next rows show.
+//! A line `part NAME` of the standard input begins the rows of a part, and prints nothing; a line that begins with `#` says what
+//! the next rows show, and is printed. `asked` has what is asked of a launched service, and which entry of a mount table leads to a
+//! file of the host; `judged` what a launched service can do, have and see; `alike` pairs of sites that differ below a folder alone.
 #![tactic(auto)]
 
-mod asking;
-mod judging;
-mod launching;
-mod rows;
+mod alike;
+mod asked;
+mod judged;
+mod parts;
+mod wording;
 
-use row_text::follow_lines;
-use rows::Rows;
+use parts::Parts;
+use row_tools::follow_lines;
 use std::io;
 
 fn main(rt: HostRuntime) -> io::Result<()> {
-    follow_lines(&rt, &mut Rows::new(rt.alloc()))
+    follow_lines(&rt, &mut Parts::new(rt.alloc())?)
 }

@@ -1,21 +1,38 @@
-//! Rows over the parts of a modelled kernel: credentials, tables of mounts, and what a service finds at paths.
+//! Rows over the modelled kernel: its parts, and whole worlds.
 //!
-//! Each line of the standard input is a call with its words, parted by bars; it is printed with what came
-//! out. A line that begins with `#` says what the next rows show.
+//! A line `part NAME` of the standard input begins the rows of a part, and prints nothing; a line that begins with `#` says what
+//! the next rows show, and is printed. `rules` has credentials, tables of mounts, and what a service finds at paths; `worlds` has
+//! blocks of calls, each block on a world of its own, all over the tables that the lines hold.
 #![tactic(auto)]
 
-mod beside;
-mod creds;
-mod many;
-mod mounts;
-mod plain;
-mod rows;
-mod views;
+mod parts;
+mod rules;
+mod worlds;
 
-use row_text::follow_lines;
-use rows::Rows;
+use parts::Parts;
+use row_tools::follow_line;
 use std::io;
+use worlds::tables_of;
 
 fn main(rt: HostRuntime) -> io::Result<()> {
-    follow_lines(&rt, &mut Rows::new(rt.alloc())?)
+    let lines = read_lines(&rt)?;
+    match &tables_of(rt.alloc(), &lines) {
+        Some(tables) => follow_all(&rt, &mut Parts::new(rt.alloc(), tables)?, &lines),
+        None => rt.println("no tables"),
+    }
+}
+
+fn read_lines(rt: &HostRuntime) -> io::Result<Vec<String>> {
+    let mut lines = Vec::new(rt.alloc());
+    for line in rt.lines(rt.alloc()) {
+        lines.push(line?)?;
+    }
+    Ok(lines)
+}
+
+fn follow_all(rt: &HostRuntime, parts: &mut Parts<'_>, lines: &[String]) -> io::Result<()> {
+    for line in lines {
+        follow_line(rt, parts, line.as_str())?;
+    }
+    Ok(())
 }

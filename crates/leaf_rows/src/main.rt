@@ -1,20 +1,18 @@
-//! Rows over small forms of text, paths, sets of capabilities, words of settings that speak of paths, and known calls.
+//! Rows over what stands on nothing: small forms, and shelves and sinks.
 //!
-//! Each line of the standard input is a call with its words, parted by bars; it is printed with what came
-//! out. A line that begins with `#` says what the next rows show.
+//! A line `part NAME` of the standard input begins the rows of a part, and prints nothing; a line that begins with `#` says what
+//! the next rows show, and is printed. `leaves` has forms of text, paths, sets of capabilities, words of settings that speak of
+//! paths, and known calls; `shelves` has shelves and sinks, in memory and outside it.
 #![tactic(auto)]
 
-mod calls;
-mod caps;
-mod forms;
-mod mentions;
-mod paths;
-mod rows;
+mod leaves;
+mod parts;
+mod shelves;
 
-use row_text::follow_lines;
-use rows::Rows;
+use parts::Parts;
+use row_tools::follow_lines;
 use std::io;
 
 fn main(rt: HostRuntime) -> io::Result<()> {
-    follow_lines(&rt, &mut Rows)
+    follow_lines(&rt, &mut Parts::new(&rt)?)
 }

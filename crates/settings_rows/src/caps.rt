@@ -2,8 +2,7 @@
 use crate::notes::with_notes;
 use cap_sets::CapSet;
 use cred_settings::{ambient_set, bounding_set, is_no_new_privileges_set, no_new_privs};
-use row_inputs::Inputs;
-use row_text::yes_or_no;
+use row_tools::{Inputs, yes_or_no};
 use std::alloc::{AllocError, Global};
 use unit_values::Said;
 
@@ -37,7 +36,7 @@ pub fn no_new(
     caps: &str,
 ) -> Result<String, AllocError> {
     let uid = uid.parse::<u32>().unwrap_or(0);
-    let caps = CapSet::from_bits(row_text::number(caps)).unwrap_or(CapSet::full());
+    let caps = CapSet::from_bits(row_tools::number(caps)).unwrap_or(CapSet::full());
     let answer = no_new_privs(is_set == "set", has_filter == "filter", uid, caps);
     yes_or_no(alloc, answer)
 }

@@ -3,8 +3,7 @@ use crate::notes::{push_notes, push_part};
 use call_rules::Action;
 use filter_rules::{CallList, FamilyList, FilterSettings, Mode, NamespaceTypes, all_types};
 use filter_settings::filter_settings;
-use row_inputs::Inputs;
-use row_text::said;
+use row_tools::{Inputs, said};
 use std::alloc::{AllocError, Global};
 
 /// The settings that the unit gives, and the notes.

@@ -1,7 +1,7 @@
 //! What is known of a unit's settings, test by test.
 use exec_settings::settings;
 use exposure_score::Fact;
-use row_inputs::Inputs;
+use row_tools::Inputs;
 use service_facts::laws::accepted_units_write_few_paths;
 use service_facts::{facts, known_test};
 use std::alloc::{AllocError, Global};

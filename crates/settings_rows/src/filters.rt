@@ -10,8 +10,7 @@ use filter_rules::{
     CallList, Filter, FilterSettings, Mention, allows_call, filters, permits_family,
 };
 use filter_settings::filter_settings;
-use row_inputs::Inputs;
-use row_text::{said, yes_or_no};
+use row_tools::{Inputs, said, yes_or_no};
 use seccomp_compile::{can_compile, compile};
 use std::alloc::{AllocError, Global};
 use text_forms::read_u64;

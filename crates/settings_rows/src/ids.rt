@@ -1,7 +1,7 @@
 //! Whom a service runs as.
 use crate::notes::push_notes;
 use cred_settings::{Identity, identity_of_unit};
-use row_inputs::Inputs;
+use row_tools::Inputs;
 use std::alloc::{AllocError, Global};
 use unit_values::Said;
 

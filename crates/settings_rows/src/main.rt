@@ -17,7 +17,7 @@ mod plans;
 mod rows;
 mod units;
 
-use row_text::follow_lines;
+use row_tools::follow_lines;
 use rows::Rows;
 use std::io;
 

@@ -4,7 +4,7 @@ use mount_settings::{
     MountSettings, Switches, WrittenPaths, mentions_root, mount_settings, written_paths,
 };
 use path_settings::{Kind, Mention, PathKey};
-use row_inputs::Inputs;
+use row_tools::Inputs;
 use std::alloc::{AllocError, Global};
 use unit_values::{FileNote, Said};
 

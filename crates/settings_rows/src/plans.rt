@@ -5,8 +5,7 @@ use kern_mounts::{MountStep, What};
 use mount_plan::plan;
 use mount_settings::{mount_settings, written_paths};
 use path_settings::Mentions;
-use row_inputs::Inputs;
-use row_text::said;
+use row_tools::{Inputs, said};
 use site_table::SiteTable;
 use std::alloc::{AllocError, Global};
 

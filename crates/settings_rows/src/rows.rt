@@ -1,7 +1,6 @@
 //! The calls that rows name.
 use crate::{caps, described, facts, filters, ids, mentions, plans, units};
-use row_inputs::{Inputs, Texts};
-use row_text::{Follow, Shown, said, words};
+use row_tools::{Follow, Inputs, Shown, Texts, said, words};
 use std::alloc::{AllocError, Global};
 use std::io;
 

@@ -3,7 +3,7 @@ use crate::ids::push_ids;
 use crate::notes::push_notes;
 use exec_settings::{Settings, settings};
 use filter_rules::Filter;
-use row_inputs::Inputs;
+use row_tools::Inputs;
 use std::alloc::{AllocError, Global};
 
 /// The program, the user and group, `nnp` where no new privileges can be had, the names of the filters, how many

@@ -1,19 +1,28 @@
-//! Rows over the readers of calls.txt and site.toml.
+//! Rows over what is read from texts, and what is made of it alone: units, tables, policies with their scores, and programs.
 //!
-//! Each line of the standard input is a call with its words, parted by bars; it is printed with what came
-//! out. Lines that begin with two spaces are the front of the files that the next rows read, until a row
-//! `front` empties it. A line that begins with `#` says what the next rows show.
+//! A line `part NAME` of the standard input begins the rows of a part, and prints nothing; a line that begins with `#` says what
+//! the next rows show, and is printed. `units` has unit files as text, `tables` the readers of calls.txt and site.toml, `scores`
+//! policies and scores, and `programs` those of seccomp(2), with the rules that they are compiled from.
 #![tactic(auto)]
 
-mod calls;
-mod front;
-mod rows;
-mod site;
+mod parts;
+mod programs;
+mod scores;
+mod tables;
+mod units;
 
-use row_text::follow_lines;
-use rows::Rows;
+use exposure_score::{CustomTest, Facts, ambient_count, writable_paths};
+use parts::Parts;
+use row_tools::{follow_lines, said};
 use std::io;
 
 fn main(rt: HostRuntime) -> io::Result<()> {
-    follow_lines(&rt, &mut Rows::new(rt.alloc()))
+    let alloc = rt.alloc();
+    let ambient = Box::new(alloc, |facts: &Facts| ambient_count(facts))?;
+    let paths = Box::new(alloc, |facts: &Facts| writable_paths(facts))?;
+    let stored = vec![in alloc;
+        CustomTest::new(said(alloc, "AmbientCount")?, 41, ambient),
+        CustomTest::new(said(alloc, "WritablePaths")?, 128, paths),
+    ]?;
+    follow_lines(&rt, &mut Parts::new(alloc, stored))
 }

@@ -1,0 +1,105 @@
+//! Inputs of rows: a unit, a table of calls and a site, read from the texts of a table of rows.
+//!
+//! A unit is web.service with files of which the rows give the lines of the section of the service.
+use crate::held::HeldText;
+use crate::wording::{said, text_of};
+use call_table::{CallTable, read_calls};
+use dropin_merge::{Resolved, UnitFile, UnitFiles};
+use site_table::{SiteTable, read_site};
+use std::alloc::{AllocError, Global};
+use unit_grammar::{Text, read_unit};
+use unit_names::UnitName;
+
+/// A unit, a table of calls and a site.
+#[derive(Drop)]
+pub struct Inputs {
+    pub unit: Box<Resolved>,
+    pub calls: Box<CallTable>,
+    pub site: Box<SiteTable>,
+}
+
+/// The table of calls of a text, where it is none that is refused.
+pub fn calls_of(alloc: Global, text: &str) -> Option<Box<CallTable>> {
+    let calls = read_calls(alloc, text.as_bytes()).ok()?;
+    Box::new(alloc, calls).ok()
+}
+
+/// The site of a text, where it is none that is refused.
+pub fn site_of(alloc: Global, text: &str) -> Option<Box<SiteTable>> {
+    let site = read_site(alloc, text.as_bytes()).ok()?;
+    Box::new(alloc, site).ok()
+}
+
+// The text of a file with these lines in its section of the service.
+fn file_text(alloc: Global, lines: &str) -> Result<String, AllocError> {
+    let mut text = String::from_str(alloc, "[Service]\n")?;
+    text.push_str(text_of(alloc, lines)?.as_str())?;
+    text.push('\n')?;
+    Ok(text)
+}
+
+fn file_of(alloc: Global, lines: &str) -> Option<UnitFile> {
+    let path = Text::new(alloc, "web.service").ok()?;
+    let bytes = file_text(alloc, lines).ok()?;
+    let text = read_unit(alloc, bytes.as_bytes()).ok()?;
+    Some(UnitFile { path, text })
+}
+
+fn files_of(alloc: Global, files: &[&str]) -> Option<Vec<UnitFile>> {
+    let mut read = Vec::new(alloc);
+    for lines in files {
+        read.push(file_of(alloc, lines)?).ok()?;
+    }
+    Some(read)
+}
+
+/// The unit web.service with these files; of each the lines of its section of the service.
+pub fn unit_of(alloc: Global, files: &[&str]) -> Option<Box<Resolved>> {
+    let name = UnitName::read(alloc, "web.service").ok()?;
+    let files = UnitFiles::new(files_of(alloc, files)?);
+    Box::new(alloc, Resolved { name, files }).ok()
+}
+
+/// What is read from these texts, where none is refused.
+pub fn inputs_of(alloc: Global, calls: &str, site: &str, files: &[&str]) -> Option<Inputs> {
+    let calls = calls_of(alloc, calls)?;
+    let site = site_of(alloc, site)?;
+    let unit = unit_of(alloc, files)?;
+    Some(Inputs { unit, calls, site })
+}
+
+/// The texts of a table of calls and of a site, and a text that no row has taken yet.
+#[derive(Drop)]
+pub struct Texts {
+    pub held: HeldText,
+    pub calls: String,
+    pub site: String,
+}
+
+impl Texts {
+    /// Empty texts.
+    pub fn new(alloc: Global) -> Self {
+        Texts {
+            held: HeldText::new(alloc),
+            calls: String::new(alloc),
+            site: String::new(alloc),
+        }
+    }
+
+    /// Takes the held text as that of a table of calls.
+    pub fn take_calls(&mut self, alloc: Global) -> Result<String, AllocError> {
+        self.calls = self.held.take(alloc);
+        said(alloc, "held")
+    }
+
+    /// Takes the held text as that of a site.
+    pub fn take_site(&mut self, alloc: Global) -> Result<String, AllocError> {
+        self.site = self.held.take(alloc);
+        said(alloc, "held")
+    }
+
+    /// What is read from these texts and from these files of a unit, where none is refused.
+    pub fn inputs(&self, alloc: Global, files: &[&str]) -> Option<Inputs> {
+        inputs_of(alloc, self.calls.as_str(), self.site.as_str(), files)
+    }
+}

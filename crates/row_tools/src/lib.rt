@@ -1,0 +1,20 @@
+//! What programs of rows share: their lines and parts, the words of a row, answers in words, and inputs read from texts.
+//!
+//! `follow_lines(&rt, &mut parts)` is the `main` of a program of rows, which is a `Follow`; where it has parts, a line `part NAME`
+//! begins one (`part_of`), and prints nothing. A `HeldText` is a text that its lines hold. The words of a row are parted by bars;
+//! `text_of` reads the escapes of a word, and `bytes_of` bytes in hex. `inputs_of(alloc, calls, site, &["User=web"])` reads a
+//! unit, a table of calls and a site, and `Texts` are the texts of tables that rows have given so far. It rests on `hex` and on
+//! the readers `call_table`, `site_table` and `unit_grammar`.
+#![tactic(auto)]
+
+mod held;
+mod inputs;
+mod lines;
+mod wording;
+
+pub use held::HeldText;
+pub use inputs::{Inputs, Texts, calls_of, inputs_of, site_of, unit_of};
+pub use lines::{Follow, Shown, follow_line, follow_lines, part_of};
+pub use wording::{
+    bytes_of, long_path, number, number_or_none, number32, said, text_of, words, yes_or_no,
+};

@@ -1,0 +1,88 @@
+//! The words of a row, what they stand for, and answers in words.
+use hex::decode;
+use std::alloc::{AllocError, Global};
+
+/// The words of a row, which bars part.
+pub fn words(alloc: Global, row: &str) -> Result<Vec<&str>, AllocError> {
+    row.split('|').collect(alloc)
+}
+
+/// The text that a word stands for: `\n`, `\r`, `\t`, `\0` and `\\` mean what they do in Rust, `\d` is DEL, and before
+/// another character a backslash is left out.
+pub fn text_of(alloc: Global, word: &str) -> Result<String, AllocError> {
+    let mut text = String::new(alloc);
+    let mut is_escaped = false;
+    for letter in word.chars() {
+        if is_escaped {
+            text.push(escaped(letter))?;
+            is_escaped = false;
+        } else if letter == '\\' {
+            is_escaped = true;
+        } else {
+            text.push(letter)?;
+        }
+    }
+    Ok(text)
+}
+
+/// The bytes of words in hex, with spaces between; a word that is none in hex has none.
+pub fn bytes_of(alloc: Global, words: &str) -> Result<Vec<u8>, AllocError> {
+    let mut bytes = Vec::new(alloc);
+    for word in words.split(' ') {
+        if let Ok(more) = decode(alloc, word) {
+            bytes.extend_from_slice(more.as_slice())?;
+        }
+    }
+    Ok(bytes)
+}
+
+fn escaped(letter: char) -> char {
+    match letter {
+        'n' => '\n',
+        'r' => '\r',
+        't' => '\t',
+        '0' => '\0',
+        'd' => '\u{7f}',
+        other => other,
+    }
+}
+
+/// A slash and so many letters `a`.
+pub fn long_path(alloc: Global, count: u64) -> Result<String, AllocError> {
+    let mut text = String::from_str(alloc, "/")?;
+    for _ in 0..count {
+        text.push('a')?;
+    }
+    Ok(text)
+}
+
+/// The number of a word in decimal, or in hex behind `0x`, or 0.
+pub fn number(word: &str) -> u64 {
+    match word.strip_prefix("0x") {
+        Some(digits) => u64::from_str_radix(digits, 16).unwrap_or(0),
+        None => word.parse::<u64>().unwrap_or(0),
+    }
+}
+
+/// The low 32 bits of the number of a word.
+pub fn number32(word: &str) -> u32 {
+    (number(word) & 0xffff_ffff) as u32
+}
+
+/// These words.
+pub fn said(alloc: Global, text: &str) -> Result<String, AllocError> {
+    String::from_str(alloc, text)
+}
+
+/// A number in decimal, or `none`.
+pub fn number_or_none(alloc: Global, number: Option<u64>) -> Result<String, AllocError> {
+    match number {
+        Some(number) => number.to_string(alloc),
+        None => said(alloc, "none"),
+    }
+}
+
+/// `yes` or `no`.
+pub fn yes_or_no(alloc: Global, is_so: bool) -> Result<String, AllocError> {
+    said(alloc, if is_so { "yes" } else { "no" })
+}
