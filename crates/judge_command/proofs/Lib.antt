@@ -5,3 +5,4 @@ pub mod Counted
 pub mod Texts
 pub mod Prepared
 pub mod Runs
+pub mod Lent

@@ -6,3 +6,4 @@ pub mod Asked
 pub mod Prepared
 pub mod Started
 pub mod Prints
+pub mod Lent

@@ -6,6 +6,7 @@ ghost use Rattle.kernel_laws.specs.Questions.{questions};
 ghost use Rattle.questions.specs.Meanings.{meant};
 ghost use Rattle.report_text.specs.Answers.{call_line};
 ghost use Rattle.judge_command.specs.Asked.{IsAsked, IsVerdict, answer_text, denied_among};
+ghost use Rattle.judge_command.specs.Lent.{IsServiceOf};
 
 use crate::asking::Asked;
 use crate::counting::denied_once;
@@ -14,7 +15,7 @@ use command_answers::put_line;
 use host_io::{Sink, SinkError};
 use judge::{Verdict, verdict};
 use kernel_calls::Call;
-use open_calls::calls;
+use open_calls::{Service, calls};
 use questions::Question;
 use report_text::{call_line, verdict_line};
 use std::alloc::Global;
@@ -39,6 +40,7 @@ fn print_calls<K: Sink>(
 fn print_answer<K: Sink>(
     alloc: Global,
     asked: &Asked<'_>,
+    service: &Service<'_>,
     question: &Question,
     found: Verdict,
     out: &mut K,
@@ -46,6 +48,7 @@ fn print_answer<K: Sink>(
     requires asked { IsAsked asked.now }
     requires listed { Contains (questions asked.now.service.world.calls asked.now.service.world.site) (meant question.now) }
     requires found { IsVerdict asked.now question.now found }
+    requires its_service { IsServiceOf asked.now service.now }
     ensures takes_the_text { TakesText (K.taken out.old) (K.taken out.new) (answer_text asked.now question.now) result }
     ensures fault_rose { HasWriteCause (K.faults out.old) (K.faults out.new) result }
 {
@@ -55,7 +58,7 @@ fn print_answer<K: Sink>(
     match found {
         Verdict::Denied => put_line(out, line),
         Verdict::Open => {
-            let Ok(list) = calls(alloc, &asked.service, &asked.ceiling, question) else {
+            let Ok(list) = calls(service, question) else {
                 return Err(SinkError::Memory);
             };
             put_line(out, line)?;
@@ -79,10 +82,13 @@ pub fn print_answers<K: Sink>(
     ensures counts { OnOk result (denied.new ≡ denied_among asked.now list.now) }
     ensures fault_rose { HasWriteCause (K.faults out.old) (K.faults out.new) result }
 {
+    let Ok(service) = Service::of(alloc, &asked.service, &asked.ceiling) else {
+        return Err(SinkError::Memory);
+    };
     *denied = 0;
     for question in list {
         let found = verdict(&asked.service, &asked.ceiling, question);
-        print_answer(alloc, asked, question, found, out)?;
+        print_answer(alloc, asked, &service, question, found, out)?;
         *denied += denied_once(found);
     }
     Ok(())

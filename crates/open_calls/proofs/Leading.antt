@@ -1,5 +1,5 @@
 -- The entry that leads to a row of a served world, and the lengths of the paths that name rows.
-use Rattle.std.proofs.Common.{◌≡◌, ℕ, true, [], ◌∷◌, Option, Some, None, refl, sym, subst, arith, ◌≤◌, ◌<◌, length, ◌⊎◌, inl, inr}
+use Rattle.std.proofs.Common.{◌≡◌, ℕ, true, [], ◌∷◌, Option, Some, None, refl, ap, sym, subst, arith, ◌≤◌, ◌<◌, length, ◌⊎◌, inl, inr}
 use Rattle.std.specs.Prelude.{is_some, unwrap_or}
 use Rattle.std.proofs.lemmas.Option.{slice_get_within}
 use Rattle.abs_path.specs.Paths.{Path, tail_of, text_of}
@@ -51,3 +51,12 @@ module _ (world : World) (served : IsServedWorld world) (row : Row) (known : row
       let P : Table → Type 0 = λ t. IsLead t row.path at in
       let here' : IsLead table row.path at = subst P (sym same) at_own in
       record { in_range = slice_get_within table at here'.entry here'.own; leads = here' }
+
+-- the number of an entry that is found, and of none
+pub some_lead : (at : ℕ) (power : Power) (table : Table) (row : Path) (wish : Wish) → Some at ≡ reach power table row wish → at ≡ lead power table row wish
+unfolding lead
+some_lead at power table row wish e = ap (λ (o : Option ℕ). unwrap_or o 0) e
+
+pub no_lead : (power : Power) (table : Table) (row : Path) (wish : Wish) → None ≡ reach power table row wish → 0 ≡ lead power table row wish
+unfolding lead
+no_lead power table row wish e = ap (λ (o : Option ℕ). unwrap_or o 0) e

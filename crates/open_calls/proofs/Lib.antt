@@ -3,3 +3,5 @@ pub mod Opening
 pub mod Leading
 pub mod Listed
 pub mod Uncovering
+pub mod Keeping
+pub mod Inside

@@ -1,2 +1,4 @@
 pub mod Aims
+pub mod Bases
+pub mod Firsts
 pub mod Meanings

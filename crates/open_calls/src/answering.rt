@@ -17,19 +17,17 @@ ghost use Rattle.kernel_ways.specs.Offers.{RunsProgram};
 ghost use Rattle.questions.specs.Meanings.{meant};
 ghost use Rattle.ceilings.specs.Meanings.{meant_kind};
 ghost use Rattle.questions.specs.Meanings.{meant_space};
-ghost use Rattle.ceilings.specs.Own.{IsCeilingOf};
 
-use crate::first::{call_by, call_inside, call_of, socket_payload, user_call};
+use crate::first::call_of;
 use crate::ids::IdKind;
 use crate::service::{Made, Service};
 use call_table::CallLine;
-use ceilings::{CallKind, Ceiling, plain_line, rule_of};
+use ceilings::{CallKind, plain_line, rule_of};
 use kernel_calls::{Call, Payload, Rule};
 use kernel_model::World;
-use launcher::Launched;
 use linux_numbers::capabilities::CAP_SYS_ADMIN;
 use questions::{NamespaceType, Question};
-use std::alloc::{AllocError, Global};
+use std::alloc::AllocError;
 
 // The call of this number.
 fn listed_call<'a>(world: &'a World<'_>, at: usize) -> Option<&'a CallLine>
@@ -104,9 +102,9 @@ impl Service<'_> {
             return Ok(());
         };
         self.push_gaining_if(calls, line.cap)?;
-        let payload = socket_payload(self.world, line.number);
+        let payload = self.socket_payload(line.number);
         let kind = CallKind::ForFamily(line.number);
-        calls.push(call_by(self.world, kind, payload))?;
+        calls.push(self.call_by(kind, payload))?;
         Ok(())
     }
 
@@ -115,7 +113,7 @@ impl Service<'_> {
         requires some_passes { lets (launch_of self.now.world.now) (meant_kind kind) ≡ true }
         ensures { OnOk result (calls.new.items ≡ calls.old.items ++ call_by (launch_of self.now.world.now) (meant_kind kind) Nothing ∷ []) }
     {
-        calls.push(call_by(self.world, kind, Payload::Nothing))?;
+        calls.push(self.call_by(kind, Payload::Nothing))?;
         Ok(())
     }
 
@@ -128,7 +126,7 @@ impl Service<'_> {
     {
         match kind {
             NamespaceType::User => {
-                calls.push(user_call(self.world))?;
+                calls.push(self.user_call())?;
                 return Ok(());
             }
             _ => {}
@@ -138,8 +136,8 @@ impl Service<'_> {
             self.push_gaining(calls, CAP_SYS_ADMIN)?;
             return self.push_first(calls, first);
         }
-        calls.push(user_call(self.world))?;
-        calls.push(call_inside(self.world, first, Payload::Nothing))?;
+        calls.push(self.user_call())?;
+        calls.push(self.call_inside(first, Payload::Nothing))?;
         Ok(())
     }
 
@@ -168,36 +166,22 @@ impl Service<'_> {
     }
 }
 
-/// The calls that are chosen to reach an open question of a launched service, by its own ceiling. They are made by process 1, one
-/// behind the other, and each is done; the last one does what is asked, or the process then has it. Where process 1 makes a child
-/// in a user namespace by clone(2), the child, process 2, makes the one call behind that. What the service has at launch needs
-/// no call.
+/// The calls that are chosen to reach an open question of a launched service. They are made by process 1, one behind the other, and
+/// each is done; the last one does what is asked, or the process then has it. Where process 1 makes a child in a user namespace by
+/// clone(2), the child, process 2, makes the one call behind that. What the service has at launch needs no call.
 ///
 /// Short lists come first: what can be done on the launched mount table is done there, and CAP_SYS_ADMIN is gained only for what
 /// cannot (capabilities(7), mount(2), umount2(2)).
-pub fn calls(
-    alloc: Global,
-    launched: &Launched<'_>,
-    ceiling: &Ceiling,
-    question: &Question,
-) -> Result<Vec<Call>, AllocError>
-    requires served { IsServedWorld launched.now.world }
-    requires program { RunsProgram (launch_of launched.now.world) launched.now.program }
-    requires its_own_ceiling { IsCeilingOf (launch_of launched.now.world) ceiling.now }
-    requires asked { Contains (questions launched.now.world.calls launched.now.world.site) (meant question.now) }
-    requires reachable { is_open (launch_of launched.now.world) (meant question.now) ≡ true }
-    ensures the_choice { IfOk result (λ list. list.items ≡ calls_for (launch_of launched.now.world) launched.now.program (meant question.now)) }
-    ensures shown { IfOk result (λ list. Shows launched.now.world (meant question.now) list.items) }
-    ensures made_by_the_service { IfOk result (λ list. AreMadeByService launched.now.world.calls list.items) }
+pub fn calls(service: &Service<'_>, question: &Question) -> Result<Vec<Call>, AllocError>
+    requires served { IsServedWorld service.now.world.now }
+    requires program { RunsProgram (launch_of service.now.world.now) service.now.program.now }
+    requires asked { Contains (questions service.now.world.now.calls service.now.world.now.site) (meant question.now) }
+    requires reachable { is_open (launch_of service.now.world.now) (meant question.now) ≡ true }
+    ensures the_choice { IfOk result (λ list. list.items ≡ calls_for (launch_of service.now.world.now) service.now.program.now (meant question.now)) }
+    ensures shown { IfOk result (λ list. Shows service.now.world.now (meant question.now) list.items) }
+    ensures made_by_the_service { IfOk result (λ list. AreMadeByService service.now.world.now.calls list.items) }
 {
-    let service = Service {
-        alloc,
-        world: &launched.world,
-        program: &launched.program,
-        power: ceiling.power,
-        admin: ceiling.effective.contains(CAP_SYS_ADMIN),
-    };
-    let mut calls = Vec::new(alloc);
+    let mut calls = Vec::new(service.alloc);
     service.push_calls(&mut calls, question)?;
     Ok(calls)
 }

@@ -1,28 +1,29 @@
 //! The path that names a row of the site, the calls that expose it there (mount(2), umount2(2)), and the call behind them.
 
 ghost use Rattle.std.specs.Prelude.{◌≡◌, ◌≤◌, ◌<◌, ◌++◌, [], true, drop, length, IfOk, OnOk, Some};
-ghost use Rattle.abs_path.specs.Paths.{tail_of};
+ghost use Rattle.abs_path.specs.Paths.{Path, tail_of};
 ghost use Rattle.abs_path.specs.Prefix.{is_prefix, rest_of};
 ghost use Rattle.kern_mounts.specs.Launch.{proc};
+ghost use Rattle.kern_mounts.specs.Split.{Table};
 ghost use Rattle.site_table.specs.Table.{row_at};
 ghost use Rattle.chosen_calls.specs.Chosen.{doing_calls, inside_calls};
 ghost use Rattle.chosen_calls.specs.Exposing.{IsLead, PassesFor, exposing_calls, exposing_path, lead, shown_at};
 ghost use Rattle.chosen_calls.specs.First.{line_of};
 ghost use Rattle.kernel_laws.specs.Kinds.{ChangesMounts, ForPath, ForSpace, RemovesMounts};
 ghost use Rattle.kernel_laws.specs.Launched.{IsLaunchedWorld, launch_of, lets};
-ghost use Rattle.kernel_laws.specs.Questions.{ToExec, User};
-ghost use Rattle.kernel_laws.specs.Reach.{Unmounting, reaches};
+ghost use Rattle.kernel_laws.specs.Questions.{ToExec, User, Wish as PathWish};
+ghost use Rattle.kernel_laws.specs.Reach.{Power as MountPower, Unmounting, reach, reaches};
 ghost use Rattle.kernel_ways.specs.Laws.{IsServedWorld};
 ghost use Rattle.kernel_ways.specs.Uncovering.{covering, mount_call, mount_calls, umount_call, umount_calls};
 ghost use Rattle.kernel_ways.specs.Ways.{place_of};
 ghost use Rattle.reach_paths.specs.Meanings.{meant_power, meant_wish};
 ghost use Rattle.kern_mounts.specs.Mounts.{steps_of};
 ghost use Rattle.open_calls.specs.Aims.{IsAim};
+ghost use Rattle.open_calls.specs.Firsts.{place_in};
 
-use crate::first::{call_by, call_inside, call_of, line_of, user_call};
+use crate::first::FirstCall;
 use crate::service::{Made, Service};
 use abs_path::{AbsPath, PathError};
-use call_table::CallLine;
 use ceilings::{CallKind, launched_table};
 use kern_mounts::{MountTable, What};
 use kernel_calls::{Call, Payload};
@@ -53,6 +54,8 @@ pub(crate) struct Aim<'a> {
     pub(crate) wish: Wish,
     /// Of which row.
     pub(crate) row: &'a Row,
+    /// The number of the entry of the launched table that leads to it.
+    pub(crate) at: usize,
 }
 
 // Where the entry of this number shows the row.
@@ -91,51 +94,64 @@ fn below_proc(alloc: Global, row: &AbsPath) -> Made<AbsPath>
     row.moved(alloc, &AbsPath::root(alloc), &proc)
 }
 
-// The number of the entry that leads to the row, where one does.
-#[tactic(auto, unfolding(chosen_calls::specs::Exposing::lead))]
-fn lead(world: &World<'_>, power: Power, wish: Wish, row: &Row) -> usize
-    requires launched { IsLaunchedWorld world.now }
-    requires reached { reaches (meant_power power) (launch_of world.now).table row.now.path (meant_wish wish) ≡ true }
-    ensures first { result ≡ lead (meant_power power) (launch_of world.now).table row.now.path (meant_wish wish) }
+/// The number of the entry that leads to a row, by what is found.
+pub(crate) fn number_of(found: Option<usize>) -> usize
+    ensures { (power : MountPower) (table : Table) (row : Path) (wish : PathWish) → found ≡ reach power table row wish → result ≡ lead power table row wish }
 {
-    match reach(launched_table(world), &row.path, wish, power) {
+    match found {
         Some(at) => at,
-        None => unreachable!(),
+        None => 0,
     }
 }
 
-// umount2(2), whose line this is, by process 1 of a place.
-fn umount_call(alloc: Global, line: &CallLine, place: &AbsPath) -> Made<Call>
-    ensures { IfOk result (λ call. call ≡ umount_call (place_of line.now) place.now) }
+/// The entry of the launched table that leads to the row by this power, if one does.
+pub(crate) fn reach_row(world: &World<'_>, power: Power, wish: Wish, row: &Row) -> Option<usize>
+    requires launched { IsLaunchedWorld world.now }
+    ensures { result ≡ reach (meant_power power) (launch_of world.now).table row.now.path (meant_wish wish) }
 {
-    let payload = Payload::OnePath(place.copy(alloc)?);
-    Ok(call_of(line, [0, MNT_DETACH, 0, 0, 0, 0], payload))
+    reach(launched_table(world), &row.path, wish, power)
 }
 
-// mount(2), whose line this is, by process 1 of `/` at the folder of the processes.
-fn mount_call(alloc: Global, line: &CallLine, flags: u64) -> Made<Call>
-    ensures { IfOk result (λ call. call ≡ mount_call (place_of line.now) [] proc flags) }
+/// Its number, where one does.
+pub(crate) fn lead(world: &World<'_>, power: Power, wish: Wish, row: &Row) -> usize
+    requires launched { IsLaunchedWorld world.now }
+    ensures first { result ≡ lead (meant_power power) (launch_of world.now).table row.now.path (meant_wish wish) }
+{
+    number_of(reach_row(world, power, wish, row))
+}
+
+// umount2(2), which this is, by process 1 of a place.
+fn umount_call(alloc: Global, first: FirstCall, place: &AbsPath) -> Made<Call>
+    ensures { IfOk result (λ call. call ≡ umount_call (place_in first) place.now) }
+{
+    let payload = Payload::OnePath(place.copy(alloc)?);
+    Ok(first.with([0, MNT_DETACH, 0, 0, 0, 0], payload))
+}
+
+// mount(2), which this is, by process 1 of `/` at the folder of the processes.
+fn mount_call(alloc: Global, first: FirstCall, flags: u64) -> Made<Call>
+    ensures { IfOk result (λ call. call ≡ mount_call (place_in first) [] proc flags) }
 {
     let payload = Payload::TwoPaths(AbsPath::root(alloc), proc_path(alloc)?);
-    Ok(call_of(line, [0, 0, 0, flags, 0, 0], payload))
+    Ok(first.with([0, 0, 0, flags, 0, 0], payload))
 }
 
 // Adds the calls that unmount what covers the path of the entries from this number on, the last first.
 fn push_uncovering(
     calls: &mut Vec<Call>,
     alloc: Global,
-    line: &CallLine,
+    first: FirstCall,
     table: &MountTable,
     from: usize,
     path: &AbsPath,
 ) -> Made<()>
     requires in_range { from ≤ length (steps_of table.now) }
-    ensures { OnOk result (calls.new.items ≡ calls.old.items ++ umount_calls (place_of line.now) (covering path.now (drop from (steps_of table.now)))) }
+    ensures { OnOk result (calls.new.items ≡ calls.old.items ++ umount_calls (place_in first) (covering path.now (drop from (steps_of table.now)))) }
 {
     for at in (from..table.len()).rev() {
         let place = &table.entry(at).place;
         if place.is_prefix(path) {
-            calls.push(umount_call(alloc, line, place)?)?;
+            calls.push(umount_call(alloc, first, place)?)?;
         }
     }
     Ok(())
@@ -151,25 +167,29 @@ impl Service<'_> {
         match aim.power {
             Power::Mount => below_proc(self.alloc, &aim.row.path),
             Power::None | Power::Unmount => {
-                let at = lead(self.world, aim.power, aim.wish, aim.row);
-                shown_at(self.alloc, launched_table(self.world), &aim.row.path, at)
+                shown_at(
+                    self.alloc,
+                    launched_table(self.world),
+                    &aim.row.path,
+                    aim.at,
+                )
             }
         }
     }
 
-    // Adds the calls that unmount what covers the path at which the first entry shows the row.
-    fn push_unmounts(&self, calls: &mut Vec<Call>, wish: Wish, row: &Row) -> Made<()>
+    // Adds the calls that unmount what covers the path at which the entry of this number, the first that shows the row, shows it.
+    fn push_unmounts(&self, calls: &mut Vec<Call>, wish: Wish, row: &Row, at: usize) -> Made<()>
         requires served { IsServedWorld self.now.world.now }
         requires known { row_at self.now.world.now.site.rows row.now.path ≡ Some row.now }
         requires reached { reaches Unmounting (launch_of self.now.world.now).table row.now.path (meant_wish wish) ≡ true }
         requires passes { lets (launch_of self.now.world.now) RemovesMounts ≡ true }
+        requires number { at ≡ lead Unmounting (launch_of self.now.world.now).table row.now.path (meant_wish wish) }
         ensures { OnOk result (calls.new.items ≡ calls.old.items ++ exposing_calls (launch_of self.now.world.now) Unmounting 0 (meant_wish wish) row.now.path) }
     {
-        let line = line_of(self.world, CallKind::RemovesMounts);
+        let first = self.first(CallKind::RemovesMounts);
         let table = launched_table(self.world);
-        let at = lead(self.world, Power::Unmount, wish, row);
         let path = shown_at(self.alloc, table, &row.path, at)?;
-        push_uncovering(calls, self.alloc, line, table, at + 1, &path)
+        push_uncovering(calls, self.alloc, first, table, at + 1, &path)
     }
 
     // Adds the two calls that mount the host below the folder of the processes.
@@ -177,9 +197,9 @@ impl Service<'_> {
         requires passes { lets (launch_of self.now.world.now) ChangesMounts ≡ true }
         ensures { OnOk result (calls.new.items ≡ calls.old.items ++ mount_calls (place_of (line_of (launch_of self.now.world.now) ChangesMounts)) flags) }
     {
-        let line = line_of(self.world, CallKind::ChangesMounts);
-        calls.push(mount_call(self.alloc, line, MS_BIND)?)?;
-        calls.push(mount_call(self.alloc, line, flags)?)?;
+        let first = self.first(CallKind::ChangesMounts);
+        calls.push(mount_call(self.alloc, first, MS_BIND)?)?;
+        calls.push(mount_call(self.alloc, first, flags)?)?;
         Ok(())
     }
 
@@ -192,7 +212,7 @@ impl Service<'_> {
     {
         match aim.power {
             Power::None => Ok(()),
-            Power::Unmount => self.push_unmounts(calls, aim.wish, aim.row),
+            Power::Unmount => self.push_unmounts(calls, aim.wish, aim.row, aim.at),
             Power::Mount => self.push_mounts(calls, flags),
         }
     }
@@ -209,9 +229,9 @@ impl Service<'_> {
     {
         self.push_exposing(calls, REMOUNT, aim)?;
         let path = self.exposing_path(aim)?;
-        calls.push(user_call(self.world))?;
+        calls.push(self.user_call())?;
         let kind = CallKind::ForPath(Wish::Exec);
-        calls.push(call_inside(self.world, kind, Payload::OnePath(path)))?;
+        calls.push(self.call_inside(kind, Payload::OnePath(path)))?;
         Ok(())
     }
 
@@ -226,7 +246,7 @@ impl Service<'_> {
         self.push_exposing(calls, flags, aim)?;
         let path = self.exposing_path(aim)?;
         let kind = CallKind::ForPath(aim.wish);
-        calls.push(call_by(self.world, kind, Payload::OnePath(path)))?;
+        calls.push(self.call_by(kind, Payload::OnePath(path)))?;
         Ok(())
     }
 }

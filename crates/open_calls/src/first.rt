@@ -3,15 +3,11 @@
 ghost use Rattle.std.specs.Prelude.{◌≡◌, true, find, option_copied, option_map, IfOk};
 ghost use Rattle.call_table.specs.Lookups.{named};
 ghost use Rattle.call_table.specs.Table.{calls_in};
-ghost use Rattle.chosen_calls.specs.Chosen.{call_inside, pid_inside, user_call, socket_payload};
-ghost use Rattle.chosen_calls.specs.First.{args_of, call_by, first_line, lets_name, line_of, own_rule, line_in};
-ghost use Rattle.kernel_laws.specs.Kinds.{ForSpace, ForFamily};
+ghost use Rattle.chosen_calls.specs.First.{args_of, first_line, lets_name, line_of, own_rule, line_in};
 ghost use Rattle.kernel_laws.specs.Launched.{launch_of, lets};
-ghost use Rattle.kernel_laws.specs.Questions.{User};
-ghost use Rattle.kernel_calls.specs.declared.payload.Payload.TheVariants.{Nothing};
-ghost use Rattle.kernel_ways.specs.Taking.{id_call, id_payload, id_words};
-ghost use Rattle.kernel_ways.specs.Ways.{place_of};
+ghost use Rattle.kernel_ways.specs.Taking.{id_payload, id_words};
 ghost use Rattle.ceilings.specs.Meanings.{meant_kind};
+ghost use Rattle.open_calls.specs.Firsts.{call_as, first_of};
 
 use crate::names::names_of;
 use crate::service::Made;
@@ -20,7 +16,6 @@ use call_table::CallLine;
 use ceilings::{CallKind, lets_line, passing_line, rule_of, words};
 use kernel_calls::{Call, IdList, Payload, Rule};
 use kernel_model::World;
-use questions::NamespaceType;
 use std::alloc::Global;
 
 // The line of this ABI with this name.
@@ -77,9 +72,9 @@ fn first_line<'a>(world: &'a World<'_>, kind: CallKind) -> Option<&'a CallLine>
     }
 }
 
-/// The line of the call that is made for a kind of which some call passes.
+// The line of the call that is made for a kind of which some call passes.
 #[tactic(auto, unfolding(chosen_calls::specs::First::line_of))]
-pub(crate) fn line_of<'a>(world: &'a World<'_>, kind: CallKind) -> &'a CallLine
+fn line_of<'a>(world: &'a World<'_>, kind: CallKind) -> &'a CallLine
     requires some_passes { lets (launch_of world.now) (meant_kind kind) ≡ true }
     ensures { result.now ≡ line_of (launch_of world.now) (meant_kind kind) }
 {
@@ -117,59 +112,50 @@ pub(crate) fn call_of(line: &CallLine, args: [u64; 6], payload: Payload) -> Call
     }
 }
 
-/// The first call of a kind, by process 1, with the words that ask for it.
-pub(crate) fn call_by(world: &World<'_>, kind: CallKind, payload: Payload) -> Call
+/// The first call of a kind: where it stands in the table, the words that ask for the kind, and its rule.
+#[derive(Clone, Copy)]
+pub(crate) struct FirstCall {
+    // By which ABI it is made.
+    pub(crate) abi: u8,
+    // Its number.
+    pub(crate) nr: u32,
+    // Its words.
+    pub(crate) args: [u64; 6],
+    // Its rule.
+    pub(crate) rule: Rule,
+}
+
+impl FirstCall {
+    /// It, by process 1, with these words and this payload.
+    pub(crate) fn with(self, args: [u64; 6], payload: Payload) -> Call
+        ensures { result ≡ call_as self args payload }
+    {
+        Call {
+            pid: 1,
+            abi: self.abi,
+            nr: self.nr,
+            args,
+            payload,
+        }
+    }
+}
+
+/// The first call of a kind of which some call passes.
+pub(crate) fn first_call(world: &World<'_>, kind: CallKind) -> FirstCall
     requires some_passes { lets (launch_of world.now) (meant_kind kind) ≡ true }
-    ensures { result ≡ call_by (launch_of world.now) (meant_kind kind) payload }
+    ensures { result ≡ first_of (launch_of world.now) (meant_kind kind) }
 {
     let line = line_of(world, kind);
-    call_of(line, args_of(kind, line), payload)
-}
-
-/// What the first call for a family carries: the family, where the call is socketcall(2).
-pub(crate) fn socket_payload(world: &World<'_>, family: u32) -> Payload
-    requires some_passes { lets (launch_of world.now) (ForFamily family) ≡ true }
-    ensures { result ≡ socket_payload (launch_of world.now) family }
-{
-    match own_rule(line_of(world, CallKind::ForFamily(family))) {
-        Rule::Known(CallRule::Socketcall) => Payload::Family(family),
-        _ => Payload::Nothing,
+    FirstCall {
+        abi: line.abi,
+        nr: line.number,
+        args: args_of(kind, line),
+        rule: own_rule(line),
     }
 }
 
-/// The call that makes a user namespace, user_namespaces(7).
-pub(crate) fn user_call(world: &World<'_>) -> Call
-    requires some_passes { lets (launch_of world.now) (ForSpace User) ≡ true }
-    ensures { result ≡ user_call (launch_of world.now) }
-{
-    let kind = CallKind::ForNamespace(NamespaceType::User);
-    call_by(world, kind, Payload::Nothing)
-}
-
-// Who is in it: by unshare(2) process 1, else its first child.
-fn pid_inside(world: &World<'_>) -> u32
-    requires some_passes { lets (launch_of world.now) (ForSpace User) ≡ true }
-    ensures { result ≡ pid_inside (launch_of world.now) }
-{
-    match own_rule(line_of(world, CallKind::ForNamespace(NamespaceType::User))) {
-        Rule::Known(CallRule::Unshare) => 1,
-        _ => 2,
-    }
-}
-
-/// The first call of a kind, by the process that is in the user namespace.
-pub(crate) fn call_inside(world: &World<'_>, kind: CallKind, payload: Payload) -> Call
-    requires some_passes { lets (launch_of world.now) (meant_kind kind) ≡ true }
-    requires user_passes { lets (launch_of world.now) (ForSpace User) ≡ true }
-    ensures { result ≡ call_inside (launch_of world.now) (meant_kind kind) payload }
-{
-    let mut call = call_by(world, kind, payload);
-    call.pid = pid_inside(world);
-    call
-}
-
-// The words of a call of the rule that takes the id.
-fn id_words(rule: Rule, id: u32) -> [u64; 6]
+/// The words of a call of the rule that takes the id.
+pub(crate) fn id_words(rule: Rule, id: u32) -> [u64; 6]
     ensures { result ≡ id_words rule id }
 {
     let id = u64::from(id);
@@ -180,8 +166,8 @@ fn id_words(rule: Rule, id: u32) -> [u64; 6]
     }
 }
 
-// And its payload.
-fn id_payload(alloc: Global, rule: Rule, id: u32) -> Made<Payload>
+/// And its payload.
+pub(crate) fn id_payload(alloc: Global, rule: Rule, id: u32) -> Made<Payload>
     ensures { IfOk result (λ payload. payload ≡ id_payload rule id) }
 {
     match rule {
@@ -192,16 +178,4 @@ fn id_payload(alloc: Global, rule: Rule, id: u32) -> Made<Payload>
         }
         _ => Ok(Payload::Nothing),
     }
-}
-
-/// The first call of the kind, by process 1, with words or a payload that take the id.
-pub(crate) fn id_call(alloc: Global, world: &World<'_>, kind: CallKind, id: u32) -> Made<Call>
-    requires some_passes { lets (launch_of world.now) (meant_kind kind) ≡ true }
-    ensures { IfOk result (λ call. let line = line_of (launch_of world.now) (meant_kind kind) in
-        call ≡ id_call (place_of line) (own_rule line) id) }
-{
-    let line = line_of(world, kind);
-    let rule = own_rule(line);
-    let payload = id_payload(alloc, rule, id)?;
-    Ok(call_of(line, id_words(rule, id), payload))
 }

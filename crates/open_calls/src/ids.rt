@@ -11,10 +11,9 @@ ghost use Rattle.reach_paths.specs.Meanings.{meant_power};
 ghost use Rattle.ceilings.specs.Meanings.{meant_kind as call_kind};
 ghost use Rattle.open_calls.specs.Meanings.{asked, gives, is_had, meant_cap, meant_kind, meant_number};
 
-use crate::first::id_call;
 use crate::service::{Made, Service};
-use crate::ways::{CapWay, at_once};
-use ceilings::{CallKind, can_run, launched_process, lets};
+use crate::ways::CapWay;
+use ceilings::{CallKind, can_run, launched_process};
 use kernel_calls::Call;
 use kernel_model::World;
 use linux_numbers::capabilities::{CAP_SETGID, CAP_SETUID, CAP_SYS_ADMIN};
@@ -104,26 +103,36 @@ fn runner<'a>(world: &'a World<'_>, power: Power, kind: IdKind, id: u32) -> Opti
     }
 }
 
-// How the capability is gained on the launched table, where a call that takes the id passes.
-fn cap_way<'a>(world: &'a World<'_>, kind: IdKind) -> Option<CapWay<'a>>
-    requires { IsLaunchedWorld world.now }
-    ensures { let launch = launch_of world.now in
-        option_map meant_cap result ≡ (if lets launch (meant_kind kind) then at_once launch (meant_number kind) else None) }
-{
-    if lets(world, kind.kind()) {
-        at_once(world, kind.cap())
-    } else {
-        None
-    }
-}
-
 impl Service<'_> {
+    // Whether a call passes that takes such an id.
+    fn is_taken(&self, kind: IdKind) -> bool
+        ensures { result ≡ lets (launch_of self.now.world.now) (meant_kind kind) }
+    {
+        match kind {
+            IdKind::User => self.basis.takes_uid,
+            IdKind::Group => self.basis.takes_gid,
+        }
+    }
+
+    // How the capability is gained on the launched table, where such a call passes.
+    fn cap_way(&self, kind: IdKind) -> Option<CapWay<'_>>
+        requires { IsLaunchedWorld self.now.world.now }
+        ensures { let launch = launch_of self.now.world.now in
+            option_map meant_cap result ≡ (if lets launch (meant_kind kind) then at_once launch (meant_number kind) else None) }
+    {
+        if self.is_taken(kind) {
+            self.at_once(kind.cap())
+        } else {
+            None
+        }
+    }
+
     // Adds the call that takes the id.
     fn push_taking(&self, calls: &mut Vec<Call>, kind: IdKind, id: u32) -> Made<()>
         requires some_passes { lets (launch_of self.now.world.now) (meant_kind kind) ≡ true }
         ensures { OnOk result (calls.new.items ≡ calls.old.items ++ taking (launch_of self.now.world.now) (meant_kind kind) id) }
     {
-        calls.push(id_call(self.alloc, self.world, kind.kind(), id)?)?;
+        calls.push(self.id_call(kind.kind(), id)?)?;
         Ok(())
     }
 
@@ -149,7 +158,7 @@ impl Service<'_> {
         ensures { let launch = launch_of self.now.world.now in
             OnOk result (calls.new.items ≡ calls.old.items ++ id_by_cap launch self.now.program.now (meant_kind kind) (meant_number kind) id (gives kind id) (if lets launch (meant_kind kind) then at_once launch (meant_number kind) else None)) }
     {
-        match cap_way(self.world, kind) {
+        match self.cap_way(kind) {
             Some(way) => {
                 self.push_cap(calls, Power::None, way)?;
                 self.push_taking(calls, kind, id)

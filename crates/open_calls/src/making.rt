@@ -9,31 +9,29 @@ ghost use Rattle.kernel_ways.specs.Laws.{IsServedWorld};
 ghost use Rattle.reach_paths.specs.Meanings.{meant_power};
 ghost use Rattle.open_calls.specs.Meanings.{meant_cap, meant_file, meant_gain};
 
-use crate::exposing::{Aim, REMOUNT};
-use crate::first::{call_by, call_of, id_call, line_of};
+use crate::exposing::{Aim, REMOUNT, lead};
 use crate::service::{Made, Service};
-use crate::ways::{CapWay, FileWay, GainWay, gain};
+use crate::ways::{CapWay, FileWay, GainWay};
 use abs_path::AbsPath;
 use ceilings::{CallKind, launched_process};
 use kernel_calls::{Call, Payload};
-use kernel_model::World;
 use questions::Wish;
 use reach_paths::Power;
 use site_table::Row;
 
-// capset(2) of what the row's set and the bounding set have in common.
-fn capset_call(world: &World<'_>, row: &Row) -> Call
-    requires served { IsServedWorld world.now }
-    requires passes { lets (launch_of world.now) SetsCaps ≡ true }
-    ensures { result ≡ capset_call (launch_of world.now) row.now }
-{
-    let creds = &launched_process(world).creds;
-    let common = row.caps.cut(creds.bounding());
-    let payload = Payload::Sets(common, common, creds.inheritable());
-    call_of(line_of(world, CallKind::SetsCaps), [0; 6], payload)
-}
-
 impl Service<'_> {
+    // capset(2) of what the row's set and the bounding set have in common.
+    fn capset_call(&self, row: &Row) -> Call
+        requires served { IsServedWorld self.now.world.now }
+        requires passes { lets (launch_of self.now.world.now) SetsCaps ≡ true }
+        ensures { result ≡ capset_call (launch_of self.now.world.now) row.now }
+    {
+        let creds = &launched_process(self.world).creds;
+        let common = row.caps.cut(creds.bounding());
+        let payload = Payload::Sets(common, common, creds.inheritable());
+        self.first(CallKind::SetsCaps).with([0; 6], payload)
+    }
+
     /// Adds the calls that expose a row that can be run, and execve(2) of it.
     pub(crate) fn push_run(&self, calls: &mut Vec<Call>, power: Power, row: &Row) -> Made<()>
         requires served { IsServedWorld self.now.world.now }
@@ -42,7 +40,14 @@ impl Service<'_> {
         ensures { OnOk result (calls.new.items ≡ calls.old.items ++ run_calls (launch_of self.now.world.now) (meant_power power) row.now) }
     {
         let wish = Wish::Exec;
-        self.push_doing(calls, REMOUNT, &Aim { power, wish, row })
+        let at = lead(self.world, power, wish, row);
+        let aim = Aim {
+            power,
+            wish,
+            row,
+            at,
+        };
+        self.push_doing(calls, REMOUNT, &aim)
     }
 
     // Adds the calls of a way by a file.
@@ -57,7 +62,7 @@ impl Service<'_> {
             FileWay::Run(row) => self.push_run(calls, power, row),
             FileWay::Capset(row) => {
                 self.push_run(calls, power, row)?;
-                calls.push(capset_call(self.world, row))?;
+                calls.push(self.capset_call(row))?;
                 Ok(())
             }
         }
@@ -73,7 +78,13 @@ impl Service<'_> {
             FileWay::Held => self.program.copy(self.alloc),
             FileWay::Run(row) | FileWay::Capset(row) => {
                 let wish = Wish::Exec;
-                self.exposing_path(&Aim { power, wish, row })
+                let at = lead(self.world, power, wish, row);
+                self.exposing_path(&Aim {
+                    power,
+                    wish,
+                    row,
+                    at,
+                })
             }
         }
     }
@@ -84,9 +95,9 @@ impl Service<'_> {
         requires passes { lets (launch_of self.now.world.now) TakesUid ≡ true }
         ensures { OnOk result (calls.new.items ≡ calls.old.items ++ root_call (launch_of self.now.world.now) ∷ run_call (launch_of self.now.world.now) path ∷ []) }
     {
-        calls.push(id_call(self.alloc, self.world, CallKind::TakesUid, 0)?)?;
+        calls.push(self.id_call(CallKind::TakesUid, 0)?)?;
         let kind = CallKind::ForPath(Wish::Exec);
-        calls.push(call_by(self.world, kind, Payload::OnePath(path)))?;
+        calls.push(self.call_by(kind, Payload::OnePath(path)))?;
         Ok(())
     }
 
@@ -128,7 +139,7 @@ impl Service<'_> {
         requires served { IsServedWorld self.now.world.now }
         ensures { OnOk result (calls.new.items ≡ calls.old.items ++ gaining (launch_of self.now.world.now) self.now.program.now cap) }
     {
-        match gain(self.world, self.power, cap) {
+        match self.gain(cap) {
             Some(way) => self.push_gain(calls, way),
             None => Ok(()),
         }

@@ -7,18 +7,18 @@ ghost use Rattle.chosen_calls.specs.Chosen.{calls_for, is_held_off, row_calls, r
 ghost use Rattle.kernel_laws.specs.Bound.{can_reach, is_mounting, is_open, power_of};
 ghost use Rattle.kernel_laws.specs.Launched.{IsLaunchedWorld, launch_of, can_make_user};
 ghost use Rattle.kernel_laws.specs.Questions.{ByPath, ToExec};
-ghost use Rattle.kernel_laws.specs.Reach.{Nowise, reaches};
+ghost use Rattle.kernel_laws.specs.Reach.{Nowise, reach};
 ghost use Rattle.kernel_ways.specs.Laws.{IsServedWorld};
 ghost use Rattle.reach_paths.specs.Meanings.{meant_power, meant_wish};
 
-use crate::exposing::{Aim, REMOUNT, REMOUNT_UNMARKED};
+use crate::exposing::{Aim, REMOUNT, REMOUNT_UNMARKED, lead, number_of, reach_row};
 use crate::service::{Made, Service};
-use ceilings::{is_barred, launched_table};
+use ceilings::is_barred;
 use kernel_calls::Call;
 use kernel_model::World;
 use linux_numbers::capabilities::CAP_SYS_ADMIN;
 use questions::Wish;
-use reach_paths::{Power, reach};
+use reach_paths::Power;
 use site_table::Row;
 
 // The row of this number.
@@ -69,24 +69,42 @@ impl Service<'_> {
         }
     }
 
-    // Adds the calls that execute a row in a user namespace, which execve holds off elsewhere: its bounding set is full,
-    // user_namespaces(7).
-    fn push_held_off(&self, calls: &mut Vec<Call>, near: bool, row: &Row) -> Made<()>
+    // Adds the calls that execute a row in a user namespace, by the entry that leads to it at once, if one does; execve holds it off
+    // elsewhere, and there the bounding set is full, user_namespaces(7).
+    fn push_held_off(&self, calls: &mut Vec<Call>, near: Option<usize>, row: &Row) -> Made<()>
         requires served { IsServedWorld self.now.world.now }
         requires known { row_at self.now.world.now.site.rows row.now.path ≡ Some row.now }
         requires reachable { can_reach (launch_of self.now.world.now) (power_of (launch_of self.now.world.now)) ToExec row.now ≡ true }
         requires by_space { can_make_user (launch_of self.now.world.now) ≡ true }
-        requires at_once { near ≡ reaches Nowise (launch_of self.now.world.now).table row.now.path ToExec }
+        requires at_once { near ≡ reach Nowise (launch_of self.now.world.now).table row.now.path ToExec }
         ensures { OnOk result (calls.new.items ≡ calls.old.items ++ row_inside (launch_of self.now.world.now) self.now.program.now row.now) }
     {
         let wish = Wish::Exec;
-        if near {
+        if near.is_some() {
             let power = Power::None;
-            return self.push_inside(calls, &Aim { power, wish, row });
+            let at = number_of(near);
+            return self.push_inside(
+                calls,
+                &Aim {
+                    power,
+                    wish,
+                    row,
+                    at,
+                },
+            );
         }
         self.push_gaining(calls, CAP_SYS_ADMIN)?;
         let power = self.power;
-        self.push_inside(calls, &Aim { power, wish, row })
+        let at = lead(self.world, power, wish, row);
+        self.push_inside(
+            calls,
+            &Aim {
+                power,
+                wish,
+                row,
+                at,
+            },
+        )
     }
 
     // Adds the calls that do what is wished of a row for which it is open.
@@ -97,16 +115,33 @@ impl Service<'_> {
         ensures { OnOk result (calls.new.items ≡ calls.old.items ++ row_calls (launch_of self.now.world.now) self.now.program.now (meant_wish wish) row.now) }
     {
         let held_off = is_held_off(self.world, wish, row);
-        let near = reach(launched_table(self.world), &row.path, wish, Power::None);
+        let near = reach_row(self.world, Power::None, wish, row);
         if held_off && !can_mount(self.power) {
-            return self.push_held_off(calls, near.is_some(), row);
+            return self.push_held_off(calls, near, row);
         }
         if !held_off && near.is_some() {
             let power = Power::None;
-            return self.push_doing(calls, REMOUNT, &Aim { power, wish, row });
+            let at = number_of(near);
+            return self.push_doing(
+                calls,
+                REMOUNT,
+                &Aim {
+                    power,
+                    wish,
+                    row,
+                    at,
+                },
+            );
         }
         self.push_gaining(calls, CAP_SYS_ADMIN)?;
         let power = self.power;
-        self.push_doing(calls, remount_flags(held_off), &Aim { power, wish, row })
+        let at = lead(self.world, power, wish, row);
+        let aim = Aim {
+            power,
+            wish,
+            row,
+            at,
+        };
+        self.push_doing(calls, remount_flags(held_off), &aim)
     }
 }

@@ -2,12 +2,14 @@
 
 ghost use Rattle.std.specs.Prelude.{◌≡◌, ◌&&◌, find, option_copied, option_map};
 ghost use Rattle.chosen_calls.specs.Gaining.{at_once, at_power, behind_way, by_launch, by_rows, capset_way, gain, gives_at_once, gives_by_capset, takes_root};
-ghost use Rattle.kernel_laws.specs.Bound.{can_run, power_of};
+ghost use Rattle.kernel_laws.specs.Bound.{can_run};
 ghost use Rattle.kernel_laws.specs.Launched.{IsLaunchedWorld, launch_of};
 ghost use Rattle.reach_paths.specs.Meanings.{meant_power};
+ghost use Rattle.open_calls.specs.Bases.{IsBasis};
 ghost use Rattle.open_calls.specs.Meanings.{meant_file, meant_cap, meant_gain};
 
-use ceilings::{CallKind, can_run, launched_process, lets};
+use crate::basis::Basis;
+use ceilings::{can_run, launched_process};
 use kernel_model::World;
 use linux_numbers::capabilities::{CAP_SETUID, CAP_SYS_ADMIN};
 use reach_paths::Power;
@@ -81,12 +83,13 @@ fn setter<'a>(world: &'a World<'_>, power: Power, cap: u8) -> Option<&'a Row>
 }
 
 // By a row and capset, where capset passes.
-fn by_capset<'a>(world: &'a World<'_>, power: Power, cap: u8) -> Option<FileWay<'a>>
-    requires { IsLaunchedWorld world.now }
+fn by_capset<'a>(world: &'a World<'_>, basis: Basis, power: Power, cap: u8) -> Option<FileWay<'a>>
+    requires launched { IsLaunchedWorld world.now }
+    requires its_own { IsBasis (launch_of world.now) basis }
     ensures { let launch = launch_of world.now in
         option_map meant_file result ≡ capset_way launch (meant_power power) cap }
 {
-    if !lets(world, CallKind::SetsCaps) {
+    if !basis.sets_caps {
         return None;
     }
     let row = setter(world, power, cap)?;
@@ -94,8 +97,9 @@ fn by_capset<'a>(world: &'a World<'_>, power: Power, cap: u8) -> Option<FileWay<
 }
 
 // By a row, without no_new_privs.
-fn by_rows<'a>(world: &'a World<'_>, power: Power, cap: u8) -> Option<FileWay<'a>>
-    requires { IsLaunchedWorld world.now }
+fn by_rows<'a>(world: &'a World<'_>, basis: Basis, power: Power, cap: u8) -> Option<FileWay<'a>>
+    requires launched { IsLaunchedWorld world.now }
+    requires its_own { IsBasis (launch_of world.now) basis }
     ensures { option_map meant_file result ≡ by_rows (launch_of world.now) (meant_power power) cap }
 {
     if launched_process(world).creds.no_new_privs() {
@@ -103,77 +107,84 @@ fn by_rows<'a>(world: &'a World<'_>, power: Power, cap: u8) -> Option<FileWay<'a
     }
     match runner(world, power, cap) {
         Some(row) => Some(FileWay::Run(row)),
-        None => by_capset(world, power, cap),
+        None => by_capset(world, basis, power, cap),
     }
 }
 
 // Held at launch, else by a row of the launched table.
-fn by_launch<'a>(world: &'a World<'_>, cap: u8) -> Option<FileWay<'a>>
-    requires { IsLaunchedWorld world.now }
+fn by_launch<'a>(world: &'a World<'_>, basis: Basis, cap: u8) -> Option<FileWay<'a>>
+    requires launched { IsLaunchedWorld world.now }
+    requires its_own { IsBasis (launch_of world.now) basis }
     ensures { option_map meant_file result ≡ by_launch (launch_of world.now) cap }
 {
     if launched_process(world).creds.effective().contains(cap) {
         Some(FileWay::Held)
     } else {
-        by_rows(world, Power::None, cap)
+        by_rows(world, basis, Power::None, cap)
     }
 }
 
 // Whether who takes uid 0 has the capability.
-fn takes_root(world: &World<'_>, cap: u8) -> bool
-    requires { IsLaunchedWorld world.now }
+fn takes_root(world: &World<'_>, basis: Basis, cap: u8) -> bool
+    requires launched { IsLaunchedWorld world.now }
+    requires its_own { IsBasis (launch_of world.now) basis }
     ensures { result ≡ takes_root (launch_of world.now) cap }
 {
     let creds = &launched_process(world).creds;
-    !creds.no_new_privs() && lets(world, CallKind::TakesUid) && creds.bounding().contains(cap)
+    !creds.no_new_privs() && basis.takes_uid && creds.bounding().contains(cap)
 }
 
-/// How the capability is gained on the launched table, if it is.
+// How the capability is gained on the launched table, if it is.
 #[tactic(auto, unfolding(chosen_calls::specs::Gaining::at_once))]
-pub(crate) fn at_once<'a>(world: &'a World<'_>, cap: u8) -> Option<CapWay<'a>>
-    requires { IsLaunchedWorld world.now }
+fn at_once<'a>(world: &'a World<'_>, basis: Basis, cap: u8) -> Option<CapWay<'a>>
+    requires launched { IsLaunchedWorld world.now }
+    requires its_own { IsBasis (launch_of world.now) basis }
     ensures { option_map meant_cap result ≡ at_once (launch_of world.now) cap }
 {
-    match by_launch(world, cap) {
+    match by_launch(world, basis, cap) {
         Some(file) => Some(CapWay::File(file)),
-        None if takes_root(world, cap) => by_launch(world, CAP_SETUID).map(CapWay::Root),
+        None if takes_root(world, basis, cap) => by_launch(world, basis, CAP_SETUID).map(
+            CapWay::Root,
+        ),
         None => None,
     }
 }
 
 // With the launch's power over mount tables.
 #[tactic(auto, unfolding(chosen_calls::specs::Gaining::at_power))]
-fn at_power<'a>(world: &'a World<'_>, power: Power, cap: u8) -> Option<CapWay<'a>>
+fn at_power<'a>(world: &'a World<'_>, basis: Basis, cap: u8) -> Option<CapWay<'a>>
     requires launched { IsLaunchedWorld world.now }
-    requires its_own { meant_power power ≡ power_of (launch_of world.now) }
+    requires its_own { IsBasis (launch_of world.now) basis }
     ensures { option_map meant_cap result ≡ at_power (launch_of world.now) cap }
 {
-    match by_rows(world, power, cap) {
+    match by_rows(world, basis, basis.power, cap) {
         Some(file) => Some(CapWay::File(file)),
-        None if takes_root(world, cap) => by_rows(world, power, CAP_SETUID).map(CapWay::Root),
+        None if takes_root(world, basis, cap) => {
+            by_rows(world, basis, basis.power, CAP_SETUID).map(CapWay::Root)
+        }
         None => None,
     }
 }
 
 // Behind CAP_SYS_ADMIN.
-fn behind<'a>(world: &'a World<'_>, power: Power, cap: u8) -> Option<GainWay<'a>>
+fn behind<'a>(world: &'a World<'_>, basis: Basis, cap: u8) -> Option<GainWay<'a>>
     requires launched { IsLaunchedWorld world.now }
-    requires its_own { meant_power power ≡ power_of (launch_of world.now) }
+    requires its_own { IsBasis (launch_of world.now) basis }
     ensures { option_map meant_gain result ≡ behind_way (launch_of world.now) cap }
 {
-    let admin = at_once(world, CAP_SYS_ADMIN)?;
-    let own = at_power(world, power, cap)?;
+    let admin = at_once(world, basis, CAP_SYS_ADMIN)?;
+    let own = at_power(world, basis, cap)?;
     Some(GainWay::Behind(admin, own))
 }
 
 /// How the capability is gained, if it is: on the launched table, else behind CAP_SYS_ADMIN.
-pub(crate) fn gain<'a>(world: &'a World<'_>, power: Power, cap: u8) -> Option<GainWay<'a>>
+pub(crate) fn gain<'a>(world: &'a World<'_>, basis: Basis, cap: u8) -> Option<GainWay<'a>>
     requires launched { IsLaunchedWorld world.now }
-    requires its_own { meant_power power ≡ power_of (launch_of world.now) }
+    requires its_own { IsBasis (launch_of world.now) basis }
     ensures { option_map meant_gain result ≡ gain (launch_of world.now) cap }
 {
-    match at_once(world, cap) {
+    match at_once(world, basis, cap) {
         Some(own) => Some(GainWay::AtOnce(own)),
-        None => behind(world, power, cap),
+        None => behind(world, basis, cap),
     }
 }

@@ -8,6 +8,7 @@ use Rattle.chosen_calls.specs.Chosen.{calls_for}
 use Rattle.judge.specs.declared.answer.Verdict.TheVariants.{Denied, Open}
 use Rattle.report_text.specs.Answers.{call_line, verdict_line}
 use Rattle.judge_command.specs.Asked.{answer_text, launch_in, world_in}
+use Rattle.judge_command.proofs.Lent.{chosen_for_it, is_served, lists_it, opens_it, runs_it}
 use Rattle.judge_command.proofs.Texts.{denied_text, not_open, open_text, own_line}
 use Rattle.judge_command.proofs.answers.print_answer.Goals as goal
 
@@ -15,6 +16,17 @@ pub verdict_line-line-requires : goal.verdict_line-line-requires
 verdict_line-line-requires g c = record {
   asked = rw (c.call_table-table.ensures.told, c.site_table.ensures.told) c.requires.listed;
 }
+
+pub calls-requires : goal.calls-requires
+calls-requires g c =
+    let asked = c.args.asked.now in
+    let service = c.args.service.now in
+    record {
+      served = is_served asked service c.requires.its_service c.requires.asked;
+      program = runs_it asked service c.requires.its_service c.requires.asked;
+      asked = lists_it asked service c.requires.its_service c.args.question.now c.requires.listed;
+      reachable = opens_it asked service c.requires.its_service c.args.question.now (c.requires.found.0 c.in-Open.is);
+    }
 
 pub returns-in-Denied-clause-takes_the_text : goal.returns-in-Denied-clause-takes_the_text
 returns-in-Denied-clause-takes_the_text g c =
@@ -48,5 +60,5 @@ returns-in_ok-put_line-in-Open-clause-takes_the_text g c =
     (text_then _ _ _ line list c.print_calls.result
     (c.in_ok-put_line-in-Open.ensures.takes_the_line line (own_line asked question c.args.found Open c.call_table-table.result.now c.site_table.result.now c.verdict_line-line.result c.call_table-table.ensures.told c.site_table.ensures.told c.in-Open.is c.verdict_line-line.ensures.tells_the_verdict))
     (text_as (g.K.Sink.taken c.put_line-in-Open.new.out) (g.K.Sink.taken c.print_calls.new.out) (flat_map (call_line c.call_table-table.result.now) c.as_slice.result.now) list c.print_calls.result
-    (ap (λ table. flat_map (call_line table) c.as_slice.result.now) c.call_table-table.ensures.told ∙ ap (flat_map (call_line (world_in asked).calls)) (c.as_slice.ensures.value ∙ c.in-Ok.ensures.the_choice))
+    (ap (λ table. flat_map (call_line table) c.as_slice.result.now) c.call_table-table.ensures.told ∙ ap (flat_map (call_line (world_in asked).calls)) (c.as_slice.ensures.value ∙ c.in-Ok.ensures.the_choice ∙ chosen_for_it asked c.args.service.now c.requires.its_service question))
     c.print_calls.ensures.takes_the_text))

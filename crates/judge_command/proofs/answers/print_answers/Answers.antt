@@ -1,5 +1,7 @@
 use Rattle.std.proofs.Common.{◌+◌, ap₂, arith, get_or, refl, ◌∙◌}
-use Rattle.command_answers.proofs.Texts.{items_cut, items_more, text_at_error}
+use Rattle.std.specs.Prelude.{flat_map}
+use Rattle.command_answers.proofs.Texts.{items_cut, items_more, nothing_taken, text_at_error}
+use Rattle.host_io.specs.declared.writing.SinkError.TheVariants.{Memory}
 use Rattle.judge_command.specs.Asked.{answer_text}
 use Rattle.judge_command.proofs.Counted.{at_most_one, one_more}
 use Rattle.judge_command.proofs.Listed.{is_listed, some_question}
@@ -12,11 +14,15 @@ verdict-found-requires g c = record {
   asked = is_listed c.args.asked.now c.args.list.now c.loop-question.question-index c.loop-question-test.true c.requires.all;
 }
 
+pub of-requires : goal.of-requires
+of-requires g c = record { launched = c.requires.asked.served.launched; its_own_ceiling = c.requires.asked.ceiling }
+
 pub print_answer-requires : goal.print_answer-requires
 print_answer-requires g c = record {
   asked = c.requires.asked;
   listed = is_listed c.args.asked.now c.args.list.now c.loop-question.question-index c.loop-question-test.true c.requires.all;
   found = c.verdict-found.ensures.by_the_rule;
+  its_service = c.in-Ok.ensures.of_the_launch;
 }
 
 pub loop-question-preserved : goal.loop-question-preserved
@@ -35,3 +41,6 @@ pub returns-in_err-print_answer-clause-takes_the_text : goal.returns-in_err-prin
 returns-in_err-print_answer-clause-takes_the_text g c =
     text_at_error _ _ _ c.in_err-print_answer.field-0.0 c.from_residual.result c.from_residual.ensures.0
     (items_cut (answer_text c.args.asked.now) c.args.list.now c.loop-question.question-index some_question (get_or c.args.list.now c.loop-question.question-index some_question) _ _ _ c.in_err-print_answer.field-0.0 c.loop-question-test.true refl c.loop-question.invariant.taken c.in_err-print_answer.ensures.takes_the_text)
+
+pub returns-in_default-clause-takes_the_text : goal.returns-in_default-clause-takes_the_text
+returns-in_default-clause-takes_the_text g c = nothing_taken (g.K.Sink.taken c.args.out.now) (flat_map (answer_text c.args.asked.now) c.args.list.now) Memory

@@ -1,9 +1,9 @@
 use Rattle.std.proofs.Common.{◌≡◌, ◌≤◌, ◌++◌}
-use Rattle.kernel_ways.specs.Ways.{place_of}
 use Rattle.kern_mounts.specs.Mounts.{steps_of}
+use Rattle.open_calls.specs.Firsts.{place_in}
 use Rattle.open_calls.proofs.Uncovering.{calls_from}
 use Rattle.open_calls.proofs.exposing.push_uncovering.Given as goal
 
 -- the calls for the entries from this number on
 abbrev pub invariant-loop-at : goal.invariant-loop-at
-invariant-loop-at l = (l.from ≤ l.at) × (l.calls.items ≡ l.initial.calls.items ++ calls_from (place_of l.line) l.path (steps_of l.table) l.at)
+invariant-loop-at l = (l.from ≤ l.at) × (l.calls.items ≡ l.initial.calls.items ++ calls_from (place_in l.first) l.path (steps_of l.table) l.at)

@@ -13,5 +13,5 @@ below_proc-requires c =
 pub shown_at-requires : goal.shown_at-requires
 shown_at-requires c =
     let weak : (meant_power c.args.aim.now.power ≡ Nowise) ⊎ (meant_power c.args.aim.now.power ≡ Unmounting) = elim c.in-None.is [ inl e ↦ inl (ap meant_power e) | inr e ↦ inr (ap meant_power e) ] in
-    let x = leads_by c.args.self.now.world.now c.requires.served c.args.aim.now.row.now c.requires.aimed.known (meant_wish c.args.aim.now.wish) (meant_power c.args.aim.now.power) weak c.requires.aimed.reached (steps_of c.launched_table.result.now) c.lead-at.result c.launched_table.ensures.its_own c.lead-at.ensures.first in
+    let x = leads_by c.args.self.now.world.now c.requires.served c.args.aim.now.row.now c.requires.aimed.known (meant_wish c.args.aim.now.wish) (meant_power c.args.aim.now.power) weak c.requires.aimed.reached (steps_of c.launched_table.result.now) c.args.aim.now.at c.launched_table.ensures.its_own c.requires.aimed.number in
     record { in_range = x.in_range; leads = x.leads }

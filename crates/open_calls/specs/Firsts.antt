@@ -1,0 +1,55 @@
+-- The first call of a kind, which of them a service keeps, and the ways that it keeps.
+use Rattle.std.specs.Prelude.{◌≡◌, ℕ, List, Option, Some, slice_get, option_map, IfSome}
+use Rattle.call_table.specs.declared.listed.CallLine.{CallLine}
+use Rattle.chosen_calls.specs.First.{args_of, line_of, own_rule}
+use Rattle.chosen_calls.specs.Gaining.{gain}
+use Rattle.kernel_calls.specs.declared.call.Call.{Call}
+use Rattle.kernel_calls.specs.declared.payload.Payload.{Payload}
+use Rattle.kernel_laws.specs.Kinds.{Kind, ForPath, ChangesMounts, RemovesMounts, SetsCaps, TakesUid, TakesGid}
+use Rattle.kernel_laws.specs.Launched.{Launch}
+use Rattle.kernel_laws.specs.Questions.{ToSee, ToRead, ToWrite, ToExec}
+use Rattle.kernel_ways.specs.Ways.{CallAt}
+use Rattle.open_calls.specs.Meanings.{meant_gain}
+use Rattle.open_calls.specs.declared.first.FirstCall.{FirstCall}
+use Rattle.open_calls.specs.declared.firsts.Firsts.{Firsts}
+use Rattle.open_calls.specs.declared.gains.Gained.{Gained}
+use Rattle.open_calls.specs.declared.ways.GainWay.{GainWay}
+use Rattle.open_calls.specs.declared.gains.Gained.TheVariants.{Unasked, Found}
+
+-- the call of a line, with the words that ask for the kind and with its rule
+abbrev pub first_as : Kind → CallLine → FirstCall
+first_as kind line = record { abi = line.abi; nr = line.number; args = args_of kind line; rule = own_rule line }
+
+abbrev pub first_of : Launch → Kind → FirstCall
+first_of launch kind = first_as kind (line_of launch kind)
+
+-- where it stands
+abbrev pub place_in : FirstCall → CallAt
+place_in first = record { abi = first.abi; nr = first.nr }
+
+-- the call by process 1
+abbrev pub call_as : FirstCall → List ℕ → Payload → Call
+call_as first args payload = record { pid = 1; abi = first.abi; nr = first.nr; args = args; payload = payload }
+
+-- what is kept is the first call of its kind
+abbrev pub IsFirst : Launch → Kind → Option FirstCall → Type 0
+IsFirst launch kind kept = IfSome kept (λ first. first ≡ first_of launch kind)
+
+pub record AreFirsts (launch : Launch) (firsts : Firsts) : Type 0 where
+  pub see : IsFirst launch (ForPath ToSee) firsts.see
+  pub read : IsFirst launch (ForPath ToRead) firsts.read
+  pub write : IsFirst launch (ForPath ToWrite) firsts.write
+  pub exec : IsFirst launch (ForPath ToExec) firsts.exec
+  pub mount : IsFirst launch ChangesMounts firsts.mount
+  pub unmount : IsFirst launch RemovesMounts firsts.unmount
+  pub capset : IsFirst launch SetsCaps firsts.capset
+  pub uid : IsFirst launch TakesUid firsts.uid
+  pub gid : IsFirst launch TakesGid firsts.gid
+
+-- what is kept of a capability is how it is gained
+abbrev pub IsGained : Launch → ℕ → Gained → Type 0
+IsGained launch number Unasked = Unit {0}
+IsGained launch number (Found way) = option_map meant_gain way ≡ gain launch number
+
+abbrev pub AreGained : Launch → List Gained → Type 0
+AreGained launch list = (number : ℕ) (way : Option GainWay) → slice_get list number ≡ Some (Found way) → option_map meant_gain way ≡ gain launch number

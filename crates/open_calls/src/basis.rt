@@ -1,0 +1,36 @@
+//! What ways are found by: the power over mount tables, and which calls pass.
+
+ghost use Rattle.std.specs.Prelude.{◌≡◌};
+ghost use Rattle.kernel_laws.specs.Launched.{launch_of};
+ghost use Rattle.ceilings.specs.Own.{IsCeilingOf};
+ghost use Rattle.open_calls.specs.Bases.{IsBasis};
+
+use ceilings::{CallKind, Ceiling, lets};
+use kernel_model::World;
+use reach_paths::Power;
+
+/// What is known of a launched service before any way is found.
+#[derive(Clone, Copy)]
+pub(crate) struct Basis {
+    // its own power over mount tables, mount(2), umount2(2)
+    pub(crate) power: Power,
+    // whether capset(2) passes, some call that takes a uid, and some call that takes a gid
+    pub(crate) sets_caps: bool,
+    pub(crate) takes_uid: bool,
+    pub(crate) takes_gid: bool,
+}
+
+impl Basis {
+    /// That of a launched service, by its own ceiling.
+    pub(crate) fn of(world: &World<'_>, top: &Ceiling) -> Basis
+        requires its_own { IsCeilingOf (launch_of world.now) top.now }
+        ensures { IsBasis (launch_of world.now) result }
+    {
+        Basis {
+            power: top.power,
+            sets_caps: lets(world, CallKind::SetsCaps),
+            takes_uid: lets(world, CallKind::TakesUid),
+            takes_gid: lets(world, CallKind::TakesGid),
+        }
+    }
+}

@@ -1,0 +1,176 @@
+//! The first calls of the kinds that are asked for often, kept; and the first call of every kind.
+
+ghost use Rattle.std.specs.Prelude.{◌≡◌, true, IfOk};
+ghost use Rattle.chosen_calls.specs.Chosen.{call_inside, pid_inside, user_call, socket_payload};
+ghost use Rattle.chosen_calls.specs.First.{call_by, line_of, own_rule};
+ghost use Rattle.kernel_laws.specs.Kinds.{ForSpace, ForFamily};
+ghost use Rattle.kernel_laws.specs.Launched.{Launch, launch_of, lets};
+ghost use Rattle.kernel_laws.specs.Questions.{User};
+ghost use Rattle.kernel_ways.specs.Taking.{id_call};
+ghost use Rattle.kernel_ways.specs.Ways.{place_of};
+ghost use Rattle.ceilings.specs.Meanings.{meant_kind};
+ghost use Rattle.ceilings.specs.Own.{IsCeilingOf};
+ghost use Rattle.open_calls.specs.Bases.{IsBasis};
+ghost use Rattle.open_calls.specs.Firsts.{AreFirsts, IsFirst, first_of};
+
+use crate::basis::Basis;
+use crate::first::{FirstCall, first_call, id_payload, id_words};
+use crate::service::{Made, Service};
+use call_names::CallRule;
+use ceilings::{CallKind, Ceiling, lets};
+use kernel_calls::{Call, Payload, Rule};
+use kernel_model::World;
+use questions::{NamespaceType, Wish};
+
+/// The first calls of some kinds; None where none passes.
+#[derive(Clone, Copy)]
+pub(crate) struct Firsts {
+    // stat(2) and its like, open(2), open(2) and execve(2)
+    pub(crate) see: Option<FirstCall>,
+    pub(crate) read: Option<FirstCall>,
+    pub(crate) write: Option<FirstCall>,
+    pub(crate) exec: Option<FirstCall>,
+    // mount(2), umount2(2)
+    pub(crate) mount: Option<FirstCall>,
+    pub(crate) unmount: Option<FirstCall>,
+    // capset(2)
+    pub(crate) capset: Option<FirstCall>,
+    // setuid(2), setgid(2) and their like
+    pub(crate) uid: Option<FirstCall>,
+    pub(crate) gid: Option<FirstCall>,
+}
+
+// The first call of a kind, if some passes.
+fn first_if(world: &World<'_>, kind: CallKind, passes: bool) -> Option<FirstCall>
+    requires known { passes ≡ lets (launch_of world.now) (meant_kind kind) }
+    ensures { IsFirst (launch_of world.now) (meant_kind kind) result }
+{
+    if passes {
+        Some(first_call(world, kind))
+    } else {
+        None
+    }
+}
+
+impl Firsts {
+    /// Those of a service, by its own ceiling.
+    pub(crate) fn of(world: &World<'_>, top: &Ceiling, basis: Basis) -> Firsts
+        requires its_own { IsCeilingOf (launch_of world.now) top.now }
+        requires its_basis { IsBasis (launch_of world.now) basis }
+        ensures { AreFirsts (launch_of world.now) result }
+    {
+        let paths = top.paths;
+        Firsts {
+            see: first_if(world, CallKind::ForPath(Wish::See), paths.see),
+            read: first_if(world, CallKind::ForPath(Wish::Read), paths.read),
+            write: first_if(world, CallKind::ForPath(Wish::Write), paths.write),
+            exec: first_if(world, CallKind::ForPath(Wish::Exec), paths.exec),
+            mount: first_if(
+                world,
+                CallKind::ChangesMounts,
+                lets(world, CallKind::ChangesMounts),
+            ),
+            unmount: first_if(
+                world,
+                CallKind::RemovesMounts,
+                lets(world, CallKind::RemovesMounts),
+            ),
+            capset: first_if(world, CallKind::SetsCaps, basis.sets_caps),
+            uid: first_if(world, CallKind::TakesUid, basis.takes_uid),
+            gid: first_if(world, CallKind::TakesGid, basis.takes_gid),
+        }
+    }
+
+    // That of the kind, if it is kept.
+    fn kept(&self, kind: CallKind) -> Option<FirstCall>
+        ensures { (launch : Launch) → AreFirsts launch self.now → IsFirst launch (meant_kind kind) result }
+    {
+        match kind {
+            CallKind::ForPath(Wish::See) => self.see,
+            CallKind::ForPath(Wish::Read) => self.read,
+            CallKind::ForPath(Wish::Write) => self.write,
+            CallKind::ForPath(Wish::Exec) => self.exec,
+            CallKind::ChangesMounts => self.mount,
+            CallKind::RemovesMounts => self.unmount,
+            CallKind::SetsCaps => self.capset,
+            CallKind::TakesUid => self.uid,
+            CallKind::TakesGid => self.gid,
+            _ => None,
+        }
+    }
+}
+
+impl Service<'_> {
+    /// The first call of a kind.
+    pub(crate) fn first(&self, kind: CallKind) -> FirstCall
+        requires some_passes { lets (launch_of self.now.world.now) (meant_kind kind) ≡ true }
+        ensures { result ≡ first_of (launch_of self.now.world.now) (meant_kind kind) }
+    {
+        match self.firsts.kept(kind) {
+            Some(first) => first,
+            None => first_call(self.world, kind),
+        }
+    }
+
+    /// The first call of a kind, by process 1, with the words that ask for it.
+    pub(crate) fn call_by(&self, kind: CallKind, payload: Payload) -> Call
+        requires some_passes { lets (launch_of self.now.world.now) (meant_kind kind) ≡ true }
+        ensures { result ≡ call_by (launch_of self.now.world.now) (meant_kind kind) payload }
+    {
+        let first = self.first(kind);
+        first.with(first.args, payload)
+    }
+
+    /// What the first call for a family carries: the family, where the call is socketcall(2).
+    pub(crate) fn socket_payload(&self, family: u32) -> Payload
+        requires some_passes { lets (launch_of self.now.world.now) (ForFamily family) ≡ true }
+        ensures { result ≡ socket_payload (launch_of self.now.world.now) family }
+    {
+        match self.first(CallKind::ForFamily(family)).rule {
+            Rule::Known(CallRule::Socketcall) => Payload::Family(family),
+            _ => Payload::Nothing,
+        }
+    }
+
+    /// The call that makes a user namespace, user_namespaces(7).
+    pub(crate) fn user_call(&self) -> Call
+        requires some_passes { lets (launch_of self.now.world.now) (ForSpace User) ≡ true }
+        ensures { result ≡ user_call (launch_of self.now.world.now) }
+    {
+        let kind = CallKind::ForNamespace(NamespaceType::User);
+        self.call_by(kind, Payload::Nothing)
+    }
+
+    // Who is in it: by unshare(2) process 1, else its first child.
+    fn pid_inside(&self) -> u32
+        requires some_passes { lets (launch_of self.now.world.now) (ForSpace User) ≡ true }
+        ensures { result ≡ pid_inside (launch_of self.now.world.now) }
+    {
+        match self.first(CallKind::ForNamespace(NamespaceType::User)).rule {
+            Rule::Known(CallRule::Unshare) => 1,
+            _ => 2,
+        }
+    }
+
+    /// The first call of a kind, by the process that is in the user namespace.
+    pub(crate) fn call_inside(&self, kind: CallKind, payload: Payload) -> Call
+        requires some_passes { lets (launch_of self.now.world.now) (meant_kind kind) ≡ true }
+        requires user_passes { lets (launch_of self.now.world.now) (ForSpace User) ≡ true }
+        ensures { result ≡ call_inside (launch_of self.now.world.now) (meant_kind kind) payload }
+    {
+        let mut call = self.call_by(kind, payload);
+        call.pid = self.pid_inside();
+        call
+    }
+
+    /// The first call of the kind, by process 1, with words or a payload that take the id.
+    pub(crate) fn id_call(&self, kind: CallKind, id: u32) -> Made<Call>
+        requires some_passes { lets (launch_of self.now.world.now) (meant_kind kind) ≡ true }
+        ensures { IfOk result (λ call. let line = line_of (launch_of self.now.world.now) (meant_kind kind) in
+            call ≡ id_call (place_of line) (own_rule line) id) }
+    {
+        let first = self.first(kind);
+        let payload = id_payload(self.alloc, first.rule, id)?;
+        Ok(first.with(id_words(first.rule, id), payload))
+    }
+}
