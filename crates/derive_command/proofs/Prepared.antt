@@ -1,5 +1,5 @@
 -- What is ready, and the line of a refusal, are what the definitions admit.
-use Rattle.std.proofs.Common.{◌≡◌, ◌≢◌, ◌∙◌, ℕ, Option, Some, None, List, [], ◌∷◌, ◌++◌, Result, Ok, Err, Vec, Global, refl, sym, ap, subst, inl, inr}
+use Rattle.std.proofs.Common.{◌≡◌, ◌∙◌, ℕ, Option, Some, None, List, [], ◌∷◌, Result, Ok, Err, Vec, Global, refl, sym, ap, subst, inl, inr}
 use Rattle.std.specs.Prelude.{◌⊎◌, IfOk, IfSome, IsErrOf, IsSome, IsTrue, option_map}
 use Rattle.std.specs.declared.alloc.AllocError.{AllocError}
 use Rattle.host_io.specs.Files.{Files}
@@ -26,7 +26,8 @@ use Rattle.path_settings.specs.declared.mentions.Mention.{Mention}
 use Rattle.view_map.specs.Kept.{Refusal, kept_of}
 use Rattle.plan_command.specs.Refusals.{error_line, plan_line}
 use Rattle.replay_command.specs.Scripts.{script_in}
-use Rattle.trace_profile.specs.Derived.{Derives, IsDerived}
+use Rattle.trace_profile.specs.Derived.{IsDerived, IsOnlyOne}
+use Rattle.trace_profile.specs.PlainNames.{HasPlainNames}
 use Rattle.trace_profile.specs.Extended.{drop_in_text, open_unit}
 use Rattle.trace_profile.specs.Launching.{IsRefusedUnit, RefusesPath}
 use Rattle.trace_profile.specs.Scripts.{first_seccomp}
@@ -43,7 +44,9 @@ use Rattle.derive_command.specs.Prints.{PrintsAnswer, PrintsDerived, derived, re
 use Rattle.dropin_merge.specs.declared.resolved.Resolved.{Resolved}
 use Rattle.site_table.specs.Table.{Site}
 use Rattle.derive_command.specs.Refusals.{derive_refusals, given, refusals_behind, refusals_behind_script, refusals_by_script, seccomp_line}
+use Rattle.derive_command.specs.Telling.{AnswersCalls, allowed, not_launched}
 use Rattle.derive_command.specs.declared.answering.Allowing.{Allowing}
+use Rattle.derive_command.proofs.PlainInputs.{inputs_are_plain}
 
 -- ---- behind the script
 -- the line of the first refusal stops
@@ -91,21 +94,27 @@ module _ (unit path : List ℕ) (inputs : Inputs) (script : List Call) where
 
   -- the list is derived
   pub answers_derived : (names : List ℕ) (allowing : Allowing) → first_seccomp inputs.calls script ≡ None → IsDerived inputs.unit inputs.calls inputs.site script names
+      → (HasPlainNames inputs.calls → IsOnlyOne inputs.unit inputs.calls inputs.site script names)
       → allowing.text.items ≡ drop_in_text inputs.calls names → allowing.ending ≡ Done
-      → (first_refusal (refusals_behind_script unit path inputs script) ≡ None) × PrintsAnswer inputs script (ending_of allowing) (text_of allowing)
-  answers_derived names allowing none is text ending = (
+      → (first_refusal (refusals_behind_script unit path inputs script) ≡ None) × AnswersCalls inputs script (ending_of allowing) (text_of allowing)
+  answers_derived names allowing none is only text ending = (
     none_refused is.opened.plan none is.opened.accepted is.opened.is_plan,
-    subst (λ e. PrintsAnswer inputs script e (text_of allowing)) (sym ending) (subst (PrintsAnswer inputs script Done) (sym text) (derived names is)),
+    subst (λ e. AnswersCalls inputs script e (text_of allowing)) (sym ending) (subst (AnswersCalls inputs script Done) (sym text) (allowed names is only)),
   )
 
   -- the launch is refused
   pub answers_refused : (refusal : LaunchRefusal) (allowing : Allowing) → first_seccomp inputs.calls script ≡ None → IsRefusedUnit (open_unit inputs.unit inputs.calls) inputs.calls inputs.site refusal
       → allowing.text.items ≡ refusal_line refusal → allowing.ending ≡ LaunchRefused
-      → (first_refusal (refusals_behind_script unit path inputs script) ≡ None) × PrintsAnswer inputs script (ending_of allowing) (text_of allowing)
+      → (first_refusal (refusals_behind_script unit path inputs script) ≡ None) × AnswersCalls inputs script (ending_of allowing) (text_of allowing)
   answers_refused refusal allowing none is text ending = (
     none_refused is.plan none is.accepted is.is_plan,
-    subst (λ e. PrintsAnswer inputs script e (text_of allowing)) (sym ending) (subst (PrintsAnswer inputs script LaunchRefused) (sym text) (refused refusal is)),
+    subst (λ e. AnswersCalls inputs script e (text_of allowing)) (sym ending) (subst (AnswersCalls inputs script LaunchRefused) (sym text) (not_launched refusal is)),
   )
+
+-- what answers over a table with plain names is printed
+printed_answer : (inputs : Inputs) (script : List Call) → HasPlainNames inputs.calls → (ending : Ending) (text : List ℕ) → AnswersCalls inputs script ending text → PrintsAnswer inputs script ending text
+printed_answer inputs script plain _ _ (allowed names is only) = derived names is (only plain)
+printed_answer inputs script plain _ _ (not_launched refusal is) = refused refusal is
 
 -- ---- the whole
 -- the inputs, as their parts are lent
@@ -175,18 +184,18 @@ module _ (told now : Option Files) (unit path : List ℕ) (inputs : UnitInputs) 
       ∙ ap (λ one. first_refusal (refusals_by_script unit path (inputs_view inputs) one)) (script_is files e)
 
   -- what is answered is admitted
-  admitted : (result : Result Allowing Stop) → Prepares (λ allowing. PrintsAnswer (inputs_view inputs) script (ending_of allowing) (text_of allowing)) (refusals_behind_script unit path (inputs_view inputs) script) result
+  admitted : (result : Result Allowing Stop) → Prepares (λ allowing. AnswersCalls (inputs_view inputs) script (ending_of allowing) (text_of allowing)) (refusals_behind_script unit path (inputs_view inputs) script) result
       → IsAdmitted (laws_over told (derive_laws unit path)) ending_of text_of result
-  admitted (Err stop) answers = stop_is_admitted (derive_laws unit path) ending_of text_of (λ allowing. PrintsAnswer (inputs_view inputs) script (ending_of allowing) (text_of allowing)) told stop (at_stop told refl)
+  admitted (Err stop) answers = stop_is_admitted (derive_laws unit path) ending_of text_of (λ allowing. AnswersCalls (inputs_view inputs) script (ending_of allowing) (text_of allowing)) told stop (at_stop told refl)
     where
-      at_stop : (own : Option Files) → told ≡ own → IfSome own (λ files. Prepares (λ allowing. PrintsAnswer (inputs_view inputs) script (ending_of allowing) (text_of allowing)) (derive_refusals files unit path) (Err stop))
+      at_stop : (own : Option Files) → told ≡ own → IfSome own (λ files. Prepares (λ allowing. AnswersCalls (inputs_view inputs) script (ending_of allowing) (text_of allowing)) (derive_refusals files unit path) (Err stop))
       at_stop None e = tt
-      at_stop (Some files) e = stops_as (λ allowing. PrintsAnswer (inputs_view inputs) script (ending_of allowing) (text_of allowing)) stop (refusals_behind_script unit path (inputs_view inputs) script) (derive_refusals files unit path) (behind_script files e) answers
+      at_stop (Some files) e = stops_as (λ allowing. AnswersCalls (inputs_view inputs) script (ending_of allowing) (text_of allowing)) stop (refusals_behind_script unit path (inputs_view inputs) script) (derive_refusals files unit path) (behind_script files e) answers
   admitted (Ok allowing) answers = ready_is_admitted (derive_laws unit path) ending_of text_of told allowing (ends_so (ending_of allowing) (text_of allowing) answers.1) (printed told refl)
     where
-      ends_so : (ending : Ending) (text : List ℕ) → PrintsAnswer (inputs_view inputs) script ending text → (ending ≡ Done) ⊎ (ending ≡ LaunchRefused)
-      ends_so _ _ (derived names is) = inl refl
-      ends_so _ _ (refused refusal is) = inr refl
+      ends_so : (ending : Ending) (text : List ℕ) → AnswersCalls (inputs_view inputs) script ending text → (ending ≡ Done) ⊎ (ending ≡ LaunchRefused)
+      ends_so _ _ (allowed names is only) = inl refl
+      ends_so _ _ (not_launched refusal is) = inr refl
 
       printed : (own : Option Files) → told ≡ own → IfSome own (λ files. AcceptsFiles (derive_laws unit path) files × PrintsDerived files unit path (ending_of allowing) (text_of allowing))
       printed None e = tt
@@ -197,18 +206,18 @@ module _ (told now : Option Files) (unit path : List ℕ) (inputs : UnitInputs) 
           inputs_are = (read_is files e).1;
           script = script;
           script_is = script_is files e;
-          is_the_answer = answers.1;
+          is_the_answer = printed_answer (inputs_view inputs) script (inputs_are_plain files unit (inputs_view inputs) (read_is files e).1) (ending_of allowing) (text_of allowing) answers.1;
         },
       )
 
   -- also where the inputs are lent
   pub admitted_as : (own : Inputs) (lent : List Call) (result : Result Allowing Stop) → own ≡ inputs_view inputs → lent ≡ script
-      → Prepares (λ allowing. PrintsAnswer own lent (ending_of allowing) (text_of allowing)) (refusals_behind_script unit path own lent) result
+      → Prepares (λ allowing. AnswersCalls own lent (ending_of allowing) (text_of allowing)) (refusals_behind_script unit path own lent) result
       → IsAdmitted (laws_over told (derive_laws unit path)) ending_of text_of result
   admitted_as own lent result is lends answers =
       admitted result
-      (subst (λ these. Prepares (λ allowing. PrintsAnswer (inputs_view inputs) these (ending_of allowing) (text_of allowing)) (refusals_behind_script unit path (inputs_view inputs) these) result) lends
-      (subst (λ these. Prepares (λ allowing. PrintsAnswer these lent (ending_of allowing) (text_of allowing)) (refusals_behind_script unit path these lent) result) is answers))
+      (subst (λ these. Prepares (λ allowing. AnswersCalls (inputs_view inputs) these (ending_of allowing) (text_of allowing)) (refusals_behind_script unit path (inputs_view inputs) these) result) lends
+      (subst (λ these. Prepares (λ allowing. AnswersCalls these lent (ending_of allowing) (text_of allowing)) (refusals_behind_script unit path these lent) result) is answers))
 
 pub named : {X : Type 0} (found : Option X) (name : X) → found ≡ Some name → IsSome found
 named None name is = cc

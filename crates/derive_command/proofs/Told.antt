@@ -1,11 +1,10 @@
 -- What is told, and what that answers.
-use Rattle.std.proofs.Common.{◌≡◌, ◌∙◌, ℕ, List, None, Some, Result, Ok, Err, Vec, Global, refl, sym, ap, subst}
-use Rattle.std.specs.Prelude.{IfOk, IsErrOf}
-use Rattle.std.specs.declared.alloc.AllocError.{AllocError}
+use Rattle.std.proofs.Common.{◌≡◌, ◌∙◌, ℕ, List, Some, Result, Ok, Err, sym, ap}
+use Rattle.std.specs.Prelude.{IsErrOf}
 use Rattle.call_table.specs.Table.{Table}
 use Rattle.dropin_merge.specs.declared.resolved.Resolved.{Resolved}
 use Rattle.kernel_calls.specs.declared.call.Call.{Call}
-use Rattle.command_answers.specs.Stops.{Prepares, first_refusal, stop_of}
+use Rattle.command_answers.specs.Stops.{Prepares, first_refusal}
 use Rattle.command_answers.specs.declared.ending.Ending.{Ending}
 use Rattle.command_answers.specs.declared.ending.Ending.TheVariants.{Done, LaunchRefused}
 use Rattle.command_answers.specs.declared.stop.Stop.{Stop}
@@ -16,9 +15,9 @@ use Rattle.trace_profile.specs.Extended.{drop_in_text}
 use Rattle.trace_profile.specs.declared.derived.DeriveError.{DeriveError}
 use Rattle.trace_profile.specs.declared.derived.DeriveError.TheVariants.{Seccomp, Settings, Plan, Launch, Memory}
 use Rattle.trace_profile.specs.declared.derived.Derived.{Derived}
-use Rattle.derive_command.specs.Prints.{PrintsAnswer, ending_of, text_of}
+use Rattle.derive_command.specs.Prints.{ending_of, text_of}
 use Rattle.derive_command.specs.Refusals.{given, refusals_behind_script}
-use Rattle.derive_command.specs.Telling.{IsOutOfMemory, IsReady, StopsWith, Tells}
+use Rattle.derive_command.specs.Telling.{AnswersCalls, IsOutOfMemory, IsReady, StopsWith, Tells}
 use Rattle.derive_command.specs.declared.answering.Allowing.{Allowing}
 use Rattle.derive_command.proofs.Prepared.{answers_derived, answers_refused, at_paths, at_seccomp, at_settings}
 
@@ -50,7 +49,7 @@ telling_reads_nothing name path Memory result tells = out_reads_nothing result t
 
 module _ (name path : List ℕ) (unit : Resolved) (table : Table) (site : Site) (script : List Call) where
   abbrev Answers : Result Allowing Stop → Type 0
-  Answers result = Prepares (λ made. PrintsAnswer (given unit table site) script (ending_of made) (text_of made)) (refusals_behind_script name path (given unit table site) script) result
+  Answers result = Prepares (λ made. AnswersCalls (given unit table site) script (ending_of made) (text_of made)) (refusals_behind_script name path (given unit table site) script) result
 
   -- a line that is the first refusal answers
   by_line : (line : List ℕ) (result : Result Allowing Stop) → first_refusal (refusals_behind_script name path (given unit table site) script) ≡ Some line → StopsWith line result → Answers result
@@ -78,7 +77,7 @@ module _ (name path : List ℕ) (unit : Resolved) (table : Table) (site : Site) 
 
   -- and so does the drop-in of what is derived
   pub derived_answers : (derived : Derived) (lent : List ℕ) (result : Result Allowing Stop) → Derives unit table site script (Ok derived) → lent ≡ derived.names → IsReady (drop_in_text table lent) Done result → Answers result
-  derived_answers derived lent (Ok allowing) derives lends ready = answers_derived name path (given unit table site) script derived.names allowing derives.0 derives.1 (ready.0 ∙ ap (drop_in_text table) lends) ready.1
+  derived_answers derived lent (Ok allowing) derives lends ready = answers_derived name path (given unit table site) script derived.names allowing derives.0 derives.1 derives.2 (ready.0 ∙ ap (drop_in_text table) lends) ready.1
   derived_answers derived lent (Err (stop.Refused told)) derives lends ready = absurd ready
   derived_answers derived lent (Err stop.ReadFault) derives lends ready = tt
   derived_answers derived lent (Err stop.Memory) derives lends ready = tt

@@ -6,7 +6,7 @@ use Rattle.command_answers.specs.Laws.{FileLaws}
 use Rattle.command_answers.specs.declared.ending.Ending.{Ending}
 use Rattle.command_answers.specs.declared.ending.Ending.TheVariants.{Done, LaunchRefused}
 use Rattle.replay_command.specs.Scripts.{script_in}
-use Rattle.trace_profile.specs.Derived.{IsDerived}
+use Rattle.trace_profile.specs.Derived.{IsDerived, IsOnlyOne}
 use Rattle.trace_profile.specs.Extended.{drop_in_text, open_unit}
 use Rattle.trace_profile.specs.Launching.{IsRefusedUnit}
 use Rattle.unit_inputs.specs.Inputs.{Inputs, inputs_of}
@@ -16,9 +16,10 @@ use Rattle.unit_names.specs.Cutting.{name_of}
 use Rattle.derive_command.specs.Refusals.{derive_refusals}
 use Rattle.derive_command.specs.declared.answering.Allowing.{Allowing}
 
--- the drop-in that allows the least list; or the line of the launch that is refused though every call is allowed
+-- the drop-in that allows the least list, which is the only one; or the line of the launch that is refused though every call is allowed
 pub data PrintsAnswer (inputs : Inputs) (script : List Call) : Ending → List ℕ → Type 0 where
-  derived : (names : List ℕ) → IsDerived inputs.unit inputs.calls inputs.site script names → PrintsAnswer inputs script Done (drop_in_text inputs.calls names)
+  derived : (names : List ℕ) → IsDerived inputs.unit inputs.calls inputs.site script names → IsOnlyOne inputs.unit inputs.calls inputs.site script names
+      → PrintsAnswer inputs script Done (drop_in_text inputs.calls names)
   refused : (refusal : LaunchRefusal) → IsRefusedUnit (open_unit inputs.unit inputs.calls) inputs.calls inputs.site refusal → PrintsAnswer inputs script LaunchRefused (refusal_line refusal)
 
 -- the inputs of the unit and the script, as the table of calls reads it, and what is derived from them

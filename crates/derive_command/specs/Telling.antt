@@ -1,13 +1,20 @@
 -- What is told of a list that is derived, and of why none is; want of memory tells nothing.
 use Rattle.std.specs.Prelude.{◌≡◌, ℕ, List, Result, Ok, Err}
+use Rattle.kernel_calls.specs.declared.call.Call.{Call}
 use Rattle.command_answers.specs.declared.ending.Ending.{Ending}
-use Rattle.command_answers.specs.declared.ending.Ending.TheVariants.{LaunchRefused}
+use Rattle.command_answers.specs.declared.ending.Ending.TheVariants.{Done, LaunchRefused}
 use Rattle.command_answers.specs.declared.stop.Stop.{Stop}
 use Rattle.command_answers.specs.declared.stop.Stop.TheVariants as stop
 use Rattle.plan_command.specs.Refusals.{error_line}
+use Rattle.trace_profile.specs.Derived.{IsDerived, IsOnlyOne}
+use Rattle.trace_profile.specs.Extended.{drop_in_text, open_unit}
+use Rattle.trace_profile.specs.Launching.{IsRefusedUnit}
+use Rattle.trace_profile.specs.PlainNames.{HasPlainNames}
 use Rattle.trace_profile.specs.declared.derived.DeriveError.{DeriveError}
 use Rattle.trace_profile.specs.declared.derived.DeriveError.TheVariants.{Seccomp, Settings, Plan, Launch, Memory}
+use Rattle.unit_inputs.specs.Inputs.{Inputs}
 use Rattle.unit_launch.specs.Refusals.{refusal_line}
+use Rattle.unit_launch.specs.declared.refusal.LaunchRefusal.{LaunchRefusal}
 use Rattle.unit_settings.specs.Refusals.{settings_line}
 use Rattle.derive_command.specs.Refusals.{seccomp_line}
 use Rattle.derive_command.specs.declared.answering.Allowing.{Allowing}
@@ -40,3 +47,11 @@ Tells name path (Settings error) result = StopsWith (settings_line name error) r
 Tells name path (Plan error) result = StopsWith (error_line name error) result
 Tells name path (Launch refusal) result = IsReady (refusal_line refusal) LaunchRefused result
 Tells name path Memory result = IsOutOfMemory result
+
+-- what answers the calls of a script over any table: the drop-in that allows the least list, which is the only one where the
+-- names of the table are plain; or the line of the launch that is refused though every call is allowed
+pub data AnswersCalls (inputs : Inputs) (script : List Call) : Ending → List ℕ → Type 0 where
+  allowed : (names : List ℕ) → IsDerived inputs.unit inputs.calls inputs.site script names
+      → (HasPlainNames inputs.calls → IsOnlyOne inputs.unit inputs.calls inputs.site script names)
+      → AnswersCalls inputs script Done (drop_in_text inputs.calls names)
+  not_launched : (refusal : LaunchRefusal) → IsRefusedUnit (open_unit inputs.unit inputs.calls) inputs.calls inputs.site refusal → AnswersCalls inputs script LaunchRefused (refusal_line refusal)

@@ -5,8 +5,8 @@ ghost use Rattle.command_answers.specs.Stops.{Prepares};
 ghost use Rattle.unit_launch.specs.Refusals.{refusal_line};
 ghost use Rattle.trace_profile.specs.Extended.{drop_in_text};
 ghost use Rattle.command_answers.specs.declared.ending.Ending.TheVariants.{Done, LaunchRefused};
-ghost use Rattle.derive_command.specs.Telling.{IsReady, Tells};
-ghost use Rattle.derive_command.specs.Prints.{PrintsAnswer, ending_of, text_of};
+ghost use Rattle.derive_command.specs.Telling.{AnswersCalls, IsReady, Tells};
+ghost use Rattle.derive_command.specs.Prints.{ending_of, text_of};
 ghost use Rattle.derive_command.specs.Refusals.{given, refusals_behind_script};
 
 use crate::refusals::seccomp_line;
@@ -89,7 +89,7 @@ pub fn answer(
     site: &SiteTable,
     script: &Script,
 ) -> Result<Allowing, Stop>
-    ensures answers { Prepares (λ made. PrintsAnswer (given unit.now calls.now site.now) script.now (ending_of made) (text_of made)) (refusals_behind_script name.now path.now (given unit.now calls.now site.now) script.now) result }
+    ensures answers { Prepares (λ made. AnswersCalls (given unit.now calls.now site.now) script.now (ending_of made) (text_of made)) (refusals_behind_script name.now path.now (given unit.now calls.now site.now) script.now) result }
     ensures reads_nothing { IsErrOf result Stop.ReadFault → ⊥ }
 {
     match derive(alloc, unit, calls, site, script) {

@@ -1,3 +1,14 @@
 pub mod Lists
 pub mod Kept
 pub mod Tried
+pub mod TameBytes
+pub mod DropInText
+pub mod ListedWords
+pub mod SameButCalls
+pub mod AllowedNames
+pub mod ExtendedUnit
+pub mod AsEither
+pub mod PushesNone
+pub mod SameLists
+pub mod OneList
+pub mod Whole

@@ -9,6 +9,7 @@ use Rattle.dropin_merge.specs.declared.resolved.UnitFile.{UnitFile}
 use Rattle.exec_settings.specs.AreSettings.{AreSettings}
 use Rattle.exec_settings.specs.Refusals.{refusal_of}
 use Rattle.exec_settings.specs.declared.service.Settings.{Settings}
+use Rattle.kern_mounts.specs.Launch.{CanBeMounted}
 use Rattle.kern_mounts.specs.declared.step.MountStep.{MountStep}
 use Rattle.kernel_calls.specs.declared.call.Call.{Call}
 use Rattle.kernel_model.specs.Runs.{replies}
@@ -63,6 +64,7 @@ module _ (unit : Resolved) (table : calls.Table) (site : Site) (made : Settings)
     are_settings = settled.1;
     plan = lent;
     is_plan = subst (λ (mentions : List Mention). Plans (host_of site) mentions (Ok lent)) settled.1.mentions_written_and_implied planned;
+    can_be_mounted = subst (CanBeMounted (host_of site)) (sym lends) laid.1;
     launched = comes;
   }
 

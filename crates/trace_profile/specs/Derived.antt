@@ -11,6 +11,7 @@ use Rattle.site_table.specs.Table.{Site}
 use Rattle.trace_profile.specs.Extended.{extended, open_unit}
 use Rattle.trace_profile.specs.Launching.{IsLaunchedUnit, IsNotLaunched}
 use Rattle.trace_profile.specs.Names.{AreNames, without}
+use Rattle.trace_profile.specs.PlainNames.{HasPlainNames, IsBesideDefault}
 use Rattle.trace_profile.specs.Scripts.{first_seccomp}
 use Rattle.trace_profile.specs.declared.derived.DeriveError.{DeriveError}
 use Rattle.trace_profile.specs.declared.derived.DeriveError.TheVariants.{Seccomp, Settings, Plan, Launch, Memory}
@@ -53,9 +54,15 @@ pub record IsDerived (unit : Resolved) (table : calls.Table) (site : Site) (scri
   pub opened : IsLaunchedUnit (open_unit unit table) table site service
   pub least : IsLeast (tried_with unit table site script (replies service.world script)) names
 
+-- none of the names is in `@default`, and each list that is derived is this one
+pub record IsOnlyOne (unit : Resolved) (table : calls.Table) (site : Site) (script : List Call) (names : List ℕ) : Type 0 where
+  pub beside_default : All (IsBesideDefault table) names
+  pub only : (others : List ℕ) → IsDerived unit table site script others → others ≡ names
+
 -- what is derived: nothing where the script asks to push a program, and where the unit that allows every call is not launched
 abbrev pub Derives : Resolved → calls.Table → Site → List Call → Result Derived DeriveError → Type 0
-Derives unit table site script (Ok derived) = (first_seccomp table script ≡ None) × IsDerived unit table site script derived.names
+Derives unit table site script (Ok derived) =
+    (first_seccomp table script ≡ None) × IsDerived unit table site script derived.names × (HasPlainNames table → IsOnlyOne unit table site script derived.names)
 Derives unit table site script (Err (Seccomp number)) = first_seccomp table script ≡ Some number
 Derives unit table site script (Err (Settings error)) = (first_seccomp table script ≡ None) × IsNotLaunched (open_unit unit table) table site (Settings error)
 Derives unit table site script (Err (Plan error)) = (first_seccomp table script ≡ None) × IsNotLaunched (open_unit unit table) table site (Plan error)

@@ -34,6 +34,7 @@ pub record IsLaunchedUnit (unit : Resolved) (table : calls.Table) (site : Site) 
   pub are_settings : AreSettings unit table site settings
   pub plan : List MountStep
   pub is_plan : Plans (host_of site) (unit_mentions unit site) (Ok plan)
+  pub can_be_mounted : CanBeMounted (host_of site) plan
   pub launched : IsLaunched table site settings plan service
 
 -- it has them, and its launch is refused

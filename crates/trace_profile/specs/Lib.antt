@@ -3,6 +3,8 @@ pub mod Launching
 pub mod Replies
 pub mod Scripts
 pub mod Names
+pub mod PlainNames
 pub mod Derived
+pub mod Only
 pub mod Searching
 pub mod Finding

@@ -2,9 +2,10 @@
 
 ghost use Rattle.trace_profile.specs.Derived.{Derives};
 ghost use Rattle.trace_profile.specs.Finding.{DerivesOpen};
-ghost use Rattle.std.specs.Prelude.{◌≡◌, IfOk, None, length};
+ghost use Rattle.std.specs.Prelude.{◌≡◌, All, IfOk, None, length};
 ghost use Rattle.trace_profile.specs.Derived.{IsLeast};
 ghost use Rattle.trace_profile.specs.Searching.{AreServing, tried_of};
+ghost use Rattle.kernel_calls.specs.Calls.{IsCall};
 
 use crate::derived::{DeriveError, Derived, Names};
 use crate::extending::extended;
@@ -16,6 +17,7 @@ use crate::searching::Trial;
 use crate::used::used_marks;
 use call_table::CallTable;
 use dropin_merge::Resolved;
+use kernel_calls::{Call, fits};
 use script_text::Script;
 use site_table::SiteTable;
 use std::alloc::{AllocError, Global};
@@ -59,10 +61,20 @@ fn derive_open(
     })
 }
 
+// What holds of each call is said by a call of `fits`, which changes nothing.
+fn calls_fit(script: &[Call])
+    ensures { All IsCall script.now }
+{
+    for call in script {
+        fits(call);
+    }
+}
+
 /// The least list of names with which the unit answers the calls of a script as with all names.
 ///
 /// With these names and `@default` allowed, and no other call, the unit is launched and each call of the script has the reply
-/// that it has where every call of the table is allowed. Without any of them it is not launched, or some reply is another.
+/// that it has where every call of the table is allowed. Without any of them it is not launched, or some reply is another. Where
+/// the names of the table are plain, the list with these facts is the only one, and none of its names is in `@default`.
 /// Seccomp tells the first call of the script that asks to push a program, before all else; Settings, Plan and Launch come, in
 /// this order, exactly where the unit that allows every call is refused so. Memory may come at any unit.
 pub fn derive(
@@ -77,5 +89,9 @@ pub fn derive(
     if let Some(number) = first_seccomp(calls, script.list()) {
         return Err(DeriveError::Seccomp(number));
     }
+    // What holds of each table and each site is said by the calls that lend their parts.
+    calls.look_at();
+    let _uid = site.dynamic_uid();
+    calls_fit(script.list());
     derive_open(alloc, unit, calls, site, script)
 }

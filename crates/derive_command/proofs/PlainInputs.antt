@@ -1,0 +1,62 @@
+-- The names of the table that a command on a unit reads are plain.
+use Rattle.std.proofs.Common.{◌≡◌, ℕ, ◌≤◌, Bool, true, false, cond, Option, Some, None, Result, Ok, Err, List, length, refl, ap, ◌∙◌, subst}
+use Rattle.std.specs.Prelude.{nat_le}
+use Rattle.std.proofs.lemmas.Bool.{leb-true}
+use Rattle.host_io.specs.Files.{Files, bytes_at}
+use Rattle.call_table.specs.Reading.{table_of}
+use Rattle.call_table.specs.Table.{Table}
+use Rattle.call_table.specs.declared.causes.CallsError.{CallsError}
+use Rattle.command_answers.specs.ReadFiles.{Content, Holds, IsMissing, IsTooLarge, content_of, content_at, table_path}
+use Rattle.command_answers.specs.Stops.{and_then, or_line}
+use Rattle.dropin_merge.specs.declared.resolved.Resolved.{Resolved}
+use Rattle.site_table.specs.Table.{Site}
+use Rattle.trace_profile.specs.PlainNames.{HasPlainNames}
+use Rattle.unit_inputs.specs.CallsRefusals.{calls_in, calls_line, calls_said}
+use Rattle.unit_inputs.specs.FileRefusals.{bytes_held}
+use Rattle.unit_inputs.specs.Inputs.{Inputs, all_three, inputs_of}
+use Rattle.unit_inputs.specs.SiteRefusals.{site_in}
+use Rattle.unit_inputs.specs.UnitRefusals.{unit_in}
+use Rattle.derive_command.proofs.PlainTables.{table_is_plain}
+
+-- a table of bytes that are few
+plain_held : (content : Content) (table : Table) → ((bytes : List ℕ) → content ≡ Holds bytes → length bytes ≤ 1048576) → and_then (bytes_held table_path content) calls_said ≡ Ok table → HasPlainNames table
+plain_held IsMissing table few is = cc
+plain_held IsTooLarge table few is = cc
+plain_held (Holds bytes) table few is = by (table_of bytes) refl is
+  where
+    by : (found : Result Table CallsError) → table_of bytes ≡ found → or_line calls_line found ≡ Ok table → HasPlainNames table
+    by (Ok own) e is =
+        let same : own ≡ table = cc in
+        table_is_plain bytes table (few bytes refl) (e ∙ ap Ok same)
+    by (Err error) e is = cc
+
+-- a file that is read has at most 1 MiB
+few_bytes : (found : Option (List ℕ)) (bytes : List ℕ) → content_of found ≡ Holds bytes → length bytes ≤ 1048576
+few_bytes None bytes is = cc
+few_bytes (Some own) bytes is = by (nat_le (length own) 1048576) refl is
+  where
+    by : (b : Bool) → nat_le (length own) 1048576 ≡ b → cond b (Holds own) IsTooLarge ≡ Holds bytes → length bytes ≤ 1048576
+    by true e is =
+        let same : own ≡ bytes = cc in
+        subst (λ (these : List ℕ). length these ≤ 1048576) same (leb-true (length own) 1048576 e)
+    by false e is = cc
+
+-- the table of calls.txt
+calls_are_plain : (files : Files) (table : Table) → calls_in files ≡ Ok table → HasPlainNames table
+calls_are_plain files table is = plain_held (content_at files table_path) table (few_bytes (bytes_at files table_path)) is
+
+-- which is that of the inputs
+calls_of_inputs : (unit : Resolved) (calls : Table) (site : Site) (inputs : Inputs) → Some (record { unit = unit; calls = calls; site = site }) ≡ Some inputs → calls ≡ inputs.calls
+calls_of_inputs unit calls site inputs is =
+    let same : record { unit = unit; calls = calls; site = site } ≡ inputs = cc in
+    ap (λ (own : Inputs). own.calls) same
+
+-- the inputs of a unit
+pub inputs_are_plain : (files : Files) (unit : List ℕ) (inputs : Inputs) → inputs_of files unit ≡ Some inputs → HasPlainNames inputs.calls
+inputs_are_plain files unit inputs is = by (unit_in files unit) (calls_in files) (site_in files) refl is
+  where
+    by : (unit : Result Resolved (List ℕ)) (calls : Result Table (List ℕ)) (site : Result Site (List ℕ)) → calls_in files ≡ calls → all_three unit calls site ≡ Some inputs → HasPlainNames inputs.calls
+    by (Ok unit) (Ok calls) (Ok site) e is = calls_are_plain files inputs.calls (e ∙ ap Ok (calls_of_inputs unit calls site inputs is))
+    by (Err line) calls site e is = cc
+    by (Ok unit) (Err line) site e is = cc
+    by (Ok unit) (Ok calls) (Err line) e is = cc

@@ -1,0 +1,184 @@
+-- What a unit says to which a drop-in was added that allows some names.
+use Rattle.std.proofs.Common.{◌≡◌, ℕ, suc, ◌+◌, ◌≤◌, Bool, true, false, cond, Option, Some, None, Ok, Err, Result, List, [], ◌∷◌, ◌++◌, codes, filter, flat_map, length, map, refl, ap, ◌∙◌, sym, subst, arith}
+use Rattle.std.specs.Prelude.{◌==◌, unwrap_or}
+use Rattle.std.specs.List.{AllByRecursion, after_last, cons_option, filter_map, list_all}
+use Rattle.std.specs.Option.{option_map}
+use Rattle.std.specs.Str.{bytes_eq, is_utf8, chars}
+use lib.Utf8.{encode}
+use Rattle.std.proofs.lemmas.Bool.Decides.{nat_tests}
+use Rattle.std.proofs.lemmas.List.{append_assoc, append-nil}
+use Rattle.std.proofs.lemmas.List.Elements.{filter_map-append}
+use Rattle.call_table.specs.Names.{is_name}
+use Rattle.call_table.specs.Table.{Table, every_call}
+use Rattle.call_table.specs.declared.listed.CallLine.{CallLine}
+use Rattle.dropin_merge.specs.declared.resolved.Resolved.{Resolved}
+use Rattle.dropin_merge.specs.declared.resolved.UnitFile.{UnitFile}
+use Rattle.exec_settings.specs.Dynamic.{unit_filters}
+use Rattle.exec_settings.specs.Profile.{asked_by, asks as asks_of, is_asked}
+use Rattle.filter_rules.specs.declared.mentions.CallList.{CallList}
+use Rattle.filter_settings.specs.CallLists.{call_list, unit_call_list}
+use Rattle.filter_settings.specs.Lines.{in_force}
+use Rattle.mount_settings.specs.Assigned.{assigned_by}
+use Rattle.unit_grammar.specs.Before.{last_of}
+use Rattle.unit_grammar.specs.declared.unit.Assignment.{Assignment}
+use Rattle.unit_grammar.specs.declared.unit.UnitText.{UnitText}
+use Rattle.unit_names.specs.Expansion.{expansion, longest_value}
+use Rattle.unit_names.specs.Names.{Name}
+use Rattle.unit_values.proofs.OneMore.{after_last-push}
+use Rattle.unit_values.specs.Assignments.{service_assignments, service_from, service_in}
+use Rattle.unit_values.specs.Lines.{line_of}
+use Rattle.unit_values.specs.Listed.{is_reset, listed, unit_listed}
+use Rattle.unit_values.specs.Values.{expanded_at, given_by, values_of}
+use Rattle.unit_values.specs.declared.lines.Line.{Line}
+use Rattle.unit_values.specs.declared.listed.Listed.{Listed}
+use Rattle.unit_values.specs.declared.value.Place.{Place}
+use Rattle.unit_values.specs.declared.value.Value.{Value}
+use Rattle.trace_profile.specs.Extended.{drop_in_text, extended, is_first_line, name_at, says, unless_refused}
+use Rattle.trace_profile.proofs.AllowedNames.{names_are, said_list}
+use Rattle.trace_profile.proofs.DropInText.{allows, reset, unit_is, value}
+use Rattle.trace_profile.proofs.ListedWords.{expanded, line_is}
+use Rattle.trace_profile.proofs.SameButCalls.{AddsCallsAlone, filters, is_other, with_calls}
+use Rattle.trace_profile.proofs.TameBytes.{are_names, tail_of}
+
+-- the assignments of one more file stand behind the others
+record Added (number : ℕ) (files : List UnitFile) (file : UnitFile) : Type 0 where
+  pub place : ℕ
+  pub is : service_from number (files ++ file ∷ []) ≡ service_from number files ++ service_in place file.text.assignments
+
+added : (number : ℕ) (files : List UnitFile) (file : UnitFile) → Added number files file
+added number [] file = record { place = number; is = append-nil (service_in number file.text.assignments) }
+added number (first ∷ files) file =
+    let more = added (number + 1) files file in
+    record {
+      place = more.place;
+      is = ap (λ rest. service_in number first.text.assignments ++ rest) more.is ∙ sym (append_assoc (service_in number first.text.assignments) (service_from (number + 1) files) (service_in more.place file.text.assignments));
+    }
+
+nonzero : (n : ℕ) → (suc n == 0) ≡ false
+nonzero n = grind (arith, nat_tests)
+
+nothing_expands : (name : Name) → expansion name [] ≡ Some []
+unfolding is_utf8 chars encode
+nothing_expands name = refl
+
+pub tails_are : (table : Table) (names : List ℕ) → flat_map (λ place. 32 ∷ name_at table place) names ≡ tail_of (map (name_at table) names)
+tails_are table [] = refl
+tails_are table (place ∷ names) = ap (λ rest. 32 ∷ (name_at table place ++ rest)) (tails_are table names)
+
+module _ (unit : Resolved) (table : Table) (named : list_all (λ (line : CallLine). is_name line.name) (every_call table) ≡ true) (names : List ℕ) (first : AllByRecursion (λ place. is_first_line table place ≡ true) names) where
+  abbrev words : List (List ℕ)
+  words = map (name_at table) names
+
+  pub are_words : are_names words ≡ true
+  are_words = names_are table named names first
+
+  abbrev said : UnitText
+  said = record { assignments = reset words are_words ∷ allows words are_words ∷ []; notes = [] }
+
+  says_so : says (drop_in_text table names) ≡ said
+  says_so =
+      ap (λ tail. says (codes "[Service]\nSystemCallFilter=\nSystemCallFilter=@default" ++ (tail ++ 10 ∷ []))) (tails_are table names)
+      ∙ ap unless_refused (unit_is words are_words)
+
+  abbrev files : List UnitFile
+  files = unit.files ++ record { path = []; text = says (drop_in_text table names) } ∷ []
+
+  more : Added 0 unit.files (record { path = []; text = says (drop_in_text table names) })
+  more = added 0 unit.files (record { path = []; text = says (drop_in_text table names) })
+
+  place_of : ℕ → Place
+  place_of line = record { file = more.place; line = line }
+
+  two : List (Place × Assignment)
+  two = (place_of 2, reset words are_words) ∷ (place_of 3, allows words are_words) ∷ []
+
+  assigned : service_assignments (extended unit table names) ≡ service_assignments unit ++ two
+  unfolding service_assignments two place_of
+  assigned = more.is ∙ ap (λ (text : UnitText). service_from 0 unit.files ++ service_in more.place text.assignments) says_so
+
+  module _ (key : List ℕ) (other : is_other key) where
+    no_value : filter_map (given_by unit.name key) two ≡ []
+    unfolding two
+    no_value =
+        ap (λ b. cons_option (cond b (expanded_at unit.name (place_of 2, reset words are_words)) None) (cons_option (cond b (expanded_at unit.name (place_of 3, allows words are_words)) None) [])) other
+
+    other_values : values_of (extended unit table names) key ≡ values_of unit key
+    other_values =
+        ap (filter_map (given_by unit.name key)) assigned ∙ filter_map-append (given_by unit.name key) (service_assignments unit) two
+        ∙ ap (λ rest. values_of unit key ++ rest) no_value ∙ append-nil (values_of unit key)
+
+    abbrev asks : Place × Assignment → Option Bool
+    asks one = asked_by key one.1
+
+    unasked : filter_map asks two ≡ []
+    unfolding two
+    unasked = ap (λ b. cons_option (cond b (Some (asks_of [])) None) (cons_option (cond b (Some (asks_of (value words are_words))) None) [])) other
+
+    other_asked : is_asked (extended unit table names) key ≡ is_asked unit key
+    other_asked =
+        ap (λ found. unwrap_or (last_of found) false)
+        (ap (filter_map asks) assigned ∙ filter_map-append asks (service_assignments unit) two ∙ ap (λ rest. filter_map asks (service_assignments unit) ++ rest) unasked ∙ append-nil (filter_map asks (service_assignments unit)))
+
+  no_path : filter_map (assigned_by unit.name) two ≡ []
+  unfolding two
+  no_path = refl
+
+  pub adds_calls : AddsCallsAlone unit files
+  adds_calls = record {
+    values = other_values;
+    paths = ap (filter_map (assigned_by unit.name)) assigned ∙ filter_map-append (assigned_by unit.name) (service_assignments unit) two
+        ∙ ap (λ rest. filter_map (assigned_by unit.name) (service_assignments unit) ++ rest) no_path ∙ append-nil (filter_map (assigned_by unit.name) (service_assignments unit));
+    asked = other_asked;
+  }
+
+  module _ (short : length (value words are_words) ≤ longest_value) where
+    abbrev key : List ℕ
+    key = codes "SystemCallFilter"
+
+    empty : Listed
+    empty = record { value = record { place = place_of 2; text = [] }; line = record { is_inverted = false; words = [] } }
+
+    filled : Listed
+    filled = record { value = record { place = place_of 3; text = value words are_words }; line = record { is_inverted = false; words = codes "@default" ∷ words } }
+
+    two_values : filter_map (given_by unit.name key) two ≡ empty.value ∷ filled.value ∷ []
+    unfolding two empty filled
+    two_values =
+        ap (λ (found : Option (List ℕ)). cons_option (option_map (λ text. record { place = place_of 2; text = text }) found) (cons_option (given_by unit.name key (place_of 3, allows words are_words)) [])) (nothing_expands unit.name)
+        ∙ ap (λ (found : Option (List ℕ)). record { place = place_of 2; text = [] } ∷ cons_option (option_map (λ text. record { place = place_of 3; text = text }) found) []) (expanded words are_words unit.name short)
+
+    two_lines : filter_map listed (empty.value ∷ filled.value ∷ []) ≡ empty ∷ filled ∷ []
+    unfolding empty filled
+    two_lines = ap (λ (found : Option Line). empty ∷ cons_option (option_map (λ line. record { value = filled.value; line = line }) found) []) (line_is words are_words)
+
+    lines : unit_listed (extended unit table names) key ≡ unit_listed unit key ++ empty ∷ filled ∷ []
+    unfolding unit_listed
+    lines =
+        ap (λ assignments. filter_map listed (filter_map (given_by unit.name key) assignments)) assigned
+        ∙ ap (filter_map listed) (filter_map-append (given_by unit.name key) (service_assignments unit) two ∙ ap (λ rest. values_of unit key ++ rest) two_values)
+        ∙ filter_map-append listed (values_of unit key) (empty.value ∷ filled.value ∷ [])
+        ∙ ap (λ rest. filter_map listed (values_of unit key) ++ rest) two_lines
+
+    resets : is_reset empty ≡ true
+    unfolding empty
+    resets = refl
+
+    stays : is_reset filled ≡ false
+    unfolding filled
+    stays = nonzero _
+
+    -- the last line alone is in force
+    last_line : in_force (unit_listed (extended unit table names) key) ≡ filled ∷ []
+    last_line =
+        ap (after_last is_reset) (lines ∙ sym (append_assoc (unit_listed unit key) (empty ∷ []) (filled ∷ [])))
+        ∙ after_last-push is_reset (unit_listed unit key ++ empty ∷ []) filled
+        ∙ ap (λ b. cond b [] (after_last is_reset (unit_listed unit key ++ empty ∷ []) ++ filled ∷ [])) stays
+        ∙ ap (λ rest. rest ++ filled ∷ []) (after_last-push is_reset (unit_listed unit key) empty ∙ ap (λ b. cond b [] (after_last is_reset (unit_listed unit key) ++ empty ∷ [])) resets)
+
+    calls_are : unit_call_list (extended unit table names) table key ≡ Some (said_list table named names)
+    unfolding unit_call_list filled
+    calls_are = ap (call_list table) last_line
+
+    -- what the filters of the unit are
+    pub filters_are : unit_filters (extended unit table names) table ≡ with_calls (unit_filters unit table) (Some (said_list table named names))
+    filters_are = filters unit files adds_calls table ∙ ap (with_calls (unit_filters unit table)) calls_are

@@ -1,0 +1,14 @@
+use Rattle.std.proofs.Common.{rules, ◌≡◌, All, None, List, subst}
+use Rattle.kernel_calls.specs.Calls.{IsCall}
+use Rattle.kernel_calls.specs.declared.call.Call.{Call}
+use Rattle.trace_profile.specs.Scripts.{first_seccomp}
+use Rattle.trace_profile.proofs.Whole.{derives_all}
+use Rattle.trace_profile.proofs.finding.derive.Goals as goal
+
+pub returns : goal.returns
+returns c =
+    let none : first_seccomp c.args.calls.now c.args.script.now ≡ None = search rules in
+    record {
+      derives = derives_all c.args.unit.now c.args.calls.now c.args.site.now c.args.script.now c.dynamic_uid-uid.ensures.holds_of_each_site c.look_at.ensures.whole c.look_at.ensures.native c.look_at.ensures.second
+          (subst (λ (script : List Call). All IsCall script) c.list-2.ensures c.calls_fit.ensures) none c.derive_open.result c.derive_open.ensures;
+    }

@@ -1,0 +1,18 @@
+-- Names that a drop-in can list, and those of them that it need not.
+use Rattle.std.specs.Prelude.{◌≡◌, ℕ, ◌≤◌, false, true, List, ◌∷◌, ◌++◌, codes, flat_map, length}
+use Rattle.std.specs.List.{list_all}
+use Rattle.call_table.specs.Names.{is_name}
+use Rattle.call_table.specs.Table.{Table, every_call}
+use Rattle.filter_rules.specs.Covers.{covers}
+use Rattle.unit_names.specs.Expansion.{longest_value}
+use Rattle.trace_profile.specs.Extended.{name_at}
+use Rattle.trace_profile.specs.Names.{AreNames}
+
+-- the names of the calls are ASCII letters, digits, `_` and `-`, and any of them have room in one value of a unit file
+pub record HasPlainNames (table : Table) : Type 0 where
+  pub plain : list_all (λ line. is_name line.name) (every_call table) ≡ true
+  pub short : (names : List ℕ) → AreNames table names → length (codes "@default" ++ flat_map (λ place. 32 ∷ name_at table place) names) ≤ longest_value
+
+-- `@default` has not the name of the call line at this place
+abbrev pub IsBesideDefault : Table → ℕ → Type 0
+IsBesideDefault table place = covers table (codes "@default") (name_at table place) ≡ false
