@@ -1,6 +1,6 @@
 //! What printed filters answer: the text of `filter` is read back, program by program, and each is asked of the calls of a row.
 use bpf_code::{CallData, Program, run};
-use row_text::{bytes_of, number, number32};
+use row_tools::{bytes_of, number, number32};
 use std::alloc::{AllocError, Global};
 
 /// The architecture of x86-64, and that of i386 (audit(7)).

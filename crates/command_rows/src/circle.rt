@@ -1,7 +1,7 @@
 //! The lists of calls below the open questions of a report, each put through `replay`.
 use crate::rows::Rows;
+use crate::runs::run_over;
 use host_io::are_files;
-use row_runs::run_over;
 use std::alloc::{AllocError, Global};
 
 /// Where the script of a list lies.

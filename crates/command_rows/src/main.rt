@@ -1,6 +1,7 @@
 //! Rows of whole runs over files in memory: what is printed, and how it ends.
 //!
-//! The standard input has the rows, a line each step. `file PATH` begins a file, which further rows keep; `|TEXT` adds a line
+//! A line `part NAME` of the standard input begins the rows of a part, and prints nothing: `limits` has what a run is exposed to, and
+//! `runs` what follows here, a line each step. `file PATH` begins a file, which further rows keep; `|TEXT` adds a line
 //! to it, `>TEXT` a text, `nul` a zero byte, `many N` so many letters and `times N TEXT` so many lines; `more PATH` goes on with
 //! a file, and `no-file PATH` takes it away. `word WORD` adds a word, `take N` says how much the sink takes at once, `fail-read N` and `fail-put N` which call
 //! fails. `run` runs these words, prints them with the status and what was taken, and begins the next row. `ask NUMBER WORD ..`
@@ -13,14 +14,18 @@
 
 mod asked;
 mod circle;
+mod files;
+mod limits;
+mod parts;
 mod rows;
+mod runs;
 mod sought;
 mod whole;
 
-use row_text::follow_lines;
-use rows::Rows;
+use parts::Parts;
+use row_tools::follow_lines;
 use std::io;
 
 fn main(rt: HostRuntime) -> io::Result<()> {
-    follow_lines(&rt, &mut Rows::new(rt.alloc()))
+    follow_lines(&rt, &mut Parts::new(rt.alloc()))
 }

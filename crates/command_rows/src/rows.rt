@@ -1,8 +1,9 @@
 //! What the next run is over.
 use crate::circle::circle;
+use crate::files::Files;
+use crate::runs::Faults;
 use crate::whole::run_row;
-use row_runs::{Faults, Files};
-use row_text::{Follow, Shown, number, said};
+use row_tools::{Follow, Shown, number, said};
 use std::alloc::{AllocError, Global};
 use std::io;
 

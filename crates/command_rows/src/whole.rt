@@ -1,8 +1,8 @@
 //! A whole run over the files of a row.
 use crate::asked::answers;
 use crate::rows::Rows;
+use crate::runs::run_over;
 use crate::sought::sought;
-use row_runs::run_over;
 use std::alloc::{AllocError, Global};
 
 /// Runs a row: its words and the status, and then what the sink took.

@@ -10,11 +10,12 @@ use Rattle.plan_command.specs.Prints.{plan_laws}
 use Rattle.judge_command.specs.Prints.{judge_laws}
 use Rattle.replay_command.specs.Prints.{replay_laws}
 use Rattle.derive_command.specs.Prints.{derive_laws}
+use Rattle.effect_command.specs.Prints.{effect_laws}
 use Rattle.score_command.specs.Prints.{score_laws}
 use Rattle.check_command.specs.Prints.{check_laws}
 use Rattle.fleet_command.specs.Prints.{fleet_laws}
 use Rattle.sample_command.specs.Prints.{sample_laws}
-use Rattle.top_call.specs.Requests.{Request, HelpAlone, VersionAlone, FilterOf, PlanOf, JudgeOf, ReplayOf, DeriveOf, ScoreOf, CheckOf, FleetOf, SampleOf, request_in}
+use Rattle.top_call.specs.Requests.{Request, HelpAlone, VersionAlone, FilterOf, PlanOf, JudgeOf, ReplayOf, DeriveOf, EffectOf, ScoreOf, CheckOf, FleetOf, SampleOf, request_in}
 use Rattle.top_call.specs.Texts.{help_text, version_text, words_line}
 use denote.Ref.{Bor}
 
@@ -36,6 +37,7 @@ laws_for (PlanOf unit) told stored = laws_over told (plan_laws unit)
 laws_for (JudgeOf unit) told stored = laws_over told (judge_laws unit)
 laws_for (ReplayOf unit script) told stored = laws_over told (replay_laws unit script)
 laws_for (DeriveOf unit script) told stored = laws_over told (derive_laws unit script)
+laws_for (EffectOf unit dropin) told stored = laws_over told (effect_laws unit dropin)
 laws_for (ScoreOf unit policy threshold) told stored = laws_over told (score_laws unit policy threshold stored)
 laws_for (CheckOf unit filter path) told stored = check_laws told unit filter path
 laws_for (FleetOf policy) told stored = laws_over told (fleet_laws policy stored)

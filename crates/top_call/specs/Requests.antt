@@ -3,7 +3,7 @@ use Rattle.std.specs.Prelude.{List, [], ◌∷◌, ℕ, ◌≤◌, nat_le, codes
 use Rattle.std.specs.Str.{bytes_eq}
 use Rattle.text_forms.specs.Numbers.{decimal_value}
 use Rattle.top_call.specs.declared.request.Request.{Request as Code}
-use Rattle.top_call.specs.declared.request.Request.TheVariants.{Help, Version, Filter, Plan, Judge, Replay, Derive, Score, Check, Fleet, Sample}
+use Rattle.top_call.specs.declared.request.Request.TheVariants.{Help, Version, Filter, Plan, Judge, Replay, Derive, Effect, Score, Check, Fleet, Sample}
 
 -- what is asked for
 pub data Request : Type 0 where
@@ -14,6 +14,7 @@ pub data Request : Type 0 where
   JudgeOf : (unit : List ℕ) → Request
   ReplayOf : (unit script : List ℕ) → Request
   DeriveOf : (unit script : List ℕ) → Request
+  EffectOf : (unit dropin : List ℕ) → Request
   ScoreOf : (unit policy : List ℕ) (threshold : ℕ) → Request
   CheckOf : (unit filter path : List ℕ) → Request
   FleetOf : (policy : List ℕ) → Request
@@ -38,12 +39,13 @@ request_on word what =
     (cond (bytes_eq word (codes "fleet")) (Some (FleetOf what))
     (cond (bytes_eq word (codes "sample")) (option_map SampleOf (number_to what 999)) None))))
 
--- a word, a unit, and the path of a script or of a policy; without a threshold no exposure is above it
+-- a word, a unit, and the path of a script, of a drop-in or of a policy; without a threshold no exposure is above it
 abbrev pub request_with : List ℕ → List ℕ → List ℕ → Option Request
 request_with word unit path =
     cond (bytes_eq word (codes "replay")) (Some (ReplayOf unit path))
     (cond (bytes_eq word (codes "derive")) (Some (DeriveOf unit path))
-    (cond (bytes_eq word (codes "score")) (Some (ScoreOf unit path 100)) None))
+    (cond (bytes_eq word (codes "effect")) (Some (EffectOf unit path))
+    (cond (bytes_eq word (codes "score")) (Some (ScoreOf unit path 100)) None)))
 
 -- a word, a unit, the path of a policy and a threshold, 0 to 100; or a word, a unit, the name of a filter and the path of a file
 abbrev pub request_above : List ℕ → List ℕ → List ℕ → List ℕ → Option Request
@@ -69,6 +71,7 @@ request_of (Plan unit) = PlanOf unit.now
 request_of (Judge unit) = JudgeOf unit.now
 request_of (Replay unit script) = ReplayOf unit.now script.now
 request_of (Derive unit script) = DeriveOf unit.now script.now
+request_of (Effect unit dropin) = EffectOf unit.now dropin.now
 request_of (Score unit policy threshold) = ScoreOf unit.now policy.now threshold
 request_of (Check unit filter path) = CheckOf unit.now filter.now path.now
 request_of (Fleet policy) = FleetOf policy.now
@@ -83,6 +86,7 @@ IsNumbered (Plan unit) = Unit {0}
 IsNumbered (Judge unit) = Unit {0}
 IsNumbered (Replay unit script) = Unit {0}
 IsNumbered (Derive unit script) = Unit {0}
+IsNumbered (Effect unit dropin) = Unit {0}
 IsNumbered (Score unit policy threshold) = Unit {0}
 IsNumbered (Check unit filter path) = Unit {0}
 IsNumbered (Fleet policy) = Unit {0}

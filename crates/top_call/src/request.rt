@@ -22,6 +22,8 @@ pub enum Request<'a> {
     Replay(&'a str, &'a str),
     /// The least list of calls that a unit, the first, has to be allowed for a script, the second.
     Derive(&'a str, &'a str),
+    /// What a drop-in, the second, opens or closes for a unit, the first.
+    Effect(&'a str, &'a str),
     /// The exposure of a unit, the first, by a policy, the second, and the threshold that it is held against.
     Score(&'a str, &'a str, u32),
     /// Whether the program of a file, the third, decides every call as a filter, the second, of a unit, the first.
@@ -98,6 +100,7 @@ fn request_with<'a>(word: &str, unit: &'a str, path: &'a str) -> Option<Request<
     match word {
         "replay" => Some(Request::Replay(unit, path)),
         "derive" => Some(Request::Derive(unit, path)),
+        "effect" => Some(Request::Effect(unit, path)),
         "score" => Some(Request::Score(unit, path, MOST_EXPOSURE)),
         _ => None,
     }

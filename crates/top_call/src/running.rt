@@ -41,6 +41,11 @@ fn answer_request<S: Shelf, K: Sink>(
             derive_command::prepare(alloc, shelf, unit, script),
             out,
         ),
+        Request::Effect(unit, dropin) => finish(
+            alloc,
+            effect_command::prepare(alloc, shelf, unit, dropin),
+            out,
+        ),
         Request::Score(unit, policy, threshold) => finish(
             alloc,
             score_command::prepare(alloc, shelf, unit, policy, threshold, tests),

@@ -8,6 +8,8 @@ use Rattle.plan_command.specs.Prints.{plan_laws, mounts_text, ending_of as plan_
 use Rattle.plan_command.proofs.Prepared.{together as plan_together}
 use Rattle.derive_command.specs.Prints.{derive_laws, ending_of as derive_ending, text_of as derive_text}
 use Rattle.derive_command.proofs.Prepared.{together as derive_together}
+use Rattle.effect_command.specs.Prints.{effect_laws, ending_of as effect_ending, text_of as effect_text}
+use Rattle.effect_command.proofs.Prepared.{together as effect_together}
 use Rattle.exposure_score.specs.StoredTests.{stored_by}
 use Rattle.score_command.specs.Prints.{score_laws, scored_text, ending_of as score_ending}
 use Rattle.score_command.proofs.Prepared.{together as score_together}
@@ -56,6 +58,12 @@ returns-in-Derive-clause-runs g c =
     rw c.in-Derive.is
     (ran (laws_over (g.S.Shelf.told c.args.shelf.now) (derive_laws c.in-Derive.unit.now c.in-Derive.script.now)) (derive_together (g.S.Shelf.told c.args.shelf.now) c.in-Derive.unit.now c.in-Derive.script.now) _ derive_ending derive_text c.prepare-in-Derive.result c.finish-in-Derive.result
     c.prepare-in-Derive.ensures.prepares c.prepare-in-Derive.ensures.reads_for_the_unit.reads_for_a_name c.prepare-in-Derive.ensures.reads_for_the_unit.fault_rose c.finish-in-Derive.ensures.finishes)
+
+pub returns-in-Effect-clause-runs : goal.returns-in-Effect-clause-runs
+returns-in-Effect-clause-runs g c =
+    rw c.in-Effect.is
+    (ran (laws_over (g.S.Shelf.told c.args.shelf.now) (effect_laws c.in-Effect.unit.now c.in-Effect.dropin.now)) (effect_together (g.S.Shelf.told c.args.shelf.now) c.in-Effect.unit.now c.in-Effect.dropin.now) _ effect_ending effect_text c.prepare-in-Effect.result c.finish-in-Effect.result
+    c.prepare-in-Effect.ensures.prepares c.prepare-in-Effect.ensures.reads_for_the_unit.reads_for_a_name c.prepare-in-Effect.ensures.reads_for_the_unit.fault_rose c.finish-in-Effect.ensures.finishes)
 
 pub returns-in-Score-clause-runs : goal.returns-in-Score-clause-runs
 returns-in-Score-clause-runs g c =

@@ -1,0 +1,198 @@
+//! The files that rows make, from a short notation.
+use row_tools::number;
+use std::alloc::{AllocError, Global};
+
+/// Paths with the bytes of their files, the newest last.
+#[derive(Drop)]
+pub struct Files {
+    list: Vec<(String, Vec<u8>)>,
+}
+
+impl Files {
+    /// No files.
+    pub fn new(alloc: Global) -> Self {
+        Files {
+            list: Vec::new(alloc),
+        }
+    }
+
+    /// Copies of the files.
+    pub fn copied(&self, alloc: Global) -> Result<Vec<(String, Vec<u8>)>, AllocError> {
+        self.cut(alloc, "", 0)
+    }
+
+    /// Copies of the files, that of this path cut off behind so many bytes.
+    pub fn cut(
+        &self,
+        alloc: Global,
+        path: &str,
+        count: usize,
+    ) -> Result<Vec<(String, Vec<u8>)>, AllocError> {
+        let mut files = Vec::new(alloc);
+        for file in &self.list {
+            let whole = file.1.as_slice();
+            let bytes = if file.0.as_str() == path {
+                front(whole, count)
+            } else {
+                whole
+            };
+            files.push((file.0.clone()?, bytes.to_vec(alloc)?))?;
+        }
+        Ok(files)
+    }
+
+    /// How many bytes the file of this path has.
+    pub fn length(&self, path: &str) -> usize {
+        for file in &self.list {
+            if file.0.as_str() == path {
+                return file.1.len();
+            }
+        }
+        0
+    }
+
+    /// Follows a line: `file PATH` begins a file, which is empty; `|TEXT` adds a line to the newest file, `>TEXT` a text, `nul` a
+    /// zero byte, `many N` so many letters, and `times N TEXT` so many lines, each `#` in it the number of the line, from 1.
+    /// `comment N` and `blanks N` fill it with `#` and with spaces until it has N bytes. `more PATH` goes on with a file. `files N
+    /// PATH TEXT` makes so many files of one line, each `#` in their paths the number of the file. `no-file PATH` takes a file
+    /// away, and `no-files FRONT` those whose paths begin so. Any other line changes nothing.
+    pub fn follow(&mut self, alloc: Global, line: &str) -> Result<(), AllocError> {
+        if let Some(text) = line.strip_prefix('|') {
+            self.add(text.as_bytes())?;
+            return self.add(b"\n");
+        }
+        if let Some(text) = line.strip_prefix('>') {
+            return self.add(text.as_bytes());
+        }
+        match line.split_once(' ') {
+            Some((step, rest)) => self.follow_step(alloc, step, rest),
+            None if line == "nul" => self.add(b"\0"),
+            None => Ok(()),
+        }
+    }
+
+    fn follow_step(&mut self, alloc: Global, step: &str, rest: &str) -> Result<(), AllocError> {
+        match step {
+            "file" => self.begin(alloc, rest),
+            "more" => self.go_on(rest),
+            "many" => self.add_letters(number(rest)),
+            "times" => self.add_lines(alloc, rest),
+            "comment" => self.fill(number(rest), b'#'),
+            "blanks" => self.fill(number(rest), b' '),
+            "files" => self.add_files(alloc, rest),
+            "no-file" => {
+                self.remove(rest);
+                Ok(())
+            }
+            "no-files" => {
+                self.list.retain(|file| !file.0.as_str().starts_with(rest));
+                Ok(())
+            }
+            _ => Ok(()),
+        }
+    }
+
+    // A new file, which is empty, in the place of the one of this path.
+    fn begin(&mut self, alloc: Global, path: &str) -> Result<(), AllocError> {
+        self.remove(path);
+        self.list
+            .push((String::from_str(alloc, path)?, Vec::new(alloc)))?;
+        Ok(())
+    }
+
+    // Goes on with a file: it becomes the newest.
+    fn go_on(&mut self, path: &str) -> Result<(), AllocError> {
+        match self.remove(path) {
+            Some(file) => Ok(self.list.push(file)?),
+            None => Ok(()),
+        }
+    }
+
+    // Takes the file of this path away.
+    fn remove(&mut self, path: &str) -> Option<(String, Vec<u8>)> {
+        for at in 0..self.list.len() {
+            if self.list[at].0.as_str() == path {
+                return Some(self.list.remove(at));
+            }
+        }
+        None
+    }
+
+    // Adds bytes to the newest file.
+    fn add(&mut self, bytes: &[u8]) -> Result<(), AllocError> {
+        match self.list.last_mut() {
+            Some(file) => file.1.extend_from_slice(bytes),
+            None => Ok(()),
+        }
+    }
+
+    // So many letters.
+    fn add_letters(&mut self, count: u64) -> Result<(), AllocError> {
+        for _ in 0..count {
+            self.add(b"a")?;
+        }
+        Ok(())
+    }
+
+    // Fills the newest file until it has so many bytes.
+    fn fill(&mut self, count: u64, byte: u8) -> Result<(), AllocError> {
+        match self.list.last_mut() {
+            Some(file) => fill_up(&mut file.1, count, byte),
+            None => Ok(()),
+        }
+    }
+
+    // So many lines, the number of each in the place of `#`.
+    fn add_lines(&mut self, alloc: Global, rest: &str) -> Result<(), AllocError> {
+        if let Some((count, text)) = rest.split_once(' ') {
+            for at in 0..number(count) {
+                self.add(numbered(alloc, text, at + 1)?.as_bytes())?;
+                self.add(b"\n")?;
+            }
+        }
+        Ok(())
+    }
+
+    // So many files of one line, the number of each in the place of `#` in their paths.
+    fn add_files(&mut self, alloc: Global, rest: &str) -> Result<(), AllocError> {
+        if let Some((count, rest)) = rest.split_once(' ') {
+            if let Some((path, text)) = rest.split_once(' ') {
+                for at in 0..number(count) {
+                    self.begin(alloc, numbered(alloc, path, at + 1)?.as_str())?;
+                    self.add(text.as_bytes())?;
+                    self.add(b"\n")?;
+                }
+            }
+        }
+        Ok(())
+    }
+}
+
+// At most so many of the first bytes.
+fn front(bytes: &[u8], count: usize) -> &[u8] {
+    if count <= bytes.len() {
+        &bytes[..count]
+    } else {
+        bytes
+    }
+}
+
+fn fill_up(bytes: &mut Vec<u8>, count: u64, byte: u8) -> Result<(), AllocError> {
+    for _ in bytes.len() as u64..count {
+        bytes.push(byte)?;
+    }
+    Ok(())
+}
+
+// The text with a number in the place of each `#`.
+fn numbered(alloc: Global, text: &str, number: u64) -> Result<String, AllocError> {
+    let mut said = String::new(alloc);
+    let shown = number.to_string(alloc)?;
+    for (at, piece) in text.split('#').enumerate() {
+        if at > 0 {
+            said.push_str(shown.as_str())?;
+        }
+        said.push_str(piece)?;
+    }
+    Ok(said)
+}

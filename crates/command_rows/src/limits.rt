@@ -1,0 +1,184 @@
+//! Rows of what a run is exposed to: reads and writes that fail, inputs at their limits, and texts that are cut off.
+//!
+//! They make files, as those of whole runs do, which further rows keep, and ask of them. `comment N` and `blanks N` fill a file
+//! with `#` and with spaces until it has N bytes. `files N PATH TEXT` makes so many files of one line, each `#` in their paths the
+//! number of the file; `no-files FRONT` takes away those whose paths begin so.
+//!
+//! A row is printed, and below it what came out. `run WORD ..` prints the status and the text of a run of these words, and
+//! `last N WORD ..` how many lines it has and the last of them. `reads N WORD ..` has each of the calls 1 to N of the shelf fail in
+//! turn, and `puts TAKE N WORD ..` each of the puts to a sink that takes so many bytes at once: of each K is told the status, and
+//! how much of the text of a run without faults was taken. `prefixes PATH WORD ..` runs the words over each prefix of the file,
+//! by its length in bytes, and tells the status and the line, or of several lines the last. Neighbours that come out alike are
+//! told together.
+
+mod spans;
+
+use crate::files::Files;
+use crate::limits::spans::Spans;
+use crate::runs::{Faults, Printed, run_over};
+use row_tools::{Follow, Shown, number, said};
+use std::alloc::{AllocError, Global};
+use std::io;
+
+/// How much a sink takes at once where no row says so.
+const TAKE: u64 = 1000;
+
+/// The files that rows have made.
+#[derive(Drop)]
+pub struct Rows {
+    files: Files,
+}
+
+impl Rows {
+    /// No files.
+    pub fn new(alloc: Global) -> Self {
+        Rows {
+            files: Files::new(alloc),
+        }
+    }
+}
+
+impl Follow for Rows {
+    fn follow(&mut self, alloc: Global, line: &str) -> io::Result<Shown> {
+        let words: Vec<&str> = line.split(' ').collect(alloc)?;
+        let told = match words.as_slice() {
+            ["run", words @ ..] => whole(alloc, &self.files, words),
+            ["last", count, words @ ..] => last(alloc, &self.files, number(count), words),
+            ["reads", count, words @ ..] => {
+                in_turn(alloc, &self.files, None, number(count), words)
+            }
+            ["puts", take, count, words @ ..] => {
+                in_turn(alloc, &self.files, Some(number(take)), number(count), words)
+            }
+            ["prefixes", path, words @ ..] => prefixes(alloc, &self.files, path, words),
+            _ => {
+                self.files.follow(alloc, line)?;
+                return Ok(Shown::Nothing);
+            }
+        }?;
+        Ok(Shown::Text(format!(in alloc; "{line}\n{told}")?))
+    }
+}
+
+// A run without faults.
+fn faultless(alloc: Global, files: &Files, words: &[&str]) -> Result<Printed, AllocError> {
+    run_over(
+        alloc,
+        files.copied(alloc)?,
+        words,
+        &Faults::none(alloc, TAKE),
+    )
+}
+
+// The status, and the text with a sign where it does not end with a line feed.
+fn whole(alloc: Global, files: &Files, words: &[&str]) -> Result<String, AllocError> {
+    let printed = faultless(alloc, files, words)?;
+    shown(alloc, printed.code, printed.text.as_str())
+}
+
+fn shown(alloc: Global, code: u8, text: &str) -> Result<String, AllocError> {
+    match text.strip_suffix('\n') {
+        Some(line) => format!(in alloc; "-> {code}\n{line}"),
+        None => format!(in alloc; "-> {code} (cut)\n{text}"),
+    }
+}
+
+// The status, how many lines there are, and the last of them.
+fn last(alloc: Global, files: &Files, count: u64, words: &[&str]) -> Result<String, AllocError> {
+    let printed = faultless(alloc, files, words)?;
+    let lines: Vec<&str> = printed.text.as_str().lines().collect(alloc)?;
+    let code = printed.code;
+    let mut text = format!(in alloc; "-> {code}, {} lines", lines.len())?;
+    let passed = (lines.len() as u64).saturating_sub(count);
+    for (at, line) in lines.iter().enumerate() {
+        if at as u64 >= passed {
+            text.push('\n')?;
+            text.push_str(line)?;
+        }
+    }
+    Ok(text)
+}
+
+// Each of the first calls of the shelf fails in turn, or each of the first puts to a sink that takes so many bytes.
+fn in_turn(
+    alloc: Global,
+    files: &Files,
+    take: Option<u64>,
+    count: u64,
+    words: &[&str],
+) -> Result<String, AllocError> {
+    let whole = faultless(alloc, files, words)?;
+    let mut spans = Spans::new(alloc);
+    for before in 0..count {
+        let faults = one_fault(alloc, take, before + 1)?;
+        let printed = run_over(alloc, files.copied(alloc)?, words, &faults)?;
+        let told = taken(alloc, &printed, whole.text.as_str(), before)?;
+        spans.add(alloc, before + 1, told.as_str())?;
+    }
+    spans.text(alloc)
+}
+
+// The put of this number fails, where it is said how many bytes the sink takes at once, and else the call of the shelf.
+fn one_fault(alloc: Global, take: Option<u64>, number: u64) -> Result<Faults, AllocError> {
+    let mut faults = Faults::none(alloc, take.unwrap_or(TAKE));
+    match take {
+        Some(_) => faults.puts.push(number)?,
+        None => faults.reads.push(number)?,
+    }
+    Ok(faults)
+}
+
+// The status, and how much of the whole text was taken where K - 1 calls were made before the one that fails.
+fn taken(alloc: Global, printed: &Printed, whole: &str, before: u64) -> Result<String, AllocError> {
+    let code = printed.code;
+    let text = printed.text.as_str();
+    let count = text.len();
+    if text == whole {
+        return format!(in alloc; "{code}, all {count} bytes");
+    }
+    if text.is_empty() {
+        return format!(in alloc; "{code}, nothing");
+    }
+    if !whole.starts_with(text) {
+        return format!(in alloc; "{code}, another text");
+    }
+    if count as u64 == before {
+        return format!(in alloc; "{code}, the first K - 1 bytes");
+    }
+    if text.ends_with('\n') && text.lines().count() as u64 == before {
+        return format!(in alloc; "{code}, the first K - 1 lines");
+    }
+    format!(in alloc; "{code}, the first {count} bytes")
+}
+
+// The words over each prefix of a file, and over the file.
+fn prefixes(
+    alloc: Global,
+    files: &Files,
+    path: &str,
+    words: &[&str],
+) -> Result<String, AllocError> {
+    let mut spans = Spans::new(alloc);
+    let length = files.length(path);
+    for count in 0..length {
+        let cut = files.cut(alloc, path, count)?;
+        let told = ended(
+            alloc,
+            &run_over(alloc, cut, words, &Faults::none(alloc, TAKE))?,
+        )?;
+        spans.add(alloc, count as u64, told.as_str())?;
+    }
+    let told = ended(alloc, &faultless(alloc, files, words)?)?;
+    spans.add(alloc, length as u64, told.as_str())?;
+    spans.text(alloc)
+}
+
+// The status and the line, or how many lines and the last.
+fn ended(alloc: Global, printed: &Printed) -> Result<String, AllocError> {
+    let code = printed.code;
+    let last = printed.text.as_str().lines().last().unwrap_or("");
+    match printed.text.as_str().lines().count() {
+        1 => format!(in alloc; "{code}, {last}"),
+        count => format!(in alloc; "{code}, {count} lines, {last}"),
+    }
+}

@@ -1,0 +1,60 @@
+-- What two services are compared by is what changes.
+use Rattle.std.proofs.Common.{◌≡◌, ◌∙◌, ℕ, List, ap, ap₂, refl, sym, subst}
+use Rattle.std.specs.Prelude.{map}
+use Rattle.judge_command.specs.Asked.{IsAsked, launch_in, world_in}
+use Rattle.judge_command.specs.declared.asking.Asked.{Asked}
+use Rattle.call_table.specs.Table as calls
+use Rattle.command_answers.specs.declared.ending.Ending.{Ending}
+use Rattle.command_answers.specs.declared.ending.Ending.TheVariants.{Done}
+use Rattle.kernel_laws.specs.Launched.{launch_of}
+use Rattle.kernel_laws.specs.Questions.{Question, questions}
+use Rattle.launcher.specs.declared.launched.Launched.{Launched as Service}
+use Rattle.questions.specs.Meanings.{meant}
+use Rattle.site_table.specs.Table.{Site}
+use Rattle.unit_launch.specs.declared.launching.UnitLaunch.TheVariants.{Launched}
+use Rattle.verdict_changes.specs.ByRule.{ChangesAreTrue, changes_by}
+use Rattle.verdict_changes.specs.Changes.{Change}
+use Rattle.effect_command.specs.Lines.{effect_text}
+use Rattle.effect_command.specs.Prints.{TellsBoth}
+use Rattle.effect_command.specs.Stopping.{IsOver}
+use Rattle.effect_command.specs.Told.{told_text}
+
+-- the tables that a service is launched over
+pub own_calls : (table : calls.Table) (site : Site) (service : Service) → IsOver table site service → service.world.calls ≡ table
+own_calls table site service is = ap (λ made. made.calls) is.launched.leaves_one_process.leaves.is
+
+pub own_site : (table : calls.Table) (site : Site) (service : Service) → IsOver table site service → service.world.site ≡ site
+own_site table site service is = ap (λ made. made.site) is.launched.leaves_one_process.leaves.is
+
+module _ (table : calls.Table) (site : Site) (before after : Service) (one : IsOver table site before) (other : IsOver table site after) (first second : Asked) (same_first : first.service ≡ before) (same_second : second.service ≡ after) where
+  pub same_calls : (world_in first).calls ≡ (world_in second).calls
+  same_calls =
+      ap (λ (service : Service). service.world.calls) same_first ∙ own_calls table site before one
+      ∙ sym (own_calls table site after other) ∙ sym (ap (λ (service : Service). service.world.calls) same_second)
+
+  pub same_site : (world_in first).site ≡ (world_in second).site
+  same_site =
+      ap (λ (service : Service). service.world.site) same_first ∙ own_site table site before one
+      ∙ sym (own_site table site after other) ∙ sym (ap (λ (service : Service). service.world.site) same_second)
+
+  abbrev found : List Change
+  found = changes_by (launch_of before.world) (launch_of after.world) after.program (questions table site) site.rows
+
+  text_is : IsAsked second → told_text first second ≡ effect_text table site found
+  text_is is =
+      ap (λ (list : List Question). effect_text (world_in second).calls (world_in second).site (changes_by (launch_in first) (launch_in second) second.service.program list (world_in second).site.rows)) is.questions
+      ∙ ap₂ (λ (a b : Service). effect_text b.world.calls b.world.site (changes_by (launch_of a.world) (launch_of b.world) b.program (questions b.world.calls b.world.site) b.world.site.rows)) same_first same_second
+      ∙ ap₂ (λ (t : calls.Table) (s : Site). effect_text t s (changes_by (launch_of before.world) (launch_of after.world) after.program (questions t s) s.rows)) (own_calls table site after other) (own_site table site after other)
+
+  pub compared : ChangesAreTrue → IsAsked second → (ending : Ending) (text : List ℕ) → ending ≡ Done → text ≡ told_text first second → TellsBoth table site (Launched before) (Launched after) ending text
+  compared are_true is ending text ends says = (
+    ends,
+    (
+      found,
+      (
+        are_true table site before.world after.world before.program after.program one.launched.is_served one.launched.runs_its_program other.launched.is_served other.launched.runs_its_program
+            (own_calls table site before one) (own_site table site before one) (own_calls table site after other) (own_site table site after other),
+        says ∙ text_is is,
+      ),
+    ),
+  )

@@ -1,0 +1,116 @@
+-- The text of the changes is what is told of each question and of each row.
+use Rattle.std.proofs.Common.{◌≡◌, ◌∙◌, ℕ, List, [], ◌∷◌, ◌++◌, append-nil, zero, suc, ◌≤◌, length, take, arith, ap, ap₂, refl, sym}
+use Rattle.std.specs.Prelude.{flat_map, map}
+use Rattle.std.proofs.lemmas.List.Concat.{flat_map-append}
+use Rattle.std.proofs.lemmas.List.{map-append}
+use Rattle.judge_command.specs.Asked.{launch_in, world_in}
+use Rattle.judge_command.specs.declared.asking.Asked.{Asked}
+use Rattle.questions.specs.Meanings.{meant}
+use Rattle.questions.specs.declared.question.Question.{Question}
+use Rattle.site_table.specs.declared.row.Row.{Row}
+use Rattle.abs_path.specs.Paths.{Path}
+use Rattle.call_table.specs.Table.{Table}
+use Rattle.kernel_laws.specs.Questions as asked
+use Rattle.site_table.specs.Table.{Site}
+use Rattle.verdict_changes.specs.Found.{change_of, turn_of}
+use Rattle.verdict_changes.specs.declared.asking.VerdictChange.{VerdictChange}
+use Rattle.verdict_changes.specs.declared.asking.VerdictChange.TheVariants as verdict
+use Rattle.verdict_changes.specs.declared.looking.FolderChange.{FolderChange}
+use Rattle.verdict_changes.specs.declared.looking.FolderChange.TheVariants as folder
+use Rattle.verdict_changes.specs.ByRule.{changes_by, question_change, row_change}
+use Rattle.verdict_changes.specs.Changes.{Change}
+use Rattle.effect_command.specs.Lines.{change_lines, counts_line, effect_text, kind_of}
+use Rattle.effect_command.specs.Told.{changes_at, folder_kinds, folder_lines, lines_in, told_text, turns_at, verdict_kinds, verdict_lines}
+
+-- of a list so long all are taken
+pub all_taken : {X : Type 0} (xs : List X) (i : ℕ) → length xs ≤ i → take i xs ≡ xs
+all_taken [] zero le = refl
+all_taken [] (suc i) le = refl
+all_taken (x ∷ xs) zero le = absurd (omega (arith, le))
+all_taken (x ∷ xs) (suc i) le = ap (λ rest. x ∷ rest) (all_taken xs i (omega (arith, le)))
+
+module _ {X Y Z : Type 0} where
+  pub flattened : (f : Y → List Z) (g : X → List Y) (xs : List X) → flat_map (λ x. flat_map f (g x)) xs ≡ flat_map f (flat_map g xs)
+  flattened f g [] = refl
+  flattened f g (x ∷ xs) = ap (λ rest. flat_map f (g x) ++ rest) (flattened f g xs) ∙ sym (flat_map-append f (g x) (flat_map g xs))
+
+  pub mapped : (f : Y → Z) (g : X → List Y) (xs : List X) → flat_map (λ x. map f (g x)) xs ≡ map f (flat_map g xs)
+  mapped f g [] = refl
+  mapped f g (x ∷ xs) = ap (λ rest. map f (g x) ++ rest) (mapped f g xs) ∙ sym (map-append f (g x) (flat_map g xs))
+
+  pub behind_map : (f : Y → List Z) (g : X → Y) (xs : List X) → flat_map (λ x. f (g x)) xs ≡ flat_map f (map g xs)
+  behind_map f g [] = refl
+  behind_map f g (x ∷ xs) = ap (λ rest. f (g x) ++ rest) (behind_map f g xs)
+
+module _ (before after : Asked) (list : List Question) (rows : List Row) where
+  abbrev ruled : List Change
+  ruled = flat_map (question_change (launch_in before) (launch_in after) after.service.program) (map meant list)
+
+  abbrev seen : List Change
+  seen = flat_map (row_change (launch_in before) (launch_in after)) rows
+
+  same_asked : flat_map (changes_at before after) list ≡ ruled
+  same_asked = behind_map (question_change (launch_in before) (launch_in after) after.service.program) meant list
+
+  asked_lines : flat_map (λ question. lines_in after (changes_at before after question)) list ≡ lines_in after ruled
+  asked_lines = flattened (change_lines (world_in after).calls (world_in after).site) (changes_at before after) list ∙ ap (lines_in after) same_asked
+
+  asked_kinds : flat_map (λ question. map kind_of (changes_at before after question)) list ≡ map kind_of ruled
+  asked_kinds = mapped kind_of (changes_at before after) list ∙ ap (map kind_of) same_asked
+
+  seen_lines : flat_map (λ row. lines_in after (turns_at before after row)) rows ≡ lines_in after seen
+  seen_lines = flattened (change_lines (world_in after).calls (world_in after).site) (turns_at before after) rows
+
+  seen_kinds : flat_map (λ row. map kind_of (turns_at before after row)) rows ≡ map kind_of seen
+  seen_kinds = mapped kind_of (turns_at before after) rows
+
+  pub all_told :
+      (flat_map (λ question. lines_in after (changes_at before after question)) list ++ flat_map (λ row. lines_in after (turns_at before after row)) rows)
+      ++ counts_line (flat_map (λ question. map kind_of (changes_at before after question)) list ++ flat_map (λ row. map kind_of (turns_at before after row)) rows)
+      ≡ effect_text (world_in after).calls (world_in after).site (changes_by (launch_in before) (launch_in after) after.service.program (map meant list) rows)
+  all_told =
+      ap₂ (λ lines kinds. lines ++ counts_line kinds)
+      (ap₂ (λ one other. one ++ other) asked_lines seen_lines ∙ sym (flat_map-append (change_lines (world_in after).calls (world_in after).site) ruled seen))
+      (ap₂ (λ one other. one ++ other) asked_kinds seen_kinds ∙ sym (map-append kind_of ruled seen))
+
+-- what is told of what is found is what is told of the change
+pub verdict_told : (after : Asked) (table : Table) (site : Site) (question : asked.Question) (found : VerdictChange) (changes : List Change) → table ≡ (world_in after).calls → site ≡ (world_in after).site → change_of question found ≡ changes
+    → verdict_lines table site question found ≡ lines_in after changes
+verdict_told after table site question found changes tables sites is =
+    by found ∙ ap₂ (λ (t : Table) (s : Site). flat_map (change_lines t s) (change_of question found)) tables sites ∙ ap (lines_in after) is
+  where
+    by : (found : VerdictChange) → verdict_lines table site question found ≡ flat_map (change_lines table site) (change_of question found)
+    by verdict.Same = refl
+    by verdict.Closed = sym (append-nil _)
+    by (verdict.Opened list) = sym (append-nil _)
+
+pub verdict_counted : (question : asked.Question) (found : VerdictChange) (changes : List Change) → change_of question found ≡ changes → verdict_kinds found ≡ map kind_of changes
+verdict_counted question found changes is = by found ∙ ap (map kind_of) is where
+  by : (found : VerdictChange) → verdict_kinds found ≡ map kind_of (change_of question found)
+  by verdict.Same = refl
+  by verdict.Closed = refl
+  by (verdict.Opened list) = refl
+
+pub folder_told : (after : Asked) (path : Path) (found : FolderChange) (changes : List Change) → turn_of path found ≡ changes → folder_lines path found ≡ lines_in after changes
+folder_told after path found changes is = by found ∙ ap (lines_in after) is where
+  by : (found : FolderChange) → folder_lines path found ≡ lines_in after (turn_of path found)
+  by folder.Same = refl
+  by folder.Hidden = sym (append-nil _)
+  by folder.Shown = sym (append-nil _)
+
+pub folder_counted : (path : Path) (found : FolderChange) (changes : List Change) → turn_of path found ≡ changes → folder_kinds found ≡ map kind_of changes
+folder_counted path found changes is = by found ∙ ap (map kind_of) is where
+  by : (found : FolderChange) → folder_kinds found ≡ map kind_of (turn_of path found)
+  by folder.Same = refl
+  by folder.Hidden = refl
+  by folder.Shown = refl
+
+-- piece behind piece
+pub told_is : (before after : Asked) (list : List Question) (rows : List Row) (first second last : List ℕ) (text : List ℕ) → list ≡ after.questions.items → rows ≡ (world_in after).site.rows
+    → first ≡ flat_map (λ question. lines_in after (changes_at before after question)) list → second ≡ first ++ flat_map (λ row. lines_in after (turns_at before after row)) rows
+    → last ≡ counts_line (flat_map (λ question. map kind_of (changes_at before after question)) list ++ flat_map (λ row. map kind_of (turns_at before after row)) rows)
+    → text ≡ second ++ last → text ≡ told_text before after
+told_is before after list rows first second last text listed all one two three is =
+    is ∙ ap₂ (λ these line. these ++ line) (two ∙ ap (λ these. these ++ flat_map (λ row. lines_in after (turns_at before after row)) rows) one) three
+    ∙ all_told before after list rows
+    ∙ ap₂ (λ own these. effect_text (world_in after).calls (world_in after).site (changes_by (launch_in before) (launch_in after) after.service.program (map meant own) these)) listed all

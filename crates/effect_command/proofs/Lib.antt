@@ -1,0 +1,4 @@
+pub mod Flattened
+pub mod Started
+pub mod Compared
+pub mod Prepared

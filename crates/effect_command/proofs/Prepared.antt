@@ -1,0 +1,206 @@
+-- What is ready, and the line of a refusal, are what the definitions admit.
+use Rattle.std.proofs.Common.{◌≡◌, ◌∙◌, ℕ, Option, Some, None, List, [], ◌∷◌, ◌++◌, Result, Ok, Err, refl, sym, ap, subst, inl, inr}
+use Rattle.std.specs.Prelude.{◌⊎◌, IfOk, IfSome, IsErrOf, IsSome, IsTrue, option_map}
+use Rattle.host_io.specs.Files.{Files}
+use Rattle.call_table.specs.Table.{Table}
+use Rattle.site_table.specs.Table.{Site}
+use Rattle.command_answers.specs.Endings.{is_answer}
+use Rattle.command_answers.specs.Laws.{AcceptsFiles, GoTogether, IsAdmitted, laws_over}
+use Rattle.command_answers.specs.Stops.{HasReadCause, IsAnswer, Prepares, first_refusal}
+use Rattle.command_answers.specs.declared.ending.Ending.{Ending}
+use Rattle.command_answers.specs.declared.ending.Ending.TheVariants.{Done, LaunchRefused}
+use Rattle.command_answers.specs.declared.stop.Stop.{Stop}
+use Rattle.command_answers.specs.declared.stop.Stop.TheVariants as stop
+use Rattle.command_answers.proofs.FileCommands.{go_together, ready_is_admitted, stop_is_admitted}
+use Rattle.command_answers.proofs.Refusing.{quiet, stops_as, stops_before}
+use Rattle.dropin_merge.specs.declared.resolved.Resolved.{Resolved}
+use Rattle.dropin_merge.specs.declared.resolved.UnitFile.{UnitFile}
+use Rattle.std.specs.declared.alloc.AllocError.{AllocError}
+use Rattle.unit_names.specs.Names.{Name}
+use Rattle.unit_grammar.specs.declared.unit.UnitText.{UnitText}
+use Rattle.unit_inputs.specs.Inputs.{Inputs, input_refusals, inputs_of, inputs_view}
+use Rattle.unit_inputs.specs.ReadsFor.{ReadsFor}
+use Rattle.unit_inputs.specs.declared.inputs.UnitInputs.{UnitInputs}
+use Rattle.unit_launch.specs.declared.launching.UnitLaunch.{UnitLaunch}
+use Rattle.unit_launch.specs.declared.launching.UnitLaunch.TheVariants.{Launched, Refused}
+use Rattle.unit_names.specs.Cutting.{name_of}
+use Rattle.unit_settings.specs.Settled.{refusals_by}
+use Rattle.unit_settings.proofs.Steps.{refusals_with}
+use Rattle.effect_command.specs.Lines.{with_line}
+use Rattle.started_units.specs.Starting.{StartsAs, first_start, given, start_refusals}
+use Rattle.effect_command.specs.Longer.{dropin_in, longer_unit, with_dropin}
+use Rattle.effect_command.specs.Prints.{PrintsEffect, TellsBoth, TellsWith, effect_laws, ending_of, text_of}
+use Rattle.effect_command.specs.Refusals.{effect_refusals, refusals_behind, refusals_behind_dropin, refusals_by_dropin}
+use Rattle.effect_command.specs.Stopping.{IsReadyWith, StartsOver}
+use Rattle.effect_command.specs.declared.effect.Effect.{Effect}
+
+-- ---- behind the drop-in
+module _ (unit : List ℕ) (inputs : Inputs) (more : UnitText) where
+  abbrev Answers : Result Effect Stop → Type 0
+  Answers result = Prepares (λ made. TellsWith inputs more (ending_of made) (text_of made)) (refusals_behind_dropin unit inputs more) result
+
+  -- the unit is refused
+  pub answers_refused : (stop : Stop) → Prepares {T = UnitLaunch} (StartsAs inputs) (start_refusals unit inputs) (Err stop) → Answers (Err stop)
+  answers_refused (stop.Refused line) is = ap (λ found. first_refusal (found ∷ (option_map with_line (first_start unit (with_dropin inputs more)) ∷ []))) is
+  answers_refused stop.ReadFault is = tt
+  answers_refused stop.Memory is = tt
+
+  module _ (first : UnitLaunch) (starts : Prepares (StartsAs inputs) (start_refusals unit inputs) (Ok first)) where
+    behind_unit : first_refusal (refusals_behind_dropin unit inputs more) ≡ first_refusal (option_map with_line (first_start unit (with_dropin inputs more)) ∷ [])
+    behind_unit = ap (λ found. first_refusal (found ∷ (option_map with_line (first_start unit (with_dropin inputs more)) ∷ []))) starts.0
+
+    -- the unit with the drop-in is
+    pub answers_refused_with : (why : Stop) → Prepares {T = UnitLaunch} (StartsAs (with_dropin inputs more)) (option_map with_line (first_start unit (with_dropin inputs more)) ∷ []) (Err why) → Answers (Err why)
+    answers_refused_with why is = stops_as (λ made. TellsWith inputs more (ending_of made) (text_of made)) why (option_map with_line (first_start unit (with_dropin inputs more)) ∷ []) (refusals_behind_dropin unit inputs more) behind_unit (as_any why is)
+      where
+        as_any : (why : Stop) → Prepares {T = UnitLaunch} (StartsAs (with_dropin inputs more)) (option_map with_line (first_start unit (with_dropin inputs more)) ∷ []) (Err why)
+            → Prepares (λ (made : Effect). TellsWith inputs more (ending_of made) (text_of made)) (option_map with_line (first_start unit (with_dropin inputs more)) ∷ []) (Err why)
+        as_any (stop.Refused line) is = is
+        as_any stop.ReadFault is = tt
+        as_any stop.Memory is = tt
+
+    -- both start, and are compared
+    pub answers_both : (second : UnitLaunch) → Prepares (StartsAs (with_dropin inputs more)) (option_map with_line (first_start unit (with_dropin inputs more)) ∷ []) (Ok second)
+        → (result : Result Effect Stop) → IsReadyWith (TellsBoth inputs.calls inputs.site first second) result → Answers result
+    answers_both second starts_with (Ok effect) ready = (behind_unit ∙ starts_with.0, record { first = first; starts = starts.1; second = second; starts_with = starts_with.1; tells = ready })
+    answers_both second starts_with (Err (stop.Refused line)) ready = absurd ready
+    answers_both second starts_with (Err stop.ReadFault) ready = absurd ready
+    answers_both second starts_with (Err stop.Memory) ready = tt
+
+abbrev unit_with : (name : Name) (files : List UnitFile) → Resolved
+unit_with name files = record { name = name; files = files }
+
+-- what starts for a unit starts over its tables
+pub starts_over : (inputs : Inputs) (launch : UnitLaunch) → StartsAs inputs launch → StartsOver inputs.calls inputs.site launch
+starts_over inputs (Launched service) is = record { settings = is.settings; plan = is.plan; launched = is.comes_to }
+starts_over inputs (Refused refusal) is = tt
+
+-- the unit with the drop-in
+pub longer_is : (unit : Resolved) (more : UnitText) (result : Result Resolved AllocError) → IfOk result (λ longer. longer.name ≡ unit.name) → IfOk result (λ longer. longer.files ≡ unit.files ++ record { path = []; text = more } ∷ []) → IfOk result (λ longer. longer ≡ longer_unit unit more)
+longer_is unit more (Err error) named filed = tt
+longer_is unit more (Ok longer) named filed = ap (λ name. unit_with name longer.files) named ∙ ap (unit_with unit.name) filed
+
+pub with_longer : (name : List ℕ) (calls : Table) (site : Site) (unit : Resolved) (more : UnitText) (own : Resolved) → own ≡ longer_unit unit more → (result : Result UnitLaunch Stop)
+    → Prepares (StartsAs (given own calls site)) (option_map with_line (first_start name (given own calls site)) ∷ []) result
+    → Prepares (StartsAs (with_dropin (given unit calls site) more)) (option_map with_line (first_start name (with_dropin (given unit calls site) more)) ∷ []) result
+with_longer name calls site unit more own is result said = subst (λ (these : Resolved). Prepares (StartsAs (given these calls site)) (option_map with_line (first_start name (given these calls site)) ∷ []) result) is said
+
+pub ready_reads_nothing : (P : Ending → List ℕ → Type 0) (result : Result Effect Stop) → IsReadyWith P result → IsErrOf result stop.ReadFault → ⊥
+ready_reads_nothing P (Ok effect) ready e = cc
+ready_reads_nothing P (Err (stop.Refused line)) ready e = cc
+ready_reads_nothing P (Err stop.ReadFault) ready e = absurd ready
+ready_reads_nothing P (Err stop.Memory) ready e = cc
+
+-- each ends as it may
+ends_so : (table : Table) (site : Site) (first second : UnitLaunch) (ending : Ending) (text : List ℕ) → TellsBoth table site first second ending text → (ending ≡ Done) ⊎ (ending ≡ LaunchRefused)
+ends_so table site (Refused refusal) second ending text tells = inr tells.0
+ends_so table site (Launched before) (Refused refusal) ending text tells = inr tells.0
+ends_so table site (Launched before) (Launched after) ending text tells = inl tells.0
+
+-- ---- the whole
+-- the inputs, as their parts are lent
+pub same_inputs : (inputs : Inputs) (unit : Resolved) (calls : Table) (site : Site) → unit ≡ inputs.unit → calls ≡ inputs.calls → site ≡ inputs.site → given unit calls site ≡ inputs
+same_inputs inputs unit calls site one two three =
+    ap (λ own. given own calls site) one ∙ ap (λ own. given inputs.unit own site) two ∙ ap (λ own. given inputs.unit inputs.calls own) three
+
+module _ (told : Option Files) (unit path : List ℕ) where
+  -- each ending behind an effect is an answer
+  answered : (ending : Ending) → (effect_laws unit path).may_end ending → IsTrue (is_answer ending)
+  answered ending (inl done) = subst (λ e. IsTrue (is_answer e)) (sym done) refl
+  answered ending (inr launch) = subst (λ e. IsTrue (is_answer e)) (sym launch) refl
+
+  pub together : GoTogether (laws_over told (effect_laws unit path))
+  together = go_together (effect_laws unit path) told answered
+
+-- the inputs are read and none is refused
+abbrev pub AreRead : Files → List ℕ → UnitInputs → Type 0
+AreRead files unit inputs = (first_refusal (input_refusals files unit) ≡ None) × (inputs_of files unit ≡ Some (inputs_view inputs))
+
+-- an input is refused
+pub stops_at_inputs : (P : Files → UnitInputs → Type 0) (told : Option Files) (unit path : List ℕ) (stop : Stop) → IfSome told (λ files. Prepares (P files) (input_refusals files unit) (Err stop)) → IsAdmitted (laws_over told (effect_laws unit path)) ending_of text_of (Err stop)
+stops_at_inputs P told unit path stop said = stop_is_admitted (effect_laws unit path) ending_of text_of (λ (made : Effect). Unit {0}) told stop (before told said)
+  where
+    before : (told : Option Files) → IfSome told (λ files. Prepares (P files) (input_refusals files unit) (Err stop)) → IfSome told (λ files. Prepares (λ (made : Effect). Unit {0}) (effect_refusals files unit path) (Err stop))
+    before None said = tt
+    before (Some files) said = stops_before (P files) (λ (made : Effect). Unit {0}) stop (input_refusals files unit) (refusals_by (refusals_behind files unit path) (inputs_of files unit)) said
+
+-- behind inputs that are read
+behind_inputs : (files : Files) (unit path : List ℕ) (inputs : UnitInputs) → AreRead files unit inputs → first_refusal (effect_refusals files unit path) ≡ first_refusal (refusals_by_dropin unit (inputs_view inputs) (dropin_in files path))
+behind_inputs files unit path inputs read = refusals_with files unit (input_refusals files unit) (refusals_behind files unit path) (inputs_view inputs) read.0 read.1
+
+-- the drop-in is refused
+refused_dropin : (unit : List ℕ) (inputs : Inputs) (found : Result UnitText (List ℕ)) (stop : Stop) → IsAnswer {T = UnitText} (λ more. more) (Err stop) found → Prepares (λ (made : Effect). Unit {0}) (refusals_by_dropin unit inputs found) (Err stop)
+refused_dropin unit inputs found (stop.Refused line) is = ap (λ one. first_refusal (refusals_by_dropin unit inputs one)) is
+refused_dropin unit inputs found stop.ReadFault is = tt
+refused_dropin unit inputs found stop.Memory is = tt
+
+pub stops_at_dropin : (told now : Option Files) (unit path : List ℕ) (inputs : UnitInputs) (stop : Stop) → now ≡ told
+    → IfSome told (λ files. AreRead files unit inputs)
+    → IfSome now (λ files. IsAnswer {T = UnitText} (λ more. more) (Err stop) (dropin_in files path))
+    → IsAdmitted (laws_over told (effect_laws unit path)) ending_of text_of (Err stop)
+stops_at_dropin told now unit path inputs stop same read said = stop_is_admitted (effect_laws unit path) ending_of text_of (λ (made : Effect). Unit {0}) told stop (at_dropin told same read)
+  where
+    at_dropin : (told : Option Files) → now ≡ told → IfSome told (λ files. AreRead files unit inputs) → IfSome told (λ files. Prepares (λ (made : Effect). Unit {0}) (effect_refusals files unit path) (Err stop))
+    at_dropin None same read = tt
+    at_dropin (Some files) same read =
+        stops_as (λ (made : Effect). Unit {0}) stop (refusals_by_dropin unit (inputs_view inputs) (dropin_in files path)) (effect_refusals files unit path) (behind_inputs files unit path inputs read)
+        (refused_dropin unit (inputs_view inputs) (dropin_in files path) stop
+        (subst (λ own. IfSome own (λ files. IsAnswer {T = UnitText} (λ more. more) (Err stop) (dropin_in files path))) same said))
+
+-- behind a drop-in that was read
+module _ (told now : Option Files) (unit path : List ℕ) (inputs : UnitInputs) (more : UnitText) (same : now ≡ told)
+    (are : IfSome told (λ files. AreRead files unit inputs)) (said : IfSome now (λ files. IsAnswer (λ (more : UnitText). more) (Ok more) (dropin_in files path))) where
+  dropin_is : (files : Files) → told ≡ Some files → dropin_in files path ≡ Ok more
+  dropin_is files e = subst (λ own. IfSome own (λ files. IsAnswer (λ (more : UnitText). more) (Ok more) (dropin_in files path))) (same ∙ e) said
+
+  read_is : (files : Files) → told ≡ Some files → AreRead files unit inputs
+  read_is files e = subst (λ own. IfSome own (λ files. AreRead files unit inputs)) e are
+
+  behind_dropin : (files : Files) → told ≡ Some files → first_refusal (effect_refusals files unit path) ≡ first_refusal (refusals_behind_dropin unit (inputs_view inputs) more)
+  behind_dropin files e =
+      behind_inputs files unit path inputs (read_is files e)
+      ∙ ap (λ one. first_refusal (refusals_by_dropin unit (inputs_view inputs) one)) (dropin_is files e)
+
+  -- what is answered is admitted
+  admitted : (result : Result Effect Stop) → Prepares (λ made. TellsWith (inputs_view inputs) more (ending_of made) (text_of made)) (refusals_behind_dropin unit (inputs_view inputs) more) result
+      → IsAdmitted (laws_over told (effect_laws unit path)) ending_of text_of result
+  admitted (Err stop) answers = stop_is_admitted (effect_laws unit path) ending_of text_of (λ made. TellsWith (inputs_view inputs) more (ending_of made) (text_of made)) told stop (at_stop told refl)
+    where
+      at_stop : (own : Option Files) → told ≡ own → IfSome own (λ files. Prepares (λ made. TellsWith (inputs_view inputs) more (ending_of made) (text_of made)) (effect_refusals files unit path) (Err stop))
+      at_stop None e = tt
+      at_stop (Some files) e = stops_as (λ made. TellsWith (inputs_view inputs) more (ending_of made) (text_of made)) stop (refusals_behind_dropin unit (inputs_view inputs) more) (effect_refusals files unit path) (behind_dropin files e) answers
+  admitted (Ok made) answers = ready_is_admitted (effect_laws unit path) ending_of text_of told made (ends_so (inputs_view inputs).calls (inputs_view inputs).site answers.1.first answers.1.second (ending_of made) (text_of made) answers.1.tells) (printed told refl)
+    where
+      printed : (own : Option Files) → told ≡ own → IfSome own (λ files. AcceptsFiles (effect_laws unit path) files × PrintsEffect files unit path (ending_of made) (text_of made))
+      printed None e = tt
+      printed (Some files) e = (
+        behind_dropin files e ∙ answers.0,
+        record {
+          inputs = inputs_view inputs;
+          inputs_are = (read_is files e).1;
+          more = more;
+          dropin_is = dropin_is files e;
+          tells = answers.1;
+        },
+      )
+
+  -- also where the inputs are lent
+  pub admitted_as : (own : Inputs) (result : Result Effect Stop) → own ≡ inputs_view inputs
+      → Prepares (λ made. TellsWith own more (ending_of made) (text_of made)) (refusals_behind_dropin unit own more) result
+      → IsAdmitted (laws_over told (effect_laws unit path)) ending_of text_of result
+  admitted_as own result is answers =
+      admitted result (subst (λ these. Prepares (λ made. TellsWith these more (ending_of made) (text_of made)) (refusals_behind_dropin unit these more) result) is answers)
+
+pub named : {X : Type 0} (found : Option X) (name : X) → found ≡ Some name → IsSome found
+named None name is = cc
+named (Some own) name is = refl
+
+-- what reads nothing, behind a file that was read for a unit with a name
+module _ {S T U : Type 0} (told : S → Option Files) (faults : S → ℕ) (unit : List ℕ) (before mid now : S) (value : T) (more : U) (reads : ReadsFor told faults unit before mid (Ok value)) (name : IsSome (name_of unit)) (stays : told now ≡ told mid) (cause : HasReadCause (faults mid) (faults now) (Ok more)) where
+  pub read_behind : {V : Type 0} (result : Result V Stop) → (IsErrOf result stop.ReadFault → ⊥) → ReadsFor told faults unit before now result
+  read_behind result nothing = record {
+    reads_for_a_name = λ e. absurd (nothing e);
+    unread_without_a_name = λ none. absurd (none name);
+    map_stays = stays ∙ reads.map_stays;
+    fault_rose = quiet (faults before) (faults now) result (cause.no_other_fault ∙ reads.fault_rose.no_other_fault) nothing;
+  }

@@ -1,0 +1,6 @@
+pub mod Lines
+pub mod Longer
+pub mod Refusals
+pub mod Prints
+pub mod Told
+pub mod Stopping

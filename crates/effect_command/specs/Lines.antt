@@ -1,0 +1,60 @@
+-- The lines of `effect`.
+use Rattle.std.specs.Prelude.{ℕ, Bool, true, false, List, [], ◌∷◌, ◌++◌, codes, count_by, flat_map, map}
+use Rattle.std.specs.Fmt.{decimal}
+use Rattle.abs_path.specs.Paths.{Path, text_of}
+use Rattle.call_table.specs.Table as calls
+use Rattle.site_table.specs.Table.{Site}
+use Rattle.text_forms.specs.Escaped.{escaped_word}
+use Rattle.kernel_calls.specs.declared.call.Call.{Call}
+use Rattle.kernel_laws.specs.Questions.{Question}
+use Rattle.report_text.specs.Answers.{call_line}
+use Rattle.report_text.specs.Wording.{question_words}
+use Rattle.verdict_changes.specs.Changes.{Change, Closed, Hidden, Opened, Shown}
+use Rattle.effect_command.specs.declared.kinds.Kind.{Kind}
+use Rattle.effect_command.specs.declared.kinds.Kind.TheVariants as kind
+
+-- a refusal of the unit with the drop-in
+abbrev pub with_line : List ℕ → List ℕ
+with_line line = codes "with " ++ line
+
+-- a question behind a word
+abbrev pub question_line : List ℕ → calls.Table → Site → Question → List ℕ
+question_line word table site question = word ++ (codes " " ++ (question_words table site question ++ 10 ∷ []))
+
+-- a folder behind a word
+abbrev pub folder_line : List ℕ → Path → List ℕ
+folder_line word folder = word ++ (codes " " ++ (escaped_word (text_of folder) ++ 10 ∷ []))
+
+-- a change; below a question that is opened stand the calls that reach it, as a report has them
+abbrev pub change_lines : calls.Table → Site → Change → List ℕ
+change_lines table site (Closed question) = question_line (codes "closed") table site question
+change_lines table site (Opened question list) = question_line (codes "opened") table site question ++ flat_map (call_line table) list
+change_lines table site (Hidden folder) = folder_line (codes "hidden") folder
+change_lines table site (Shown folder) = folder_line (codes "shown") folder
+
+abbrev pub kind_of : Change → Kind
+kind_of (Closed question) = kind.Closed
+kind_of (Opened question list) = kind.Opened
+kind_of (Hidden folder) = kind.Hidden
+kind_of (Shown folder) = kind.Shown
+
+abbrev pub is_same : Kind → Kind → Bool
+is_same kind.Closed kind.Closed = true
+is_same kind.Opened kind.Opened = true
+is_same kind.Hidden kind.Hidden = true
+is_same kind.Shown kind.Shown = true
+is_same _ _ = false
+
+-- how many changes are of a kind
+abbrev pub count_of : Kind → List Kind → ℕ
+count_of wanted kinds = count_by (is_same wanted) kinds
+
+-- how many there are of each kind
+abbrev pub counts_line : List Kind → List ℕ
+counts_line kinds =
+    codes "effect closed " ++ (decimal (count_of kind.Closed kinds) ++ (codes " opened " ++ (decimal (count_of kind.Opened kinds)
+    ++ (codes " hidden " ++ (decimal (count_of kind.Hidden kinds) ++ (codes " shown " ++ (decimal (count_of kind.Shown kinds) ++ 10 ∷ [])))))))
+
+-- the changes, one behind the other, and their counts
+abbrev pub effect_text : calls.Table → Site → List Change → List ℕ
+effect_text table site changes = flat_map (change_lines table site) changes ++ counts_line (map kind_of changes)

@@ -1,0 +1,27 @@
+-- The unit with a drop-in behind its files, which is read from a file of its own.
+use Rattle.std.specs.Prelude.{ℕ, List, [], ◌∷◌, ◌++◌, Result, Ok, Err}
+use Rattle.command_answers.specs.Refusals.{refused_line}
+use Rattle.command_answers.specs.Stops.{and_then, or_line}
+use Rattle.dropin_merge.specs.declared.resolved.Resolved.{Resolved}
+use Rattle.host_io.specs.Files.{Files}
+use Rattle.unit_grammar.specs.Reading.{unit_of}
+use Rattle.unit_grammar.specs.declared.unit.UnitText.{UnitText}
+use Rattle.unit_inputs.specs.FileRefusals.{bytes_in}
+use Rattle.unit_inputs.specs.Inputs.{Inputs}
+use Rattle.unit_inputs.specs.UnitRefusals.{text_cause}
+
+-- what the bytes of a drop-in say, or the line of why they are refused, as a file of a unit is (systemd.syntax(7))
+abbrev pub dropin_said : List ℕ → List ℕ → Result UnitText (List ℕ)
+dropin_said path bytes = or_line (λ error. refused_line path (text_cause error)) (unit_of bytes)
+
+-- over some files: the file is there, and is not too large
+abbrev pub dropin_in : Files → List ℕ → Result UnitText (List ℕ)
+dropin_in files path = and_then (bytes_in files path) (dropin_said path)
+
+-- systemd.unit(5): the drop-in stands behind all files of the unit, so it is applied last
+abbrev pub longer_unit : Resolved → UnitText → Resolved
+longer_unit unit more = record { name = unit.name; files = unit.files ++ record { path = []; text = more } ∷ [] }
+
+-- the inputs with that unit
+abbrev pub with_dropin : Inputs → UnitText → Inputs
+with_dropin inputs more = record { unit = longer_unit inputs.unit more; calls = inputs.calls; site = inputs.site }

@@ -1,0 +1,26 @@
+-- What `effect` refuses, in the order of refusals.
+use Rattle.std.specs.Prelude.{ℕ, List, [], ◌∷◌, ◌++◌, Option, Some, None, map, option_map, Result, Ok, Err}
+use Rattle.host_io.specs.Files.{Files}
+use Rattle.started_units.specs.Starting.{first_start}
+use Rattle.unit_grammar.specs.declared.unit.UnitText.{UnitText}
+use Rattle.unit_inputs.specs.Inputs.{Inputs, input_refusals, inputs_of}
+use Rattle.unit_settings.specs.Settled.{refusals_by}
+use Rattle.effect_command.specs.Lines.{with_line}
+use Rattle.effect_command.specs.Longer.{dropin_in, with_dropin}
+
+-- what is refused of the unit, and of the unit with the drop-in, behind the word `with`
+abbrev pub refusals_behind_dropin : List ℕ → Inputs → UnitText → List (Option (List ℕ))
+refusals_behind_dropin unit inputs more =
+    first_start unit inputs ∷ option_map with_line (first_start unit (with_dropin inputs more)) ∷ []
+
+-- the drop-in, and what is refused behind it
+abbrev pub refusals_by_dropin : List ℕ → Inputs → Result UnitText (List ℕ) → List (Option (List ℕ))
+refusals_by_dropin unit inputs (Ok more) = refusals_behind_dropin unit inputs more
+refusals_by_dropin unit inputs (Err line) = Some line ∷ []
+
+abbrev pub refusals_behind : Files → List ℕ → List ℕ → Inputs → List (Option (List ℕ))
+refusals_behind files unit path inputs = refusals_by_dropin unit inputs (dropin_in files path)
+
+-- the order of refusals: the inputs, the drop-in, the settings and the paths of the unit, and those of the unit with the drop-in
+abbrev pub effect_refusals : Files → List ℕ → List ℕ → List (Option (List ℕ))
+effect_refusals files unit path = input_refusals files unit ++ refusals_by (refusals_behind files unit path) (inputs_of files unit)

@@ -1,0 +1,54 @@
+-- What the steps of an answer ask of each other.
+use Rattle.std.specs.Prelude.{◌≡◌, ℕ, List, Result, Ok, Err}
+use Rattle.call_table.specs.Table as calls
+use Rattle.command_answers.specs.declared.ending.Ending.{Ending}
+use Rattle.command_answers.specs.declared.stop.Stop.{Stop}
+use Rattle.command_answers.specs.declared.stop.Stop.TheVariants as stop
+use Rattle.exec_settings.specs.declared.service.Settings.{Settings}
+use Rattle.kern_mounts.specs.declared.step.MountStep.{MountStep}
+use Rattle.launcher.specs.declared.launched.Launched.{Launched as Service}
+use Rattle.site_table.specs.Table.{Site}
+use Rattle.unit_launch.specs.Launching.{IsLaunched}
+use Rattle.unit_launch.specs.declared.launching.UnitLaunch.{UnitLaunch}
+use Rattle.unit_launch.specs.declared.launching.UnitLaunch.TheVariants.{Launched, Refused}
+use Rattle.effect_command.specs.Lines.{with_line}
+use Rattle.effect_command.specs.declared.effect.Effect.{Effect}
+
+-- what is ready is such, or memory ran out
+abbrev pub IsReadyWith : (Ending → List ℕ → Type 0) → Result Effect Stop → Type 0
+IsReadyWith P (Ok effect) = P effect.ending effect.text.items
+IsReadyWith P (Err (stop.Refused line)) = ⊥
+IsReadyWith P (Err stop.ReadFault) = ⊥
+IsReadyWith P (Err stop.Memory) = Unit {0}
+
+-- the same refusal, of the unit with the drop-in, unless memory ran out
+abbrev pub IsBehindWith : Stop → Stop → Type 0
+IsBehindWith (stop.Refused line) (stop.Refused told) = told.items ≡ with_line line.items
+IsBehindWith (stop.Refused line) stop.ReadFault = ⊥
+IsBehindWith (stop.Refused line) stop.Memory = Unit {0}
+IsBehindWith stop.ReadFault told = told ≡ stop.ReadFault
+IsBehindWith stop.Memory told = told ≡ stop.Memory
+
+-- the launch of some settings on some plan over these tables ended in the service
+pub record IsOver (table : calls.Table) (site : Site) (service : Service) : Type 0 where
+  pub settings : Settings
+  pub plan : List MountStep
+  pub launched : IsLaunched table site settings plan service
+
+-- what is launched is launched over these tables
+abbrev pub StartsOver : calls.Table → Site → UnitLaunch → Type 0
+StartsOver table site (Launched service) = IsOver table site service
+StartsOver table site (Refused refusal) = Unit {0}
+
+-- over the same tables
+pub record AreTogether (before after : Service) : Type 0 where
+  pub table : calls.Table
+  pub site : Site
+  pub first : IsOver table site before
+  pub second : IsOver table site after
+
+pub record StartTogether (first second : UnitLaunch) : Type 0 where
+  pub table : calls.Table
+  pub site : Site
+  pub starts : StartsOver table site first
+  pub starts_with : StartsOver table site second

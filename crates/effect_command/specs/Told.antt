@@ -1,0 +1,58 @@
+-- What is told, piece by piece, of a question and of a row: by what is found of them.
+use Rattle.std.specs.Prelude.{ℕ, List, [], ◌∷◌, ◌++◌, codes, flat_map, map}
+use Rattle.abs_path.specs.Paths.{Path}
+use Rattle.call_table.specs.Table as calls
+use Rattle.kernel_laws.specs.Questions as asked
+use Rattle.report_text.specs.Answers.{call_line}
+use Rattle.site_table.specs.Table.{Site}
+use Rattle.verdict_changes.specs.declared.asking.VerdictChange.{VerdictChange}
+use Rattle.verdict_changes.specs.declared.asking.VerdictChange.TheVariants as verdict
+use Rattle.verdict_changes.specs.declared.looking.FolderChange.{FolderChange}
+use Rattle.verdict_changes.specs.declared.looking.FolderChange.TheVariants as folder
+use Rattle.judge_command.specs.Asked.{launch_in, world_in}
+use Rattle.judge_command.specs.declared.asking.Asked.{Asked}
+use Rattle.questions.specs.Meanings.{meant}
+use Rattle.questions.specs.declared.question.Question.{Question}
+use Rattle.site_table.specs.declared.row.Row.{Row}
+use Rattle.verdict_changes.specs.ByRule.{question_change, row_change, changes_by}
+use Rattle.verdict_changes.specs.Changes.{Change}
+use Rattle.effect_command.specs.Lines.{change_lines, effect_text, folder_line, kind_of, question_line}
+use Rattle.effect_command.specs.declared.kinds.Kind.{Kind}
+use Rattle.effect_command.specs.declared.kinds.Kind.TheVariants as kind
+
+abbrev pub lines_in : Asked → List Change → List ℕ
+lines_in after changes = flat_map (change_lines (world_in after).calls (world_in after).site) changes
+
+abbrev pub changes_at : Asked → Asked → Question → List Change
+changes_at before after question = question_change (launch_in before) (launch_in after) after.service.program (meant question)
+
+abbrev pub turns_at : Asked → Asked → Row → List Change
+turns_at before after row = row_change (launch_in before) (launch_in after) row
+
+-- the lines of what is found of a question, and of a folder
+abbrev pub verdict_lines : calls.Table → Site → asked.Question → VerdictChange → List ℕ
+verdict_lines table site question verdict.Same = []
+verdict_lines table site question verdict.Closed = question_line (codes "closed") table site question
+verdict_lines table site question (verdict.Opened list) = question_line (codes "opened") table site question ++ flat_map (call_line table) list.items
+
+abbrev pub folder_lines : Path → FolderChange → List ℕ
+folder_lines path folder.Same = []
+folder_lines path folder.Hidden = folder_line (codes "hidden") path
+folder_lines path folder.Shown = folder_line (codes "shown") path
+
+-- and of which kind it is
+abbrev pub verdict_kinds : VerdictChange → List Kind
+verdict_kinds verdict.Same = []
+verdict_kinds verdict.Closed = kind.Closed ∷ []
+verdict_kinds (verdict.Opened list) = kind.Opened ∷ []
+
+abbrev pub folder_kinds : FolderChange → List Kind
+folder_kinds folder.Same = []
+folder_kinds folder.Hidden = kind.Hidden ∷ []
+folder_kinds folder.Shown = kind.Shown ∷ []
+
+-- all of it
+abbrev pub told_text : Asked → Asked → List ℕ
+told_text before after =
+    effect_text (world_in after).calls (world_in after).site
+    (changes_by (launch_in before) (launch_in after) after.service.program (map meant after.questions.items) (world_in after).site.rows)

@@ -1,0 +1,44 @@
+//! What a drop-in changes for a unit.
+ghost use Rattle.std.specs.Prelude.{◌≡◌, IfOk, IsErrOf};
+ghost use Rattle.command_answers.specs.Stops.{Prepares};
+ghost use Rattle.started_units.specs.Starting.{given};
+ghost use Rattle.effect_command.specs.Longer.{longer_unit};
+ghost use Rattle.effect_command.specs.Prints.{TellsWith, ending_of, text_of};
+ghost use Rattle.effect_command.specs.Refusals.{refusals_behind_dropin};
+
+use crate::comparing::compare;
+use crate::effect::Effect;
+use crate::starting::start_with;
+use call_table::CallTable;
+use command_answers::Stop;
+use dropin_merge::Resolved;
+use site_table::SiteTable;
+use started_units::start;
+use std::alloc::{AllocError, Global};
+use unit_grammar::UnitText;
+
+// The unit with the drop-in behind its files.
+fn lengthen(alloc: Global, unit: &Resolved, more: UnitText) -> Result<Resolved, AllocError>
+    ensures { IfOk result (λ longer. longer ≡ longer_unit unit.now more) }
+{
+    unit.extended(alloc, more)
+}
+
+/// Launches the unit, and the unit with the drop-in behind its files, and tells what changes; or finds the first refusal of the
+/// settings and paths of the two.
+pub fn answer(
+    alloc: Global,
+    name: &str,
+    unit: &Resolved,
+    more: UnitText,
+    calls: &CallTable,
+    site: &SiteTable,
+) -> Result<Effect, Stop>
+    ensures answers { Prepares (λ made. TellsWith (given unit.now calls.now site.now) more (ending_of made) (text_of made)) (refusals_behind_dropin name.now (given unit.now calls.now site.now) more) result }
+    ensures reads_nothing { IsErrOf result Stop.ReadFault → ⊥ }
+{
+    let longer = lengthen(alloc, unit, more)?;
+    let first = start(alloc, name, unit, calls, site)?;
+    let second = start_with(alloc, name, &longer, calls, site)?;
+    compare(alloc, first, second)
+}

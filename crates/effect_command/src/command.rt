@@ -1,0 +1,30 @@
+//! The command `effect`, the name of a unit and the path of a drop-in.
+
+ghost use Rattle.command_answers.specs.Laws.{IsAdmitted, laws_over};
+ghost use Rattle.unit_inputs.specs.ReadsFor.{ReadsFor};
+ghost use Rattle.effect_command.specs.Prints.{effect_laws, ending_of, text_of};
+
+use crate::answering::answer;
+use crate::dropin::read_dropin;
+use crate::effect::Effect;
+use command_answers::Stop;
+use host_io::Shelf;
+use std::alloc::Global;
+use unit_inputs::read_inputs;
+
+/// Prepares `effect`, the name of a unit and the path of a drop-in: reads the unit, calls.txt, site.toml and the drop-in, finds the
+/// first refusal of them and of the settings and paths of the unit, as it is and with the drop-in, launches both, and tells what
+/// changes.
+pub fn prepare<S: Shelf>(
+    alloc: Global,
+    shelf: &mut S,
+    unit: &str,
+    path: &str,
+) -> Result<Effect, Stop>
+    ensures prepares { IsAdmitted (laws_over (S.told shelf.old) (effect_laws unit.now path.now)) ending_of text_of result }
+    ensures reads_for_the_unit { ReadsFor S.told S.faults unit.now shelf.old shelf.new result }
+{
+    let inputs = read_inputs(alloc, shelf, unit)?;
+    let more = read_dropin(alloc, shelf, path)?;
+    answer(alloc, unit, &inputs.unit, more, &inputs.calls, &inputs.site)
+}

@@ -1,0 +1,83 @@
+//! What two launches come to, told.
+ghost use Rattle.std.specs.Prelude.{◌≡◌, IfOk};
+ghost use Rattle.call_table.specs.Table.{Table};
+ghost use Rattle.command_answers.specs.declared.ending.Ending.TheVariants.{LaunchRefused};
+ghost use Rattle.site_table.specs.Table.{Site};
+ghost use Rattle.unit_launch.specs.Refusals.{refusal_line};
+ghost use Rattle.effect_command.specs.Lines.{with_line};
+ghost use Rattle.effect_command.specs.Prints.{TellsBoth};
+ghost use Rattle.effect_command.specs.Stopping.{AreTogether, IsOver, IsReadyWith, StartTogether, StartsOver};
+ghost use Rattle.unit_launch.specs.declared.launching.UnitLaunch.TheVariants.{Launched as Done};
+
+use crate::effect::Effect;
+use crate::lines::with_line;
+use crate::telling::effect_text;
+use command_answers::{Ending, Stop};
+use judge_command::ask;
+use launcher::Launched;
+use std::alloc::Global;
+use unit_launch::{LaunchRefusal, UnitLaunch, refusal_line};
+use verdict_changes::changes_are_true;
+
+// The line of a launch of the unit that is refused.
+fn tell_refused(alloc: Global, refusal: &LaunchRefusal) -> Result<Effect, Stop>
+    ensures { IsReadyWith (λ ending text. (ending ≡ LaunchRefused) × (text ≡ refusal_line refusal.now)) result }
+{
+    Ok(Effect {
+        text: refusal_line(alloc, refusal)?,
+        ending: Ending::LaunchRefused,
+    })
+}
+
+// That of a launch of the unit with the drop-in.
+fn tell_refused_with(alloc: Global, refusal: &LaunchRefusal) -> Result<Effect, Stop>
+    ensures { IsReadyWith (λ ending text. (ending ≡ LaunchRefused) × (text ≡ with_line (refusal_line refusal.now))) result }
+{
+    let line = refusal_line(alloc, refusal)?;
+    Ok(Effect {
+        text: with_line(alloc, line.as_slice())?,
+        ending: Ending::LaunchRefused,
+    })
+}
+
+// What changes from one service to another.
+fn compare_services(
+    alloc: Global,
+    before: Launched<'_>,
+    after: Launched<'_>,
+) -> Result<Effect, Stop>
+    requires together { AreTogether before after }
+    ensures { (table : Table) (site : Site) → IsOver table site before.entry → IsOver table site after.entry → IsReadyWith (TellsBoth table site (Done before.entry) (Done after.entry)) result }
+{
+    // Why the changes are true.
+    changes_are_true();
+    let first = ask(alloc, before)?;
+    let second = ask(alloc, after)?;
+    Ok(Effect {
+        text: effect_text(alloc, &first, &second)?,
+        ending: Ending::Done,
+    })
+}
+
+// The same, where the unit with the drop-in may not be launched.
+fn compare_with(alloc: Global, before: Launched<'_>, second: UnitLaunch<'_>) -> Result<Effect, Stop>
+    requires together { StartTogether (Done before) second }
+    ensures { (table : Table) (site : Site) → IsOver table site before.entry → StartsOver table site second.entry → IsReadyWith (TellsBoth table site (Done before.entry) second.entry) result }
+{
+    match second {
+        UnitLaunch::Launched(after) => compare_services(alloc, before, after),
+        UnitLaunch::Refused(refusal) => tell_refused_with(alloc, &refusal),
+    }
+}
+
+/// Tells what changes from the launch of a unit to that of the unit with the drop-in: the line of the first that is refused, or the
+/// changes from one service to the other.
+pub fn compare(alloc: Global, first: UnitLaunch<'_>, second: UnitLaunch<'_>) -> Result<Effect, Stop>
+    requires together { StartTogether first second }
+    ensures tells { (table : Table) (site : Site) → StartsOver table site first.entry → StartsOver table site second.entry → IsReadyWith (TellsBoth table site first.entry second.entry) result }
+{
+    match first {
+        UnitLaunch::Launched(before) => compare_with(alloc, before, second),
+        UnitLaunch::Refused(refusal) => tell_refused(alloc, &refusal),
+    }
+}

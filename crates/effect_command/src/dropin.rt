@@ -1,0 +1,43 @@
+//! The drop-in, with the lines of its refusals.
+ghost use Rattle.std.specs.Prelude.{◌≡◌, IfOk, IfSome, IsErrOf};
+ghost use Rattle.command_answers.specs.Refusals.{refused_line};
+ghost use Rattle.command_answers.specs.Stops.{HasReadCause, IsAnswer};
+ghost use Rattle.unit_inputs.specs.UnitRefusals.{text_cause};
+ghost use Rattle.effect_command.specs.Longer.{dropin_in, dropin_said};
+
+use command_answers::{Stop, refuse};
+use dropin_merge::ResolveError;
+use host_io::Shelf;
+use std::alloc::{AllocError, Global};
+use unit_grammar::{Text, UnitError, UnitText, read_unit};
+use unit_inputs::{read_input, unit_line};
+
+// The line of a drop-in that is refused for its text.
+fn text_line(alloc: Global, path: &str, error: UnitError) -> Result<Vec<u8>, AllocError>
+    ensures { IfOk result (λ line. line.items ≡ refused_line path.now (text_cause error)) }
+{
+    let file = Text::new(alloc, path)?;
+    unit_line(alloc, path, &ResolveError::Text(file, error))
+}
+
+// What the bytes of a drop-in say.
+fn said(alloc: Global, path: &str, bytes: &[u8]) -> Result<UnitText, Stop>
+    ensures says { IsAnswer (λ text. text) result (dropin_said path.now bytes.now) }
+    ensures reads_nothing { IsErrOf result Stop.ReadFault → ⊥ }
+{
+    match read_unit(alloc, bytes) {
+        Ok(text) => Ok(text),
+        Err(UnitError::Memory) => Err(Stop::Memory),
+        Err(error) => Err(refuse(text_line(alloc, path, error))),
+    }
+}
+
+/// The drop-in at a path, or the line of its first refusal: it is there, has at most 1 MiB, and can be read as a file of a unit.
+pub fn read_dropin<S: Shelf>(alloc: Global, shelf: &mut S, path: &str) -> Result<UnitText, Stop>
+    ensures reads_the_dropin { IfSome (S.told shelf.old) (λ files. IsAnswer (λ text. text) result (dropin_in files path.now)) }
+    ensures map_stays { S.told shelf.new ≡ S.told shelf.old }
+    ensures fault_rose { HasReadCause (S.faults shelf.old) (S.faults shelf.new) result }
+{
+    let bytes = read_input(alloc, shelf, path)?;
+    said(alloc, path, bytes.as_slice())
+}

@@ -1,0 +1,43 @@
+//! The launch of the unit with the drop-in; a refusal of it stands behind the word `with`.
+ghost use Rattle.std.specs.Prelude.{◌∷◌, [], IsErrOf, option_map};
+ghost use Rattle.command_answers.specs.Stops.{Prepares};
+ghost use Rattle.started_units.specs.Starting.{StartsAs, first_start, given};
+ghost use Rattle.effect_command.specs.Lines.{with_line};
+ghost use Rattle.effect_command.specs.Stopping.{IsBehindWith};
+
+use crate::lines::with_line;
+use call_table::CallTable;
+use command_answers::{Stop, refuse};
+use dropin_merge::Resolved;
+use site_table::SiteTable;
+use started_units::start;
+use std::alloc::Global;
+use unit_launch::UnitLaunch;
+
+// The same refusal, of the unit with the drop-in.
+fn behind_with(alloc: Global, stop: Stop) -> Stop
+    ensures { IsBehindWith stop result }
+{
+    match stop {
+        Stop::Refused(line) => refuse(with_line(alloc, line.as_slice())),
+        Stop::ReadFault => Stop::ReadFault,
+        Stop::Memory => Stop::Memory,
+    }
+}
+
+/// Launches the unit with the drop-in; the line of what is refused stands behind the word `with`.
+pub fn start_with<'a>(
+    alloc: Global,
+    name: &str,
+    longer: &Resolved,
+    calls: &'a CallTable,
+    site: &'a SiteTable,
+) -> Result<UnitLaunch<'a>, Stop>
+    ensures starts { Prepares (StartsAs (given longer.now calls.now site.now)) (option_map with_line (first_start name.now (given longer.now calls.now site.now)) ∷ []) result }
+    ensures reads_nothing { IsErrOf result Stop.ReadFault → ⊥ }
+{
+    match start(alloc, name, longer, calls, site) {
+        Ok(launch) => Ok(launch),
+        Err(stop) => Err(behind_with(alloc, stop)),
+    }
+}

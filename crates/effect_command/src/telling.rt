@@ -1,0 +1,261 @@
+//! The text of what changes from one launched service to another.
+ghost use Rattle.std.specs.Prelude.{◌≡◌, ◌++◌, ◌∷◌, [], ℕ, List, Contains, IfOk, OnOk, codes, flat_map, map};
+ghost use Rattle.judge_command.specs.Asked.{IsAsked, world_in};
+ghost use Rattle.judge_command.specs.Asked.{IsRowIn};
+ghost use Rattle.judge_command.specs.Lent.{IsServiceOf};
+ghost use Rattle.kernel_laws.specs.Questions.{questions};
+ghost use Rattle.questions.specs.Meanings.{meant};
+ghost use Rattle.report_text.specs.Answers.{call_line};
+ghost use Rattle.effect_command.specs.Lines.{kind_of, question_line};
+ghost use Rattle.effect_command.specs.Told.{changes_at, folder_kinds, folder_lines, lines_in, told_text, turns_at, verdict_kinds, verdict_lines};
+
+use crate::kinds::Kind;
+use crate::lines::{counts_line, folder_line, question_line};
+use abs_path::AbsPath;
+use call_table::CallTable;
+use judge_command::Asked;
+use kernel_calls::Call;
+use open_calls::Service;
+use questions::Question;
+use report_text::call_line;
+use site_table::{Row, SiteTable};
+use std::alloc::{AllocError, Global};
+use verdict_changes::{FolderChange, VerdictChange, folder_change, verdict_change};
+
+// Tells a line.
+fn push_line(text: &mut Vec<u8>, line: Result<Vec<u8>, AllocError>) -> Result<(), AllocError>
+    ensures { (told : List ℕ) → IfOk line (λ put. put.items ≡ told) → OnOk result (text.new.items ≡ text.old.items ++ told) }
+{
+    let line = line?;
+    text.extend_from_slice(line.as_slice())?;
+    Ok(())
+}
+
+// Tells calls, one behind the other.
+fn push_calls(
+    alloc: Global,
+    text: &mut Vec<u8>,
+    list: &[Call],
+    calls: &CallTable,
+) -> Result<(), AllocError>
+    ensures { OnOk result (text.new.items ≡ text.old.items ++ flat_map (call_line calls.now) list.now) }
+{
+    for call in list {
+        text.extend_from_slice(call_line(alloc, call, calls)?.as_slice())?;
+    }
+    Ok(())
+}
+
+// Tells a question that is opened, with the calls that reach it.
+fn push_opened(
+    alloc: Global,
+    text: &mut Vec<u8>,
+    question: &Question,
+    list: &[Call],
+    calls: &CallTable,
+    site: &SiteTable,
+) -> Result<(), AllocError>
+    requires asked { Contains (questions calls.now site.now) (meant question.now) }
+    ensures { OnOk result (text.new.items ≡ text.old.items ++ (question_line (codes "opened") calls.now site.now (meant question.now) ++ flat_map (call_line calls.now) list.now)) }
+{
+    let line = question_line(alloc, "opened", question, calls, site)?;
+    text.extend_from_slice(line.as_slice())?;
+    push_calls(alloc, text, list, calls)?;
+    Ok(())
+}
+
+// Tells what changes of a question.
+fn push_change(
+    alloc: Global,
+    text: &mut Vec<u8>,
+    question: &Question,
+    change: &VerdictChange,
+    calls: &CallTable,
+    site: &SiteTable,
+) -> Result<(), AllocError>
+    requires asked { Contains (questions calls.now site.now) (meant question.now) }
+    ensures { OnOk result (text.new.items ≡ text.old.items ++ verdict_lines calls.now site.now (meant question.now) change.now) }
+{
+    match change {
+        VerdictChange::Same => Ok(()),
+        VerdictChange::Closed => {
+            push_line(text, question_line(alloc, "closed", question, calls, site))
+        }
+        VerdictChange::Opened(list) => {
+            push_opened(alloc, text, question, list.as_slice(), calls, site)
+        }
+    }
+}
+
+// Counts a change.
+fn push_one(kinds: &mut Vec<Kind>, kind: Kind) -> Result<(), AllocError>
+    ensures { OnOk result (kinds.new.items ≡ kinds.old.items ++ kind ∷ []) }
+{
+    kinds.push(kind)?;
+    Ok(())
+}
+
+// Counts it.
+fn push_kind(kinds: &mut Vec<Kind>, change: &VerdictChange) -> Result<(), AllocError>
+    ensures { OnOk result (kinds.new.items ≡ kinds.old.items ++ verdict_kinds change.now) }
+{
+    match change {
+        VerdictChange::Same => Ok(()),
+        VerdictChange::Closed => push_one(kinds, Kind::Closed),
+        VerdictChange::Opened(_) => push_one(kinds, Kind::Opened),
+    }
+}
+
+// Tells what changes of a folder.
+fn push_turn(
+    alloc: Global,
+    text: &mut Vec<u8>,
+    folder: &AbsPath,
+    change: FolderChange,
+) -> Result<(), AllocError>
+    ensures { OnOk result (text.new.items ≡ text.old.items ++ folder_lines folder.now change) }
+{
+    match change {
+        FolderChange::Same => Ok(()),
+        FolderChange::Hidden => push_line(text, folder_line(alloc, "hidden", folder)),
+        FolderChange::Shown => push_line(text, folder_line(alloc, "shown", folder)),
+    }
+}
+
+// Counts it.
+fn push_turn_kind(kinds: &mut Vec<Kind>, change: FolderChange) -> Result<(), AllocError>
+    ensures { OnOk result (kinds.new.items ≡ kinds.old.items ++ folder_kinds change) }
+{
+    match change {
+        FolderChange::Same => Ok(()),
+        FolderChange::Hidden => push_one(kinds, Kind::Hidden),
+        FolderChange::Shown => push_one(kinds, Kind::Shown),
+    }
+}
+
+// Asks both services a question, and tells and counts what changes.
+fn tell_question(
+    alloc: Global,
+    before: &Asked<'_>,
+    after: &Asked<'_>,
+    service: &Service<'_>,
+    question: &Question,
+    text: &mut Vec<u8>,
+    kinds: &mut Vec<Kind>,
+) -> Result<(), AllocError>
+    requires before { IsAsked before.now }
+    requires after { IsAsked after.now }
+    requires its_service { IsServiceOf after.now service.now }
+    requires same_calls { (world_in before.now).calls ≡ (world_in after.now).calls }
+    requires same_site { (world_in before.now).site ≡ (world_in after.now).site }
+    requires listed { Contains (questions (world_in after.now).calls (world_in after.now).site) (meant question.now) }
+    ensures tells { OnOk result (text.new.items ≡ text.old.items ++ lines_in after.now (changes_at before.now after.now question.now)) }
+    ensures counts { OnOk result (kinds.new.items ≡ kinds.old.items ++ map kind_of (changes_at before.now after.now question.now)) }
+{
+    let change = verdict_change(before, after, service, question)?;
+    let world = &after.service.world;
+    push_change(
+        alloc,
+        text,
+        question,
+        &change,
+        world.call_table(),
+        world.site_table(),
+    )?;
+    push_kind(kinds, &change)?;
+    Ok(())
+}
+
+// Asks both services these questions, all of the tables, and tells and counts what changes.
+fn tell_questions(
+    alloc: Global,
+    before: &Asked<'_>,
+    after: &Asked<'_>,
+    service: &Service<'_>,
+    list: &[Question],
+    text: &mut Vec<u8>,
+    kinds: &mut Vec<Kind>,
+) -> Result<(), AllocError>
+    requires before { IsAsked before.now }
+    requires after { IsAsked after.now }
+    requires its_service { IsServiceOf after.now service.now }
+    requires same_calls { (world_in before.now).calls ≡ (world_in after.now).calls }
+    requires same_site { (world_in before.now).site ≡ (world_in after.now).site }
+    requires all { map meant list.now ≡ questions (world_in after.now).calls (world_in after.now).site }
+    ensures tells { OnOk result (text.new.items ≡ text.old.items ++ flat_map (λ question. lines_in after.now (changes_at before.now after.now question)) list.now) }
+    ensures counts { OnOk result (kinds.new.items ≡ kinds.old.items ++ flat_map (λ question. map kind_of (changes_at before.now after.now question)) list.now) }
+{
+    for question in list {
+        tell_question(alloc, before, after, service, question, text, kinds)?;
+    }
+    Ok(())
+}
+
+// Looks at a row from both services, and tells and counts what changes.
+fn tell_row(
+    alloc: Global,
+    before: &Asked<'_>,
+    after: &Asked<'_>,
+    row: &Row,
+    text: &mut Vec<u8>,
+    kinds: &mut Vec<Kind>,
+) -> Result<(), AllocError>
+    requires before { IsAsked before.now }
+    requires after { IsAsked after.now }
+    requires same_site { (world_in before.now).site ≡ (world_in after.now).site }
+    requires listed { IsRowIn after.now row.now }
+    ensures tells { OnOk result (text.new.items ≡ text.old.items ++ lines_in after.now (turns_at before.now after.now row.now)) }
+    ensures counts { OnOk result (kinds.new.items ≡ kinds.old.items ++ map kind_of (turns_at before.now after.now row.now)) }
+{
+    let change = folder_change(before, after, row);
+    push_turn(alloc, text, &row.path, change)?;
+    push_turn_kind(kinds, change)?;
+    Ok(())
+}
+
+// Looks at these rows, all of the site, from both services, and tells and counts what changes.
+fn tell_rows(
+    alloc: Global,
+    before: &Asked<'_>,
+    after: &Asked<'_>,
+    rows: &[Row],
+    text: &mut Vec<u8>,
+    kinds: &mut Vec<Kind>,
+) -> Result<(), AllocError>
+    requires before { IsAsked before.now }
+    requires after { IsAsked after.now }
+    requires same_site { (world_in before.now).site ≡ (world_in after.now).site }
+    requires all { rows.now ≡ (world_in after.now).site.rows }
+    ensures tells { OnOk result (text.new.items ≡ text.old.items ++ flat_map (λ row. lines_in after.now (turns_at before.now after.now row)) rows.now) }
+    ensures counts { OnOk result (kinds.new.items ≡ kinds.old.items ++ flat_map (λ row. map kind_of (turns_at before.now after.now row)) rows.now) }
+{
+    for row in rows {
+        tell_row(alloc, before, after, row, text, kinds)?;
+    }
+    Ok(())
+}
+
+/// What changes from one launched service to another over the same tables: of each question in the order of the list, then of each
+/// folder, and the counts.
+pub fn effect_text(
+    alloc: Global,
+    before: &Asked<'_>,
+    after: &Asked<'_>,
+) -> Result<Vec<u8>, AllocError>
+    requires before { IsAsked before.now }
+    requires after { IsAsked after.now }
+    requires same_calls { (world_in before.now).calls ≡ (world_in after.now).calls }
+    requires same_site { (world_in before.now).site ≡ (world_in after.now).site }
+    ensures tells_all { IfOk result (λ text. text.items ≡ told_text before.now after.now) }
+{
+    let service = Service::of(alloc, &after.service, &after.ceiling)?;
+    let list = after.questions.as_slice();
+    let rows = after.service.world.site_table().rows();
+    let mut text = Vec::new(alloc);
+    let mut kinds = Vec::new(alloc);
+    tell_questions(alloc, before, after, &service, list, &mut text, &mut kinds)?;
+    tell_rows(alloc, before, after, rows, &mut text, &mut kinds)?;
+    let counts = counts_line(alloc, kinds.as_slice())?;
+    text.extend_from_slice(counts.as_slice())?;
+    Ok(text)
+}

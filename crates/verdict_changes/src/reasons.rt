@@ -1,0 +1,13 @@
+//! Why the changes that are found are those that are.
+ghost use Rattle.verdict_changes.specs.ByRule.{ChangesAreTrue};
+
+use judge_command::truths;
+use kernel_ways::blindness;
+
+/// What is found to change from one launched service to another changes, and nothing else does.
+pub fn changes_are_true()
+    ensures { ChangesAreTrue }
+{
+    truths();
+    blindness();
+}
