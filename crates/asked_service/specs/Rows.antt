@@ -1,0 +1,41 @@
+-- Verdicts on the questions of a launched service, and those of a unit.
+use Rattle.std.specs.Prelude.{◌≡◌, ◌↔◌, ℕ, Bool, false, not, List, filter, length, map}
+use Rattle.std.specs.List.{AllByRecursion}
+use Rattle.call_table.specs.Table as calls
+use Rattle.dropin_merge.specs.declared.resolved.Resolved.{Resolved}
+use Rattle.kernel_laws.specs.Denied.{IsDenied}
+use Rattle.kernel_laws.specs.Questions as asked
+use Rattle.kernel_model.specs.World.{World}
+use Rattle.launched_units.specs.Launching.{IsLaunchedUnit}
+use Rattle.launcher.specs.declared.launched.Launched.{Launched as Service}
+use Rattle.questions.specs.Meanings.{meant}
+use Rattle.questions.specs.declared.question.Question.{Question}
+use Rattle.site_table.specs.Table.{Site}
+use Rattle.asked_service.specs.Asked.{is_open_by}
+use Rattle.asked_service.specs.declared.rows.VerdictRow.{VerdictRow}
+
+-- it is denied, where no list of calls of the service and its descendants reaches it, and nowhere else
+abbrev pub IsSo : World → Question → Bool → Type 0
+IsSo world question is_open = (is_open ≡ false) ↔ IsDenied world (meant question)
+
+-- one verdict on each question of the tables, in their order, each of them so
+pub record AreRows (world : World) (rows : List VerdictRow) : Type 0 where
+  pub one_each : map (λ row. meant row.question) rows ≡ asked.questions world.calls world.site
+  pub each_is_so : AllByRecursion (λ row. IsSo world row.question row.is_open) rows
+
+-- the verdicts on what the service of a unit is asked
+pub record AreRowsOf (unit : Resolved) (table : calls.Table) (site : Site) (rows : List VerdictRow) : Type 0 where
+  pub service : Service
+  pub launched : IsLaunchedUnit unit table site service
+  pub are_rows : AreRows service.world rows
+
+-- the verdicts by the rule
+abbrev pub rows_of : World → List Question → List VerdictRow
+rows_of world list = map (λ question. record { question = question; is_open = is_open_by world question }) list
+
+-- how many of some verdicts say that the question is open, or that it is denied
+abbrev pub count_open : List VerdictRow → ℕ
+count_open rows = length (filter (λ row. row.is_open) rows)
+
+abbrev pub count_denied : List VerdictRow → ℕ
+count_denied rows = length (filter (λ row. not row.is_open) rows)

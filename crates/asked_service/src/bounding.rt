@@ -1,0 +1,61 @@
+//! A launched service with what bounds its processes, for verdicts on a few questions.
+
+ghost use Rattle.std.specs.Prelude.{◌≡◌, ◌↔◌, true, Contains, IfOk};
+ghost use Rattle.kernel_laws.specs.Launched.{launch_of};
+ghost use Rattle.kernel_laws.specs.Questions.{questions};
+ghost use Rattle.kernel_ways.specs.Laws.{IsServedWorld};
+ghost use Rattle.questions.specs.Meanings.{meant};
+ghost use Rattle.asked_service.specs.Asked.{IsBounded, is_open_by};
+ghost use Rattle.asked_service.specs.Rows.{IsSo};
+
+use ceilings::{Ceiling, ceiling};
+use judge::{Verdict, verdict};
+use kernel_ways::openness;
+use launcher::Launched;
+use questions::Question;
+use std::alloc::{AllocError, Global};
+
+/// A launched service, with what bounds its processes.
+#[derive(Drop)]
+pub struct Bounded<'a> {
+    /// The service, as the launch left it.
+    pub service: Launched<'a>,
+    /// Its own ceiling.
+    pub ceiling: Ceiling,
+}
+
+/// Makes the ceiling of a launched service.
+pub fn bound<'a>(alloc: Global, service: Launched<'a>) -> Result<Bounded<'a>, AllocError>
+    requires served { IsServedWorld service.world }
+    ensures bounds { IfOk result (λ bounded. (bounded.service ≡ service.entry) × IsBounded bounded) }
+{
+    let top = ceiling(alloc, &service)?;
+    Ok(Bounded {
+        service,
+        ceiling: top,
+    })
+}
+
+// Whether a verdict says that a question is open.
+fn says_open(found: Verdict) -> bool
+    ensures { (result ≡ true) ↔ (found ≡ Verdict.Open) }
+{
+    match found {
+        Verdict::Denied => false,
+        Verdict::Open => true,
+    }
+}
+
+impl Bounded<'_> {
+    /// Whether a question of the tables is open: one verdict alone, which takes no memory.
+    pub fn is_open(&self, question: &Question) -> bool
+        requires bounded { IsBounded self.now }
+        requires listed { Contains (questions self.now.service.world.calls self.now.service.world.site) (meant question.now) }
+        ensures is_so { IsSo self.now.service.world question.now result }
+        ensures by_the_rule { result ≡ is_open_by self.now.service.world question.now }
+    {
+        // Why it is so.
+        openness();
+        says_open(verdict(&self.service, &self.ceiling, question))
+    }
+}

@@ -1,0 +1,73 @@
+-- The launch of a unit, or why there is none.
+use Rattle.std.specs.Prelude.{◌≡◌, ⊤, List, Some, None, Result, Ok, Err}
+use Rattle.call_table.specs.Table as calls
+use Rattle.dropin_merge.specs.declared.resolved.Resolved.{Resolved}
+use Rattle.exec_settings.specs.AreSettings.{AreSettings}
+use Rattle.exec_settings.specs.Mounts.{unit_mentions}
+use Rattle.exec_settings.specs.Refusals.{refusal_of}
+use Rattle.exec_settings.specs.declared.service.Settings.{Settings}
+use Rattle.kern_mounts.specs.Launch.{CanBeMounted}
+use Rattle.kern_mounts.specs.declared.step.MountStep.{MountStep}
+use Rattle.launcher.specs.declared.launched.Launched.{Launched as Service}
+use Rattle.mount_plan.specs.Answers.{Plans}
+use Rattle.mount_plan.specs.Host.{host_of}
+use Rattle.mount_plan.specs.declared.error.PlanError.{PlanError}
+use Rattle.mount_plan.specs.declared.error.PlanError.TheVariants as plan
+use Rattle.path_settings.specs.declared.mentions.Mention.{Mention}
+use Rattle.site_table.specs.Table.{Site}
+use Rattle.unit_launch.specs.Launching.{IsLaunched, IsRefused}
+use Rattle.unit_launch.specs.declared.refusal.LaunchRefusal.{LaunchRefusal}
+use Rattle.view_map.specs.Kept.{Host, kept_of, missing, wrong_kind}
+use Rattle.launched_units.specs.declared.refusal.UnitRefusal.{UnitRefusal}
+use Rattle.launched_units.specs.declared.refusal.UnitRefusal.TheVariants.{Settings as InSettings, Plan, Launch, Memory}
+
+-- the first path at which the mentions of a unit are refused
+abbrev pub RefusesPath : Host → List Mention → PlanError → Type 0
+RefusesPath row_at mentions (plan.Missing path) = kept_of row_at mentions ≡ Err (missing path)
+RefusesPath row_at mentions (plan.Kind path) = kept_of row_at mentions ≡ Err (wrong_kind path)
+RefusesPath row_at mentions plan.Memory = ⊥
+
+-- the unit has these settings and this plan of its mounts, and is launched to this service
+pub record IsLaunchedUnit (unit : Resolved) (table : calls.Table) (site : Site) (service : Service) : Type 0 where
+  pub settings : Settings
+  pub accepted : refusal_of unit table site ≡ None
+  pub are_settings : AreSettings unit table site settings
+  pub plan : List MountStep
+  pub is_plan : Plans (host_of site) (unit_mentions unit site) (Ok plan)
+  pub launched : IsLaunched table site settings plan service
+
+-- it has them, and its launch is refused
+pub record IsRefusedUnit (unit : Resolved) (table : calls.Table) (site : Site) (refusal : LaunchRefusal) : Type 0 where
+  pub settings : Settings
+  pub accepted : refusal_of unit table site ≡ None
+  pub are_settings : AreSettings unit table site settings
+  pub plan : List MountStep
+  pub is_plan : Plans (host_of site) (unit_mentions unit site) (Ok plan)
+  pub refused : IsRefused table site settings plan refusal
+
+-- why a unit is not launched: the first setting, the first path or the launch that is refused; want of memory says nothing
+abbrev pub IsNotLaunched : Resolved → calls.Table → Site → UnitRefusal → Type 0
+IsNotLaunched unit table site (InSettings error) = refusal_of unit table site ≡ Some error
+IsNotLaunched unit table site (Plan error) = (refusal_of unit table site ≡ None) × RefusesPath (host_of site) (unit_mentions unit site) error
+IsNotLaunched unit table site (Launch refusal) = IsRefusedUnit unit table site refusal
+IsNotLaunched unit table site Memory = ⊤
+
+abbrev pub Launches : Resolved → calls.Table → Site → Result Service UnitRefusal → Type 0
+Launches unit table site (Ok service) = IsLaunchedUnit unit table site service
+Launches unit table site (Err error) = IsNotLaunched unit table site error
+
+-- the settings of a unit, or the first that is refused
+abbrev pub Settles : Resolved → calls.Table → Site → Result Settings UnitRefusal → Type 0
+Settles unit table site (Ok made) = (refusal_of unit table site ≡ None) × AreSettings unit table site made
+Settles unit table site (Err (InSettings error)) = refusal_of unit table site ≡ Some error
+Settles unit table site (Err (Plan error)) = ⊥
+Settles unit table site (Err (Launch refusal)) = ⊥
+Settles unit table site (Err Memory) = ⊤
+
+-- the plan of some mentions, which a launch can take, or the first path that is refused
+abbrev pub LaysOut : Host → List Mention → Result (List MountStep) UnitRefusal → Type 0
+LaysOut row_at mentions (Ok plan) = Plans row_at mentions (Ok plan) × CanBeMounted row_at plan
+LaysOut row_at mentions (Err (InSettings error)) = ⊥
+LaysOut row_at mentions (Err (Plan error)) = RefusesPath row_at mentions error
+LaysOut row_at mentions (Err (Launch refusal)) = ⊥
+LaysOut row_at mentions (Err Memory) = ⊤

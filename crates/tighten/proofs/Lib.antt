@@ -1,0 +1,4 @@
+pub mod Sets
+pub mod Searched
+pub mod Found
+pub mod Served

@@ -1,0 +1,7 @@
+pub mod Items
+pub mod Open
+pub mod Wishes
+pub mod Tried
+pub mod Errors
+pub mod Tight
+pub mod Searching

@@ -1,0 +1,56 @@
+-- How far a unit can be tightened.
+use Rattle.std.specs.Prelude.{◌≡◌, ◌≤◌, ⊤, ℕ, false, List, ◌∷◌, Result, Ok, Err}
+use Rattle.std.specs.List.{All}
+use Rattle.std.specs.List.Sorted.{IsStrictlyIncreasing}
+use Rattle.call_table.specs.Table as calls
+use Rattle.dropin_merge.specs.declared.resolved.Resolved.{Resolved}
+use Rattle.launched_units.specs.Launching.{IsLaunchedUnit, IsNotLaunched}
+use Rattle.launched_units.specs.declared.refusal.UnitRefusal.TheVariants as refusal
+use Rattle.launcher.specs.declared.launched.Launched.{Launched as Service}
+use Rattle.site_table.specs.Table.{Site}
+use Rattle.asked_service.specs.Rows.{AreRowsOf, count_denied, count_open}
+use Rattle.asked_service.specs.declared.rows.VerdictRow.{VerdictRow}
+use Rattle.tighten.specs.Items.{has, tightened}
+use Rattle.tighten.specs.Tried.{IsFirst, IsKept, IsShut, Refuses, Serves, Stops, Tried}
+use Rattle.tighten.specs.declared.tight.Tight.{Tight}
+use Rattle.tighten.specs.declared.tight.TightenError.{TightenError}
+use Rattle.tighten.specs.declared.tight.TightenError.TheVariants.{Settings, Plan, Launch, Keep, Wish, Memory}
+
+-- so many questions of the unit's service are denied, and so many open
+pub record AreCounts (unit : Resolved) (table : calls.Table) (site : Site) (denied open' : ℕ) : Type 0 where
+  pub rows : List VerdictRow
+  pub are_rows : AreRowsOf unit table site rows
+  pub denied_are : denied ≡ count_denied rows
+  pub open_are : open' ≡ count_open rows
+
+-- the items serve, and with any other item they do not; each stands once, in the order of the lines; the counts are those of the
+-- unit and of the unit with the items
+pub record IsTight (tried : Tried) (tight : Tight) : Type 0 where
+  pub serves : Serves tried tight.items
+  pub no_more : (item : ℕ) → 1 ≤ item → item ≤ 17 → has tight.items item ≡ false → Stops tried (item ∷ tight.items)
+  pub are_items : All (λ item. (1 ≤ item) × (item ≤ 17)) tight.items
+  pub in_order : IsStrictlyIncreasing tight.items
+  pub before : AreCounts tried.unit tried.table tried.site tight.denied_before tight.open_before
+  pub after : AreCounts (tightened tried.unit tight.items) tried.table tried.site tight.denied_after tight.open_after
+
+-- the service of the unit itself denies this question first of those to be kept
+pub record Denies (tried : Tried) (number : ℕ) : Type 0 where
+  pub service : Service
+  pub launched : IsLaunchedUnit tried.unit tried.table tried.site service
+  pub first : IsFirst (IsKept service.world) (IsShut service.world) tried.keep number
+
+-- or it keeps them all, and this wish is the first that is refused
+pub record RefusesWish (tried : Tried) (number : ℕ) : Type 0 where
+  pub service : Service
+  pub launched : IsLaunchedUnit tried.unit tried.table tried.site service
+  pub refuses : Refuses tried service.world number
+
+-- what tightening comes to, by the unit itself first; want of memory says nothing
+abbrev pub Tightens : Tried → Result Tight TightenError → Type 0
+Tightens tried (Ok tight) = IsTight tried tight
+Tightens tried (Err (Settings error)) = IsNotLaunched tried.unit tried.table tried.site (refusal.Settings error)
+Tightens tried (Err (Plan error)) = IsNotLaunched tried.unit tried.table tried.site (refusal.Plan error)
+Tightens tried (Err (Launch refused)) = IsNotLaunched tried.unit tried.table tried.site (refusal.Launch refused)
+Tightens tried (Err (Keep number)) = Denies tried number
+Tightens tried (Err (Wish number)) = RefusesWish tried number
+Tightens tried (Err Memory) = ⊤

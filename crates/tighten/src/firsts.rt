@@ -1,0 +1,48 @@
+//! The first question that is denied, and the first wish that is refused.
+
+ghost use Rattle.std.specs.Prelude.{◌≡◌, Contains, false, length};
+ghost use Rattle.std.specs.List.{All};
+ghost use Rattle.asked_service.specs.Asked.{IsBounded};
+ghost use Rattle.kernel_laws.specs.Questions.{questions};
+ghost use Rattle.questions.specs.Meanings.{meant};
+ghost use Rattle.tighten.specs.Tried.{Finds, IsGranted, IsKept, IsShut};
+ghost use Rattle.tighten.specs.Wishes.{wishes_by};
+
+use crate::wishes::{StoredWish, Test};
+use asked_service::{Bounded, VerdictRow};
+use questions::Question;
+
+/// The first of these questions that is denied, counted from 1.
+pub fn first_denied(bounded: &Bounded<'_>, keep: &[Question]) -> Option<u64>
+    requires bounded { IsBounded bounded.now }
+    requires listed { All (λ question. Contains (questions bounded.now.service.world.calls bounded.now.service.world.site) (meant question)) keep.now }
+    ensures { Finds (IsKept bounded.now.service.world) (IsShut bounded.now.service.world) keep.now result }
+{
+    let mut before: u64 = 0;
+    for question in keep {
+        let is_open = bounded.is_open(question);
+        if is_open {
+            before += 1;
+        } else {
+            return Some(before + 1);
+        }
+    }
+    None
+}
+
+/// The first of these wishes that answers false, counted from 1.
+pub fn first_refused(rows: &[VerdictRow], wishes: &[StoredWish]) -> Option<u64>
+    ensures { let all = wishes_by (λ wish. wish.must_open) (λ wish. Test.post wish.test) wishes.now in
+        Finds (IsGranted all rows.now) (λ wish. all.Answers rows.now wish false) wishes.now result }
+{
+    let mut before: u64 = 0;
+    for wish in wishes {
+        let is_granted = wish.answer(rows);
+        if is_granted {
+            before += 1;
+        } else {
+            return Some(before + 1);
+        }
+    }
+    None
+}
