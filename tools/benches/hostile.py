@@ -9,6 +9,7 @@ import subprocess
 import tempfile
 
 from benches import CALLS, PROGRAM, TOP
+from benches.timing import high_water
 
 SYSTEM = "etc/systemd/system"
 NAME = "a" * 245 + ".service"
@@ -91,7 +92,7 @@ ROWS = (
 
 
 def measured(folder, words):
-    """The status, the printed bytes, seconds of the processor, the most memory in MB, and what was written to standard error.
+    """The status, the printed bytes, seconds of the processor, the most memory in MB of a run more, and what was written to standard error.
 
     What is printed is counted and passed over; a run that prints more than 64 MB is cut there, and counts as status 5.
     """
@@ -106,7 +107,7 @@ def measured(folder, words):
         _, status, used = os.wait4(run.pid, 0)
         run.returncode = os.waitstatus_to_exitcode(status)
         told.seek(0)
-        return run.returncode, count, used.ru_utime + used.ru_stime, used.ru_maxrss / 1024, told.read()
+        return run.returncode, count, used.ru_utime + used.ru_stime, high_water([PROGRAM, *words], folder), told.read()
 
 
 def add_words(parser):

@@ -76,6 +76,28 @@ def large_unit(rows):
     return "\n".join(text) + "\n"
 
 
+def hidden_site(programs, binds):
+    """A site of so many set-user-id programs in one folder, /x, of a visible one behind all of them, and of folders for binds."""
+    folders = ["/usr", "/usr/bin", "/x", *(f"/a{at:02}" for at in range(binds)), "/z"]
+    rows = [f'{{ path = "{it}", kind = "dir" }},' for it in folders]
+    rows += ['{ path = "/usr/bin/web", kind = "exe" },', '{ path = "/z/last", kind = "exe", setuid = 0 },']
+    rows += [f'{{path="/x/f{at:04}",kind="exe",setuid=0}},' for at in range(programs)]
+    return "\n".join(["dynamic_uid = 61184", "row = [", *rows, "]", ""])
+
+
+def hidden_unit(binds):
+    """A unit that hides that folder, below `/` and below each bind of it."""
+    text = ["[Service]", "ExecStart=/usr/bin/web", "User=33", "InaccessiblePaths=/x"]
+    for at in range(binds):
+        text += [f"BindPaths=/:/a{at:02}", f"InaccessiblePaths=/a{at:02}/x"]
+    return "\n".join([*text, ""])
+
+
+def many_groups(count):
+    """A unit with so many gids, of which 65,000 differ."""
+    return "[Service]\nExecStart=/usr/bin/env\nUser=33\n" + "".join(f"SupplementaryGroups={' '.join(str(1 + it % 65000) for it in range(at, min(at + 1000, count)))}\n" for at in range(0, count, 1000))
+
+
 def long_script(program):
     """A script of as many calls as a script may have."""
     calls = [CALLS_IN_TURNS[at % len(CALLS_IN_TURNS)].format(program=program) for at in range(SCRIPT_CALLS)]
@@ -90,6 +112,20 @@ def make_large(folder, rows):
     write(f"{folder}/{SYSTEM}/web.service", large_unit(rows))
     write(f"{folder}/site.toml", large_site(rows))
     shutil.copy(CALLS, folder)
+
+
+def make_hidden(folder, programs, binds):
+    """A folder with hidden set-user-id programs and the unit that hides them."""
+    write(f"{folder}/{SYSTEM}/web.service", hidden_unit(binds))
+    write(f"{folder}/site.toml", hidden_site(programs, binds))
+    shutil.copy(CALLS, folder)
+
+
+def make_other(folder, hardened, unit):
+    """A folder with another unit over the tables of the hardened one."""
+    write(f"{folder}/{SYSTEM}/web.service", unit)
+    for name in ("calls.txt", "site.toml"):
+        shutil.copy(f"{hardened}/{name}", folder)
 
 
 def make_hardened(folder, source=None):

@@ -1,4 +1,4 @@
-"""What a step of the modelled kernel takes: a run of world_rows with a million steps of a call, less one with a single step.
+"""What a step of the modelled kernel takes: a run of kernel_rows with a million steps of a call, less one with a single step.
 
 The calls take no memory: one that is plain, one that the kernel lacks, a path that is found and one that is not, an open for
 writing that is refused, a family, an id that stays, and two operations of prctl(2).
@@ -20,8 +20,8 @@ def add_words(parser):
     """The words of the subcommand."""
     parser.add_argument("--source", metavar="FOLDER", help="a folder whose calls.txt and site.toml are taken")
     parser.add_argument(
-        "--world-rows", metavar="FILE", default=f"{TOP}/crates/world_rows/out/world_rows",
-        help="the built program of the crate world_rows (after `rt run` in its folder)",
+        "--kernel-rows", metavar="FILE", default=f"{TOP}/crates/kernel_rows/out/kernel_rows",
+        help="the built program of the crate kernel_rows (after `rt run` in its folder)",
     )  # fmt: skip
 
 
@@ -33,15 +33,15 @@ def indented(path):
 
 def main(found):
     """Prints the nanoseconds of each call."""
-    if not os.access(found.world_rows, os.X_OK):
-        print(f"there is no {found.world_rows}")
+    if not os.access(found.kernel_rows, os.X_OK):
+        print(f"there is no {found.kernel_rows}")
         return 1
     calls, site = (f"{found.source}/calls.txt", f"{found.source}/site.toml") if found.source else (CALLS, DEBIAN)
-    head = f"{indented(calls)}calls\n{indented(site)}site\nworld of a step\n"
+    head = f"part worlds\n{indented(calls)}calls\n{indented(site)}site\nworld of a step\n"
 
     def run(steps, call):
         began = time.perf_counter()
-        ended = subprocess.run([found.world_rows], input=f"{head}repeat {steps} {call}\n", stdout=subprocess.PIPE, text=True, check=True)
+        ended = subprocess.run([found.kernel_rows], input=f"{head}repeat {steps} {call}\n", stdout=subprocess.PIPE, text=True, check=True)
         return time.perf_counter() - began, ended.stdout.rstrip("\n").split("\n")[-1]
 
     for call in STEPPED:

@@ -17,7 +17,24 @@ def add_words(parser):
     parser.add_argument("names", nargs="*", metavar="COMMAND", help="the commands (all where none is given)")
 
 
-def timed_commands(large, hardened):
+# Units of others that cost most: set-user-id programs in a hidden folder, with so many binds of `/`, each of which hides it too.
+HIDDEN = ((1976, 0), (1976, 7), (1976, 63), (500, 63))
+GROUPS = 140_000
+
+
+def make_all(folder, found):
+    """Makes the inputs below a folder, and tells where each lies."""
+    places = {name: f"{folder}/{name}" for name in ("large", "hardened", "root", "groups")}
+    inputs.make_large(places["large"], found.rows)
+    inputs.make_hardened(places["hardened"], found.source and os.path.abspath(found.source))
+    inputs.make_other(places["root"], places["hardened"], "[Service]\nExecStart=/usr/bin/env\n")
+    inputs.make_other(places["groups"], places["hardened"], inputs.many_groups(GROUPS))
+    for programs, binds in HIDDEN:
+        inputs.make_hidden(f"{folder}/hidden-{programs}-{binds}", programs, binds)
+    return places
+
+
+def timed_commands(folder, large, hardened, root, groups):
     """Each command with its inputs."""
     rows = [
         ("start", ["--version"], hardened),
@@ -29,13 +46,18 @@ def timed_commands(large, hardened):
         ("filter, large", ["filter", "web.service"], large),
         ("plan, large", ["plan", "web.service"], large),
         ("judge, large", ["judge", "web.service"], large),
+        ("judge, root", ["judge", "web.service"], root),
+        (f"judge, {GROUPS:,} gids", ["judge", "web.service"], groups),
     ]
-    found = [Timed(name, [PROGRAM, *words], folder) for name, words, folder in rows]
+    for programs, binds in HIDDEN:
+        rows.append((f"judge, {programs:,} hidden programs and {binds} binds", ["judge", "web.service"], f"{folder}/hidden-{programs}-{binds}"))
+    found = [Timed("true", ["true"], hardened)]
+    found += [Timed(name, [PROGRAM, *words], place) for name, words, place in rows]
     analyze = shutil.which("systemd-analyze")
     if analyze:
-        for name, folder in (("hardened", hardened), ("large", large)):
+        for name, place in (("hardened", hardened), ("large", large)):
             words = [analyze, "security", "--offline=true", "--no-pager", f"./{inputs.SYSTEM}/web.service"]
-            found.append(Timed(f"systemd-analyze security, {name}", words, folder))
+            found.append(Timed(f"systemd-analyze security, {name}", words, place))
     return found
 
 
@@ -50,9 +72,8 @@ def tell(rows):
 def main(found):
     """Times the commands, and prints the table."""
     with tempfile.TemporaryDirectory(prefix="bench-") as folder:
-        inputs.make_large(f"{folder}/large", found.rows)
-        inputs.make_hardened(f"{folder}/hardened", found.source and os.path.abspath(found.source))
-        commands = timed_commands(f"{folder}/large", f"{folder}/hardened")
+        places = make_all(folder, found)
+        commands = timed_commands(folder, **places)
         if found.names:
             commands = [it for it in commands if it.name.split(",")[0].split(" ")[0] in found.names]
         in_turns(commands, found.runs)

@@ -1,7 +1,12 @@
-"""Runs of commands, timed in turns, so that all meet the same load."""
+"""Runs of commands, timed in turns, so that all meet the same load; and the most memory that one holds."""
+import ctypes
 import os
+import signal
 import subprocess
 import time
+
+# ptrace(2): what the requests and the option are, and how a stop at the exit of a process is told.
+TRACEME, CONT, SETOPTIONS, TRACE_EXIT, EXIT_STOP = 0, 7, 0x4200, 0x40, signal.SIGTRAP | 6 << 8
 
 
 class Timed:
@@ -21,7 +26,36 @@ class Timed:
         self.clock.append((time.perf_counter() - before) * 1000)
         self.status = child.returncode = os.waitstatus_to_exitcode(status)
         self.processor.append((used.ru_utime + used.ru_stime) * 1000)
-        self.memory = max(self.memory, used.ru_maxrss / 1024)
+
+    def measure(self):
+        """One run that is not timed, of which the most memory is taken."""
+        self.memory = high_water(self.words, self.folder)
+
+
+def high_water(words, folder):
+    """The most memory in MB that the program of a command holds, by its own mark, VmHWM of proc_pid_status(5), as it exits.
+
+    The mark that wait4(2) tells begins with that of the interpreter which starts it.
+    """
+    trace = ctypes.CDLL(None, use_errno=True).ptrace
+    trace.argtypes = [ctypes.c_long, ctypes.c_int, ctypes.c_void_p, ctypes.c_void_p]
+    nothing = subprocess.DEVNULL
+    child = subprocess.Popen(words, cwd=folder, stdin=nothing, stdout=nothing, stderr=nothing, preexec_fn=lambda: trace(TRACEME, 0, None, None))
+    most, is_new = 0.0, True
+    while True:
+        _, status = os.waitpid(child.pid, 0)
+        if not os.WIFSTOPPED(status):
+            child.returncode = os.waitstatus_to_exitcode(status)
+            return most
+        told = status >> 8
+        if told == EXIT_STOP:
+            with open(f"/proc/{child.pid}/status", encoding="ascii") as file:
+                most = next(int(line.split()[1]) / 1024 for line in file if line.startswith("VmHWM"))
+        if is_new:
+            trace(SETOPTIONS, child.pid, None, TRACE_EXIT)
+        passed = 0 if is_new or told == EXIT_STOP else told & 0xFF
+        is_new = False
+        trace(CONT, child.pid, None, passed)
 
 
 def median(numbers):
@@ -30,7 +64,9 @@ def median(numbers):
 
 
 def in_turns(all_of_them, runs):
-    """Runs each so many times, one after the other."""
+    """Runs each so many times, one after the other; and once for its memory."""
     for _ in range(runs):
         for timed in all_of_them:
             timed.run()
+    for timed in all_of_them:
+        timed.measure()
