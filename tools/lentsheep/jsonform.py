@@ -11,7 +11,7 @@ from .causes import Cause, State, causes, closed_by, held_capabilities, state_of
 from .places import described
 from .program import Run
 from .values import (
-    PATH_KINDS, Answer, Check, Counts, Derive, Filter, Filters, Fleet, Launch, Launched, LaunchKilled, LaunchPrivileged,
+    PATH_KINDS, Answer, Check, Counts, Derive, Effect, Filter, Filters, Fleet, Launch, Launched, LaunchKilled, LaunchPrivileged,
     LaunchRefused, Plan, Printed, Refusal, Replay, Report, Sample, Score, Tighten, Unknown,
 )  # fmt: skip
 
@@ -38,7 +38,7 @@ def _result(printed: Printed, view: View | None) -> Json:
         return _report(printed, view or View(printed))
     forms = {
         Plan: _plan, Filters: _filters, Replay: _replay, Score: _score, Sample: _sample, Check: _check, Fleet: _fleet,
-        Tighten: _tighten, Derive: _derive, Unknown: _unknown,
+        Tighten: _tighten, Derive: _derive, Effect: _effect, Unknown: _unknown,
     }  # fmt: skip
     return forms[type(printed)](printed)
 
@@ -189,6 +189,15 @@ def _tighten(tighten: Tighten) -> Json:
 
 def _derive(derive: Derive) -> Json:
     return {"launch": _launch(derive.launch), "lines": list(derive.lines)}
+
+
+def _effect(effect: Effect) -> Json:
+    return {
+        "launch": _launch(effect.launch), "with": {"launch": _launch(effect.with_launch), "refusal": _refusal(effect.with_refusal)},
+        "closed": [it.text for it in effect.closed], "opened": [_answer(it) for it in effect.opened],
+        "hidden": list(effect.hidden), "shown": list(effect.shown),
+        "counts": None if effect.counts is None else dataclasses.asdict(effect.counts),
+    }  # fmt: skip
 
 
 def _unknown(unknown: Unknown) -> Json:

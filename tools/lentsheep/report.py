@@ -13,9 +13,9 @@ from typing import Callable
 
 from .calls import Call, read_call
 from .values import (
-    SWITCHES, Answer, CallData, Check, Counts, Derive, Filter, Filters, Fleet, FleetRow, Instruction, Launch, Launched,
-    LaunchKilled, LaunchPrivileged, LaunchRefused, Mount, Note, Plan, Printed, Question, Refusal, Replay, Reply, Report, Sample,
-    Score, ScoreTest, Tighten, Unknown,
+    SWITCHES, Answer, CallData, Changes, Check, Counts, Derive, Effect, Filter, Filters, Fleet, FleetRow, Instruction, Launch,
+    Launched, LaunchKilled, LaunchPrivileged, LaunchRefused, Mount, Note, Plan, Printed, Question, Refusal, Replay, Reply,
+    Report, Sample, Score, ScoreTest, Tighten, Unknown,
 )  # fmt: skip
 from .words import unescaped
 
@@ -280,18 +280,55 @@ def _derive(lines: list[str], cut: bool, refusal: Refusal | None) -> Derive:
     return Derive(refusal, whole, unread, launch, tuple(told))
 
 
+def _effect(lines: list[str], cut: bool, refusal: Refusal | None) -> Effect:
+    launch, with_launch, with_refusal, counts = None, None, None, None
+    closed: list[Question] = []
+    opened: list[tuple[Question, list[Call]]] = []
+    folders: dict[str, list[str]] = {"hidden": [], "shown": []}
+    unread: list[str] = []
+    for line in lines:
+        word, _, rest = line.partition(" ")
+        call = read_call(line[2:]) if line.startswith("  ") else None
+        question = read_question(rest) if word in ("closed", "opened") else None
+        if call and opened:
+            opened[-1][1].append(call)
+        elif question and word == "closed":
+            closed.append(question)
+        elif question:
+            opened.append((question, []))
+        elif word in folders and rest and " " not in rest:
+            folders[word].append(unescaped(rest))
+        elif numbers := _numbers(line, "effect closed", "opened", "hidden", "shown"):
+            counts = Changes(*numbers)
+        elif word == "with" and (told := read_launch(rest)):
+            with_launch = told
+        elif word == "with" and (cause := read_refusal(rest)):
+            with_refusal = cause
+        elif told := read_launch(line):
+            launch = told
+        else:
+            unread.append(line)
+    answers = tuple(Answer(question, True, tuple(calls)) for question, calls in opened)
+    ended = any(it is not None for it in (refusal, launch, with_launch, with_refusal, counts))
+    return Effect(
+        refusal, not cut and ended, tuple(unread), launch, with_launch, with_refusal, tuple(closed), answers,
+        tuple(folders["hidden"]), tuple(folders["shown"]), counts,
+    )  # fmt: skip
+
+
 def _unknown(lines: list[str], cut: bool, refusal: Refusal | None) -> Unknown:
     return Unknown(refusal, not cut, tuple(lines), tuple(lines))
 
 
 _READERS: dict[str, Callable[[list[str], bool, Refusal | None], Printed]] = {
     "judge": _judge, "plan": _plan, "filter": _filter, "replay": _replay, "score": _score, "sample": _sample, "check": _check,
-    "fleet": _fleet, "tighten": _tighten, "derive": _derive,
+    "fleet": _fleet, "tighten": _tighten, "derive": _derive, "effect": _effect,
 }  # fmt: skip
 _FIRST_WORDS = {
     "unit": "judge", "mount": "plan", "mounts": "plan", "filter": "filter", "filters": "filter", "launched": "replay",
     "launch": "replay", "test": "score", "skip": "score", "exposure": "score", "sample": "sample", "same": "check",
     "differs": "check", "units": "fleet", "add": "tighten", "before": "tighten", "[Service]": "derive",
+    "closed": "effect", "opened": "effect", "hidden": "effect", "shown": "effect", "effect": "effect", "with": "effect",
 }  # fmt: skip
 
 

@@ -314,6 +314,31 @@ class Derive(Printed):
 
 
 @dataclass(frozen=True)
+class Changes:
+    """The counts of `effect`."""
+
+    closed: int
+    opened: int
+    hidden: int
+    shown: int
+
+
+@dataclass(frozen=True)
+class Effect(Printed):
+    """The text of `effect`: what a drop-in closes and opens, hides and shows; or why the unit has no service with it."""
+
+    command: ClassVar[str] = "effect"
+    launch: Launch | None = None
+    with_launch: Launch | None = None
+    with_refusal: Refusal | None = None
+    closed: tuple[Question, ...] = ()
+    opened: tuple[Answer, ...] = ()
+    hidden: tuple[str, ...] = ()
+    shown: tuple[str, ...] = ()
+    counts: Changes | None = None
+
+
+@dataclass(frozen=True)
 class Unknown(Printed):
     """A text that is none of the above: only its lines are known."""
 

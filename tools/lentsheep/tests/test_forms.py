@@ -32,6 +32,7 @@ TEXTS = {
     "fleet": "unit a.service exposure 100\nrefused d.service masked\nunits 2 refused 1\n",
     "tighten": "add PrivateTmp=yes\nbefore denied 1 open 131\nafter denied 84 open 48\nitems 1\n",
     "derive": "[Service]\nSystemCallFilter=\nSystemCallFilter=@default read\n",
+    "effect": "closed see /home\nopened read /tmp\n  1 open /tmp\nhidden /home\nshown /tmp\neffect closed 1 opened 1 hidden 1 shown 1\n",
     "other": "what is this\n",
 }
 

@@ -221,13 +221,34 @@ class Others(unittest.TestCase):
         self.assertEqual(("[Service]", "SystemCallFilter=", "SystemCallFilter=@default read"), derive.lines)
         self.assertEqual((True, ()), (derive.whole, derive.unread))
 
+    def test_effect(self):
+        text = "closed see /home\nopened read /a%20b\n  1 open /a%20b\nopened realtime\n  1 sched_setscheduler 1 1\nhidden /home\nshown /tmp\n"
+        effect = parse(f"{text}effect closed 1 opened 2 hidden 1 shown 1\n")
+        self.assertEqual(("effect", True, ()), (effect.command, effect.whole, effect.unread))
+        self.assertEqual(["see /home"], [it.text for it in effect.closed])
+        wanted = [("read", "/a b", ["1 open /a%20b"]), ("realtime", "", ["1 sched_setscheduler 1 1"])]
+        found = [(it.question.kind, it.question.name, [call.text for call in it.calls]) for it in effect.opened]
+        self.assertEqual((wanted, ("/home",), ("/tmp",)), (found, effect.hidden, effect.shown))
+        self.assertEqual(values.Changes(1, 2, 1, 1), effect.counts)
+        self.assertFalse(parse(text).whole, "no last line")
+
+    def test_effect_without_a_service(self):
+        nothing = parse("effect closed 0 opened 0 hidden 0 shown 0\n")
+        self.assertEqual((values.Changes(0, 0, 0, 0), True), (nothing.counts, nothing.whole))
+        refused = parse("with refused web.service line 2 filter\n")
+        self.assertEqual((None, Refusal("web.service", ("line", "2", "filter"))), (refused.refusal, refused.with_refusal))
+        launched = parse("with launch refused step 3 errno 1\n", "effect")
+        self.assertEqual((None, values.LaunchRefused(3, 1), True), (launched.launch, launched.with_launch, launched.whole))
+        alone = parse("launch killed step 2\n", "effect")
+        self.assertEqual((values.LaunchKilled(2), None, True), (alone.launch, alone.with_launch, alone.whole))
+
     def test_refusals(self):
         for text, what, cause in [
             ("refused words", "words", ()), ("refused a%20b bad-name", "a b", ("bad-name",)),
             ("refused etc/a.service line 1 header", "etc/a.service", ("line", "1", "header")),
             ("refused web.service no-path /no%20pe", "web.service", ("no-path", "/no pe")),
         ]:  # fmt: skip
-            for command in ("judge", "plan", "filter", "replay", "score", "check", "fleet", "tighten", "derive", "what", None):
+            for command in ("judge", "plan", "filter", "replay", "score", "check", "fleet", "tighten", "derive", "effect", "what", None):
                 found = parse(f"{text}\n", command)
                 self.assertEqual((Refusal(what, cause), True, ()), (found.refusal, found.whole, found.unread))
             self.assertEqual(text, found.refusal.text)
@@ -235,7 +256,7 @@ class Others(unittest.TestCase):
 
     def test_empty_texts(self):
         # a read that failed prints nothing
-        for command in ("judge", "plan", "filter", "replay", "score", "sample", "check", "fleet", "tighten"):
+        for command in ("judge", "plan", "filter", "replay", "score", "sample", "check", "fleet", "tighten", "effect"):
             found = parse("", command)
             self.assertEqual((command, False, None), (found.command, found.whole, found.refusal))
         self.assertIsInstance(parse(b"\x00\xff\n"), values.Unknown)
