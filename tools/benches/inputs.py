@@ -93,9 +93,10 @@ def hidden_unit(binds):
     return "\n".join([*text, ""])
 
 
-def many_groups(count):
+def many_groups(program, count):
     """A unit with so many gids, of which 65,000 differ."""
-    return "[Service]\nExecStart=/usr/bin/env\nUser=33\n" + "".join(f"SupplementaryGroups={' '.join(str(1 + it % 65000) for it in range(at, min(at + 1000, count)))}\n" for at in range(0, count, 1000))
+    lines = (range(at, min(at + 1000, count)) for at in range(0, count, 1000))
+    return f"[Service]\nExecStart={program}\nUser=33\n" + "".join(f"SupplementaryGroups={' '.join(str(1 + it % 65000) for it in line)}\n" for line in lines)
 
 
 def long_script(program):
@@ -105,6 +106,39 @@ def long_script(program):
     for at in getpid[:FORKS]:
         calls[at] = "1 fork"
     return "\n".join(calls) + "\n"
+
+
+# Scripts of one mebibyte at most that cost most: what a process and its children share, and mounts that come and go by many at once.
+PROGRAMS, INSTRUCTIONS, GIDS, CHILDREN = 7, 4096, 65536, 1023
+MOUNTS, COPIES = 2000, 7100
+ALLOWS = "060000000000ff7f"
+
+
+def sharing_script():
+    """A script of long programs and many groups, which each of many children has from its parent."""
+    calls = [f"1 seccomp {ALLOWS * INSTRUCTIONS} 1"] * PROGRAMS
+    return "\n".join([*calls, f"1 setgroups [{','.join(['1'] * GIDS)}] {GIDS}", *["1 fork"] * CHILDREN]) + "\n"
+
+
+def copying_script():
+    """A script of many binds of a folder with many mounts below it, each with all of them, and each taken away at once."""
+    calls = ["1 mount /usr/share /usr/bin 0 0 0 4096"] * MOUNTS
+    return "\n".join(calls + ["1 mount /usr /srv 0 0 0 20480", "1 umount2 /srv 0 2"] * COPIES) + "\n"
+
+
+def many_paths(site):
+    """A unit of 128 written paths of a site, 32 of each of four kinds: whole folders, and files and programs."""
+    with open(site, encoding="utf-8") as file:
+        rows = [(it.split('path = "')[1].split('"')[0], 'kind = "dir"' in it) for it in file.read().split("\n\n") if 'path = "' in it]
+    folders = [path for path, is_folder in rows if is_folder and path.count("/") > 1]
+    files = [path for path, is_folder in rows if not is_folder and path.count("/") > 1]
+    text = ["[Service]", f"ExecStart={first_program(site)}", "DynamicUser=yes", "PrivateDevices=yes", "ProtectKernelTunables=yes", "SystemCallFilter=@system-service"]
+    for at in range(SPOKEN_OF):
+        text.append(f"ReadOnlyPaths=-{folders[at * len(folders) // SPOKEN_OF]}")
+        for way, key in enumerate(("ReadWritePaths", "InaccessiblePaths", "BindPaths")):
+            path, other = (files[(2 * (at * 3 + way) + more) * len(files) // (6 * SPOKEN_OF + 2)] for more in (0, 1))
+            text.append(f"{key}=-{path}:{other}" if key == "BindPaths" else f"{key}=-{path}")
+    return "\n".join(text) + "\n"
 
 
 def make_large(folder, rows):
@@ -121,6 +155,16 @@ def make_hidden(folder, programs, binds):
     shutil.copy(CALLS, folder)
 
 
+def make_scripts(folder):
+    """A folder with those scripts, and a unit that runs as root over the small Debian."""
+    os.makedirs(folder)
+    shutil.copy(CALLS, f"{folder}/calls.txt")
+    shutil.copy(DEBIAN, f"{folder}/site.toml")
+    write(f"{folder}/{SYSTEM}/web.service", f"[Service]\nExecStart={first_program(DEBIAN)}\n")
+    write(f"{folder}/shared", sharing_script())
+    write(f"{folder}/copied", copying_script())
+
+
 def make_other(folder, hardened, unit):
     """A folder with another unit over the tables of the hardened one."""
     write(f"{folder}/{SYSTEM}/web.service", unit)
@@ -129,7 +173,7 @@ def make_other(folder, hardened, unit):
 
 
 def make_hardened(folder, source=None):
-    """A folder with a hardened unit, a script and a policy, over the tables of a source folder or the small Debian."""
+    """A folder with a hardened unit, a script and a policy, over the tables of a source folder or the small Debian; and its program."""
     os.makedirs(folder)
     shutil.copy(f"{source}/calls.txt" if source else CALLS, f"{folder}/calls.txt")
     shutil.copy(f"{source}/site.toml" if source else DEBIAN, f"{folder}/site.toml")
@@ -140,6 +184,7 @@ def make_hardened(folder, source=None):
     write(f"{folder}/{SYSTEM}/web.service", HARDENED.format(program=program))
     write(f"{folder}/script", long_script(program))
     shutil.copy(POLICY, f"{folder}/policy.json")
+    return program
 
 
 def first_program(site):

@@ -1,4 +1,8 @@
-"""The commands over made inputs, beside `systemd-analyze security` on the same units, in one table of one run."""
+"""The commands over made inputs, beside `true` and `systemd-analyze security` on the same units, in one table of one run.
+
+The last column is the processor's time as a part of that of systemd-analyze over the hardened unit. With `--source ../shared/real` the
+hardened unit, the one that runs as root, the one with 128 paths and the one with many groups are judged on a real table and site.
+"""
 import os
 import shutil
 import tempfile
@@ -6,7 +10,8 @@ import tempfile
 from benches import PROGRAM, inputs
 from benches.timing import Timed, in_turns, median
 
-HEAD = ["What", "Status", "Printed", "Fastest", "Median", "Slowest", "Processor", "Memory"]
+HEAD = ["What", "Status", "Printed", "Fastest", "Median", "Slowest", "Processor", "Memory", "Part"]
+ANALYZE = "systemd-analyze security, {}"
 
 
 def add_words(parser):
@@ -19,22 +24,28 @@ def add_words(parser):
 
 # Units of others that cost most: set-user-id programs in a hidden folder, with so many binds of `/`, each of which hides it too.
 HIDDEN = ((1976, 0), (1976, 7), (1976, 63), (500, 63))
-GROUPS = 140_000
+# Gids of a unit: as many as differ, of which a process may have 65,536, and more than it may have.
+GROUPS = (65_000, 140_000)
 
 
 def make_all(folder, found):
     """Makes the inputs below a folder, and tells where each lies."""
-    places = {name: f"{folder}/{name}" for name in ("large", "hardened", "root", "groups")}
+    places = {name: f"{folder}/{name}" for name in ("large", "hardened", "root")}
     inputs.make_large(places["large"], found.rows)
-    inputs.make_hardened(places["hardened"], found.source and os.path.abspath(found.source))
-    inputs.make_other(places["root"], places["hardened"], "[Service]\nExecStart=/usr/bin/env\n")
-    inputs.make_other(places["groups"], places["hardened"], inputs.many_groups(GROUPS))
+    program = inputs.make_hardened(places["hardened"], found.source and os.path.abspath(found.source))
+    inputs.make_other(places["root"], places["hardened"], f"[Service]\nExecStart={program}\n")
+    for count in GROUPS:
+        inputs.make_other(f"{folder}/groups-{count}", places["hardened"], inputs.many_groups(program, count))
+    if found.source:
+        places["paths"] = f"{folder}/paths"
+        inputs.make_other(places["paths"], places["hardened"], inputs.many_paths(f"{places['hardened']}/site.toml"))
+    inputs.make_scripts(f"{folder}/scripts")
     for programs, binds in HIDDEN:
         inputs.make_hidden(f"{folder}/hidden-{programs}-{binds}", programs, binds)
     return places
 
 
-def timed_commands(folder, large, hardened, root, groups):
+def timed_commands(folder, large, hardened, root, paths=None):
     """Each command with its inputs."""
     rows = [
         ("start", ["--version"], hardened),
@@ -47,8 +58,12 @@ def timed_commands(folder, large, hardened, root, groups):
         ("plan, large", ["plan", "web.service"], large),
         ("judge, large", ["judge", "web.service"], large),
         ("judge, root", ["judge", "web.service"], root),
-        (f"judge, {GROUPS:,} gids", ["judge", "web.service"], groups),
+        *((f"judge, {count:,} gids", ["judge", "web.service"], f"{folder}/groups-{count}") for count in GROUPS),
+        (f"replay, {inputs.CHILDREN:,} children that share", ["replay", "web.service", "shared"], f"{folder}/scripts"),
+        (f"replay, {inputs.COPIES:,} binds of {inputs.MOUNTS:,} mounts", ["replay", "web.service", "copied"], f"{folder}/scripts"),
     ]
+    if paths:
+        rows.append(("judge, 128 paths", ["judge", "web.service"], paths))
     for programs, binds in HIDDEN:
         rows.append((f"judge, {programs:,} hidden programs and {binds} binds", ["judge", "web.service"], f"{folder}/hidden-{programs}-{binds}"))
     found = [Timed("true", ["true"], hardened)]
@@ -57,7 +72,7 @@ def timed_commands(folder, large, hardened, root, groups):
     if analyze:
         for name, place in (("hardened", hardened), ("large", large)):
             words = [analyze, "security", "--offline=true", "--no-pager", f"./{inputs.SYSTEM}/web.service"]
-            found.append(Timed(f"systemd-analyze security, {name}", words, place))
+            found.append(Timed(ANALYZE.format(name), words, place))
     return found
 
 
@@ -75,10 +90,11 @@ def main(found):
         places = make_all(folder, found)
         commands = timed_commands(folder, **places)
         if found.names:
-            commands = [it for it in commands if it.name.split(",")[0].split(" ")[0] in found.names]
+            commands = [it for it in commands if it.name.split(",")[0].split(" ")[0] in {"true", "systemd-analyze", *found.names}]
         in_turns(commands, found.runs)
+    whole = next((median(it.processor) for it in commands if it.name == ANALYZE.format("hardened")), None)
     tell([
-        [it.name, str(it.status), f"{it.printed:,}", *(f"{one:.1f} ms" for one in (min(it.clock), median(it.clock), max(it.clock), median(it.processor))), f"{it.memory:.1f} MB"]
+        [it.name, str(it.status), f"{it.printed:,}", *(f"{one:.1f} ms" for one in (min(it.clock), median(it.clock), max(it.clock), median(it.processor))), f"{it.memory:.1f} MB", f"{median(it.processor) / whole:.2f}" if whole else "-"]
         for it in commands
     ])  # fmt: skip
     if not shutil.which("systemd-analyze"):
