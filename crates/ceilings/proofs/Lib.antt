@@ -5,3 +5,6 @@ pub mod Given
 pub mod Bounded
 pub mod AllCalls
 pub mod Sparing
+pub mod Leading
+pub mod Naming
+pub mod Ruling

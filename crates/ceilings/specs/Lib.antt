@@ -1,5 +1,7 @@
 pub mod Meanings
 pub mod Passing
+pub mod Leads
+pub mod Ruled
 pub mod Owners
 pub mod Own
 pub mod Sparing

@@ -5,11 +5,14 @@ use Rattle.kernel_laws.specs.Bound.{caps_at, power_of, any_uid, any_gid}
 use Rattle.kernel_laws.specs.Launched.{Launch}
 use Rattle.reach_paths.specs.Meanings.{meant_power}
 use Rattle.ceilings.specs.declared.bounds.Ceiling.{Ceiling}
+use Rattle.ceilings.specs.Leads.{AreLeads}
 use Rattle.ceilings.specs.Passing.{ArePathCalls}
+use Rattle.ceilings.specs.Ruled.{AreRules}
 use Rattle.kernel_ways.specs.Spared.{uids_of, gids_of}
 
 -- the capabilities that can become effective at the power that can be had, capabilities(7); that power; whether every id can be
--- taken by them; the ids that are had besides, each of these and no other, credentials(7); and the calls on paths that pass
+-- taken by them; the ids that are had besides, each of these and no other, credentials(7); the calls on paths that pass; and what is
+-- kept of each line of the table of calls and of each row of the site
 pub record IsCeilingOf (launch : Launch) (top : Ceiling) : Type 0 where
   pub effective : top.effective ≡ caps_at launch (power_of launch)
   pub power : meant_power top.power ≡ power_of launch
@@ -18,3 +21,5 @@ pub record IsCeilingOf (launch : Launch) (top : Ceiling) : Type 0 where
   pub uids : (id : ℕ) → list_any (λ own. id == own) top.uids ≡ uids_of launch id
   pub gids : (id : ℕ) → list_any (λ own. id == own) top.gids ≡ gids_of launch id
   pub paths : ArePathCalls launch top.paths
+  pub rules : AreRules launch top.rules
+  pub leads : AreLeads launch top.leads.items

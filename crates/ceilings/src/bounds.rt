@@ -1,7 +1,9 @@
 //! What a ceiling is.
 
 use crate::ids::IdList;
+use crate::leads::RowLeads;
 use crate::passing::PathCalls;
+use crate::ruled::LineRules;
 use cap_sets::CapSet;
 use reach_paths::Power;
 
@@ -22,4 +24,8 @@ pub struct Ceiling {
     pub gids: IdList,
     /// Which calls on paths pass.
     pub paths: PathCalls,
+    /// The rules of the lines of the table of calls.
+    pub rules: LineRules,
+    /// The entries of the launched mount table that lead to each row of the site, by its number.
+    pub leads: Vec<RowLeads>,
 }

@@ -1,11 +1,11 @@
 //! What the filters of a launched service let through, one kind of calls at a time. It takes no memory.
 
-ghost use Rattle.std.specs.Prelude.{◌≡◌, ◌&&◌, find, option_copied, Some};
+ghost use Rattle.std.specs.Prelude.{◌≡◌, ◌&&◌, find, option_copied, slice_get, Some};
 ghost use Rattle.std.specs.Str.{bytes_eq};
 ghost use Rattle.call_table.specs.Table.{arch_of, every_call};
 ghost use Rattle.kernel_calls.specs.Rules.{rule_of};
 ghost use Rattle.kernel_laws.specs.Kinds.{PlainCall};
-ghost use Rattle.kernel_laws.specs.Launched.{launch_of, lets, lets_line, lets_words, can_make_user};
+ghost use Rattle.kernel_laws.specs.Launched.{launch_of, lets_line, lets_rule, lets_words};
 ghost use Rattle.ceilings.specs.Meanings.{meant_kind};
 
 use crate::kinds::{CallKind, words};
@@ -14,7 +14,6 @@ use call_names::{KnownCall, known_call};
 use call_table::{CallLine, CallTable};
 use kernel_calls::Rule;
 use kernel_model::World;
-use questions::NamespaceType;
 
 /// The rule of a line of the table, by its name; None where the kernel lacks the call.
 #[tactic(auto, unfolding(kernel_calls::specs::Rules::rule_of))]
@@ -59,18 +58,31 @@ fn lets_words(world: &World<'_>, abi: u8, number: u32, args: [u64; 6]) -> bool
     }
 }
 
-/// Whether the call of this line can ask for the kind, and the filters of the first process let it through with the words
-/// that ask for it first, seccomp(2). Calls that cannot ask for the kind are not put to the filters.
-pub fn lets_line(world: &World<'_>, kind: CallKind, line: &CallLine) -> bool
-    ensures passes_with_the_first_words { result ≡ lets_line (launch_of world.now) (meant_kind kind) line.now }
+// Whether the call of this line, which has this rule, can ask for the kind, and the filters of the first process let it through
+// with the words that ask for it first.
+pub(crate) fn lets_rule(
+    world: &World<'_>,
+    kind: CallKind,
+    line: &CallLine,
+    rule: Option<Rule>,
+) -> bool
+    ensures { result ≡ lets_rule (launch_of world.now) (meant_kind kind) line.now.abi line.now.number rule }
 {
-    let Some(rule) = rule_of(line) else {
+    let Some(rule) = rule else {
         return false;
     };
     match words(kind, rule) {
         None => false,
         Some(args) => lets_words(world, line.abi, line.number, args),
     }
+}
+
+/// Whether the call of this line can ask for the kind, and the filters of the first process let it through with the words
+/// that ask for it first, seccomp(2). Calls that cannot ask for the kind are not put to the filters.
+pub fn lets_line(world: &World<'_>, kind: CallKind, line: &CallLine) -> bool
+    ensures passes_with_the_first_words { result ≡ lets_line (launch_of world.now) (meant_kind kind) line.now }
+{
+    lets_rule(world, kind, line, rule_of(line))
 }
 
 // The first of these lines whose call does.
@@ -95,14 +107,6 @@ pub fn passing_line<'a>(world: &'a World<'_>, kind: CallKind) -> Option<&'a Call
         Some(line) => Some(line),
         None => passing_among(world, kind, table.calls_in(1)),
     }
-}
-
-/// Whether the filters of the first process let some call of the table through, by any ABI, that asks for the kind, seccomp(2).
-#[tactic(auto, using(crate::proofs::AllCalls::any_is_found, crate::proofs::AllCalls::lent_is), unfolding(kernel_laws::specs::Launched::lets))]
-pub fn lets(world: &World<'_>, kind: CallKind) -> bool
-    ensures some_call_passes { result ≡ lets (launch_of world.now) (meant_kind kind) }
-{
-    passing_line(world, kind).is_some()
 }
 
 // Whether the line has the name, and its plain call passes.
@@ -134,10 +138,24 @@ pub fn plain_line<'a>(world: &'a World<'_>, name: &str) -> Option<&'a CallLine>
     }
 }
 
-/// Whether a user namespace can be made, user_namespaces(7): the site allows one, and some call passes that asks for one.
-pub fn can_make_user(world: &World<'_>) -> bool
-    ensures allowed_and_let_through { result ≡ can_make_user (launch_of world.now) }
+/// The same for the name of a line of the table, by the line's position among all calls, from 0. In the native ABI no other line has
+/// the name.
+#[tactic(auto, using(crate::proofs::AllCalls::found_in_all))]
+pub fn plain_line_at<'a>(
+    world: &'a World<'_>,
+    at: usize,
+    line: &'a CallLine,
+) -> Option<&'a CallLine>
+    requires its_line { slice_get (every_call (launch_of world.now).calls) at ≡ Some line.now }
+    ensures first_that_passes { let launch = launch_of world.now in
+        option_copied result ≡ find (λ other. bytes_eq line.now.name other.name && lets_line launch PlainCall other) (every_call launch.calls) }
 {
-    world.site_table().user_namespaces() > 0
-        && lets(world, CallKind::ForNamespace(NamespaceType::User))
+    let table = world.call_table();
+    if at >= table.calls().len() {
+        return plain_line(world, line.name.as_str());
+    }
+    if lets_line(world, CallKind::PlainCall, line) {
+        return Some(line);
+    }
+    plain_among(world, line.name.as_str(), table.calls_in(1))
 }

@@ -3,7 +3,7 @@
 //! A ceiling is made once for a launched world, from its credentials, its filters and the programs of the site, and bounds
 //! every process in every world that any calls lead to. It rests on `launcher` for the launched service, on `reach_paths`
 //! for what can be executed and on `kernel_laws` for what it means; `ceiling(alloc, &launched)?.effective` has the
-//! capabilities. `lets` says without memory whether the filters let any call of one kind through.
+//! capabilities, and its rules say without memory whether the filters let any call of one kind through.
 #![tactic(auto)]
 
 mod bounds;
@@ -12,16 +12,21 @@ mod first;
 mod gains;
 mod ids;
 mod kinds;
+mod leads;
 mod making;
 mod passing;
 mod powers;
 mod programs;
+mod ruled;
+mod searching;
 
 pub use bounds::Ceiling;
-pub use calls::{can_make_user, lets, lets_line, passing_line, plain_line, rule_of};
+pub use calls::{lets_line, passing_line, plain_line, plain_line_at, rule_of};
 pub use first::{launched_process, launched_table};
 pub use ids::IdList;
 pub use kinds::{CallKind, words};
+pub use leads::{RowLeads, reach_by};
 pub use making::ceiling;
 pub use passing::PathCalls;
 pub use programs::{can_run, is_barred};
+pub use ruled::{LineRules, can_make_user};

@@ -19,6 +19,8 @@ use crate::gains::caps_by;
 use crate::ids::{gids, uids};
 use crate::passing::{Passing, PathCalls};
 use crate::powers::power_using;
+use crate::ruled::LineRules;
+use crate::searching::all_leads;
 use cap_sets::CapSet;
 use launcher::Launched;
 use linux_numbers::capabilities::{CAP_SETGID, CAP_SETUID};
@@ -36,7 +38,8 @@ fn can_take_any(caps: CapSet, cap: u8, passes: bool) -> bool
 /// prctl(2). A program counts where some mount table that can be had leads to it. CAP_SYS_ADMIN that is had on the launched
 /// table gives power over mount tables; at that power more programs may count, and what they give adds to no power.
 ///
-/// It takes time for a few passes over the site, and looks at mount tables for programs with set-id bits or capabilities alone.
+/// It takes time for a few passes over the site. What is asked of each line of the table of calls and of each row of the site again and
+/// again is found once.
 pub fn ceiling(alloc: Global, launched: &Launched<'_>) -> Result<Ceiling, AllocError>
     requires { IsLaunchedWorld launched.now.world }
     ensures is_its_own { IfOk result (IsCeilingOf (launch_of launched.now.world)) }
@@ -70,7 +73,8 @@ pub fn ceiling(alloc: Global, launched: &Launched<'_>) -> Result<Ceiling, AllocE
         → AreHadSparing (lets (launch_of launched.now.world) TakesUid) false launched.now.world Gid top.gids) }
 {
     let world = &launched.world;
-    let passing = Passing::of(world);
+    let rules = LineRules::of(alloc, world)?;
+    let passing = Passing::of(world, &rules);
     let power = power_using(world, passing, passing.takes_uid);
     let effective = caps_by(world, passing, passing.takes_uid, power);
     let spared = power_using(world, passing, false);
@@ -81,6 +85,8 @@ pub fn ceiling(alloc: Global, launched: &Launched<'_>) -> Result<Ceiling, AllocE
         any_gid: can_take_any(effective, CAP_SETGID, passing.takes_gid),
         uids: uids(alloc, world, spared)?,
         gids: gids(alloc, world, power)?,
-        paths: PathCalls::of(world),
+        paths: PathCalls::of(world, &rules),
+        rules,
+        leads: all_leads(alloc, world)?,
     })
 }

@@ -4,9 +4,10 @@ ghost use Rattle.std.specs.Prelude.{◌≡◌};
 ghost use Rattle.kernel_laws.specs.Launched.{launch_of};
 ghost use Rattle.reach_paths.specs.Meanings.{meant_wish};
 ghost use Rattle.ceilings.specs.Passing.{ArePassing, ArePathCalls, passes};
+ghost use Rattle.ceilings.specs.Ruled.{AreRules};
 
-use crate::calls::lets;
 use crate::kinds::CallKind;
+use crate::ruled::LineRules;
 use kernel_model::World;
 use questions::Wish;
 
@@ -25,14 +26,15 @@ pub struct PathCalls {
 
 impl PathCalls {
     /// Those that the filters of the first process let through.
-    pub(crate) fn of(world: &World<'_>) -> PathCalls
+    pub(crate) fn of(world: &World<'_>, rules: &LineRules) -> PathCalls
+        requires { AreRules (launch_of world.now) rules.now }
         ensures { ArePathCalls (launch_of world.now) result }
     {
         PathCalls {
-            see: lets(world, CallKind::ForPath(Wish::See)),
-            read: lets(world, CallKind::ForPath(Wish::Read)),
-            write: lets(world, CallKind::ForPath(Wish::Write)),
-            exec: lets(world, CallKind::ForPath(Wish::Exec)),
+            see: rules.let_through(world, CallKind::ForPath(Wish::See)),
+            read: rules.let_through(world, CallKind::ForPath(Wish::Read)),
+            write: rules.let_through(world, CallKind::ForPath(Wish::Write)),
+            exec: rules.let_through(world, CallKind::ForPath(Wish::Exec)),
         }
     }
 
@@ -66,15 +68,16 @@ pub(crate) struct Passing {
 
 impl Passing {
     // Those that the filters of the first process let through.
-    pub(crate) fn of(world: &World<'_>) -> Passing
+    pub(crate) fn of(world: &World<'_>, rules: &LineRules) -> Passing
+        requires { AreRules (launch_of world.now) rules.now }
         ensures { ArePassing (launch_of world.now) result }
     {
         Passing {
-            mounts: lets(world, CallKind::ChangesMounts),
-            unmounts: lets(world, CallKind::RemovesMounts),
-            sets_caps: lets(world, CallKind::SetsCaps),
-            takes_uid: lets(world, CallKind::TakesUid),
-            takes_gid: lets(world, CallKind::TakesGid),
+            mounts: rules.let_through(world, CallKind::ChangesMounts),
+            unmounts: rules.let_through(world, CallKind::RemovesMounts),
+            sets_caps: rules.let_through(world, CallKind::SetsCaps),
+            takes_uid: rules.let_through(world, CallKind::TakesUid),
+            takes_gid: rules.let_through(world, CallKind::TakesGid),
         }
     }
 }

@@ -1,20 +1,21 @@
 //! Which calls of the table can be made, sockets of which families, and namespaces of which types.
 
-ghost use Rattle.std.specs.Prelude.{◌≡◌, ◌&&◌};
+ghost use Rattle.std.specs.Prelude.{◌≡◌, ◌&&◌, slice_get, Some};
 ghost use Rattle.std.specs.List.{list_any};
 ghost use Rattle.std.specs.Str.{bytes_eq};
 ghost use Rattle.call_table.specs.Table.{every_call};
 ghost use Rattle.kernel_calls.specs.Rules.{rule_of};
 ghost use Rattle.kernel_laws.specs.Bound.{can_have_cap, can_have_for, ceiling, open_at, power_of};
 ghost use Rattle.kernel_laws.specs.Kinds.{PlainCall};
-ghost use Rattle.kernel_laws.specs.Launched.{Launch, launch_of, lets_line};
+ghost use Rattle.kernel_laws.specs.Launched.{Launch, can_make_user, launch_of, lets, lets_line};
 ghost use Rattle.kernel_laws.specs.Questions.{Call, Ns, Socket};
 ghost use Rattle.questions.specs.Meanings.{meant_space};
+ghost use Rattle.ceilings.specs.Meanings.{meant_kind};
 ghost use Rattle.ceilings.specs.Own.{IsCeilingOf};
 
 use call_names::is_known;
 use call_table::CallLine;
-use ceilings::{CallKind, Ceiling, can_make_user, lets, plain_line};
+use ceilings::{CallKind, Ceiling, can_make_user, plain_line_at};
 use kernel_model::World;
 use linux_numbers::capabilities::CAP_SYS_ADMIN;
 use questions::NamespaceType;
@@ -36,13 +37,30 @@ fn can_have_for(top: &Ceiling, line: &CallLine) -> bool
     is_known(line.name.as_str()) || can_have_cap(top, line.cap)
 }
 
-// Whether a plain call of the name of this line passes.
+// Whether a plain call of the name of this line passes, which stands at this position.
 #[tactic(auto, using(ceilings::proofs::AllCalls::any_is_found, ceilings::proofs::AllCalls::lent_is))]
-fn is_called(world: &World<'_>, line: &CallLine) -> bool
+fn is_called(world: &World<'_>, at: usize, line: &CallLine) -> bool
+    requires { slice_get (every_call (launch_of world.now).calls) at ≡ Some line.now }
     ensures { let launch = launch_of world.now in
         result ≡ list_any (λ other. bytes_eq line.now.name other.name && lets_line launch PlainCall other) (every_call launch.calls) }
 {
-    plain_line(world, line.name.as_str()).is_some()
+    plain_line_at(world, at, line).is_some()
+}
+
+// Whether some call passes that asks for the kind, by the rules that the ceiling keeps.
+pub(crate) fn passes(world: &World<'_>, top: &Ceiling, kind: CallKind) -> bool
+    requires { IsCeilingOf (launch_of world.now) top.now }
+    ensures { result ≡ lets (launch_of world.now) (meant_kind kind) }
+{
+    top.rules.let_through(world, kind)
+}
+
+// Whether a user namespace can be made.
+pub(crate) fn makes_user(world: &World<'_>, top: &Ceiling) -> bool
+    requires { IsCeilingOf (launch_of world.now) top.now }
+    ensures { result ≡ can_make_user (launch_of world.now) }
+{
+    can_make_user(world, &top.rules)
 }
 
 // Whether the call of this number in the table is plain, passes by some ABI, and has its capability.
@@ -52,7 +70,7 @@ pub(crate) fn is_call_open(world: &World<'_>, top: &Ceiling, at: usize) -> bool
 {
     match world.call_table().call_at(at) {
         None => false,
-        Some(line) => is_called(world, line) && can_have_for(top, line),
+        Some(line) => is_called(world, at, line) && can_have_for(top, line),
     }
 }
 
@@ -64,7 +82,7 @@ pub(crate) fn is_socket_open(world: &World<'_>, top: &Ceiling, at: usize) -> boo
     match world.call_table().families().get(at) {
         None => false,
         Some(line) => {
-            can_have_cap(top, line.cap) && lets(world, CallKind::ForFamily(line.number))
+            can_have_cap(top, line.cap) && passes(world, top, CallKind::ForFamily(line.number))
         }
     }
 }
@@ -76,10 +94,10 @@ pub(crate) fn is_namespace_open(world: &World<'_>, top: &Ceiling, kind: Namespac
         result ≡ open_at launch (power_of launch) (ceiling launch) (Ns (meant_space kind)) }
 {
     match kind {
-        NamespaceType::User => can_make_user(world),
+        NamespaceType::User => makes_user(world, top),
         kind => {
-            lets(world, CallKind::ForNamespace(kind))
-                && (top.effective.contains(CAP_SYS_ADMIN) || can_make_user(world))
+            passes(world, top, CallKind::ForNamespace(kind))
+                && (top.effective.contains(CAP_SYS_ADMIN) || makes_user(world, top))
         }
     }
 }

@@ -7,9 +7,9 @@ ghost use Rattle.questions.specs.Meanings.{meant};
 ghost use Rattle.ceilings.specs.Own.{IsCeilingOf};
 
 use crate::ids::{is_gid_open, is_uid_open};
-use crate::lines::{is_call_open, is_namespace_open, is_socket_open};
+use crate::lines::{is_call_open, is_namespace_open, is_socket_open, passes};
 use crate::rows::is_path_open;
-use ceilings::{CallKind, Ceiling, lets};
+use ceilings::{CallKind, Ceiling};
 use kernel_model::World;
 use questions::Question;
 
@@ -24,12 +24,12 @@ pub(crate) fn is_open(world: &World<'_>, ceiling: &Ceiling, question: &Question)
         Question::Call(at) => is_call_open(world, ceiling, *at),
         Question::Socket(at) => is_socket_open(world, ceiling, *at),
         Question::Namespace(kind) => is_namespace_open(world, ceiling, *kind),
-        Question::MapWx => lets(world, CallKind::MapsWx),
-        Question::ProtectX => lets(world, CallKind::ProtectsX),
-        Question::ShmX => lets(world, CallKind::AttachesX),
-        Question::Realtime => lets(world, CallKind::SchedulesRealtime),
-        Question::Personality => lets(world, CallKind::TakesPersonality),
-        Question::SuidBit => lets(world, CallKind::SetsMode),
+        Question::MapWx => passes(world, ceiling, CallKind::MapsWx),
+        Question::ProtectX => passes(world, ceiling, CallKind::ProtectsX),
+        Question::ShmX => passes(world, ceiling, CallKind::AttachesX),
+        Question::Realtime => passes(world, ceiling, CallKind::SchedulesRealtime),
+        Question::Personality => passes(world, ceiling, CallKind::TakesPersonality),
+        Question::SuidBit => passes(world, ceiling, CallKind::SetsMode),
         Question::Cap(cap) => ceiling.effective.contains(*cap),
         Question::Uid(id) => is_uid_open(ceiling, *id),
         Question::Gid(id) => is_gid_open(ceiling, *id),

@@ -1,42 +1,54 @@
 //! Which rows of the site can be seen, read, written and executed.
 
-ghost use Rattle.std.specs.Prelude.{◌≡◌, ◌&&◌, not};
+ghost use Rattle.std.specs.Prelude.{◌≡◌, ◌&&◌, not, option_copied, slice_get};
 ghost use Rattle.kernel_laws.specs.Bound.{can_reach, ceiling, is_barred, is_mounting, is_to_exec, open_at, power_of};
 ghost use Rattle.kernel_laws.specs.Launched.{IsLaunchedWorld, launch_of, can_make_user};
 ghost use Rattle.kernel_laws.specs.Questions.{ByPath};
 ghost use Rattle.reach_paths.specs.Meanings.{meant_power, meant_wish};
+ghost use Rattle.ceilings.specs.Leads.{leads_of};
 ghost use Rattle.ceilings.specs.Own.{IsCeilingOf};
 
-use ceilings::{Ceiling, can_make_user, is_barred, launched_table};
+use crate::lines::makes_user;
+use ceilings::{Ceiling, RowLeads, is_barred, reach_by};
 use kernel_model::World;
 use questions::Wish;
-use reach_paths::{Power, reach};
+use reach_paths::Power;
 use site_table::Row;
 
 // Whether execve refuses the row by its marks on every table that the power makes, and in every user namespace: only mount(2) makes
 // a mount on which they are not looked at, MS_NOSUID, and in a newer user namespace the bounding set is full.
-fn is_refused(world: &World<'_>, power: Power, wish: Wish, row: &Row) -> bool
-    requires { IsLaunchedWorld world.now }
-    ensures { result ≡ (((is_to_exec (meant_wish wish) && not (is_mounting (meant_power power)))
+fn is_refused(world: &World<'_>, top: &Ceiling, wish: Wish, row: &Row) -> bool
+    requires launched { IsLaunchedWorld world.now }
+    requires its_own_ceiling { IsCeilingOf (launch_of world.now) top.now }
+    ensures { result ≡ (((is_to_exec (meant_wish wish) && not (is_mounting (meant_power top.now.power)))
         && is_barred (launch_of world.now) row.now) && not (can_make_user (launch_of world.now))) }
 {
-    match (wish, power) {
+    match (wish, top.power) {
         (Wish::Exec, Power::None | Power::Unmount) => {
-            is_barred(world, row) && !can_make_user(world)
+            is_barred(world, row) && !makes_user(world, top)
         }
         _ => false,
     }
 }
 
-// Whether a call on paths passes for the wish, some table that the power makes shows the row, and execve does not refuse it.
-fn can_reach(world: &World<'_>, ceiling: &Ceiling, wish: Wish, row: &Row) -> bool
+// Whether a call on paths passes for the wish, some table that the power makes shows the row, to which these entries lead, and execve
+// does not refuse it.
+fn can_reach(world: &World<'_>, top: &Ceiling, wish: Wish, leads: RowLeads, row: &Row) -> bool
     requires launched { IsLaunchedWorld world.now }
-    requires its_own_ceiling { IsCeilingOf (launch_of world.now) ceiling.now }
+    requires its_own_ceiling { IsCeilingOf (launch_of world.now) top.now }
+    requires of_the_row { leads ≡ leads_of (launch_of world.now).table row.now.path }
     ensures { let launch = launch_of world.now in result ≡ can_reach launch (power_of launch) (meant_wish wish) row.now }
 {
-    ceiling.paths.passes(wish)
-        && reach(launched_table(world), &row.path, wish, ceiling.power).is_some()
-        && !is_refused(world, ceiling.power, wish, row)
+    top.paths.passes(wish)
+        && reach_by(world, leads, top.power, wish, row).is_some()
+        && !is_refused(world, top, wish, row)
+}
+
+// The row of this number.
+fn listed_row<'a>(world: &'a World<'_>, at: usize) -> Option<&'a Row>
+    ensures { option_copied result ≡ slice_get (launch_of world.now).site.rows at }
+{
+    world.site_table().rows().get(at)
 }
 
 /// Whether what is wished of the row of this number is open.
@@ -46,8 +58,8 @@ pub(crate) fn is_path_open(world: &World<'_>, top: &Ceiling, wish: Wish, at: usi
     ensures { let launch = launch_of world.now in
         result ≡ open_at launch (power_of launch) (ceiling launch) (ByPath (meant_wish wish) at) }
 {
-    match world.site_table().rows().get(at) {
+    match listed_row(world, at) {
         None => false,
-        Some(row) => can_reach(world, top, wish, row),
+        Some(row) => can_reach(world, top, wish, top.leads_to(at), row),
     }
 }

@@ -1,6 +1,6 @@
 //! The calls of a question.
 
-ghost use Rattle.std.specs.Prelude.{◌≡◌, ◌++◌, ◌∷◌, [], Contains, true, option_copied, slice_get, IfOk, OnOk};
+ghost use Rattle.std.specs.Prelude.{◌≡◌, ◌++◌, ◌∷◌, [], Contains, true, option_copied, slice_get, IfOk, OnOk, Some};
 ghost use Rattle.std.specs.List.{list_any};
 ghost use Rattle.call_table.specs.Table.{every_call};
 ghost use Rattle.chosen_calls.specs.Chosen.{calls_for, plain_cap, space_calls, is_called, plain_calls, plain_line};
@@ -22,7 +22,7 @@ use crate::first::call_of;
 use crate::ids::IdKind;
 use crate::service::{Made, Service};
 use call_table::CallLine;
-use ceilings::{CallKind, plain_line, rule_of};
+use ceilings::{CallKind, plain_line_at, rule_of};
 use kernel_calls::{Call, Payload, Rule};
 use kernel_model::World;
 use linux_numbers::capabilities::CAP_SYS_ADMIN;
@@ -43,13 +43,14 @@ fn listed_family<'a>(world: &'a World<'_>, at: usize) -> Option<&'a CallLine>
     world.call_table().families().get(at)
 }
 
-// The line of the plain call of this name that is made: by the native ABI, else by the other.
+// The line of the plain call that is made for the name of this line, which has this position: by the native ABI, else by the other.
 #[tactic(auto, unfolding(chosen_calls::specs::Chosen::plain_line))]
-fn named_line<'a>(world: &'a World<'_>, name: &str) -> &'a CallLine
-    requires { list_any (is_called (launch_of world.now) name.now) (every_call (launch_of world.now).calls) ≡ true }
-    ensures { result.now ≡ plain_line (launch_of world.now) name.now }
+fn named_line<'a>(world: &'a World<'_>, at: usize, line: &'a CallLine) -> &'a CallLine
+    requires its_line { slice_get (every_call (launch_of world.now).calls) at ≡ Some line.now }
+    requires some_passes { list_any (is_called (launch_of world.now) line.now.name) (every_call (launch_of world.now).calls) ≡ true }
+    ensures { result.now ≡ plain_line (launch_of world.now) line.now.name }
 {
-    match plain_line(world, name) {
+    match plain_line_at(world, at, line) {
         Some(line) => line,
         None => unreachable!(),
     }
@@ -66,14 +67,15 @@ fn plain_cap(line: &CallLine) -> Option<u8>
 }
 
 impl Service<'_> {
-    // Adds the calls for the plain call of the name of this line, which passes.
-    fn push_named(&self, calls: &mut Vec<Call>, line: &CallLine) -> Made<()>
+    // Adds the calls for the plain call of the name of this line, which passes; the line has this position.
+    fn push_named(&self, calls: &mut Vec<Call>, at: usize, line: &CallLine) -> Made<()>
         requires served { IsServedWorld self.now.world.now }
+        requires its_line { slice_get (every_call (launch_of self.now.world.now).calls) at ≡ Some line.now }
         requires some_passes { list_any (is_called (launch_of self.now.world.now) line.now.name) (every_call (launch_of self.now.world.now).calls) ≡ true }
         ensures { OnOk result (calls.new.items ≡ calls.old.items ++ plain_calls (launch_of self.now.world.now) self.now.program.now line.now) }
     {
         self.push_gaining_if(calls, plain_cap(line))?;
-        let called = named_line(self.world, line.name.as_str());
+        let called = named_line(self.world, at, line);
         calls.push(call_of(called, [0; 6], Payload::Nothing))?;
         Ok(())
     }
@@ -86,7 +88,7 @@ impl Service<'_> {
         ensures { OnOk result (calls.new.items ≡ calls.old.items ++ calls_for (launch_of self.now.world.now) self.now.program.now (CallQuestion at)) }
     {
         match listed_call(self.world, at) {
-            Some(line) => self.push_named(calls, line),
+            Some(line) => self.push_named(calls, at, line),
             None => Ok(()),
         }
     }

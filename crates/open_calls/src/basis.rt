@@ -5,7 +5,7 @@ ghost use Rattle.kernel_laws.specs.Launched.{launch_of};
 ghost use Rattle.ceilings.specs.Own.{IsCeilingOf};
 ghost use Rattle.open_calls.specs.Bases.{IsBasis};
 
-use ceilings::{CallKind, Ceiling, lets};
+use ceilings::{CallKind, Ceiling};
 use kernel_model::World;
 use reach_paths::Power;
 
@@ -28,9 +28,9 @@ impl Basis {
     {
         Basis {
             power: top.power,
-            sets_caps: lets(world, CallKind::SetsCaps),
-            takes_uid: lets(world, CallKind::TakesUid),
-            takes_gid: lets(world, CallKind::TakesGid),
+            sets_caps: top.rules.let_through(world, CallKind::SetsCaps),
+            takes_uid: top.rules.let_through(world, CallKind::TakesUid),
+            takes_gid: top.rules.let_through(world, CallKind::TakesGid),
         }
     }
 }

@@ -17,7 +17,7 @@ use crate::basis::Basis;
 use crate::first::{FirstCall, first_call, id_payload, id_words};
 use crate::service::{Made, Service};
 use call_names::CallRule;
-use ceilings::{CallKind, Ceiling, lets};
+use ceilings::{CallKind, Ceiling};
 use kernel_calls::{Call, Payload, Rule};
 use kernel_model::World;
 use questions::{NamespaceType, Wish};
@@ -68,12 +68,12 @@ impl Firsts {
             mount: first_if(
                 world,
                 CallKind::ChangesMounts,
-                lets(world, CallKind::ChangesMounts),
+                top.rules.let_through(world, CallKind::ChangesMounts),
             ),
             unmount: first_if(
                 world,
                 CallKind::RemovesMounts,
-                lets(world, CallKind::RemovesMounts),
+                top.rules.let_through(world, CallKind::RemovesMounts),
             ),
             capset: first_if(world, CallKind::SetsCaps, basis.sets_caps),
             uid: first_if(world, CallKind::TakesUid, basis.takes_uid),

@@ -10,10 +10,11 @@ ghost use Rattle.kernel_laws.specs.Questions.{ByPath, ToExec};
 ghost use Rattle.kernel_laws.specs.Reach.{Nowise, reach};
 ghost use Rattle.kernel_ways.specs.Laws.{IsServedWorld};
 ghost use Rattle.reach_paths.specs.Meanings.{meant_power, meant_wish};
+ghost use Rattle.ceilings.specs.Leads.{leads_of};
 
-use crate::exposing::{Aim, REMOUNT, REMOUNT_UNMARKED, lead, number_of, reach_row};
+use crate::exposing::{Aim, REMOUNT, REMOUNT_UNMARKED, lead, number_of};
 use crate::service::{Made, Service};
-use ceilings::is_barred;
+use ceilings::{RowLeads, is_barred, reach_by};
 use kernel_calls::Call;
 use kernel_model::World;
 use linux_numbers::capabilities::CAP_SYS_ADMIN;
@@ -64,7 +65,7 @@ impl Service<'_> {
         ensures { OnOk result (calls.new.items ≡ calls.old.items ++ calls_for (launch_of self.now.world.now) self.now.program.now (ByPath (meant_wish wish) at)) }
     {
         match listed_row(self.world, at) {
-            Some(row) => self.push_row(calls, wish, row),
+            Some(row) => self.push_row(calls, wish, self.top.leads_to(at), row),
             None => unreachable!(),
         }
     }
@@ -107,15 +108,16 @@ impl Service<'_> {
         )
     }
 
-    // Adds the calls that do what is wished of a row for which it is open.
-    fn push_row(&self, calls: &mut Vec<Call>, wish: Wish, row: &Row) -> Made<()>
+    // Adds the calls that do what is wished of a row for which it is open, to which these entries lead.
+    fn push_row(&self, calls: &mut Vec<Call>, wish: Wish, leads: RowLeads, row: &Row) -> Made<()>
         requires served { IsServedWorld self.now.world.now }
         requires known { row_at self.now.world.now.site.rows row.now.path ≡ Some row.now }
         requires reachable { can_reach (launch_of self.now.world.now) (power_of (launch_of self.now.world.now)) (meant_wish wish) row.now ≡ true }
+        requires of_the_row { leads ≡ leads_of (launch_of self.now.world.now).table row.now.path }
         ensures { OnOk result (calls.new.items ≡ calls.old.items ++ row_calls (launch_of self.now.world.now) self.now.program.now (meant_wish wish) row.now) }
     {
         let held_off = is_held_off(self.world, wish, row);
-        let near = reach_row(self.world, Power::None, wish, row);
+        let near = reach_by(self.world, leads, Power::None, wish, row);
         if held_off && !can_mount(self.power) {
             return self.push_held_off(calls, near, row);
         }

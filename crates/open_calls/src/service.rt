@@ -32,6 +32,8 @@ pub struct Service<'a> {
     pub world: &'a World<'a>,
     /// The program that it runs.
     pub program: &'a AbsPath,
+    /// Its own ceiling, with what is kept of each line of the table of calls and of each row of the site.
+    pub(crate) top: &'a Ceiling,
     /// Its own power over mount tables, mount(2), umount2(2).
     pub(crate) power: Power,
     /// Whether it can have CAP_SYS_ADMIN in the first user namespace.
@@ -42,6 +44,7 @@ pub struct Service<'a> {
     pub(crate) firsts: Firsts,
     /// How each capability that it can have is gained, by its number.
     pub(crate) gains: Vec<Gained<'a>>,
+    ghost its_ceiling: { IsCeilingOf (launch_of world.now) top.now },
     ghost its_basis: { IsBasis (launch_of world.now) basis },
     ghost its_own: { meant_power power ≡ power_of (launch_of world.now) },
     ghost its_top: { admin ≡ has (ceiling (launch_of world.now)).effective cap_sys_admin },
@@ -54,7 +57,7 @@ impl<'a> Service<'a> {
     pub fn of(
         alloc: Global,
         launched: &'a Launched<'a>,
-        ceiling: &Ceiling,
+        ceiling: &'a Ceiling,
     ) -> Result<Service<'a>, AllocError>
         requires launched { IsLaunchedWorld launched.now.world }
         requires its_own_ceiling { IsCeilingOf (launch_of launched.now.world) ceiling.now }
@@ -68,6 +71,7 @@ impl<'a> Service<'a> {
             alloc,
             world,
             program: &launched.program,
+            top: ceiling,
             power: ceiling.power,
             admin: ceiling.effective.contains(CAP_SYS_ADMIN),
             basis,

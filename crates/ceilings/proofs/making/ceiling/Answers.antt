@@ -29,7 +29,9 @@ returns-clause-is_its_own c =
       any_gid = c.can_take_any-2.ensures ∙ ap (λ used. has c.caps_by-effective.result cap_setgid && used) c.of-passing.ensures.takes_gid ∙ ap (λ set. has set cap_setgid && lets launch TakesGid) caps;
       uids = λ id. ap (has_id id) c.in_ok-uids.ensures ∙ uids_given launch (meant_power c.power_using-spared.result) id c.power_using-spared.ensures;
       gids = λ id. ap (has_id id) c.in_ok-gids.ensures ∙ gids_given launch (meant_power c.power_using-power.result) id power;
-      paths = c.of.ensures;
+      paths = c.of-2.ensures;
+      rules = c.in_ok-rules.ensures;
+      leads = c.in_ok-all_leads.ensures;
     }
 
 pub returns-clause-power_is_by_what_can_be_had : goal.returns-clause-power_is_by_what_can_be_had

@@ -9,6 +9,6 @@ use Rattle.open_calls.proofs.answering.named_line.Goals as goal
 pub unreachable-requires : goal.unreachable-requires
 unreachable-requires c =
     let launch = launch_of c.args.world.now in
-    let found = any_found (is_called launch c.args.name.now) (every_call launch.calls) c.requires in
+    let found = any_found (is_called launch c.args.line.now.name) (every_call launch.calls) c.requires.some_passes in
     let never : ◌≡◌ {A = Option CallLine} None (Some found.0) = c.in-None.ensures.first_that_passes ∙ found.1 in
     cc

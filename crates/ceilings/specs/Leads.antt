@@ -1,0 +1,36 @@
+-- Which entries of a mount table lead to a row as the table stands, by what is wished of it.
+use Rattle.std.specs.Prelude.{◌≡◌, ℕ, Bool, false, not, List, map, Option}
+use Rattle.abs_path.specs.Paths.{Path}
+use Rattle.abs_path.specs.Prefix.{is_same}
+use Rattle.kern_mounts.specs.Split.{Table}
+use Rattle.kern_mounts.specs.declared.step.MountStep.{MountStep}
+use Rattle.kern_mounts.specs.declared.step.What.{What}
+use Rattle.kern_mounts.specs.declared.step.What.TheVariants.{Host, Empty, Hidden}
+use Rattle.kernel_laws.specs.Launched.{Launch}
+use Rattle.kernel_laws.specs.Questions.{Wish, ToSee, ToRead, ToWrite, ToExec}
+use Rattle.kernel_laws.specs.Reach.{Nowise, reach}
+use Rattle.ceilings.specs.declared.leads.RowLeads.{RowLeads}
+
+-- the entry that is found for a wish: who may see a row may read it
+abbrev pub lead_to : RowLeads → Wish → Option ℕ
+lead_to leads ToSee = leads.see
+lead_to leads ToRead = leads.see
+lead_to leads ToWrite = leads.write
+lead_to leads ToExec = leads.exec
+
+-- those of a row
+abbrev pub leads_of : Table → Path → RowLeads
+leads_of table row = record { see = reach Nowise table row ToSee; write = reach Nowise table row ToWrite; exec = reach Nowise table row ToExec }
+
+-- those of all rows of the site, by their positions
+abbrev pub AreLeads : Launch → List RowLeads → Type 0
+AreLeads launch list = list ≡ map (λ row. leads_of launch.table row.path) launch.site.rows
+
+-- what an entry shows of the host lies elsewhere there, as a bind of mount(2) may have it
+abbrev pub is_elsewhere : Path → What → Bool
+is_elsewhere place (Host source) = not (is_same source place)
+is_elsewhere place Empty = false
+is_elsewhere place (Hidden directory) = false
+
+abbrev pub is_moved : MountStep → Bool
+is_moved entry = is_elsewhere entry.place entry.what

@@ -1,0 +1,10 @@
+-- The rules of the lines of a table of calls, by their positions: those of the native ABI, and those of the other.
+use Rattle.std.specs.Prelude.{◌≡◌, map}
+use Rattle.call_table.specs.Table.{calls_in}
+use Rattle.kernel_calls.specs.Rules.{rule_of}
+use Rattle.kernel_laws.specs.Launched.{Launch}
+use Rattle.ceilings.specs.declared.ruled.LineRules.{LineRules}
+
+pub record AreRules (launch : Launch) (rules : LineRules) : Type 0 where
+  pub native : rules.native.items ≡ map rule_of launch.calls.calls
+  pub second : rules.second.items ≡ map rule_of (calls_in launch.calls 1)

@@ -1,0 +1,75 @@
+//! Which entries of the launched mount table lead to the rows of the site, found once for each row.
+
+ghost use Rattle.std.specs.Prelude.{◌≡◌, slice_get, Some};
+ghost use Rattle.site_table.specs.declared.row.Row.{Row};
+ghost use Rattle.kernel_laws.specs.Launched.{IsLaunchedWorld, Launch, launch_of};
+ghost use Rattle.kernel_laws.specs.Reach.{reach};
+ghost use Rattle.reach_paths.specs.Meanings.{meant_power, meant_wish};
+ghost use Rattle.ceilings.specs.Leads.{lead_to, leads_of};
+ghost use Rattle.ceilings.specs.Own.{IsCeilingOf};
+
+use crate::bounds::Ceiling;
+use crate::first::launched_table;
+use kernel_model::World;
+use reach_paths::{Power, Wish, reach};
+use site_table::Row;
+
+/// The first entries of a mount table that lead to a row, by their numbers, where some do.
+#[derive(Clone, Copy)]
+pub struct RowLeads {
+    /// To see it or to read it.
+    pub see: Option<usize>,
+    /// To write it.
+    pub write: Option<usize>,
+    /// To execute it.
+    pub exec: Option<usize>,
+}
+
+impl RowLeads {
+    /// That for what is wished.
+    pub fn to(self, wish: Wish) -> Option<usize>
+        ensures of_the_wish { result ≡ lead_to self (meant_wish wish) }
+    {
+        match wish {
+            Wish::See | Wish::Read => self.see,
+            Wish::Write => self.write,
+            Wish::Exec => self.exec,
+        }
+    }
+}
+
+impl Ceiling {
+    /// The entries of the launched mount table that lead to the row of this number, from 0.
+    pub fn leads_to(&self, at: usize) -> RowLeads
+        ensures of_the_row { (launch : Launch) (row : Row) → IsCeilingOf launch self.now → slice_get launch.site.rows at ≡ Some row
+            → result ≡ leads_of launch.table row.path }
+    {
+        match self.leads.get(at) {
+            Some(leads) => *leads,
+            None => RowLeads {
+                see: None,
+                write: None,
+                exec: None,
+            },
+        }
+    }
+}
+
+/// The number of the entry that leads to a row by a power over mount tables, as `reach` of `reach_paths` has it, by those that lead to
+/// it as the launched table stands. It takes no memory.
+pub fn reach_by(
+    world: &World<'_>,
+    leads: RowLeads,
+    power: Power,
+    wish: Wish,
+    row: &Row,
+) -> Option<usize>
+    requires launched { IsLaunchedWorld world.now }
+    requires of_the_row { leads ≡ leads_of (launch_of world.now).table row.now.path }
+    ensures by_the_rule { result ≡ reach (meant_power power) (launch_of world.now).table row.now.path (meant_wish wish) }
+{
+    match power {
+        Power::None => leads.to(wish),
+        Power::Unmount | Power::Mount => reach(launched_table(world), &row.path, wish, power),
+    }
+}

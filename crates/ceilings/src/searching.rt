@@ -1,0 +1,169 @@
+//! The search of the entries of the launched mount table that lead to the rows of the site.
+//!
+//! Most entries show what the host has at their own place. Of these the one that a row's own path belongs to is the only one that
+//! can show the row, so only that one and those that show another place of the host are looked at.
+
+ghost use Rattle.std.specs.Prelude.{◌≡◌, ◌+◌, ◌<◌, ◌≤◌, ◌&&◌, ◌++◌, false, not, drop, length, map, slice_get, IfOk, OnOk, Some};
+ghost use Rattle.std.specs.List.{list_any};
+ghost use Rattle.abs_path.specs.Prefix.{is_prefix, rest_of};
+ghost use Rattle.linux_numbers.specs.Limits.{mount_max};
+ghost use Rattle.kern_mounts.specs.Entry.{Belongs, leads_to};
+ghost use Rattle.kern_mounts.specs.Mounts.{steps_of};
+ghost use Rattle.kernel_laws.specs.Launched.{IsLaunchedWorld, launch_of};
+ghost use Rattle.kernel_laws.specs.Reach.{fits, reach_from, shows_row};
+ghost use Rattle.reach_paths.specs.Meanings.{meant_wish};
+ghost use Rattle.ceilings.specs.Leads.{AreLeads, is_moved, leads_of};
+
+use crate::first::launched_table;
+use crate::leads::RowLeads;
+use abs_path::AbsPath;
+use kern_mounts::{Flags, MountStep, MountTable, What};
+use kernel_model::World;
+use reach_paths::{Wish, is_covered};
+use site_table::Row;
+use std::alloc::{AllocError, Global};
+
+// Whether what is wished may be done on a mount with these flags, mount(2).
+fn allows(flags: Flags, wish: Wish) -> bool
+    ensures { result ≡ fits (meant_wish wish) flags }
+{
+    match wish {
+        Wish::See | Wish::Read => true,
+        Wish::Write => !flags.read_only,
+        Wish::Exec => !flags.no_exec,
+    }
+}
+
+// Whether the entry shows what the host has at another place.
+fn is_moved(entry: &MountStep) -> bool
+    ensures { result ≡ is_moved entry.now }
+{
+    match &entry.what {
+        What::Host(source) => *source != entry.place,
+        What::Empty | What::Hidden(_) => false,
+    }
+}
+
+// Of each entry, by its number, whether it does.
+fn moved_entries(alloc: Global, table: &MountTable) -> Result<Vec<bool>, AllocError>
+    ensures { IfOk result (λ list. list.items ≡ map is_moved (steps_of table.now)) }
+{
+    let mut list = Vec::new(alloc);
+    for at in 0..table.len() {
+        list.push(is_moved(table.entry(at)))?;
+    }
+    Ok(list)
+}
+
+// Whether an entry of this number and place that shows this source shows the row, at a path that no later entry covers.
+fn shows_source(
+    table: &MountTable,
+    at: usize,
+    place: &AbsPath,
+    source: &AbsPath,
+    row: &AbsPath,
+) -> bool
+    requires few { length table.now ≤ mount_max }
+    requires in_range { at < length table.now }
+    ensures { result ≡ (is_prefix source.now row.now
+        && not (list_any (leads_to (place.now ++ rest_of source.now row.now)) (drop (at + 1) (steps_of table.now)))) }
+{
+    match source.rest(row) {
+        None => false,
+        Some(rest) => !is_covered(table, at + 1, place, rest),
+    }
+}
+
+// Where the rows of a table are looked for: its entries, and which of them show another place of the host.
+#[derive(Drop)]
+struct Search<'a> {
+    table: &'a MountTable,
+    moved: &'a [bool],
+    ghost of_the_table: { moved.now ≡ map is_moved (steps_of table.now) },
+}
+
+// Whether the entry, which has this number, shows the row so, whose own path belongs to the entry `own`.
+fn shows(search: &Search<'_>, at: usize, entry: &MountStep, own: usize, row: &AbsPath) -> bool
+    requires few { length search.now.table.now ≤ mount_max }
+    requires entry { slice_get (steps_of search.now.table.now) at ≡ Some entry.now }
+    requires own { Belongs (steps_of search.now.table.now) row.now own }
+    ensures { result ≡ shows_row false entry.now (drop (at + 1) (steps_of search.now.table.now)) row.now entry.now.what }
+{
+    match &entry.what {
+        What::Host(source) => {
+            if search.moved[at] {
+                shows_source(search.table, at, &entry.place, source, row)
+            } else {
+                at == own
+            }
+        }
+        What::Empty | What::Hidden(_) => false,
+    }
+}
+
+// The first entry from this number on that shows the row so, with flags that allow what is wished.
+fn first_from(
+    search: &Search<'_>,
+    from: usize,
+    own: usize,
+    row: &AbsPath,
+    wish: Wish,
+) -> Option<usize>
+    requires own { Belongs (steps_of search.now.table.now) row.now own }
+    ensures { result ≡ reach_from false row.now (meant_wish wish) (drop from (steps_of search.now.table.now)) from }
+{
+    for at in from..search.table.len() {
+        let entry = search.table.entry(at);
+        if allows(entry.flags, wish) && shows(search, at, entry, own, row) {
+            return Some(at);
+        }
+    }
+    None
+}
+
+// The entries that lead to a row. What may not be seen may not be written, and the first entry that leads to a row to be written
+// is none before the first to see it.
+#[tactic(auto, using(crate::proofs::Leading::unseen, crate::proofs::Leading::seen))]
+fn row_leads(search: &Search<'_>, row: &AbsPath) -> RowLeads
+    ensures { result ≡ leads_of (steps_of search.now.table.now) row.now }
+{
+    let own = search.table.resolve(row);
+    match first_from(search, 0, own, row, Wish::See) {
+        None => RowLeads {
+            see: None,
+            write: None,
+            exec: None,
+        },
+        Some(at) => RowLeads {
+            see: Some(at),
+            write: first_from(search, at, own, row, Wish::Write),
+            exec: first_from(search, at, own, row, Wish::Exec),
+        },
+    }
+}
+
+// Those of these rows.
+fn push_leads(list: &mut Vec<RowLeads>, search: &Search<'_>, rows: &[Row]) -> Result<(), AllocError>
+    ensures { OnOk result (list.new.items ≡ list.old.items ++ map (λ row. leads_of (steps_of search.now.table.now) row.path) rows.now) }
+{
+    for row in rows {
+        list.push(row_leads(search, &row.path))?;
+    }
+    Ok(())
+}
+
+// Those of all rows of the site.
+pub(crate) fn all_leads(alloc: Global, world: &World<'_>) -> Result<Vec<RowLeads>, AllocError>
+    requires { IsLaunchedWorld world.now }
+    ensures { IfOk result (λ list. AreLeads (launch_of world.now) list.items) }
+{
+    let table = launched_table(world);
+    let moved = moved_entries(alloc, table)?;
+    let search = Search {
+        table,
+        moved: &moved,
+    };
+    let mut list = Vec::new(alloc);
+    push_leads(&mut list, &search, world.site_table().rows())?;
+    Ok(list)
+}
