@@ -7,7 +7,7 @@ use Rattle.call_table.specs.Table.{Table}
 use Rattle.kernel_calls.specs.declared.call.Call.{Call}
 use Rattle.command_answers.specs.Endings.{is_answer}
 use Rattle.command_answers.specs.Laws.{AcceptsFiles, GoTogether, IsAdmitted, laws_over}
-use Rattle.command_answers.specs.Stops.{HasReadCause, IsAnswer, Prepares, first_refusal, or_line, refusal_in, stop_of}
+use Rattle.command_answers.specs.Stops.{HasReadCause, IsAnswer, Prepares, first_refusal, stop_of}
 use Rattle.command_answers.specs.declared.ending.Ending.{Ending}
 use Rattle.command_answers.specs.declared.ending.Ending.TheVariants.{Done, LaunchRefused}
 use Rattle.command_answers.specs.declared.stop.Stop.{Stop}
@@ -17,19 +17,18 @@ use Rattle.command_answers.proofs.Refusing.{quiet, stops_as, stops_before}
 use Rattle.exec_settings.specs.Mounts.{unit_mentions}
 use Rattle.exec_settings.specs.Refusals.{refusal_of}
 use Rattle.exec_settings.specs.declared.errors.SettingsError.{SettingsError}
+use Rattle.launched_units.specs.Launching.{FitsMentions, IsRefusedUnit, RefusesPath}
 use Rattle.mount_plan.specs.Answers.{Plans}
 use Rattle.mount_plan.specs.Host.{host_of}
 use Rattle.kern_mounts.specs.declared.step.MountStep.{MountStep}
 use Rattle.mount_plan.specs.declared.error.PlanError.{PlanError}
-use Rattle.mount_plan.specs.declared.error.PlanError.TheVariants as plan
-use Rattle.path_settings.specs.declared.mentions.Mention.{Mention}
-use Rattle.view_map.specs.Kept.{Refusal, kept_of}
-use Rattle.plan_command.specs.Refusals.{error_line, plan_line}
+use Rattle.plan_command.specs.Refusals.{error_line}
 use Rattle.replay_command.specs.Scripts.{script_in}
+use Rattle.started_units.specs.Starting.{given, start_refusals}
+use Rattle.started_units.proofs.Started as started
 use Rattle.trace_profile.specs.Derived.{IsDerived, IsOnlyOne}
 use Rattle.trace_profile.specs.PlainNames.{HasPlainNames}
 use Rattle.trace_profile.specs.Extended.{drop_in_text, open_unit}
-use Rattle.trace_profile.specs.Launching.{IsRefusedUnit, RefusesPath}
 use Rattle.trace_profile.specs.Scripts.{first_seccomp}
 use Rattle.unit_inputs.specs.Inputs.{Inputs, input_refusals, inputs_of, inputs_view}
 use Rattle.unit_inputs.specs.ReadsFor.{ReadsFor}
@@ -43,7 +42,7 @@ use Rattle.unit_settings.proofs.Steps.{refusals_with}
 use Rattle.derive_command.specs.Prints.{PrintsAnswer, PrintsDerived, derived, refused, derive_laws, ending_of, text_of}
 use Rattle.dropin_merge.specs.declared.resolved.Resolved.{Resolved}
 use Rattle.site_table.specs.Table.{Site}
-use Rattle.derive_command.specs.Refusals.{derive_refusals, given, refusals_behind, refusals_behind_script, refusals_by_script, seccomp_line}
+use Rattle.derive_command.specs.Refusals.{derive_refusals, opened, refusals_behind, refusals_behind_script, refusals_by_script, seccomp_line}
 use Rattle.derive_command.specs.Telling.{AnswersCalls, allowed, not_launched}
 use Rattle.derive_command.specs.declared.answering.Allowing.{Allowing}
 use Rattle.derive_command.proofs.PlainInputs.{inputs_are_plain}
@@ -55,42 +54,33 @@ stops_with P refusals (Err none) text is said = tt
 stops_with P refusals (Ok line) text is said = is ∙ ap Some (sym said)
 
 module _ (unit path : List ℕ) (inputs : Inputs) (script : List Call) where
-  -- the refusals, by what each of the three finds
-  abbrev pub refusals_from : Option ℕ → Option SettingsError → Result (List Mention) Refusal → List (Option (List ℕ))
-  refusals_from seccomp settings kept = option_map (seccomp_line path) seccomp ∷ (option_map (settings_line unit) settings ∷ (refusal_in (or_line (plan_line unit) kept) ∷ []))
-
   abbrev pub opened_settings : Option SettingsError
   opened_settings = refusal_of (open_unit inputs.unit inputs.calls) inputs.calls inputs.site
 
-  abbrev pub opened_paths : Result (List Mention) Refusal
-  opened_paths = kept_of (host_of inputs.site) (unit_mentions (open_unit inputs.unit inputs.calls) inputs.site)
+  -- by what is found first
+  abbrev refusals_from : Option ℕ → List (Option (List ℕ))
+  refusals_from seccomp = option_map (seccomp_line path) seccomp ∷ start_refusals unit (opened inputs)
 
   -- a call asks to push a program
   pub at_seccomp : (number : ℕ) → first_seccomp inputs.calls script ≡ Some number → first_refusal (refusals_behind_script unit path inputs script) ≡ Some (seccomp_line path number)
-  at_seccomp number is = ap (λ found. first_refusal (refusals_from found opened_settings opened_paths)) is
+  at_seccomp number is = ap (λ found. first_refusal (refusals_from found)) is
 
   -- a setting is refused
   pub at_settings : (error : SettingsError) → first_seccomp inputs.calls script ≡ None → opened_settings ≡ Some error → first_refusal (refusals_behind_script unit path inputs script) ≡ Some (settings_line unit error)
   at_settings error none is =
-      ap (λ found. first_refusal (refusals_from found opened_settings opened_paths)) none
-      ∙ ap (λ found. first_refusal (refusals_from None found opened_paths)) is
-
-  behind_settings : first_seccomp inputs.calls script ≡ None → opened_settings ≡ None → first_refusal (refusals_behind_script unit path inputs script) ≡ first_refusal (refusals_from None None opened_paths)
-  behind_settings none accepted =
-      ap (λ found. first_refusal (refusals_from found opened_settings opened_paths)) none
-      ∙ ap (λ found. first_refusal (refusals_from None found opened_paths)) accepted
+      ap (λ found. first_refusal (refusals_from found)) none ∙ started.at_settings unit (open_unit inputs.unit inputs.calls) inputs.calls inputs.site error is
 
   -- a path is refused
   pub at_paths : (error : PlanError) → first_seccomp inputs.calls script ≡ None → opened_settings ≡ None → RefusesPath (host_of inputs.site) (unit_mentions (open_unit inputs.unit inputs.calls) inputs.site) error
       → first_refusal (refusals_behind_script unit path inputs script) ≡ Some (error_line unit error)
-  at_paths (plan.Missing at) none accepted is = behind_settings none accepted ∙ ap (λ found. first_refusal (refusals_from None None found)) is
-  at_paths (plan.Kind at) none accepted is = behind_settings none accepted ∙ ap (λ found. first_refusal (refusals_from None None found)) is
-  at_paths plan.Memory none accepted is = absurd is
+  at_paths error none accepted is =
+      ap (λ found. first_refusal (refusals_from found)) none ∙ started.at_paths unit (open_unit inputs.unit inputs.calls) inputs.calls inputs.site error accepted is
 
   -- nothing is refused
-  pub none_refused : (table : List MountStep) → first_seccomp inputs.calls script ≡ None → opened_settings ≡ None → Plans (host_of inputs.site) (unit_mentions (open_unit inputs.unit inputs.calls) inputs.site) (Ok table)
-      → first_refusal (refusals_behind_script unit path inputs script) ≡ None
-  none_refused table none accepted planned = behind_settings none accepted ∙ ap (λ found. first_refusal (refusals_from None None found)) planned.1
+  none_refused : (table : List MountStep) → first_seccomp inputs.calls script ≡ None → opened_settings ≡ None → Plans (host_of inputs.site) (unit_mentions (open_unit inputs.unit inputs.calls) inputs.site) (Ok table)
+      → FitsMentions (host_of inputs.site) (unit_mentions (open_unit inputs.unit inputs.calls) inputs.site) table → first_refusal (refusals_behind_script unit path inputs script) ≡ None
+  none_refused table none accepted planned fits =
+      ap (λ found. first_refusal (refusals_from found)) none ∙ (started.planned unit (open_unit inputs.unit inputs.calls) inputs.calls inputs.site table accepted planned fits).0
 
   -- the list is derived
   pub answers_derived : (names : List ℕ) (allowing : Allowing) → first_seccomp inputs.calls script ≡ None → IsDerived inputs.unit inputs.calls inputs.site script names
@@ -98,7 +88,7 @@ module _ (unit path : List ℕ) (inputs : Inputs) (script : List Call) where
       → allowing.text.items ≡ drop_in_text inputs.calls names → allowing.ending ≡ Done
       → (first_refusal (refusals_behind_script unit path inputs script) ≡ None) × AnswersCalls inputs script (ending_of allowing) (text_of allowing)
   answers_derived names allowing none is only text ending = (
-    none_refused is.opened.plan none is.opened.accepted is.opened.is_plan,
+    none_refused is.opened.plan none is.opened.accepted is.opened.is_plan is.opened.fits,
     subst (λ e. AnswersCalls inputs script e (text_of allowing)) (sym ending) (subst (AnswersCalls inputs script Done) (sym text) (allowed names is only)),
   )
 
@@ -107,7 +97,7 @@ module _ (unit path : List ℕ) (inputs : Inputs) (script : List Call) where
       → allowing.text.items ≡ refusal_line refusal → allowing.ending ≡ LaunchRefused
       → (first_refusal (refusals_behind_script unit path inputs script) ≡ None) × AnswersCalls inputs script (ending_of allowing) (text_of allowing)
   answers_refused refusal allowing none is text ending = (
-    none_refused is.plan none is.accepted is.is_plan,
+    none_refused is.plan none is.accepted is.is_plan is.fits,
     subst (λ e. AnswersCalls inputs script e (text_of allowing)) (sym ending) (subst (AnswersCalls inputs script LaunchRefused) (sym text) (not_launched refusal is)),
   )
 

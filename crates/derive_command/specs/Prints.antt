@@ -5,10 +5,10 @@ use Rattle.kernel_calls.specs.declared.call.Call.{Call}
 use Rattle.command_answers.specs.Laws.{FileLaws}
 use Rattle.command_answers.specs.declared.ending.Ending.{Ending}
 use Rattle.command_answers.specs.declared.ending.Ending.TheVariants.{Done, LaunchRefused}
+use Rattle.launched_units.specs.Launching.{IsRefusedUnit}
 use Rattle.replay_command.specs.Scripts.{script_in}
 use Rattle.trace_profile.specs.Derived.{IsDerived, IsOnlyOne}
 use Rattle.trace_profile.specs.Extended.{drop_in_text, open_unit}
-use Rattle.trace_profile.specs.Launching.{IsRefusedUnit}
 use Rattle.unit_inputs.specs.Inputs.{Inputs, inputs_of}
 use Rattle.unit_launch.specs.Refusals.{refusal_line}
 use Rattle.unit_launch.specs.declared.refusal.LaunchRefusal.{LaunchRefusal}

@@ -6,13 +6,13 @@ use Rattle.call_table.specs.Table.{Table}
 use Rattle.dropin_merge.specs.declared.resolved.Resolved.{Resolved}
 use Rattle.kernel_calls.specs.declared.call.Call.{Call}
 use Rattle.command_answers.specs.Refusals.{refused_line}
-use Rattle.plan_command.specs.Prints.{refused_paths}
 use Rattle.replay_command.specs.Scripts.{script_in}
 use Rattle.site_table.specs.Table.{Site}
+use Rattle.started_units.specs.Starting.{start_refusals}
 use Rattle.trace_profile.specs.Extended.{open_unit}
 use Rattle.trace_profile.specs.Scripts.{first_seccomp}
 use Rattle.unit_inputs.specs.Inputs.{Inputs, input_refusals, inputs_of}
-use Rattle.unit_settings.specs.Settled.{refusals_by, refusals_of}
+use Rattle.unit_settings.specs.Settled.{refusals_by}
 
 -- the first call, from 1, that asks to push a program, seccomp(2)
 abbrev pub seccomp_cause : ℕ → List ℕ
@@ -21,10 +21,6 @@ seccomp_cause number = codes "call " ++ (decimal number ++ codes " seccomp")
 abbrev pub seccomp_line : List ℕ → ℕ → List ℕ
 seccomp_line path number = refused_line path (seccomp_cause number)
 
--- what is read of a unit
-abbrev pub given : Resolved → Table → Site → Inputs
-given unit calls site = record { unit = unit; calls = calls; site = site }
-
 -- the inputs with the unit that allows every call
 abbrev pub opened : Inputs → Inputs
 opened inputs = record { unit = open_unit inputs.unit inputs.calls; calls = inputs.calls; site = inputs.site }
@@ -32,7 +28,7 @@ opened inputs = record { unit = open_unit inputs.unit inputs.calls; calls = inpu
 -- behind a script that was read: such a call, then the settings and the paths of the unit that allows every call
 abbrev pub refusals_behind_script : List ℕ → List ℕ → Inputs → List Call → List (Option (List ℕ))
 refusals_behind_script unit path inputs script =
-    option_map (seccomp_line path) (first_seccomp inputs.calls script) ∷ (refusals_of unit (opened inputs) ++ refused_paths unit (opened inputs))
+    option_map (seccomp_line path) (first_seccomp inputs.calls script) ∷ start_refusals unit (opened inputs)
 
 -- the script, and what is refused behind it
 abbrev pub refusals_by_script : List ℕ → List ℕ → Inputs → Result (List Call) (List ℕ) → List (Option (List ℕ))

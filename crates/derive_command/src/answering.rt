@@ -5,15 +5,17 @@ ghost use Rattle.command_answers.specs.Stops.{Prepares};
 ghost use Rattle.unit_launch.specs.Refusals.{refusal_line};
 ghost use Rattle.trace_profile.specs.Extended.{drop_in_text};
 ghost use Rattle.command_answers.specs.declared.ending.Ending.TheVariants.{Done, LaunchRefused};
+ghost use Rattle.started_units.specs.Starting.{given};
 ghost use Rattle.derive_command.specs.Telling.{AnswersCalls, IsReady, Tells};
 ghost use Rattle.derive_command.specs.Prints.{ending_of, text_of};
-ghost use Rattle.derive_command.specs.Refusals.{given, refusals_behind_script};
+ghost use Rattle.derive_command.specs.Refusals.{refusals_behind_script};
 
 use crate::refusals::seccomp_line;
 use call_table::CallTable;
 use command_answers::{Ending, Ready, Stop, put_piece, refuse};
 use dropin_merge::Resolved;
 use host_io::{Sink, SinkError};
+use launched_units::UnitRefusal;
 use plan_command::plan_line;
 use script_text::Script;
 use site_table::SiteTable;
@@ -71,10 +73,12 @@ fn tell(alloc: Global, name: &str, path: &str, error: DeriveError) -> Result<All
 {
     match error {
         DeriveError::Seccomp(number) => Err(refuse(seccomp_line(alloc, path, number))),
-        DeriveError::Settings(error) => Err(refuse(settings_line(alloc, name, &error))),
-        DeriveError::Plan(error) => Err(refuse(plan_line(alloc, name, &error))),
-        DeriveError::Launch(refusal) => refuse_launch(alloc, &refusal),
-        DeriveError::Memory => Err(Stop::Memory),
+        DeriveError::Unit(refusal) => match refusal {
+            UnitRefusal::Settings(error) => Err(refuse(settings_line(alloc, name, &error))),
+            UnitRefusal::Plan(error) => Err(refuse(plan_line(alloc, name, &error))),
+            UnitRefusal::Launch(refused) => refuse_launch(alloc, &refused),
+            UnitRefusal::Memory => Err(Stop::Memory),
+        },
     }
 }
 

@@ -6,11 +6,11 @@ use Rattle.call_table.specs.Table as calls
 use Rattle.dropin_merge.specs.declared.resolved.Resolved.{Resolved}
 use Rattle.dropin_merge.specs.declared.resolved.UnitFile.{UnitFile}
 use Rattle.exec_settings.specs.AreSettings.{AreSettings}
+use Rattle.exec_settings.specs.Mounts.{unit_mentions}
 use Rattle.exec_settings.specs.Refusals.{refusal_of}
 use Rattle.exec_settings.specs.declared.service.Settings.{Settings}
 use Rattle.kern_mounts.specs.declared.step.MountStep.{MountStep}
 use Rattle.launcher.specs.declared.launched.Launched.{Launched as Service}
-use Rattle.mount_plan.specs.Answers.{Plans}
 use Rattle.mount_plan.specs.Host.{host_of}
 use Rattle.path_settings.specs.declared.mentions.Mention.{Mention}
 use Rattle.site_table.specs.Table.{Site}
@@ -35,8 +35,10 @@ longer_is unit bytes more (Ok longer) said named filed =
     ∙ ap (unit_with unit.name) (filed ∙ ap (λ (own : UnitText). unit.files ++ record { path = []; text = own } ∷ []) said)
 
 module _ (unit : Resolved) (table : calls.Table) (site : Site) (made : Settings) (steps lent : List MountStep) (settled : (refusal_of unit table site ≡ None) × AreSettings unit table site made) (laid : LaysOut (host_of site) made.mentions (Ok steps)) (lends : lent ≡ steps) where
-  planned : Plans (host_of site) made.mentions (Ok lent)
-  planned = subst (λ plan. Plans (host_of site) made.mentions (Ok plan)) (sym lends) laid.0
+  planned : LaysOut (host_of site) (unit_mentions unit site) (Ok lent)
+  planned =
+      subst (λ (mentions : List Mention). LaysOut (host_of site) mentions (Ok lent)) settled.1.mentions_written_and_implied
+      (subst (λ plan. LaysOut (host_of site) made.mentions (Ok plan)) (sym lends) laid)
 
   -- the unit is launched
   pub launched_unit : (service : Service) → ComesTo table site made lent (Launched service) → IsLaunchedUnit unit table site service
@@ -45,7 +47,8 @@ module _ (unit : Resolved) (table : calls.Table) (site : Site) (made : Settings)
     accepted = settled.0;
     are_settings = settled.1;
     plan = lent;
-    is_plan = subst (λ (mentions : List Mention). Plans (host_of site) mentions (Ok lent)) settled.1.mentions_written_and_implied planned;
+    is_plan = planned.0;
+    fits = planned.1;
     launched = comes;
   }
 
@@ -56,6 +59,7 @@ module _ (unit : Resolved) (table : calls.Table) (site : Site) (made : Settings)
     accepted = settled.0;
     are_settings = settled.1;
     plan = lent;
-    is_plan = subst (λ (mentions : List Mention). Plans (host_of site) mentions (Ok lent)) settled.1.mentions_written_and_implied planned;
+    is_plan = planned.0;
+    fits = planned.1;
     refused = comes;
   }

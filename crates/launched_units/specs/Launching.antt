@@ -1,5 +1,5 @@
 -- The launch of a unit, or why there is none.
-use Rattle.std.specs.Prelude.{◌≡◌, ⊤, List, Some, None, Result, Ok, Err}
+use Rattle.std.specs.Prelude.{◌≡◌, ⊤, IfOk, List, Some, None, Result, Ok, Err}
 use Rattle.call_table.specs.Table as calls
 use Rattle.dropin_merge.specs.declared.resolved.Resolved.{Resolved}
 use Rattle.exec_settings.specs.AreSettings.{AreSettings}
@@ -10,6 +10,8 @@ use Rattle.kern_mounts.specs.Launch.{CanBeMounted}
 use Rattle.kern_mounts.specs.declared.step.MountStep.{MountStep}
 use Rattle.launcher.specs.declared.launched.Launched.{Launched as Service}
 use Rattle.mount_plan.specs.Answers.{Plans}
+use Rattle.mount_plan.specs.AsView.{FindsAsView}
+use Rattle.mount_plan.specs.Form.{HasPlacesOf}
 use Rattle.mount_plan.specs.Host.{host_of}
 use Rattle.mount_plan.specs.declared.error.PlanError.{PlanError}
 use Rattle.mount_plan.specs.declared.error.PlanError.TheVariants as plan
@@ -17,7 +19,7 @@ use Rattle.path_settings.specs.declared.mentions.Mention.{Mention}
 use Rattle.site_table.specs.Table.{Site}
 use Rattle.unit_launch.specs.Launching.{IsLaunched, IsRefused}
 use Rattle.unit_launch.specs.declared.refusal.LaunchRefusal.{LaunchRefusal}
-use Rattle.view_map.specs.Kept.{Host, kept_of, missing, wrong_kind}
+use Rattle.view_map.specs.Kept.{Host, KeepsByRules, kept_of, missing, wrong_kind}
 use Rattle.launched_units.specs.declared.refusal.UnitRefusal.{UnitRefusal}
 use Rattle.launched_units.specs.declared.refusal.UnitRefusal.TheVariants.{Settings as InSettings, Plan, Launch, Memory}
 
@@ -27,6 +29,14 @@ RefusesPath row_at mentions (plan.Missing path) = kept_of row_at mentions ≡ Er
 RefusesPath row_at mentions (plan.Kind path) = kept_of row_at mentions ≡ Err (wrong_kind path)
 RefusesPath row_at mentions plan.Memory = ⊥
 
+-- what is kept of the mentions are those that the rules keep, each path belongs to an entry that has what the view by these has there,
+-- the places are the root and paths of the mentions, and a launch can take the plan
+pub record FitsMentions (row_at : Host) (mentions : List Mention) (plan : List MountStep) : Type 0 where
+  pub keeps_by_rules : IfOk (kept_of row_at mentions) (KeepsByRules row_at mentions)
+  pub finds_as_view : IfOk (kept_of row_at mentions) (λ kept. FindsAsView kept plan)
+  pub places_are_mentioned : HasPlacesOf mentions plan
+  pub can_be_mounted : CanBeMounted row_at plan
+
 -- the unit has these settings and this plan of its mounts, and is launched to this service
 pub record IsLaunchedUnit (unit : Resolved) (table : calls.Table) (site : Site) (service : Service) : Type 0 where
   pub settings : Settings
@@ -34,6 +44,7 @@ pub record IsLaunchedUnit (unit : Resolved) (table : calls.Table) (site : Site) 
   pub are_settings : AreSettings unit table site settings
   pub plan : List MountStep
   pub is_plan : Plans (host_of site) (unit_mentions unit site) (Ok plan)
+  pub fits : FitsMentions (host_of site) (unit_mentions unit site) plan
   pub launched : IsLaunched table site settings plan service
 
 -- it has them, and its launch is refused
@@ -43,6 +54,7 @@ pub record IsRefusedUnit (unit : Resolved) (table : calls.Table) (site : Site) (
   pub are_settings : AreSettings unit table site settings
   pub plan : List MountStep
   pub is_plan : Plans (host_of site) (unit_mentions unit site) (Ok plan)
+  pub fits : FitsMentions (host_of site) (unit_mentions unit site) plan
   pub refused : IsRefused table site settings plan refusal
 
 -- why a unit is not launched: the first setting, the first path or the launch that is refused; want of memory says nothing
@@ -66,7 +78,7 @@ Settles unit table site (Err Memory) = ⊤
 
 -- the plan of some mentions, which a launch can take, or the first path that is refused
 abbrev pub LaysOut : Host → List Mention → Result (List MountStep) UnitRefusal → Type 0
-LaysOut row_at mentions (Ok plan) = Plans row_at mentions (Ok plan) × CanBeMounted row_at plan
+LaysOut row_at mentions (Ok plan) = Plans row_at mentions (Ok plan) × FitsMentions row_at mentions plan
 LaysOut row_at mentions (Err (InSettings error)) = ⊥
 LaysOut row_at mentions (Err (Plan error)) = RefusesPath row_at mentions error
 LaysOut row_at mentions (Err (Launch refusal)) = ⊥

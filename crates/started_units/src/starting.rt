@@ -1,34 +1,27 @@
 //! The launch of a unit, or the line of the first of its settings and paths that is refused.
 ghost use Rattle.std.specs.Prelude.{IsErrOf};
 ghost use Rattle.command_answers.specs.Stops.{Prepares};
-ghost use Rattle.unit_settings.specs.Settled.{AreSettled, refusals_of};
-ghost use Rattle.started_units.specs.Starting.{StartsAs, given, start_refusals};
+ghost use Rattle.started_units.specs.Starting.{StartsAs, TellsRefusal, given, start_refusals};
 
 use call_table::CallTable;
 use command_answers::{Stop, refuse};
 use dropin_merge::Resolved;
-use exec_settings::{Settings, SettingsError, settings};
-use plan_command::plan_mounts;
+use launched_units::{UnitRefusal, launch_whole};
+use plan_command::plan_line;
 use site_table::SiteTable;
 use std::alloc::Global;
-use unit_launch::{UnitLaunch, launch_unit};
+use unit_launch::{LaunchRefusal, UnitLaunch};
 use unit_settings::settings_line;
 
-// The settings of a unit.
-fn settle(
-    alloc: Global,
-    name: &str,
-    unit: &Resolved,
-    calls: &CallTable,
-    site: &SiteTable,
-) -> Result<Settings, Stop>
-    ensures settles { Prepares (AreSettled (given unit.now calls.now site.now)) (refusals_of name.now (given unit.now calls.now site.now)) result }
-    ensures reads_nothing { IsErrOf result Stop.ReadFault → ⊥ }
+// The launch that is refused, or the line of the setting or the path that is.
+fn tell(alloc: Global, name: &str, refusal: UnitRefusal) -> Result<LaunchRefusal, Stop>
+    ensures { TellsRefusal name.now refusal result }
 {
-    match settings(alloc, unit, calls, site) {
-        Ok(made) => Ok(made),
-        Err(SettingsError::Memory) => Err(Stop::Memory),
-        Err(error) => Err(refuse(settings_line(alloc, name, &error))),
+    match refusal {
+        UnitRefusal::Settings(error) => Err(refuse(settings_line(alloc, name, &error))),
+        UnitRefusal::Plan(error) => Err(refuse(plan_line(alloc, name, &error))),
+        UnitRefusal::Launch(refused) => Ok(refused),
+        UnitRefusal::Memory => Err(Stop::Memory),
     }
 }
 
@@ -43,8 +36,8 @@ pub fn start<'a>(
     ensures starts { Prepares (StartsAs (given unit.now calls.now site.now)) (start_refusals name.now (given unit.now calls.now site.now)) result }
     ensures reads_nothing { IsErrOf result Stop.ReadFault → ⊥ }
 {
-    let made = settle(alloc, name, unit, calls, site)?;
-    let steps = plan_mounts(alloc, name, &made.mentions, site)?;
-    let launch = launch_unit(alloc, &made, steps.list(), calls, site)?;
-    Ok(launch)
+    match launch_whole(alloc, unit, calls, site) {
+        Ok(service) => Ok(UnitLaunch::Launched(service)),
+        Err(refusal) => Ok(UnitLaunch::Refused(tell(alloc, name, refusal)?)),
+    }
 }

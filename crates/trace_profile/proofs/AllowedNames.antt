@@ -1,8 +1,8 @@
 -- Which calls the list of a drop-in allows.
-use Rattle.std.proofs.Common.{◌≡◌, ◌⊎◌, inl, inr, ℕ, zero, suc, ◌+◌, length, Bool, true, false, cond, Option, Some, None, List, [], ◌∷◌, ◌++◌, codes, filter, find, map, reverse, refl, ap, ◌∙◌, sym, subst, arith}
-use Rattle.std.specs.Prelude.{not, ◌&&◌, ◌||◌, ◌==◌, is_some, slice_get, option_and_then, if◌then◌else◌}
+use Rattle.std.proofs.Common.{◌≡◌, ◌⊎◌, inl, inr, ℕ, zero, suc, ◌+◌, length, Bool, true, false, cond, Option, Some, None, List, [], ◌∷◌, ◌++◌, codes, find, map, reverse, refl, ap, ◌∙◌, sym, arith}
+use Rattle.std.specs.Prelude.{not, ◌&&◌, ◌||◌, ◌==◌, is_some, slice_get, option_and_then}
 use Rattle.std.specs.List.{AllByRecursion, cons_option, filter_map, list_all, list_any, position_or_len, before_first, after_first}
-use Rattle.std.specs.Option.{option_map, option_map_or}
+use Rattle.std.specs.Option.{option_map_or}
 use Rattle.std.specs.Str.{bytes_eq}
 use Rattle.std.proofs.lemmas.Bool.{and_parts, le-ltb}
 use Rattle.std.proofs.lemmas.Bool.Decides.{nat_tests}
@@ -15,11 +15,10 @@ use Rattle.call_rules.specs.declared.actions.Action.{Action}
 use Rattle.call_rules.specs.declared.actions.Action.TheVariants.{Allow as Allowed}
 use Rattle.call_table.proofs.Places.{some_line}
 use Rattle.call_table.specs.Lookups.{has_name, place_named}
-use Rattle.call_table.specs.Members.{is_first}
 use Rattle.call_table.specs.Names.{behind_at, is_name, is_name_byte}
 use Rattle.call_table.specs.Table.{Table, every_call}
 use Rattle.call_table.specs.declared.listed.CallLine.{CallLine}
-use Rattle.filter_rules.specs.Calls.{call_action, if_adds, list_action, listed_action, listed_by}
+use Rattle.filter_rules.specs.Calls.{call_action, if_adds, list_action, listed_action}
 use Rattle.filter_rules.specs.Covers.{covers, covers_by}
 use Rattle.filter_rules.specs.declared.mentions.CallList.{CallList}
 use Rattle.filter_rules.specs.declared.mentions.Mention.{Mention}
@@ -28,7 +27,7 @@ use Rattle.filter_settings.specs.CallWords.{is_known, is_known_by, mention_of, w
 use Rattle.unit_grammar.specs.Kinds.{cut_at}
 use Rattle.trace_profile.specs.Extended.{is_first_line, name_at}
 use Rattle.trace_profile.specs.Names.{without}
-use Rattle.trace_profile.proofs.TameBytes.{IsWord, are_names, of_name, unset, word_of}
+use Rattle.trace_profile.proofs.TameBytes.{IsWord, are_names, of_name, word_of}
 
 -- ---- names of the table
 pub word_at : {X : Type 0} (p : X → Bool) (xs : List X) (i : ℕ) (x : X) → list_all p xs ≡ true → slice_get xs i ≡ Some x → p x ≡ true

@@ -12,7 +12,7 @@ use Rattle.call_rules.specs.Action.{case_action, word_of}
 use Rattle.call_rules.specs.declared.actions.Action.{Action}
 use Rattle.call_table.specs.Facts.{IsTable}
 use Rattle.call_table.specs.Lookups.{numbered}
-use Rattle.call_table.specs.Table.{Abi, Table, abi_at, arch_of, calls_in, native}
+use Rattle.call_table.specs.Table.{Abi, Table, arch_of, calls_in, native}
 use Rattle.call_table.specs.declared.listed.CallLine.{CallLine}
 use Rattle.exec_settings.specs.AreSettings.{HasWantedRules}
 use Rattle.filter_rules.specs.Calls.{call_action}

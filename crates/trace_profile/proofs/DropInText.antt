@@ -1,17 +1,16 @@
 -- What the text of a drop-in says, as a file of a unit.
-use Rattle.std.proofs.Common.{◌≡◌, ℕ, ◌+◌, ◌-◌, Bool, true, false, cond, eqb, ltb, Option, Some, None, Result, Ok, Err, List, [], ◌∷◌, ◌++◌, codes, length, take, drop, refl, ap, ◌∙◌, sym, subst, map, arith}
+use Rattle.std.proofs.Common.{◌≡◌, ℕ, ◌+◌, ◌-◌, Bool, true, false, cond, Some, None, Result, Ok, Err, List, [], ◌∷◌, ◌++◌, codes, length, take, drop, refl, ap, ◌∙◌, map, arith}
 use Rattle.std.proofs.Math.Seq.{take-append_seam, drop-append-add}
-use Rattle.std.specs.Prelude.{not, ◌&&◌, ◌||◌, ◌==◌, ◌%◌}
+use Rattle.std.specs.Prelude.{not, ◌||◌, ◌==◌, ◌%◌}
 use Rattle.std.specs.List.{list_all, list_any, slice_split, onto_first, position_or_len, before_first, after_first, suffix_len, cons_option, slice_get}
 use Rattle.std.specs.Str.{is_utf8, chars}
 use lib.Utf8.{encode}
 use Rattle.std.proofs.lemmas.Bool.{and_from, and_parts, lt-ltb, eq-eqb}
-use Rattle.std.proofs.lemmas.List.{append_assoc, append-nil, length-append, take_all}
-use Rattle.std.proofs.lemmas.List.Folds.{list_all-append}
+use Rattle.std.proofs.lemmas.List.{append-nil, length-append, take_all}
 use Rattle.std.proofs.lemmas.Str.{IsUtf8-append, IsUtf8-from_is_utf8, is_utf8-from_IsUtf8}
 use Rattle.call_table.specs.Names.{is_name_byte}
-use Rattle.unit_grammar.specs.Kinds.{Kind, skipped, header, assigns, cut_at, assigned, kind_of, trimmed_kind}
-use Rattle.unit_grammar.specs.Lines.{file_parts, joined_lines, line_of, parts_from, split_after}
+use Rattle.unit_grammar.specs.Kinds.{Kind, assigns, cut_at, assigned, kind_of, trimmed_kind}
+use Rattle.unit_grammar.specs.Lines.{joined_lines, line_of, parts_from, split_after}
 use Rattle.unit_grammar.specs.Reading.{assignment_in, fault_in, is_text, note_in, unit_of, unit_of_lines, unless_fault}
 use Rattle.unit_grammar.specs.Spaces.{continues, is_backslash, is_white, trim, trim_end, without_last}
 use Rattle.unit_grammar.specs.declared.joined.Line.{Line}

@@ -1,9 +1,9 @@
 -- What a unit says to which a drop-in was added that allows some names.
-use Rattle.std.proofs.Common.{◌≡◌, ℕ, suc, ◌+◌, ◌≤◌, Bool, true, false, cond, Option, Some, None, Ok, Err, Result, List, [], ◌∷◌, ◌++◌, codes, filter, flat_map, length, map, refl, ap, ◌∙◌, sym, subst, arith}
+use Rattle.std.proofs.Common.{◌≡◌, ℕ, suc, ◌+◌, ◌≤◌, Bool, true, false, cond, Option, Some, None, List, [], ◌∷◌, ◌++◌, codes, flat_map, length, map, refl, ap, ◌∙◌, sym, arith}
 use Rattle.std.specs.Prelude.{◌==◌, unwrap_or}
 use Rattle.std.specs.List.{AllByRecursion, after_last, cons_option, filter_map, list_all}
 use Rattle.std.specs.Option.{option_map}
-use Rattle.std.specs.Str.{bytes_eq, is_utf8, chars}
+use Rattle.std.specs.Str.{is_utf8, chars}
 use lib.Utf8.{encode}
 use Rattle.std.proofs.lemmas.Bool.Decides.{nat_tests}
 use Rattle.std.proofs.lemmas.List.{append_assoc, append-nil}
@@ -15,7 +15,6 @@ use Rattle.dropin_merge.specs.declared.resolved.Resolved.{Resolved}
 use Rattle.dropin_merge.specs.declared.resolved.UnitFile.{UnitFile}
 use Rattle.exec_settings.specs.Dynamic.{unit_filters}
 use Rattle.exec_settings.specs.Profile.{asked_by, asks as asks_of, is_asked}
-use Rattle.filter_rules.specs.declared.mentions.CallList.{CallList}
 use Rattle.filter_settings.specs.CallLists.{call_list, unit_call_list}
 use Rattle.filter_settings.specs.Lines.{in_force}
 use Rattle.mount_settings.specs.Assigned.{assigned_by}
@@ -26,14 +25,13 @@ use Rattle.unit_names.specs.Expansion.{expansion, longest_value}
 use Rattle.unit_names.specs.Names.{Name}
 use Rattle.unit_values.proofs.OneMore.{after_last-push}
 use Rattle.unit_values.specs.Assignments.{service_assignments, service_from, service_in}
-use Rattle.unit_values.specs.Lines.{line_of}
 use Rattle.unit_values.specs.Listed.{is_reset, listed, unit_listed}
 use Rattle.unit_values.specs.Values.{expanded_at, given_by, values_of}
 use Rattle.unit_values.specs.declared.lines.Line.{Line}
 use Rattle.unit_values.specs.declared.listed.Listed.{Listed}
 use Rattle.unit_values.specs.declared.value.Place.{Place}
-use Rattle.unit_values.specs.declared.value.Value.{Value}
-use Rattle.trace_profile.specs.Extended.{drop_in_text, extended, is_first_line, name_at, says, unless_refused}
+use Rattle.launched_units.specs.Longer.{says, unless_refused}
+use Rattle.trace_profile.specs.Extended.{drop_in_text, extended, is_first_line, name_at}
 use Rattle.trace_profile.proofs.AllowedNames.{names_are, said_list}
 use Rattle.trace_profile.proofs.DropInText.{allows, reset, unit_is, value}
 use Rattle.trace_profile.proofs.ListedWords.{expanded, line_is}

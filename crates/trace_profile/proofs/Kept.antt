@@ -1,10 +1,10 @@
 -- What is kept of some names.
-use Rattle.std.proofs.Common.{◌≡◌, ◌⊎◌, inl, inr, ℕ, ◌+◌, ◌<◌, ◌≤◌, Bool, true, false, List, [], ◌∷◌, ◌++◌, length, get_or, take, refl, sym, ap, ◌∙◌, subst, arith, eqb, eq-eqb}
+use Rattle.std.proofs.Common.{◌≡◌, inl, inr, ℕ, ◌+◌, ◌<◌, ◌≤◌, false, List, [], ◌∷◌, ◌++◌, length, get_or, take, refl, sym, ap, ◌∙◌, subst, arith, eq-eqb}
 use Rattle.std.specs.Prelude.{not, ◌==◌}
 use Rattle.std.specs.List.{All}
 use Rattle.std.proofs.lemmas.List.{take_more}
 use Rattle.std.proofs.lemmas.List.Elements.{All-push}
-use Rattle.trace_profile.specs.Derived.{Fails, Serves, Tried, IsLeast, Tells}
+use Rattle.trace_profile.specs.Derived.{Fails, Tried, IsLeast}
 use Rattle.trace_profile.specs.Names.{AreNames, without}
 use Rattle.trace_profile.specs.Searching.{AreKept, AreServing, LeavesOut}
 use Rattle.trace_profile.proofs.Lists.{not_longer, shorter, some_are_names}

@@ -1,6 +1,6 @@
 -- What the value of a drop-in lists: `@default`, and words behind it.
-use Rattle.std.proofs.Common.{◌≡◌, ℕ, ◌+◌, ◌≤◌, Bool, true, false, cond, Option, Some, None, Result, Ok, Err, List, [], ◌∷◌, ◌++◌, codes, length, map, filter, flat_map, refl, ap, ◌∙◌, sym, subst, arith}
-use Rattle.std.specs.Prelude.{not, ◌&&◌, ◌||◌, ◌==◌, nat_le}
+use Rattle.std.proofs.Common.{◌≡◌, ℕ, ◌≤◌, Bool, true, false, cond, Option, Some, None, Ok, List, [], ◌∷◌, ◌++◌, codes, length, map, flat_map, refl, ap, ◌∙◌, subst, arith}
+use Rattle.std.specs.Prelude.{not, ◌||◌, ◌==◌, nat_le}
 use Rattle.std.specs.List.{AllByRecursion, list_all}
 use Rattle.std.specs.Option.{option_map, option_and_then}
 use Rattle.std.specs.Fmt.{option_append}
@@ -8,17 +8,15 @@ use Rattle.std.specs.Str.{is_utf8, chars}
 use lib.Utf8.{encode}
 use Rattle.std.proofs.lemmas.Bool.{and_from, and_parts}
 use Rattle.std.proofs.lemmas.Bool.Decides.{nat_tests}
-use Rattle.std.proofs.lemmas.List.{append-nil}
 use Rattle.std.proofs.lemmas.Str.{IsUtf8-append, IsUtf8-from_is_utf8, is_utf8-from_IsUtf8}
 use Rattle.call_table.specs.Names.{is_name, is_name_byte}
 use Rattle.text_forms.specs.Grammar.{EndsWord, IsPart, LaysOut, Part, Spells, bare, nothing, part_bytes, part_symbols, quoted, white, word}
-use Rattle.text_forms.specs.Words.{is_quote, is_white, words_of}
+use Rattle.text_forms.specs.Words.{words_of}
 use Rattle.text_forms.proofs.Layouts.{split_as_laid}
 use Rattle.unit_names.specs.Expansion.{Piece, literal, expansion, if_short, if_text, longest_value, pieces_meaning, pieces_of, onto_pieces}
 use Rattle.unit_names.specs.Names.{Name}
 use Rattle.unit_values.specs.Lines.{line_of, words_if}
-use Rattle.unit_values.specs.declared.lines.Line.{Line}
-use Rattle.trace_profile.proofs.TameBytes.{IsWord, are_names, each_too, is_tame, of_name, of_tame, tail_of, tame_of_names, tame_tail, tame_utf8, unset, word_of}
+use Rattle.trace_profile.proofs.TameBytes.{are_names, each_too, is_tame, of_name, of_tame, tail_of, tame_of_names, tame_tail, tame_utf8, unset, word_of}
 
 -- ---- specifiers: there are none
 no_percent : (byte : ℕ) → is_tame byte ≡ true → not (byte == 37) ≡ true

@@ -1,7 +1,7 @@
 -- The least list is the only one, and names no call of `@default`.
-use Rattle.std.proofs.Common.{◌≡◌, ◌≢◌, ◌⊎◌, inl, inr, ℕ, Bool, true, false, cond, codes, Option, Some, None, Result, Ok, Err, List, [], ◌∷◌, ◌++◌, length, map, filter, refl, ap, ◌∙◌, sym, subst, arith}
-use Rattle.std.specs.Prelude.{◌≤◌, ◌<◌, ◌==◌, ◌||◌, not}
-use Rattle.std.specs.List.{All, AllByRecursion, list_any}
+use Rattle.std.proofs.Common.{◌≡◌, ◌≢◌, ◌⊎◌, inl, inr, ℕ, Bool, true, false, cond, codes, Some, None, Result, Ok, List, [], ◌∷◌, ◌++◌, length, map, refl, ap, ◌∙◌, sym, subst, arith}
+use Rattle.std.specs.Prelude.{◌≤◌, ◌==◌, ◌||◌, not}
+use Rattle.std.specs.List.{AllByRecursion}
 use Rattle.std.specs.Option.{option_map}
 use Rattle.std.proofs.lemmas.List.Elements.{All-from_recursion, recursion_from_All}
 use Rattle.abs_path.specs.Paths.{Path}
@@ -15,14 +15,12 @@ use Rattle.cred_settings.specs.NewPrivileges.{is_in_effect}
 use Rattle.cred_settings.specs.declared.accounts.Identity.{Identity}
 use Rattle.cred_settings.specs.declared.error.IdentityError.{IdentityError}
 use Rattle.dropin_merge.specs.declared.resolved.Resolved.{Resolved}
-use Rattle.dropin_merge.specs.declared.resolved.UnitFile.{UnitFile}
 use Rattle.exec_settings.specs.AreSettings.{AreSettings, HasWantedRules}
 use Rattle.exec_settings.specs.Dynamic.{is_dynamic, sets_new_privileges, unit_filters}
 use Rattle.exec_settings.specs.Groups.{missing_group}
 use Rattle.exec_settings.specs.Mounts.{paths_refusal, unit_mentions}
 use Rattle.exec_settings.specs.Refusals.{command_refusal, first_reason, group_refusal, identity_refusal, refusal_of}
 use Rattle.exec_settings.specs.Settings.{has_filter, unit_bounding, unit_new_privileges, unit_program}
-use Rattle.exec_settings.specs.declared.errors.SettingsError.{SettingsError}
 use Rattle.exec_settings.specs.declared.errors.SettingsError.TheVariants.{MissingGroup}
 use Rattle.exec_settings.specs.declared.service.Settings.{Settings}
 use Rattle.filter_rules.specs.Covers.{covers}
@@ -31,18 +29,19 @@ use Rattle.filter_rules.specs.Installed.{installed, place_of}
 use Rattle.filter_rules.specs.Names.{Place}
 use Rattle.filter_rules.specs.declared.mentions.Mention.{Mention}
 use Rattle.filter_rules.specs.declared.settings.FilterSettings.{FilterSettings}
-use Rattle.kern_mounts.specs.Launch.{CanBeMounted}
 use Rattle.kern_mounts.specs.Split.{Table}
 use Rattle.kern_mounts.specs.declared.step.MountStep.{MountStep}
 use Rattle.kernel_calls.specs.Calls.{AreCalls}
 use Rattle.kernel_calls.specs.declared.call.Call.{Call}
-use Rattle.kernel_laws.specs.Launched.{launch_of}
 use Rattle.kernel_model.specs.Runs.{replies}
 use Rattle.kernel_model.specs.World.{World}
 use Rattle.kernel_model.specs.declared.reply.Reply.{Reply}
+use Rattle.launched_units.specs.Launching.{IsLaunchedUnit, IsNotLaunched, RefusesPath}
+use Rattle.launched_units.specs.declared.refusal.UnitRefusal.{UnitRefusal}
+use Rattle.launched_units.specs.declared.refusal.UnitRefusal.TheVariants.{Memory, Settings as InSettings, Plan, Launch}
 use Rattle.launcher.specs.Alike.{HasWordArchs, above}
 use Rattle.launcher.specs.Answers.{codes_of, given_bytes, launch_with, wanted_of}
-use Rattle.launcher.specs.Launch.{Ending, Launched, PrivilegedProgram, StepKilled, StepRefused, Wanted, launch}
+use Rattle.launcher.specs.Launch.{Ending, Launched, Wanted, launch}
 use Rattle.launcher.specs.Launches.{AreRead}
 use Rattle.launcher.specs.LaunchesAlike.{AreInstalled}
 use Rattle.launcher.specs.Matching.{AreMatching}
@@ -60,21 +59,18 @@ use Rattle.site_table.specs.Table.{IsSite, Site}
 use Rattle.unit_launch.specs.declared.refusal.LaunchRefusal.{LaunchRefusal}
 use Rattle.unit_launch.specs.declared.refusal.LaunchRefusal.TheVariants as refusal
 use Rattle.unit_launch.specs.Launching.{IsRefused}
-use Rattle.view_map.specs.Kept.{Refusal, kept_of, missing, wrong_kind}
-use Rattle.allow_laws.specs.Either.{AnswersAsEither, PushNone}
-use Rattle.allow_laws.specs.Launches.{LaunchAsEither, LaunchesBy}
+use Rattle.view_map.specs.Kept.{Refusal, kept_of}
+use Rattle.allow_laws.specs.Either.{PushNone}
+use Rattle.allow_laws.specs.Launches.{LaunchesBy}
 use Rattle.allow_laws.proofs.Either.{either_replies}
 use Rattle.allow_laws.proofs.Launches.{either_launches}
 use Rattle.trace_profile.specs.Derived.{Fails, IsDerived, IsOnlyOne, not_launched, other_reply, tried_with}
 use Rattle.trace_profile.specs.Extended.{every_name, extended, is_first_line, name_at, open_unit}
-use Rattle.trace_profile.specs.Launching.{IsLaunchedUnit, IsNotLaunched, IsRefusedUnit, RefusesPath}
 use Rattle.trace_profile.specs.Names.{AreNames, without}
 use Rattle.trace_profile.specs.Only.{LeastIsOnlyOne}
 use Rattle.trace_profile.specs.PlainNames.{HasPlainNames, IsBesideDefault}
 use Rattle.trace_profile.specs.Scripts.{first_seccomp}
-use Rattle.trace_profile.specs.declared.derived.DeriveError.{DeriveError}
-use Rattle.trace_profile.specs.declared.derived.DeriveError.TheVariants.{Memory, Seccomp, Settings as InSettings, Plan, Launch}
-use Rattle.trace_profile.proofs.AllowedNames.{action_is, as_either, as_with_it, default_word, is_let_through, said_list}
+use Rattle.trace_profile.proofs.AllowedNames.{action_is, as_either, as_with_it, is_let_through, said_list}
 use Rattle.trace_profile.proofs.AsEither.{HasPrograms, gives, installed_same, programs_either, same_long, with_list}
 use Rattle.trace_profile.proofs.ExtendedUnit.{adds_calls, filters_are, tails_are}
 use Rattle.trace_profile.proofs.Lists.{every_are_names, some_are_names}
@@ -261,7 +257,7 @@ module _ (unit : Resolved) (table : calls.Table) (site : Site) (sound : IsSite s
           launched = same_launch names others are are_too own_settings other_settings launched.plan launched_too.plan launched.are_settings launched_too.are_settings launched.is_plan launched_too.is_plan (given_bytes other.filters) ∙ m.launches.ends;
         } in
         let together = either_launches table site (wanted_of own_settings []) launched.plan programs (given_bytes service.filters) (given_bytes other.filters) codes own_codes other_codes service.world other.world
-        whole arch launched.can_be_mounted can.uid (installed_by third are_third settings fit programs codes read matching)
+        whole arch launched.fits.can_be_mounted can.uid (installed_by third are_third settings fit programs codes read matching)
         (same_long table base (mentions third are_third) (mentions names are) codes own_codes third_has own_has) (same_long table base (mentions third are_third) (mentions others are_too) codes other_codes third_has other_has)
         like own_launch other_launch in
         let told : together.base.calls ≡ table = ap (λ (world : World). world.calls) (sym together.as_one) ∙ ap (λ seen. seen.calls) l.leaves_one_process.leaves.is in
@@ -315,8 +311,7 @@ module _ (unit : Resolved) (table : calls.Table) (site : Site) (sound : IsSite s
     refused_path plan.Memory e = e
 
     -- so the third does not fail
-    not_refused : (error : DeriveError) → error ≢ Memory → IsNotLaunched (extended unit table third) table site error → ⊥
-    not_refused (Seccomp number) ne refused = refused
+    not_refused : (error : UnitRefusal) → error ≢ Memory → IsNotLaunched (extended unit table third) table site error → ⊥
     not_refused (InSettings error) ne refused = let clash = sym refused ∙ same_refusal third names are_third are ∙ launched.accepted in cc
     not_refused (Plan error) ne refused = refused_path error refused.1
     not_refused (Launch why) ne refused = refused_launch refused.settings refused.plan refused.are_settings refused.is_plan why refused.refused

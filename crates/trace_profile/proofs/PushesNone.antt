@@ -1,7 +1,7 @@
 -- A script whose calls have not the number of seccomp(2) pushes no program.
 use Rattle.std.proofs.Common.{◌≡◌, ℕ, Bool, true, false, cond, codes, Option, Some, None, List, [], ◌∷◌, refl, ap, ◌∙◌, sym}
-use Rattle.std.specs.Prelude.{◌+◌, ◌||◌, position, option_and_then}
-use Rattle.std.specs.List.{AllByRecursion, list_all, list_any}
+use Rattle.std.specs.Prelude.{◌+◌, position, option_and_then}
+use Rattle.std.specs.List.{list_all, list_any}
 use Rattle.std.specs.Map.{lookup}
 use Rattle.std.specs.Option.{option_map, option_map_or}
 use Rattle.std.specs.Str.{bytes_eq}
@@ -24,8 +24,6 @@ use Rattle.kernel_calls.specs.Words.{low_word}
 use Rattle.kernel_calls.specs.declared.call.Call.{Call}
 use Rattle.kernel_calls.specs.declared.payload.Payload.{Payload}
 use Rattle.kernel_calls.specs.declared.payload.Payload.TheVariants.{Nothing, OnePath, TwoPaths, Sets, Ids, Family, Code}
-use Rattle.kernel_calls.specs.declared.rule.Rule.{Rule}
-use Rattle.kernel_calls.specs.declared.rule.Rule.TheVariants as rule
 use Rattle.allow_laws.specs.Either.{PushNone, PushesNone}
 use Rattle.trace_profile.specs.Scripts.{first_seccomp, is_seccomp}
 

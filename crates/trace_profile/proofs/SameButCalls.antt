@@ -1,5 +1,5 @@
 -- What is said by a unit to which a drop-in adds nothing but SystemCallFilter=.
-use Rattle.std.proofs.Common.{◌≡◌, ℕ, Bool, true, false, cond, Option, Some, None, List, [], ◌∷◌, ◌++◌, codes, refl, sym, ap, ◌∙◌}
+use Rattle.std.proofs.Common.{◌≡◌, ℕ, Bool, true, false, cond, Option, Some, None, List, [], ◌∷◌, codes, refl, ap, ◌∙◌}
 use Rattle.std.specs.Prelude.{◌||◌, ◌&&◌, not, is_some, length, nat_lt, find}
 use Rattle.std.specs.Option.{option_map}
 use Rattle.std.specs.List.{filter_map, list_all, list_any}
@@ -19,7 +19,6 @@ use Rattle.dropin_merge.specs.declared.resolved.UnitFile.{UnitFile}
 use Rattle.exec_settings.specs.Bounding.{left_of, taken_caps}
 use Rattle.exec_settings.specs.Commands.{launched_of, unit_command}
 use Rattle.exec_settings.specs.Dynamic.{is_dynamic, sets_new_privileges, unit_filters, with_dynamic_user}
-use Rattle.exec_settings.specs.Groups.{missing_group}
 use Rattle.exec_settings.specs.Keys.{keys}
 use Rattle.exec_settings.specs.Mounts.{paths_refusal, unit_mentions, unit_switches}
 use Rattle.exec_settings.specs.Profile.{is_asked, is_outside, is_outside_by, outside_key}

@@ -1,8 +1,8 @@
 -- Texts of names and spaces alone.
 use Rattle.std.proofs.Common.{◌≡◌, ℕ, zero, suc, ◌<◌, ◌+◌, Bool, true, false, cond, List, [], ◌∷◌, ◌++◌, refl, ap, ◌∙◌, sym, subst, length, reverse, arith}
-use Rattle.std.specs.Prelude.{not, ◌&&◌, ◌||◌, ◌==◌, flat_map}
+use Rattle.std.specs.Prelude.{not, ◌||◌, ◌==◌, flat_map}
 use Rattle.std.specs.List.{list_all, prefix_len, suffix_len, slice_index}
-use Rattle.std.specs.Str.{IsAscii, is_utf8}
+use Rattle.std.specs.Str.{is_utf8}
 use Rattle.std.proofs.lemmas.Bool.{and_from, and_parts}
 use Rattle.std.proofs.lemmas.Bool.Decides.{nat_tests}
 use Rattle.std.proofs.lemmas.List.{append_assoc, append-nil, reverse-append}

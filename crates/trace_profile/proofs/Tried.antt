@@ -1,83 +1,29 @@
 -- Units that are launched, and lists that are tried.
-use Rattle.std.proofs.Common.{◌≡◌, ◌≢◌, ◌⊎◌, inl, inr, ℕ, Bool, true, false, List, [], ◌∷◌, ◌++◌, filter, Option, Some, None, Result, Ok, Err, refl, sym, ap, ◌∙◌, subst}
+use Rattle.std.proofs.Common.{◌≡◌, ◌≢◌, inl, inr, ℕ, Bool, true, false, List, filter, Result, Ok, Err, refl, sym, ap, ◌∙◌, subst}
 use Rattle.std.specs.Prelude.{IfOk}
 use Rattle.std.specs.Result.{IsErrAnd}
 use Rattle.std.specs.declared.alloc.AllocError.{AllocError}
 use Rattle.call_table.specs.Table as calls
 use Rattle.dropin_merge.specs.declared.resolved.Resolved.{Resolved}
-use Rattle.dropin_merge.specs.declared.resolved.UnitFile.{UnitFile}
-use Rattle.exec_settings.specs.AreSettings.{AreSettings}
-use Rattle.exec_settings.specs.Refusals.{refusal_of}
-use Rattle.exec_settings.specs.declared.service.Settings.{Settings}
-use Rattle.kern_mounts.specs.Launch.{CanBeMounted}
-use Rattle.kern_mounts.specs.declared.step.MountStep.{MountStep}
 use Rattle.kernel_calls.specs.declared.call.Call.{Call}
 use Rattle.kernel_model.specs.Runs.{replies}
 use Rattle.kernel_model.specs.declared.reply.Reply.{Reply}
+use Rattle.launched_units.specs.Launching.{IsLaunchedUnit, IsNotLaunched}
+use Rattle.launched_units.specs.declared.refusal.UnitRefusal.{UnitRefusal}
+use Rattle.launched_units.specs.declared.refusal.UnitRefusal.TheVariants.{Memory}
 use Rattle.launcher.specs.declared.launched.Launched.{Launched as Service}
-use Rattle.mount_plan.specs.Answers.{Plans}
-use Rattle.mount_plan.specs.Host.{host_of}
-use Rattle.path_settings.specs.declared.mentions.Mention.{Mention}
 use Rattle.site_table.specs.Table.{Site}
-use Rattle.unit_grammar.specs.declared.unit.UnitText.{UnitText}
-use Rattle.unit_names.specs.Names.{Name}
-use Rattle.unit_launch.specs.Launching.{ComesTo}
-use Rattle.unit_launch.specs.declared.launching.UnitLaunch.{UnitLaunch}
-use Rattle.unit_launch.specs.declared.launching.UnitLaunch.TheVariants.{Launched, Refused}
-use Rattle.unit_launch.specs.declared.refusal.LaunchRefusal.{LaunchRefusal}
-use Rattle.trace_profile.specs.Derived.{Fails, IsDerived, IsLeast, Replies, Serves, Tells, Tried, not_launched, other_reply, tried_with}
-use Rattle.trace_profile.specs.Extended.{drop_in_text, every_name, extended, open_unit, says}
-use Rattle.trace_profile.specs.Launching.{IsLaunchedUnit, IsNotLaunched, IsRefusedUnit, LaysOut}
+use Rattle.trace_profile.specs.Derived.{IsDerived, IsLeast, Tells, Tried, not_launched, other_reply, tried_with}
+use Rattle.trace_profile.specs.Extended.{every_name, extended, open_unit}
 use Rattle.trace_profile.specs.Names.{AreNames, is_marked, without}
 use Rattle.trace_profile.specs.Replies.{Compares}
 use Rattle.trace_profile.specs.Searching.{AreServing, LeavesOut}
-use Rattle.trace_profile.specs.declared.derived.DeriveError.{DeriveError}
-use Rattle.trace_profile.specs.declared.derived.DeriveError.TheVariants.{Memory}
 use Rattle.trace_profile.proofs.Lists.{every_are_names, some_are_names}
 
-abbrev unit_with : (name : Name) (files : List UnitFile) → Resolved
-unit_with name files = record { name = name; files = files }
-
--- the unit is the extended one
-pub extended_is : (unit : Resolved) (table : calls.Table) (names text : List ℕ) (more : UnitText) (result : Result Resolved AllocError) → text ≡ drop_in_text table names → more ≡ says text
-    → IfOk result (λ longer. longer.name ≡ unit.name) → IfOk result (λ longer. longer.files ≡ unit.files ++ record { path = []; text = more } ∷ [])
-    → IfOk result (λ longer. longer ≡ extended unit table names)
-extended_is unit table names text more (Err error) is said named filed = tt
-extended_is unit table names text more (Ok longer) is said named filed =
-    ap (λ name. unit_with name longer.files) named
-    ∙ ap (unit_with unit.name) (filed ∙ ap (λ (own : UnitText). unit.files ++ record { path = []; text = own } ∷ []) (said ∙ ap says is))
-
 -- what holds of an error holds of a result that passes it on
-pub at_error : {R : Type 0} (P : Result R DeriveError → Type 0) (result : Result R DeriveError) (error : DeriveError) → IsErrAnd result (λ own. own ≡ error) → P (Err error) → P result
+pub at_error : {R : Type 0} (P : Result R UnitRefusal → Type 0) (result : Result R UnitRefusal) (error : UnitRefusal) → IsErrAnd result (λ own. own ≡ error) → P (Err error) → P result
 at_error P (Ok made) error is holds = absurd is
 at_error P (Err own) error is holds = subst (λ one. P (Err one)) (sym is) holds
-
-module _ (unit : Resolved) (table : calls.Table) (site : Site) (made : Settings) (steps lent : List MountStep) (settled : (refusal_of unit table site ≡ None) × AreSettings unit table site made) (laid : LaysOut (host_of site) made.mentions (Ok steps)) (lends : lent ≡ steps) where
-  planned : Plans (host_of site) made.mentions (Ok lent)
-  planned = subst (λ plan. Plans (host_of site) made.mentions (Ok plan)) (sym lends) laid.0
-
-  -- the unit is launched
-  pub launched_unit : (service : Service) → ComesTo table site made lent (Launched service) → IsLaunchedUnit unit table site service
-  launched_unit service comes = record {
-    settings = made;
-    accepted = settled.0;
-    are_settings = settled.1;
-    plan = lent;
-    is_plan = subst (λ (mentions : List Mention). Plans (host_of site) mentions (Ok lent)) settled.1.mentions_written_and_implied planned;
-    can_be_mounted = subst (CanBeMounted (host_of site)) (sym lends) laid.1;
-    launched = comes;
-  }
-
-  -- its launch is refused
-  pub refused_unit : (refusal : LaunchRefusal) → ComesTo table site made lent (Refused refusal) → IsRefusedUnit unit table site refusal
-  refused_unit refusal comes = record {
-    settings = made;
-    accepted = settled.0;
-    are_settings = settled.1;
-    plan = lent;
-    is_plan = subst (λ (mentions : List Mention). Plans (host_of site) mentions (Ok lent)) settled.1.mentions_written_and_implied planned;
-    refused = comes;
-  }
 
 module _ (tried : Tried) (names : List ℕ) (unit : Resolved) (is : unit ≡ extended tried.unit tried.table names) where
   -- the unit is launched, and its replies are these or others
@@ -89,7 +35,7 @@ module _ (tried : Tried) (names : List ℕ) (unit : Resolved) (is : unit ≡ ext
   tells_replies service (Err error) launched none = tt
 
   -- the unit is not launched
-  pub tells_no_launch : (error : DeriveError) (result : Result Bool AllocError) → IsNotLaunched unit tried.table tried.site error
+  pub tells_no_launch : (error : UnitRefusal) (result : Result Bool AllocError) → IsNotLaunched unit tried.table tried.site error
       → IfOk result (λ serves. (serves ≡ false) × (error ≢ Memory)) → IfOk result (Tells tried names)
   tells_no_launch error (Ok serves) refused told =
       subst (Tells tried names) (sym told.0) (not_launched error told.1 (subst (λ own. IsNotLaunched own tried.table tried.site error) is refused))
@@ -120,7 +66,7 @@ module _ (unit : Resolved) (table : calls.Table) (site : Site) (script : List Ca
   opened_is = is ∙ ap (extended unit table) (lends ∙ all)
 
   -- the unit that allows every call is not launched
-  pub not_opened : (error : DeriveError) → IsNotLaunched own table site error → IsNotLaunched (open_unit unit table) table site error
+  pub not_opened : (error : UnitRefusal) → IsNotLaunched own table site error → IsNotLaunched (open_unit unit table) table site error
   not_opened error refused = subst (λ these. IsNotLaunched these table site error) opened_is refused
 
   module _ (service : Service) (launched : IsLaunchedUnit own table site service) (said lent_said : List Reply) (first lent : List Call) (replied : said ≡ replies service.world first) (lends_first : first ≡ script) (lends_script : lent ≡ script) (lends_said : lent_said ≡ said) where

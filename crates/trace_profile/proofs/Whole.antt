@@ -1,5 +1,5 @@
 -- What is derived for a script, with what holds of every table, site and script.
-use Rattle.std.proofs.Common.{◌≡◌, ◌<◌, ◌^◌, ℕ, None, Result, Ok, Err, List, All}
+use Rattle.std.proofs.Common.{◌≡◌, ◌<◌, ◌^◌, None, Ok, List, All}
 use Rattle.std.proofs.lemmas.List.Elements.{recursion_from_All}
 use Rattle.call_table.specs.Facts.{IsWhole}
 use Rattle.call_table.specs.Table as calls
@@ -11,16 +11,9 @@ use Rattle.site_table.specs.Table.{IsSite, Site}
 use Rattle.trace_profile.specs.Derived.{Derives}
 use Rattle.trace_profile.specs.Finding.{DerivesOpen}
 use Rattle.trace_profile.specs.Scripts.{first_seccomp}
-use Rattle.trace_profile.specs.declared.derived.DeriveError.{DeriveError}
-use Rattle.trace_profile.specs.declared.derived.DeriveError.TheVariants.{Seccomp, Settings, Plan, Launch, Memory}
 use Rattle.trace_profile.specs.declared.derived.Derived.{Derived}
 use Rattle.trace_profile.proofs.OneList.{least_is_only_one}
 
 module _ (unit : Resolved) (table : calls.Table) (site : Site) (script : List Call) (sound : IsSite site) (whole : IsWhole table) (native : table.arch < 2 ^ 32) (second : calls.arch_of table 1 < 2 ^ 32) (fit : All IsCall script) (none : first_seccomp table script ≡ None) where
-  pub derives_all : (result : Result Derived DeriveError) → DerivesOpen unit table site script result → Derives unit table site script result
-  derives_all (Ok derived) is = (none, is, λ plain. least_is_only_one unit table site script derived.names sound whole (word_archs table native second) (recursion_from_All IsCall script fit) none plain is)
-  derives_all (Err (Seccomp number)) is = absurd is
-  derives_all (Err (Settings error)) is = (none, is)
-  derives_all (Err (Plan error)) is = (none, is)
-  derives_all (Err (Launch refusal)) is = (none, is)
-  derives_all (Err Memory) is = tt
+  pub derives_all : (derived : Derived) → DerivesOpen unit table site script (Ok derived) → Derives unit table site script (Ok derived)
+  derives_all derived is = (none, is, λ plain. least_is_only_one unit table site script derived.names sound whole (word_archs table native second) (recursion_from_All IsCall script fit) none plain is)

@@ -1,13 +1,11 @@
 -- A unit that allows some calls beside `@default`, and no others (systemd.exec(5), SystemCallFilter=).
-use Rattle.std.specs.Prelude.{ℕ, Bool, List, [], ◌∷◌, ◌++◌, codes, flat_map, filter, length, slice_get, Result, Ok, Err}
+use Rattle.std.specs.Prelude.{ℕ, Bool, List, [], ◌∷◌, ◌++◌, codes, flat_map, filter, length, slice_get}
 use Rattle.std.specs.List.{range_with_len}
 use Rattle.std.specs.Option.{option_map_or}
 use Rattle.call_table.specs.Members.{is_first}
 use Rattle.call_table.specs.Table.{Table, every_call}
 use Rattle.dropin_merge.specs.declared.resolved.Resolved.{Resolved}
-use Rattle.unit_grammar.specs.Reading.{unit_of}
-use Rattle.unit_grammar.specs.declared.unit.UnitError.{UnitError}
-use Rattle.unit_grammar.specs.declared.unit.UnitText.{UnitText}
+use Rattle.launched_units.specs.Longer.{with_file}
 
 -- the name of the call line at a place
 abbrev pub name_at : Table → ℕ → List ℕ
@@ -18,20 +16,9 @@ abbrev pub drop_in_text : Table → List ℕ → List ℕ
 drop_in_text table names =
     codes "[Service]\nSystemCallFilter=\nSystemCallFilter=@default" ++ (flat_map (λ place. 32 ∷ name_at table place) names ++ 10 ∷ [])
 
--- what a file says; one that is refused says nothing
-abbrev pub unless_refused : Result UnitText UnitError → UnitText
-unless_refused (Ok text) = text
-unless_refused (Err error) = record { assignments = []; notes = [] }
-
-abbrev pub says : List ℕ → UnitText
-says bytes = unless_refused (unit_of bytes)
-
 -- the unit with that drop-in behind its files
 abbrev pub extended : Resolved → Table → List ℕ → Resolved
-extended unit table names = record {
-  name = unit.name;
-  files = unit.files ++ record { path = []; text = says (drop_in_text table names) } ∷ [];
-}
+extended unit table names = with_file unit (drop_in_text table names)
 
 -- the name of the line stands on no earlier line: with two ABIs a name may stand twice
 abbrev pub is_first_line : Table → ℕ → Bool

@@ -1,5 +1,4 @@
 pub mod Extended
-pub mod Launching
 pub mod Replies
 pub mod Scripts
 pub mod Names

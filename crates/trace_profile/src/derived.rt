@@ -1,13 +1,10 @@
 //! What is derived, and why nothing is.
 
 ghost use Rattle.std.specs.Prelude.{◌≡◌};
-ghost use Rattle.trace_profile.specs.declared.derived.DeriveError.TheVariants.{Memory};
+ghost use Rattle.trace_profile.specs.declared.derived.DeriveError.TheVariants.{Unit};
 
-use exec_settings::SettingsError;
 use item_list::ItemList;
-use mount_plan::PlanError;
-use std::alloc::AllocError;
-use unit_launch::LaunchRefusal;
+use launched_units::UnitRefusal;
 
 /// Places of call lines among those of calls.txt, from 0, ascending; contracts see them as a list.
 pub type Names = ItemList<u32>;
@@ -25,20 +22,14 @@ pub enum DeriveError {
     /// This call of the script, counted from 1, is the first that asks to push a program, seccomp(2). Its answer rests on the
     /// lengths of the launch's programs, which are not the same for all lists.
     Seccomp(u64),
-    /// The unit that allows every call has no settings.
-    Settings(SettingsError),
-    /// It has no plan of mounts.
-    Plan(PlanError),
-    /// It is not launched.
-    Launch(LaunchRefusal),
-    /// Memory ran out.
-    Memory,
+    /// The unit that allows every call is not launched, or memory ran out.
+    Unit(UnitRefusal),
 }
 
-impl From<AllocError> for DeriveError {
-    ghost from_gives = { λ _ e. e ≡ Memory };
+impl From<UnitRefusal> for DeriveError {
+    ghost from_gives = { λ refusal e. e ≡ Unit refusal };
 
-    fn from(_: AllocError) -> Self {
-        DeriveError::Memory
+    fn from(refusal: UnitRefusal) -> Self {
+        DeriveError::Unit(refusal)
     }
 }

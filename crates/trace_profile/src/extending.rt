@@ -1,12 +1,12 @@
 //! A unit, extended by the drop-in that allows some calls.
 
 ghost use Rattle.std.specs.Prelude.{◌≡◌, ◌∷◌, ◌++◌, IfOk, OnOk, flat_map};
-ghost use Rattle.trace_profile.specs.Extended.{drop_in_text, extended, name_at, says};
+ghost use Rattle.trace_profile.specs.Extended.{drop_in_text, extended, name_at};
 
 use call_table::CallTable;
 use dropin_merge::Resolved;
+use launched_units::with_file;
 use std::alloc::{AllocError, Global};
-use unit_grammar::{Assignments, Notes, UnitError, UnitText, read_unit};
 
 /// The name of the call line at a place.
 pub fn name_at(calls: &CallTable, place: u32) -> &str
@@ -39,20 +39,6 @@ pub fn drop_in(alloc: Global, calls: &CallTable, names: &[u32]) -> Result<Vec<u8
     Ok(text)
 }
 
-// What a file of these bytes says; one that is refused says nothing.
-fn said(alloc: Global, bytes: &[u8]) -> Result<UnitText, AllocError>
-    ensures { IfOk result (λ text. text ≡ says bytes.now) }
-{
-    match read_unit(alloc, bytes) {
-        Ok(text) => Ok(text),
-        Err(UnitError::Memory) => Err(AllocError),
-        Err(_) => Ok(UnitText {
-            assignments: Assignments::empty(alloc),
-            notes: Notes::empty(alloc),
-        }),
-    }
-}
-
 /// The unit with that drop-in behind its files.
 pub fn extended(
     alloc: Global,
@@ -63,5 +49,5 @@ pub fn extended(
     ensures { IfOk result (λ longer. longer ≡ extended unit.now calls.now names.now) }
 {
     let text = drop_in(alloc, calls, names)?;
-    unit.extended(alloc, said(alloc, text.as_slice())?)
+    with_file(alloc, unit, text.as_slice())
 }

@@ -9,7 +9,6 @@ ghost use Rattle.kernel_calls.specs.Calls.{IsCall};
 
 use crate::derived::{DeriveError, Derived, Names};
 use crate::extending::extended;
-use crate::launching::launch_whole;
 use crate::names::{every_name, marked};
 use crate::replies::replies_of;
 use crate::scripts::first_seccomp;
@@ -18,6 +17,7 @@ use crate::used::used_marks;
 use call_table::CallTable;
 use dropin_merge::Resolved;
 use kernel_calls::{Call, fits};
+use launched_units::{UnitRefusal, launch_whole};
 use script_text::Script;
 use site_table::SiteTable;
 use std::alloc::{AllocError, Global};
@@ -41,7 +41,7 @@ fn derive_open(
     calls: &CallTable,
     site: &SiteTable,
     script: &Script,
-) -> Result<Derived, DeriveError>
+) -> Result<Derived, UnitRefusal>
     ensures { DerivesOpen unit.now calls.now site.now script.now result }
 {
     let every = every_name(alloc, calls)?;
@@ -75,8 +75,8 @@ fn calls_fit(script: &[Call])
 /// With these names and `@default` allowed, and no other call, the unit is launched and each call of the script has the reply
 /// that it has where every call of the table is allowed. Without any of them it is not launched, or some reply is another. Where
 /// the names of the table are plain, the list with these facts is the only one, and none of its names is in `@default`.
-/// Seccomp tells the first call of the script that asks to push a program, before all else; Settings, Plan and Launch come, in
-/// this order, exactly where the unit that allows every call is refused so. Memory may come at any unit.
+/// Seccomp tells the first call of the script that asks to push a program, before all else; Settings, Plan and Launch of a unit
+/// come, in this order, exactly where the unit that allows every call is refused so. Memory may come at any unit.
 pub fn derive(
     alloc: Global,
     unit: &Resolved,
@@ -93,5 +93,5 @@ pub fn derive(
     calls.look_at();
     let _uid = site.dynamic_uid();
     calls_fit(script.list());
-    derive_open(alloc, unit, calls, site, script)
+    Ok(derive_open(alloc, unit, calls, site, script)?)
 }

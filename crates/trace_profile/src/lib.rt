@@ -1,8 +1,8 @@
 //! The least list of calls that a service has to be allowed for a script of calls.
 //!
 //! Whoever knows what a service calls, by a trace or a test run, gets the one `SystemCallFilter=` that lets it through. The list
-//! is searched by launching the unit with lists of names and making the calls of the script: it rests on `unit_launch` for
-//! launches, on `kernel_model`, whose step makes each call, and on `unit_grammar` for what a drop-in says.
+//! is searched by launching the unit with lists of names and making the calls of the script: it rests on `launched_units` for the
+//! services of longer units, and on `kernel_model`, whose step makes each call.
 //!
 //! `derive(alloc, &unit, &calls, &site, &script)?.names` are places of call lines, and `drop_in` is the text that allows them.
 #![tactic(auto)]
@@ -10,7 +10,6 @@
 mod derived;
 mod extending;
 mod finding;
-mod launching;
 mod names;
 mod replies;
 mod scripts;

@@ -2,18 +2,17 @@
 
 ghost use Rattle.std.specs.Prelude.{◌≡◌, ◌≢◌, IfOk, false, length};
 ghost use Rattle.trace_profile.specs.Derived.{IsLeast, Tells};
-ghost use Rattle.trace_profile.specs.declared.derived.DeriveError.TheVariants.{Memory};
+ghost use Rattle.launched_units.specs.declared.refusal.UnitRefusal.TheVariants.{Memory};
 ghost use Rattle.trace_profile.specs.Searching.{AreKept, AreServing, LeavesOut, tried_of};
 
-use crate::derived::DeriveError;
 use crate::extending::extended;
-use crate::launching::launch_whole;
 use crate::names::without;
 use crate::replies::are_replies;
 use call_table::CallTable;
 use dropin_merge::Resolved;
 use kernel_calls::Call;
 use kernel_model::Reply;
+use launched_units::{UnitRefusal, launch_whole};
 use site_table::SiteTable;
 use std::alloc::{AllocError, Global};
 
@@ -33,11 +32,11 @@ pub struct Trial<'a> {
 }
 
 // A unit that is not launched does not serve; want of memory says nothing of it.
-fn fails(error: DeriveError) -> Result<bool, AllocError>
+fn fails(error: UnitRefusal) -> Result<bool, AllocError>
     ensures { IfOk result (λ serves. (serves ≡ false) × (error ≢ Memory)) }
 {
     match error {
-        DeriveError::Memory => Err(AllocError),
+        UnitRefusal::Memory => Err(AllocError),
         _ => Ok(false),
     }
 }

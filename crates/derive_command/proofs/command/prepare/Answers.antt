@@ -3,7 +3,7 @@ use Rattle.command_answers.specs.Laws.{IsAdmitted, laws_over}
 use Rattle.command_answers.proofs.FileCommands.{at_stop}
 use Rattle.unit_names.specs.Cutting.{name_of}
 use Rattle.unit_inputs.specs.Inputs.{inputs_of, inputs_view}
-use Rattle.derive_command.specs.Refusals.{given}
+use Rattle.started_units.specs.Starting.{given}
 use Rattle.derive_command.specs.Prints.{derive_laws, ending_of, text_of}
 use Rattle.derive_command.proofs.Prepared.{admitted_as, named, read_behind, same_inputs, stops_at_inputs, stops_at_script}
 use Rattle.derive_command.proofs.command.prepare.Goals as goal
