@@ -26,7 +26,7 @@ own_calls table site service is = ap (λ made. made.calls) is.launched.leaves_on
 pub own_site : (table : calls.Table) (site : Site) (service : Service) → IsOver table site service → service.world.site ≡ site
 own_site table site service is = ap (λ made. made.site) is.launched.leaves_one_process.leaves.is
 
-module _ (table : calls.Table) (site : Site) (before after : Service) (one : IsOver table site before) (other : IsOver table site after) (first second : Asked) (same_first : first.service ≡ before) (same_second : second.service ≡ after) where
+module _ (table : calls.Table) (site : Site) (before after : Service) (one : IsOver table site before) (other : IsOver table site after) (first second : Asked) (same_first : first.bounded.service ≡ before) (same_second : second.bounded.service ≡ after) where
   pub same_calls : (world_in first).calls ≡ (world_in second).calls
   same_calls =
       ap (λ (service : Service). service.world.calls) same_first ∙ own_calls table site before one
@@ -42,7 +42,7 @@ module _ (table : calls.Table) (site : Site) (before after : Service) (one : IsO
 
   text_is : IsAsked second → told_text first second ≡ effect_text table site found
   text_is is =
-      ap (λ (list : List Question). effect_text (world_in second).calls (world_in second).site (changes_by (launch_in first) (launch_in second) second.service.program list (world_in second).site.rows)) is.questions
+      ap (λ (list : List Question). effect_text (world_in second).calls (world_in second).site (changes_by (launch_in first) (launch_in second) second.bounded.service.program list (world_in second).site.rows)) is.questions
       ∙ ap₂ (λ (a b : Service). effect_text b.world.calls b.world.site (changes_by (launch_of a.world) (launch_of b.world) b.program (questions b.world.calls b.world.site) b.world.site.rows)) same_first same_second
       ∙ ap₂ (λ (t : calls.Table) (s : Site). effect_text t s (changes_by (launch_of before.world) (launch_of after.world) after.program (questions t s) s.rows)) (own_calls table site after other) (own_site table site after other)
 

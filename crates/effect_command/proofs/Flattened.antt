@@ -1,7 +1,8 @@
 -- The text of the changes is what is told of each question and of each row.
-use Rattle.std.proofs.Common.{◌≡◌, ◌∙◌, ℕ, List, [], ◌∷◌, ◌++◌, append-nil, zero, suc, ◌≤◌, length, take, arith, ap, ap₂, refl, sym}
+use Rattle.std.proofs.Common.{◌≡◌, ◌∙◌, ℕ, List, [], ◌∷◌, ◌++◌, append-nil, ap, ap₂, refl, sym}
 use Rattle.std.specs.Prelude.{flat_map, map}
 use Rattle.std.proofs.lemmas.List.Concat.{flat_map-append}
+use Rattle.std.proofs.lemmas.List.Folds.{flat_map-map}
 use Rattle.std.proofs.lemmas.List.{map-append}
 use Rattle.judge_command.specs.Asked.{launch_in, world_in}
 use Rattle.judge_command.specs.declared.asking.Asked.{Asked}
@@ -22,35 +23,24 @@ use Rattle.verdict_changes.specs.Changes.{Change}
 use Rattle.effect_command.specs.Lines.{change_lines, counts_line, effect_text, kind_of}
 use Rattle.effect_command.specs.Told.{changes_at, folder_kinds, folder_lines, lines_in, told_text, turns_at, verdict_kinds, verdict_lines}
 
--- of a list so long all are taken
-pub all_taken : {X : Type 0} (xs : List X) (i : ℕ) → length xs ≤ i → take i xs ≡ xs
-all_taken [] zero le = refl
-all_taken [] (suc i) le = refl
-all_taken (x ∷ xs) zero le = absurd (omega (arith, le))
-all_taken (x ∷ xs) (suc i) le = ap (λ rest. x ∷ rest) (all_taken xs i (omega (arith, le)))
-
 module _ {X Y Z : Type 0} where
-  pub flattened : (f : Y → List Z) (g : X → List Y) (xs : List X) → flat_map (λ x. flat_map f (g x)) xs ≡ flat_map f (flat_map g xs)
+  flattened : (f : Y → List Z) (g : X → List Y) (xs : List X) → flat_map (λ x. flat_map f (g x)) xs ≡ flat_map f (flat_map g xs)
   flattened f g [] = refl
   flattened f g (x ∷ xs) = ap (λ rest. flat_map f (g x) ++ rest) (flattened f g xs) ∙ sym (flat_map-append f (g x) (flat_map g xs))
 
-  pub mapped : (f : Y → Z) (g : X → List Y) (xs : List X) → flat_map (λ x. map f (g x)) xs ≡ map f (flat_map g xs)
+  mapped : (f : Y → Z) (g : X → List Y) (xs : List X) → flat_map (λ x. map f (g x)) xs ≡ map f (flat_map g xs)
   mapped f g [] = refl
   mapped f g (x ∷ xs) = ap (λ rest. map f (g x) ++ rest) (mapped f g xs) ∙ sym (map-append f (g x) (flat_map g xs))
 
-  pub behind_map : (f : Y → List Z) (g : X → Y) (xs : List X) → flat_map (λ x. f (g x)) xs ≡ flat_map f (map g xs)
-  behind_map f g [] = refl
-  behind_map f g (x ∷ xs) = ap (λ rest. f (g x) ++ rest) (behind_map f g xs)
-
 module _ (before after : Asked) (list : List Question) (rows : List Row) where
   abbrev ruled : List Change
-  ruled = flat_map (question_change (launch_in before) (launch_in after) after.service.program) (map meant list)
+  ruled = flat_map (question_change (launch_in before) (launch_in after) after.bounded.service.program) (map meant list)
 
   abbrev seen : List Change
   seen = flat_map (row_change (launch_in before) (launch_in after)) rows
 
   same_asked : flat_map (changes_at before after) list ≡ ruled
-  same_asked = behind_map (question_change (launch_in before) (launch_in after) after.service.program) meant list
+  same_asked = sym (flat_map-map (question_change (launch_in before) (launch_in after) after.bounded.service.program) meant list)
 
   asked_lines : flat_map (λ question. lines_in after (changes_at before after question)) list ≡ lines_in after ruled
   asked_lines = flattened (change_lines (world_in after).calls (world_in after).site) (changes_at before after) list ∙ ap (lines_in after) same_asked
@@ -64,10 +54,10 @@ module _ (before after : Asked) (list : List Question) (rows : List Row) where
   seen_kinds : flat_map (λ row. map kind_of (turns_at before after row)) rows ≡ map kind_of seen
   seen_kinds = mapped kind_of (turns_at before after) rows
 
-  pub all_told :
+  all_told :
       (flat_map (λ question. lines_in after (changes_at before after question)) list ++ flat_map (λ row. lines_in after (turns_at before after row)) rows)
       ++ counts_line (flat_map (λ question. map kind_of (changes_at before after question)) list ++ flat_map (λ row. map kind_of (turns_at before after row)) rows)
-      ≡ effect_text (world_in after).calls (world_in after).site (changes_by (launch_in before) (launch_in after) after.service.program (map meant list) rows)
+      ≡ effect_text (world_in after).calls (world_in after).site (changes_by (launch_in before) (launch_in after) after.bounded.service.program (map meant list) rows)
   all_told =
       ap₂ (λ lines kinds. lines ++ counts_line kinds)
       (ap₂ (λ one other. one ++ other) asked_lines seen_lines ∙ sym (flat_map-append (change_lines (world_in after).calls (world_in after).site) ruled seen))
@@ -113,4 +103,4 @@ pub told_is : (before after : Asked) (list : List Question) (rows : List Row) (f
 told_is before after list rows first second last text listed all one two three is =
     is ∙ ap₂ (λ these line. these ++ line) (two ∙ ap (λ these. these ++ flat_map (λ row. lines_in after (turns_at before after row)) rows) one) three
     ∙ all_told before after list rows
-    ∙ ap₂ (λ own these. effect_text (world_in after).calls (world_in after).site (changes_by (launch_in before) (launch_in after) after.service.program (map meant own) these)) listed all
+    ∙ ap₂ (λ own these. effect_text (world_in after).calls (world_in after).site (changes_by (launch_in before) (launch_in after) after.bounded.service.program (map meant own) these)) listed all

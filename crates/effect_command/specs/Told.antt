@@ -24,7 +24,7 @@ abbrev pub lines_in : Asked → List Change → List ℕ
 lines_in after changes = flat_map (change_lines (world_in after).calls (world_in after).site) changes
 
 abbrev pub changes_at : Asked → Asked → Question → List Change
-changes_at before after question = question_change (launch_in before) (launch_in after) after.service.program (meant question)
+changes_at before after question = question_change (launch_in before) (launch_in after) after.bounded.service.program (meant question)
 
 abbrev pub turns_at : Asked → Asked → Row → List Change
 turns_at before after row = row_change (launch_in before) (launch_in after) row
@@ -55,4 +55,4 @@ folder_kinds folder.Shown = kind.Shown ∷ []
 abbrev pub told_text : Asked → Asked → List ℕ
 told_text before after =
     effect_text (world_in after).calls (world_in after).site
-    (changes_by (launch_in before) (launch_in after) after.service.program (map meant after.questions.items) (world_in after).site.rows)
+    (changes_by (launch_in before) (launch_in after) after.bounded.service.program (map meant after.questions.items) (world_in after).site.rows)

@@ -153,7 +153,7 @@ fn tell_question(
     ensures counts { OnOk result (kinds.new.items ≡ kinds.old.items ++ map kind_of (changes_at before.now after.now question.now)) }
 {
     let change = verdict_change(before, after, service, question)?;
-    let world = &after.service.world;
+    let world = &after.bounded.service.world;
     push_change(
         alloc,
         text,
@@ -248,9 +248,9 @@ pub fn effect_text(
     requires same_site { (world_in before.now).site ≡ (world_in after.now).site }
     ensures tells_all { IfOk result (λ text. text.items ≡ told_text before.now after.now) }
 {
-    let service = Service::of(alloc, &after.service, &after.ceiling)?;
+    let service = Service::of(alloc, &after.bounded.service, &after.bounded.ceiling)?;
     let list = after.questions.as_slice();
-    let rows = after.service.world.site_table().rows();
+    let rows = after.bounded.service.world.site_table().rows();
     let mut text = Vec::new(alloc);
     let mut kinds = Vec::new(alloc);
     tell_questions(alloc, before, after, &service, list, &mut text, &mut kinds)?;

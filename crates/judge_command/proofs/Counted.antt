@@ -70,21 +70,21 @@ one_more asked list i d question found lt is verdict' =
 
 -- of all that is asked
 module _ (asked : Asked) (is : IsAsked asked) where
-  pub all_are : length (answers_of (world_in asked) asked.service.program) ≡ length asked.questions.items
+  pub all_are : length (answers_of (world_in asked) asked.bounded.service.program) ≡ length asked.questions.items
   all_are =
-      length-map (questions (world_in asked).calls (world_in asked).site) (answer_of (launch_in asked) asked.service.program)
+      length-map (questions (world_in asked).calls (world_in asked).site) (answer_of (launch_in asked) asked.bounded.service.program)
       ∙ ap length (sym is.questions)
       ∙ length-map asked.questions.items meant
 
-  pub those_denied : denied_among asked asked.questions.items ≡ length (filter is_denied (answers_of (world_in asked) asked.service.program))
+  pub those_denied : denied_among asked asked.questions.items ≡ length (filter is_denied (answers_of (world_in asked) asked.bounded.service.program))
   those_denied =
-      denied_are (launch_in asked) asked.service.program asked.questions.items
-      ∙ ap (λ list. length (filter is_denied (map (answer_of (launch_in asked) asked.service.program) list))) is.questions
+      denied_are (launch_in asked) asked.bounded.service.program asked.questions.items
+      ∙ ap (λ list. length (filter is_denied (map (answer_of (launch_in asked) asked.bounded.service.program) list))) is.questions
 
   -- the line of the count, by how many are denied of so many
-  pub count_is : (denied count : ℕ) → denied ≡ denied_among asked asked.questions.items → count ≡ length asked.questions.items → summary_line denied (count - denied) ≡ count_line (answers_of (world_in asked) asked.service.program)
+  pub count_is : (denied count : ℕ) → denied ≡ denied_among asked asked.questions.items → count ≡ length asked.questions.items → summary_line denied (count - denied) ≡ count_line (answers_of (world_in asked) asked.bounded.service.program)
   count_is denied count told all =
-      let answers = answers_of (world_in asked) asked.service.program in
+      let answers = answers_of (world_in asked) asked.bounded.service.program in
       let closed : denied ≡ length (filter is_denied answers) = told ∙ those_denied in
       let whole : length (filter is_denied answers) + length (filter (λ answer. not (is_denied answer)) answers) ≡ length answers = both is_denied answers in
       let rest : count - denied ≡ length (filter (λ answer. not (is_denied answer)) answers) = omega (arith, closed, whole, all, all_are) in

@@ -18,11 +18,11 @@ use Rattle.judge_command.specs.declared.asking.Asked.{Asked}
 
 module _ (asked : Asked) (service : Service) (is : IsServiceOf asked service) where
   pub is_served : IsAsked asked → IsServedWorld service.world.now
-  is_served own = subst IsServedWorld (sym is.0) own.served
+  is_served own = subst IsServedWorld (sym is.0) own.bounded.served
 
   pub runs_it : IsAsked asked → RunsProgram (launch_of service.world.now) service.program.now
   runs_it own =
-      let there : RunsProgram (launch_of service.world.now) asked.service.program = subst (λ (world : World). RunsProgram (launch_of world) asked.service.program) (sym is.0) own.program in
+      let there : RunsProgram (launch_of service.world.now) asked.bounded.service.program = subst (λ (world : World). RunsProgram (launch_of world) asked.bounded.service.program) (sym is.0) own.program in
       subst (λ (path : Path). RunsProgram (launch_of service.world.now) path) (sym is.1) there
 
   pub lists_it : (question : Question) → Contains (questions (world_in asked).calls (world_in asked).site) (meant question) → Contains (questions service.world.now.calls service.world.now.site) (meant question)
@@ -32,5 +32,5 @@ module _ (asked : Asked) (service : Service) (is : IsServiceOf asked service) wh
   opens_it question h = subst (λ (world : World). is_open (launch_of world) (meant question) ≡ true) (sym is.0) h
 
   -- the calls that are chosen are those of the service that is asked
-  pub chosen_for_it : (question : Question) → calls_for (launch_of service.world.now) service.program.now (meant question) ≡ calls_for (launch_in asked) asked.service.program (meant question)
+  pub chosen_for_it : (question : Question) → calls_for (launch_of service.world.now) service.program.now (meant question) ≡ calls_for (launch_in asked) asked.bounded.service.program (meant question)
   chosen_for_it question = ap₂ (λ (world : World) (path : Path). calls_for (launch_of world) path (meant question)) is.0 is.1

@@ -1,6 +1,5 @@
 pub mod Answered
 pub mod Named
-pub mod Listed
 pub mod Counted
 pub mod Texts
 pub mod Prepared

@@ -44,20 +44,20 @@ ends_so (outcome.Refused refusal) = inr refl
 
 -- what a launch came to
 abbrev launch_by : Outcome → UnitLaunch
-launch_by (outcome.Asked asked) = launch.Launched asked.service
+launch_by (outcome.Asked asked) = launch.Launched asked.bounded.service
 launch_by (outcome.Refused refusal) = launch.Refused refusal
 
 module _ (answers : AnswersAreTrue) (folders : BlindFoldersAreNamed) where
   -- over the tables that the world was launched with
-  over : (asked : Asked) → IsAsked asked → (table : calls.Table) (site : Site) → (world_in asked).calls ≡ table → (world_in asked).site ≡ site → TellsService table site asked.service (asked_text asked)
+  over : (asked : Asked) → IsAsked asked → (table : calls.Table) (site : Site) → (world_in asked).calls ≡ table → (world_in asked).site ≡ site → TellsService table site asked.bounded.service (asked_text asked)
   over asked is table site tables sites =
-      subst (λ own. TellsService own site asked.service (asked_text asked)) tables
-      (subst (λ own. TellsService (world_in asked).calls own asked.service (asked_text asked)) sites
+      subst (λ own. TellsService own site asked.bounded.service (asked_text asked)) tables
+      (subst (λ own. TellsService (world_in asked).calls own asked.bounded.service (asked_text asked)) sites
       (record {
-        answers = answers_of (world_in asked) asked.service.program;
-        are_answers = answers (world_in asked) asked.service.program is.served is.program;
+        answers = answers_of (world_in asked) asked.bounded.service.program;
+        are_answers = answers (world_in asked) asked.bounded.service.program is.bounded.served is.program;
         folders = folders_of (launch_in asked) (world_in asked).site.rows;
-        are_blind = folders (world_in asked) is.served;
+        are_blind = folders (world_in asked) is.bounded.served;
         is_its_text = refl;
       }))
 

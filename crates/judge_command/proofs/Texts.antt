@@ -31,16 +31,16 @@ use Rattle.judge_command.specs.declared.asking.Asked.{Asked}
 
 -- the parts of what is printed of a launched service: its launch, the answers, the folders that are blind, and the count
 abbrev pub launch_part : Asked → List ℕ
-launch_part asked = launched_line (told_of (world_in asked) asked.service.steps)
+launch_part asked = launched_line (told_of (world_in asked) asked.bounded.service.steps)
 
 abbrev pub answers_part : Asked → List ℕ
-answers_part asked = flat_map (answer_lines (world_in asked).calls (world_in asked).site) (answers_of (world_in asked) asked.service.program)
+answers_part asked = flat_map (answer_lines (world_in asked).calls (world_in asked).site) (answers_of (world_in asked) asked.bounded.service.program)
 
 abbrev pub folders_part : Asked → List ℕ
 folders_part asked = flat_map blind_line (folders_of (launch_in asked) (world_in asked).site.rows)
 
 abbrev pub count_part : Asked → List ℕ
-count_part asked = count_line (answers_of (world_in asked) asked.service.program)
+count_part asked = count_line (answers_of (world_in asked) asked.bounded.service.program)
 
 -- a question that is found denied is not open
 pub not_open : (found : Verdict) (b : Bool) → (found ≡ verdict.Open) ↔ (b ≡ true) → found ≡ verdict.Denied → b ≡ false
@@ -48,12 +48,12 @@ not_open found true is e = (let same : verdict.Denied ≡ verdict.Open = sym e �
 not_open found false is e = refl
 
 module _ (asked : Asked) where
-  each_answer : (list : List Question) → flat_map (answer_text asked) list ≡ flat_map (answer_lines (world_in asked).calls (world_in asked).site) (map (answer_of (launch_in asked) asked.service.program) (map meant list))
+  each_answer : (list : List Question) → flat_map (answer_text asked) list ≡ flat_map (answer_lines (world_in asked).calls (world_in asked).site) (map (answer_of (launch_in asked) asked.bounded.service.program) (map meant list))
   each_answer [] = refl
   each_answer (question ∷ list) = ap (λ rest. answer_text asked question ++ rest) (each_answer list)
 
-  pub answers_text : IsAsked asked → flat_map (answer_text asked) asked.questions.items ≡ flat_map (answer_lines (world_in asked).calls (world_in asked).site) (answers_of (world_in asked) asked.service.program)
-  answers_text is = each_answer asked.questions.items ∙ ap (λ list. flat_map (answer_lines (world_in asked).calls (world_in asked).site) (map (answer_of (launch_in asked) asked.service.program) list)) is.questions
+  pub answers_text : IsAsked asked → flat_map (answer_text asked) asked.questions.items ≡ flat_map (answer_lines (world_in asked).calls (world_in asked).site) (answers_of (world_in asked) asked.bounded.service.program)
+  answers_text is = each_answer asked.questions.items ∙ ap (λ list. flat_map (answer_lines (world_in asked).calls (world_in asked).site) (map (answer_of (launch_in asked) asked.bounded.service.program) list)) is.questions
 
   -- the line of what is found, by the tables of the world
   pub own_line : (question : Question) (found own : Verdict) (table : Table) (site : Site) (line : Result (Vec ℕ Global) AllocError) → table ≡ (world_in asked).calls → site ≡ (world_in asked).site → found ≡ own
@@ -65,13 +65,13 @@ module _ (asked : Asked) where
 
   -- the answer where a question is open
   pub open_text : (question : Question) → is_open (launch_in asked) (meant question) ≡ true
-      → verdict_line (world_in asked).calls (world_in asked).site (meant question) verdict.Open ++ flat_map (call_line (world_in asked).calls) (calls_for (launch_in asked) asked.service.program (meant question)) ≡ answer_text asked question
-  open_text question e = sym (ap (λ b. answer_lines (world_in asked).calls (world_in asked).site (if b then Open (meant question) (calls_for (launch_in asked) asked.service.program (meant question)) else Denied (meant question))) e)
+      → verdict_line (world_in asked).calls (world_in asked).site (meant question) verdict.Open ++ flat_map (call_line (world_in asked).calls) (calls_for (launch_in asked) asked.bounded.service.program (meant question)) ≡ answer_text asked question
+  open_text question e = sym (ap (λ b. answer_lines (world_in asked).calls (world_in asked).site (if b then Open (meant question) (calls_for (launch_in asked) asked.bounded.service.program (meant question)) else Denied (meant question))) e)
 
   -- and where it is denied
   pub denied_text : (question : Question) → is_open (launch_in asked) (meant question) ≡ false
       → verdict_line (world_in asked).calls (world_in asked).site (meant question) verdict.Denied ≡ answer_text asked question
-  denied_text question e = sym (ap (λ b. answer_lines (world_in asked).calls (world_in asked).site (if b then Open (meant question) (calls_for (launch_in asked) asked.service.program (meant question)) else Denied (meant question))) e)
+  denied_text question e = sym (ap (λ b. answer_lines (world_in asked).calls (world_in asked).site (if b then Open (meant question) (calls_for (launch_in asked) asked.bounded.service.program (meant question)) else Denied (meant question))) e)
 
   -- the line of a folder that is blind
   pub named_text : (row : Row) → is_named asked row ≡ true → blind_line row.path ≡ folder_text asked row
@@ -89,7 +89,7 @@ module _ (asked : Asked) where
       ∙ sym (flat_map-append blind_line (if_so (is_named asked row) row.path) (folders_of (launch_in asked) rows))
 
   -- each part as it is put
-  pub launch_told : (own : Line) (line : Result (Vec ℕ Global) AllocError) → own ≡ told_of (world_in asked) asked.service.steps → IfOk line (λ put. put.items ≡ launched_line own) → IfOk line (λ put. put.items ≡ launch_part asked)
+  pub launch_told : (own : Line) (line : Result (Vec ℕ Global) AllocError) → own ≡ told_of (world_in asked) asked.bounded.service.steps → IfOk line (λ put. put.items ≡ launched_line own) → IfOk line (λ put. put.items ≡ launch_part asked)
   launch_told own line same tells = subst (λ one. IfOk line (λ put. put.items ≡ launched_line one)) same tells
 
   pub answers_put : (a b : Option (List ℕ)) (list : List Question) (put : Result (Unit {0}) SinkError) → IsAsked asked → list ≡ asked.questions.items → TakesText a b (flat_map (answer_text asked) list) put → TakesText a b (answers_part asked) put

@@ -5,13 +5,12 @@ use Rattle.kernel_model.specs.World.{World}
 use Rattle.kernel_laws.specs.Bound.{is_open}
 use Rattle.kernel_laws.specs.Launched.{Launch, launch_of}
 use Rattle.kernel_laws.specs.Questions.{questions}
-use Rattle.kernel_ways.specs.Laws.{IsServedWorld}
-use Rattle.ceilings.specs.Own.{IsCeilingOf}
 use Rattle.kernel_ways.specs.Offers.{RunsProgram}
 use Rattle.judge.specs.declared.answer.Verdict.{Verdict}
 use Rattle.judge.specs.declared.answer.Verdict.TheVariants as verdict
 use Rattle.questions.specs.Meanings.{meant}
 use Rattle.questions.specs.declared.question.Question.{Question}
+use Rattle.asked_service.specs.Asked.{IsBounded}
 use Rattle.report_text.specs.Answers.{blind_line}
 use Rattle.unit_launch.specs.Told.{told_of}
 use Rattle.judge_command.specs.Answers.{Answer}
@@ -20,16 +19,15 @@ use Rattle.judge_command.specs.Report.{answer_lines, service_text}
 use Rattle.judge_command.specs.declared.asking.Asked.{Asked}
 
 abbrev pub world_in : Asked → World
-world_in asked = asked.service.world
+world_in asked = asked.bounded.service.world
 
 abbrev pub launch_in : Asked → Launch
 launch_in asked = launch_of (world_in asked)
 
 -- its own ceiling, and all questions of its tables
 pub record IsAsked (asked : Asked) : Type 0 where
-  pub served : IsServedWorld (world_in asked)
-  pub program : RunsProgram (launch_in asked) asked.service.program
-  pub ceiling : IsCeilingOf (launch_in asked) asked.ceiling
+  pub bounded : IsBounded asked.bounded
+  pub program : RunsProgram (launch_in asked) asked.bounded.service.program
   pub questions : map meant asked.questions.items ≡ questions (world_in asked).calls (world_in asked).site
 
 -- the verdict on a question
@@ -38,7 +36,7 @@ IsVerdict asked question found = (found ≡ verdict.Open) ↔ (is_open (launch_i
 
 -- the answer to one question, and what is printed of it
 abbrev pub answer_in : Asked → Question → Answer
-answer_in asked question = answer_of (launch_in asked) asked.service.program (meant question)
+answer_in asked question = answer_of (launch_in asked) asked.bounded.service.program (meant question)
 
 abbrev pub answer_text : Asked → Question → List ℕ
 answer_text asked question = answer_lines (world_in asked).calls (world_in asked).site (answer_in asked question)
@@ -65,5 +63,5 @@ folder_text asked row = if is_named asked row then blind_line row.path else []
 -- all of it
 abbrev pub asked_text : Asked → List ℕ
 asked_text asked =
-    service_text (world_in asked).calls (world_in asked).site (told_of (world_in asked) asked.service.steps)
-    (answers_of (world_in asked) asked.service.program) (folders_of (launch_in asked) (world_in asked).site.rows)
+    service_text (world_in asked).calls (world_in asked).site (told_of (world_in asked) asked.bounded.service.steps)
+    (answers_of (world_in asked) asked.bounded.service.program) (folders_of (launch_in asked) (world_in asked).site.rows)

@@ -46,13 +46,13 @@ fn print_answer<K: Sink>(
     out: &mut K,
 ) -> Result<(), SinkError>
     requires asked { IsAsked asked.now }
-    requires listed { Contains (questions asked.now.service.world.calls asked.now.service.world.site) (meant question.now) }
+    requires listed { Contains (questions asked.now.bounded.service.world.calls asked.now.bounded.service.world.site) (meant question.now) }
     requires found { IsVerdict asked.now question.now found }
     requires its_service { IsServiceOf asked.now service.now }
     ensures takes_the_text { TakesText (K.taken out.old) (K.taken out.new) (answer_text asked.now question.now) result }
     ensures fault_rose { HasWriteCause (K.faults out.old) (K.faults out.new) result }
 {
-    let world = &asked.service.world;
+    let world = &asked.bounded.service.world;
     let table = world.call_table();
     let line = verdict_line(alloc, question, found, table, world.site_table());
     match found {
@@ -77,17 +77,17 @@ pub fn print_answers<K: Sink>(
     out: &mut K,
 ) -> Result<(), SinkError>
     requires asked { IsAsked asked.now }
-    requires all { map meant list.now ≡ questions asked.now.service.world.calls asked.now.service.world.site }
+    requires all { map meant list.now ≡ questions asked.now.bounded.service.world.calls asked.now.bounded.service.world.site }
     ensures takes_the_text { TakesText (K.taken out.old) (K.taken out.new) (flat_map (answer_text asked.now) list.now) result }
     ensures counts { OnOk result (denied.new ≡ denied_among asked.now list.now) }
     ensures fault_rose { HasWriteCause (K.faults out.old) (K.faults out.new) result }
 {
-    let Ok(service) = Service::of(alloc, &asked.service, &asked.ceiling) else {
+    let Ok(service) = Service::of(alloc, &asked.bounded.service, &asked.bounded.ceiling) else {
         return Err(SinkError::Memory);
     };
     *denied = 0;
     for question in list {
-        let found = verdict(&asked.service, &asked.ceiling, question);
+        let found = verdict(&asked.bounded.service, &asked.bounded.ceiling, question);
         print_answer(alloc, asked, &service, question, found, out)?;
         *denied += denied_once(found);
     }

@@ -5,7 +5,7 @@ ghost use Rattle.kernel_ways.specs.Laws.{IsServedWorld};
 ghost use Rattle.kernel_ways.specs.Offers.{RunsProgram};
 ghost use Rattle.judge_command.specs.Asked.{IsAsked};
 
-use ceilings::{Ceiling, ceiling};
+use asked_service::{Bounded, bound};
 use launcher::Launched;
 use questions::{Question, questions};
 use std::alloc::{AllocError, Global};
@@ -13,10 +13,8 @@ use std::alloc::{AllocError, Global};
 /// A launched service, with what bounds its processes, and all that is asked of it.
 #[derive(Drop)]
 pub struct Asked<'a> {
-    /// The service, as the launch left it.
-    pub service: Launched<'a>,
-    /// Its own ceiling.
-    pub ceiling: Ceiling,
+    /// The service, as the launch left it, and its own ceiling.
+    pub bounded: Bounded<'a>,
     /// All questions of its tables, in their order.
     pub questions: Vec<Question>,
 }
@@ -25,17 +23,13 @@ pub struct Asked<'a> {
 pub fn ask<'a>(alloc: Global, service: Launched<'a>) -> Result<Asked<'a>, AllocError>
     requires served { IsServedWorld service.world }
     requires program { RunsProgram (launch_of service.world) service.program }
-    ensures asks { IfOk result (λ asked. (asked.service ≡ service.entry) × IsAsked asked) }
+    ensures asks { IfOk result (λ asked. (asked.bounded.service ≡ service.entry) × IsAsked asked) }
 {
-    let top = ceiling(alloc, &service)?;
-    let list = questions(
-        alloc,
-        service.world.call_table(),
-        service.world.site_table(),
-    )?;
+    let bounded = bound(alloc, service)?;
+    let world = &bounded.service.world;
+    let list = questions(alloc, world.call_table(), world.site_table())?;
     Ok(Asked {
-        service,
-        ceiling: top,
+        bounded,
         questions: list,
     })
 }

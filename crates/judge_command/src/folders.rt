@@ -11,14 +11,14 @@ use report_text::blind_line;
 use site_table::{Row, RowKind};
 use std::alloc::Global;
 
-// Whether a row is a folder that is blind.
-fn is_named(asked: &Asked<'_>, row: &Row) -> bool
+/// Whether a row is a folder that is blind. It takes no memory.
+pub fn is_named(asked: &Asked<'_>, row: &Row) -> bool
     requires asked { IsAsked asked.now }
     requires row { IsRowIn asked.now row.now }
-    ensures { result ≡ is_named asked.now row.now }
+    ensures by_the_rule { result ≡ is_named asked.now row.now }
 {
     match row.kind {
-        RowKind::Dir => blind(&asked.service, &asked.ceiling, &row.path),
+        RowKind::Dir => blind(&asked.bounded.service, &asked.bounded.ceiling, &row.path),
         RowKind::File | RowKind::Exe => false,
     }
 }
@@ -50,7 +50,7 @@ pub fn print_folders<K: Sink>(
     out: &mut K,
 ) -> Result<(), SinkError>
     requires asked { IsAsked asked.now }
-    requires all { rows.now ≡ asked.now.service.world.site.rows }
+    requires all { rows.now ≡ asked.now.bounded.service.world.site.rows }
     ensures takes_the_text { TakesText (K.taken out.old) (K.taken out.new) (flat_map (folder_text asked.now) rows.now) result }
     ensures fault_rose { HasWriteCause (K.faults out.old) (K.faults out.new) result }
 {

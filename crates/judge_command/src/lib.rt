@@ -2,8 +2,8 @@
 //!
 //! The settings of the unit are taken from its inputs, its mounts are planned, and it is launched in the modelled kernel;
 //! then every question is asked of the launched service, and the answer to each is printed as it is found, with calls below
-//! what is open. It stands on `unit_launch` for the launch, on `questions`, `judge` and `open_calls` for what is asked and
-//! found, on `report_text` for the lines, and on `plan_command` for the plan.
+//! what is open. It stands on `unit_launch` for the launch, on `asked_service`, `questions`, `judge` and `open_calls` for what is
+//! asked and found, on `report_text` for the lines, and on `plan_command` for the plan.
 //!
 //! `answer(alloc, &mut shelf, "web.service", &mut out)` does it, and says how it ended.
 #![tactic(auto)]
@@ -20,5 +20,5 @@ mod reasons;
 
 pub use asking::{Asked, ask};
 pub use command::answer;
-pub use counting::count_denied;
+pub use folders::is_named;
 pub use reasons::truths;

@@ -43,9 +43,9 @@ fn print_asked<K: Sink>(alloc: Global, asked: &Asked<'_>, out: &mut K) -> Result
     ensures fault_rose { HasWriteCause (K.faults out.old) (K.faults out.new) result }
 {
     let questions = asked.questions.as_slice();
-    let rows = asked.service.world.site_table().rows();
+    let rows = asked.bounded.service.world.site_table().rows();
     let mut denied = 0;
-    put_line(out, launched_line(alloc, told(&asked.service)))?;
+    put_line(out, launched_line(alloc, told(&asked.bounded.service)))?;
     print_answers(alloc, asked, questions, &mut denied, out)?;
     print_folders(alloc, asked, rows, out)?;
     put_line(out, summary_line(alloc, denied, questions.len() - denied))

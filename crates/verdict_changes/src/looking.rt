@@ -1,15 +1,12 @@
 //! What changes of a folder.
 ghost use Rattle.std.specs.Prelude.{◌≡◌};
 ghost use Rattle.abs_path.specs.Paths.{Path};
-ghost use Rattle.judge_command.specs.Asked.{IsAsked, launch_in};
-ghost use Rattle.judge_command.specs.Asked.{IsRowIn};
-ghost use Rattle.judge_command.specs.ByRule.{is_named_by};
+ghost use Rattle.judge_command.specs.Asked.{IsAsked, IsRowIn, launch_in};
 ghost use Rattle.verdict_changes.specs.ByRule.{blind_change, row_change};
 ghost use Rattle.verdict_changes.specs.Found.{turn_of};
 
-use judge::blind;
-use judge_command::Asked;
-use site_table::{Row, RowKind};
+use judge_command::{Asked, is_named};
+use site_table::Row;
 
 /// What changes of a folder from one launched service to another.
 #[derive(Clone, Copy)]
@@ -20,18 +17,6 @@ pub enum FolderChange {
     Hidden,
     /// It was blind, and is seen.
     Shown,
-}
-
-// Whether a row is a folder that is blind.
-fn is_blind(asked: &Asked<'_>, row: &Row) -> bool
-    requires asked { IsAsked asked.now }
-    requires row { IsRowIn asked.now row.now }
-    ensures { result ≡ is_named_by (launch_in asked.now) row.now }
-{
-    match row.kind {
-        RowKind::Dir => blind(&asked.service, &asked.ceiling, &row.path),
-        RowKind::File | RowKind::Exe => false,
-    }
 }
 
 // What changes, by whether it was blind and whether it is.
@@ -59,5 +44,5 @@ pub fn folder_change(before: &Asked<'_>, after: &Asked<'_>, row: &Row) -> Folder
     requires row_after { IsRowIn after.now row.now }
     ensures by_the_rule { turn_of row.now.path result ≡ row_change (launch_in before.now) (launch_in after.now) row.now }
 {
-    turned(is_blind(before, row), is_blind(after, row))
+    turned(is_named(before, row), is_named(after, row))
 }

@@ -7,7 +7,7 @@ use Rattle.effect_command.proofs.Flattened.{told_is}
 use Rattle.effect_command.proofs.telling.effect_text.Goals as goal
 
 pub of-requires : goal.of-requires
-of-requires c = record { launched = c.requires.after.served.launched; its_own_ceiling = c.requires.after.ceiling }
+of-requires c = record { launched = c.requires.after.bounded.served.launched; its_own_ceiling = c.requires.after.bounded.ceiling }
 
 pub tell_questions-requires : goal.tell_questions-requires
 tell_questions-requires c = record {

@@ -44,7 +44,7 @@ returns-in_err-put_line-in-Open-clause-takes_the_text g c =
     let asked = c.args.asked.now in
     let question = c.args.question.now in
     let line = verdict_line (world_in asked).calls (world_in asked).site (meant question) Open in
-    let list = flat_map (call_line (world_in asked).calls) (calls_for (launch_in asked) asked.service.program (meant question)) in
+    let list = flat_map (call_line (world_in asked).calls) (calls_for (launch_in asked) asked.bounded.service.program (meant question)) in
     text_at_error _ _ _ c.in_err-put_line-in-Open.field-0.0 c.from_residual.result c.from_residual.ensures.0
     (text_as _ _ _ (answer_text asked question) (Err c.in_err-put_line-in-Open.field-0.0) (open_text asked question (c.requires.found.0 c.in-Open.is))
     (text_cut _ _ line list c.in_err-put_line-in-Open.field-0.0
@@ -55,7 +55,7 @@ returns-in_ok-put_line-in-Open-clause-takes_the_text g c =
     let asked = c.args.asked.now in
     let question = c.args.question.now in
     let line = verdict_line (world_in asked).calls (world_in asked).site (meant question) Open in
-    let list = flat_map (call_line (world_in asked).calls) (calls_for (launch_in asked) asked.service.program (meant question)) in
+    let list = flat_map (call_line (world_in asked).calls) (calls_for (launch_in asked) asked.bounded.service.program (meant question)) in
     text_as _ _ _ (answer_text asked question) c.print_calls.result (open_text asked question (c.requires.found.0 c.in-Open.is))
     (text_then _ _ _ line list c.print_calls.result
     (c.in_ok-put_line-in-Open.ensures.takes_the_line line (own_line asked question c.args.found Open c.call_table-table.result.now c.site_table.result.now c.verdict_line-line.result c.call_table-table.ensures.told c.site_table.ensures.told c.in-Open.is c.verdict_line-line.ensures.tells_the_verdict))

@@ -1,26 +1,26 @@
 use Rattle.std.proofs.Common.{◌+◌, ap₂, arith, get_or, refl, ◌∙◌}
 use Rattle.std.specs.Prelude.{flat_map}
+use Rattle.asked_service.proofs.Listed.{listed_at, some_question}
 use Rattle.command_answers.proofs.Texts.{items_cut, items_more, nothing_taken, text_at_error}
 use Rattle.host_io.specs.declared.writing.SinkError.TheVariants.{Memory}
 use Rattle.judge_command.specs.Asked.{answer_text}
 use Rattle.judge_command.proofs.Counted.{at_most_one, one_more}
-use Rattle.judge_command.proofs.Listed.{is_listed, some_question}
 use Rattle.judge_command.proofs.answers.print_answers.Goals as goal
 
 pub verdict-found-requires : goal.verdict-found-requires
 verdict-found-requires g c = record {
-  launched = c.requires.asked.served.launched;
-  its_own_ceiling = c.requires.asked.ceiling;
-  asked = is_listed c.args.asked.now c.args.list.now c.loop-question.question-index c.loop-question-test.true c.requires.all;
+  launched = c.requires.asked.bounded.served.launched;
+  its_own_ceiling = c.requires.asked.bounded.ceiling;
+  asked = listed_at c.args.asked.now.bounded.service.world.calls c.args.asked.now.bounded.service.world.site c.args.list.now c.loop-question.question-index c.loop-question-test.true c.requires.all;
 }
 
 pub of-requires : goal.of-requires
-of-requires g c = record { launched = c.requires.asked.served.launched; its_own_ceiling = c.requires.asked.ceiling }
+of-requires g c = record { launched = c.requires.asked.bounded.served.launched; its_own_ceiling = c.requires.asked.bounded.ceiling }
 
 pub print_answer-requires : goal.print_answer-requires
 print_answer-requires g c = record {
   asked = c.requires.asked;
-  listed = is_listed c.args.asked.now c.args.list.now c.loop-question.question-index c.loop-question-test.true c.requires.all;
+  listed = listed_at c.args.asked.now.bounded.service.world.calls c.args.asked.now.bounded.service.world.site c.args.list.now c.loop-question.question-index c.loop-question-test.true c.requires.all;
   found = c.verdict-found.ensures.by_the_rule;
   its_service = c.in-Ok.ensures.of_the_launch;
 }

@@ -3,7 +3,7 @@ use Rattle.judge_command.proofs.folders.is_named.Goals as goal
 
 pub blind-requires : goal.blind-requires
 blind-requires c = record {
-  launched = c.requires.asked.served.launched;
-  its_own_ceiling = c.requires.asked.ceiling;
-  folder = dir_listed c.args.asked.now.service.world.site c.requires.asked.served.offers.site c.requires.row.0 c.args.row.now c.requires.row.1 c.in-Dir.is;
+  launched = c.requires.asked.bounded.served.launched;
+  its_own_ceiling = c.requires.asked.bounded.ceiling;
+  folder = dir_listed c.args.asked.now.bounded.service.world.site c.requires.asked.bounded.served.offers.site c.requires.row.0 c.args.row.now c.requires.row.1 c.in-Dir.is;
 }
