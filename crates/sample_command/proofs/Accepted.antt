@@ -1,64 +1,74 @@
--- No path of a made unit and no step of its launch is refused.
-use Rattle.std.proofs.Common.{◌≡◌, ℕ, List, [], ◌∷◌, None, ap, ◌∙◌, refl, sym, subst, length, arith}
+-- Nothing of a made unit is refused: no setting, no path and no step of its launch.
+use Rattle.std.proofs.Common.{◌≡◌, ◌≢◌, ◌∙◌, ℕ, List, [], Some, None, Result, Ok, Err, ap, refl, sym, subst, length, arith}
 use Rattle.call_table.specs.Facts.{IsWhole}
 use Rattle.call_table.specs.Table as calls
 use Rattle.cap_sets.specs.Sets.{all, none, IsWithin}
 use Rattle.cap_sets.proofs.Members.{none_within, within_self}
-use Rattle.command_answers.specs.Stops.{first_refusal, or_line, refusal_in}
 use Rattle.dropin_merge.specs.declared.resolved.Resolved.{Resolved}
-use Rattle.exec_settings.specs.AreSettings.{AreSettings}
 use Rattle.exec_settings.specs.Mounts.{unit_mentions}
 use Rattle.exec_settings.specs.declared.service.Settings.{Settings}
 use Rattle.kern_files.specs.Looking.{flags_by}
 use Rattle.kern_mounts.specs.declared.step.MountStep.{MountStep}
+use Rattle.launched_units.specs.Launching.{IsNotLaunched, IsRefusedUnit, RefusesPath}
+use Rattle.launched_units.specs.declared.refusal.UnitRefusal.{UnitRefusal}
+use Rattle.launched_units.specs.declared.refusal.UnitRefusal.TheVariants.{Settings as InSettings, Plan, Launch, Memory}
 use Rattle.mount_plan.specs.Host.{host_of}
-use Rattle.path_settings.specs.declared.mentions.Mention.{Mention}
+use Rattle.mount_plan.specs.declared.error.PlanError.{PlanError}
+use Rattle.mount_plan.specs.declared.error.PlanError.TheVariants as plan
 use Rattle.plain_launch.specs.EndsWell.{ArePlain, IsNeverRefused, PlainSettingsAreLaunched, ShowsProgram}
-use Rattle.plan_command.specs.Planned.{IsPlan, path_refusals}
-use Rattle.plan_command.specs.Refusals.{plan_line}
 use Rattle.sample_inputs.specs.Facts.{HasSampleRows, SaysSample, plain_exe, program}
 use Rattle.sample_settings.specs.Planned.{FindsItsProgram, PathsAreNotRefused, ProgramsAreFound}
-use Rattle.sample_settings.specs.Settled.{AreSampleSettings, SettingsAreTheSamples}
+use Rattle.sample_settings.specs.Settled.{AreSampleSettings, SettingsAreNotRefused, SettingsAreTheSamples}
 use Rattle.site_table.specs.Table.{Site}
+use Rattle.unit_launch.specs.Launching.{IsRefused}
+use Rattle.unit_launch.specs.declared.refusal.LaunchRefusal.{LaunchRefusal}
+use Rattle.unit_launch.specs.declared.refusal.LaunchRefusal.TheVariants as refusal
+use Rattle.sample_command.specs.Accepted as sample
+
+are_plain : (n : ℕ) (settings : Settings) → AreSampleSettings n settings → ArePlain settings
+are_plain n settings own = record {
+  filters = own.filters;
+  plain = record {
+    programs = refl;
+    uid = omega (arith, own.uid);
+    groups = (let few : length settings.groups ≡ 0 = ap length own.groups in omega (arith, few));
+    ambient = subst (λ set. IsWithin set settings.bounding) (sym own.ambient) (none_within settings.bounding);
+    bounding = subst (λ set. IsWithin set all) (sym own.bounding) (within_self all);
+  };
+}
+
+shows : (site : Site) (steps : List MountStep) → FindsItsProgram site steps → ShowsProgram site steps program
+unfolding none
+shows site steps found = record {
+  program = plain_exe program;
+  found = found.found;
+  exe = refl;
+  plain = refl;
+  runs = ap (λ entry. (flags_by entry).no_exec) found.entry;
+}
+
+-- what is never refused has no refusal
+never : (table : calls.Table) (site : Site) (settings : Settings) (steps : List MountStep) → IsNeverRefused table site settings steps → (why : LaunchRefusal) → IsRefused table site settings steps why → ⊥
+never table site settings steps n (refusal.Privileged path) is = n.not_privileged path is
+never table site settings steps n (refusal.Refused step errno) is = n.not_refused step errno is
+never table site settings steps n (refusal.Killed step) is = n.not_killed step is
 
 module _ (n : ℕ) (unit : Resolved) (table : calls.Table) (site : Site) (says : SaysSample n unit) (has_rows : HasSampleRows site) where
-  -- the mentions of the settings are those of the unit
-  pub no_path_is_refused : (name : List ℕ) (mentions : List Mention) → mentions ≡ unit_mentions unit site → PathsAreNotRefused → first_refusal (path_refusals name (host_of site) mentions) ≡ None
-  no_path_is_refused name mentions same law =
-      let kept = law n unit site says has_rows in
-      ap (λ own. first_refusal (path_refusals name (host_of site) own)) same
-      ∙ ap (λ answer. first_refusal (refusal_in (or_line (plan_line name) answer) ∷ [])) kept.1
+  no_path : PathsAreNotRefused → (error : PlanError) → RefusesPath (host_of site) (unit_mentions unit site) error → ⊥
+  no_path law (plan.Missing path) is = (let both = sym (law n unit site says has_rows).1 ∙ is in cc)
+  no_path law (plan.Kind path) is = (let both = sym (law n unit site says has_rows).1 ∙ is in cc)
+  no_path law plan.Memory is = is
 
-  module _ (settings : Settings) (plan : List MountStep) (are : AreSettings unit table site settings) (is : IsPlan (host_of site) (unit_mentions unit site) plan) where
-    are_plain : AreSampleSettings n settings → ArePlain settings
-    are_plain own = record {
-      filters = own.filters;
-      plain = record {
-        programs = refl;
-        uid = omega (arith, own.uid);
-        groups = (let few : length settings.groups ≡ 0 = ap length own.groups in omega (arith, few));
-        ambient = subst (λ set. IsWithin set settings.bounding) (sym own.ambient) (none_within settings.bounding);
-        bounding = subst (λ set. IsWithin set all) (sym own.bounding) (within_self all);
-      };
-    }
+  no_launch : IsWhole table → SettingsAreTheSamples → ProgramsAreFound → PlainSettingsAreLaunched → (why : LaunchRefusal) → IsRefusedUnit unit table site why → ⊥
+  no_launch whole settled found law why is =
+      let own = settled n unit table site is.settings says has_rows is.are_settings in
+      never table site is.settings is.plan
+      (law table site is.settings is.plan whole is.fits.can_be_mounted (are_plain n is.settings own)
+      (subst (ShowsProgram site is.plan) (sym own.launches) (shows site is.plan (found n unit site is.is_plan.0 is.plan says has_rows is.is_plan.1 is.is_plan.2))))
+      why is.refused
 
-    shows : FindsItsProgram site plan → ShowsProgram site plan program
-    unfolding none
-    shows found = record {
-      program = plain_exe program;
-      found = found.found;
-      exe = refl;
-      plain = refl;
-      runs = ap (λ entry. (flags_by entry).no_exec) found.entry;
-    }
-
-    pub never_refused : IsWhole table → SettingsAreTheSamples → ProgramsAreFound → PlainSettingsAreLaunched → IsNeverRefused table site settings plan
-    never_refused whole settled found law =
-        let own = settled n unit table site settings says has_rows are in
-        law table site settings plan whole is.can_be_mounted (are_plain own)
-        (subst (ShowsProgram site plan) (sym own.launches) (shows (found n unit site is.kept plan says has_rows is.keeps is.table_of_the_kept)))
-
--- the plan of the settings' mentions is that of the unit's
-pub planned : (unit : Resolved) (table : calls.Table) (site own : Site) (settings : Settings) (plan : List MountStep) → AreSettings unit table site settings → own ≡ site → IsPlan (host_of own) settings.mentions plan → IsPlan (host_of site) (unit_mentions unit site) plan
-planned unit table site own settings plan are lies is =
-    subst (λ these. IsPlan (host_of site) these plan) are.mentions_written_and_implied (subst (λ place. IsPlan (host_of place) settings.mentions plan) lies is)
+  pub never_refused : IsWhole table → SettingsAreNotRefused → SettingsAreTheSamples → PathsAreNotRefused → ProgramsAreFound → PlainSettingsAreLaunched → sample.IsNeverRefused unit table site
+  never_refused whole accepted settled paths found law (InSettings error) ne is = (let both = sym (accepted n unit table site says has_rows) ∙ is in cc)
+  never_refused whole accepted settled paths found law (Plan error) ne is = no_path paths error is.1
+  never_refused whole accepted settled paths found law (Launch why) ne is = no_launch whole settled found law why is
+  never_refused whole accepted settled paths found law Memory ne is = ne refl

@@ -1,27 +1,42 @@
 -- The counts of all that is asked.
-use Rattle.std.proofs.Common.{◌≡◌, ◌∙◌, ℕ, ◌-◌, ◌≤◌, sym, arith, length}
-use Rattle.std.specs.Prelude.{filter, not}
-use Rattle.judge_command.specs.Answers.{is_denied}
-use Rattle.judge_command.specs.Asked.{IsAsked, denied_among, world_in}
-use Rattle.judge_command.specs.ByRule.{answers_of}
+use Rattle.std.proofs.Common.{◌≡◌, ◌∙◌, ℕ, suc, ◌-◌, Bool, true, false, List, [], ◌∷◌, ap, refl, sym, arith, cond, length, map}
+use Rattle.std.specs.Prelude.{filter, not, if◌then◌else◌}
+use Rattle.abs_path.specs.Paths.{Path}
+use Rattle.asked_service.specs.Rows.{count_open, rows_of}
+use Rattle.chosen_calls.specs.Chosen.{calls_for}
+use Rattle.judge_command.specs.Answers.{Denied, Open, is_denied}
+use Rattle.judge_command.specs.Asked.{IsAsked, launch_in, world_in}
+use Rattle.judge_command.specs.ByRule.{answer_of, answers_of}
 use Rattle.judge_command.specs.declared.asking.Asked.{Asked}
-use Rattle.judge_command.proofs.Counted.{all_are, both, few_are, those_denied}
+use Rattle.judge_command.proofs.Counted.{all_are, both}
+use Rattle.kernel_laws.specs.Bound.{is_open}
+use Rattle.kernel_laws.specs.Launched.{launch_of}
+use Rattle.kernel_model.specs.World.{World}
+use Rattle.questions.specs.Meanings.{meant}
+use Rattle.questions.specs.declared.question.Question.{Question}
+
+-- those that are open by the rule are those whose answers are not denied
+open_are : (world : World) (program : Path) (list : List Question) → count_open (rows_of world list) ≡ length (filter (λ answer. not (is_denied answer)) (map (answer_of (launch_of world) program) (map meant list)))
+open_are world program [] = refl
+open_are world program (question ∷ list) = by (is_open (launch_of world) (meant question)) (open_are world program list) where
+  by : (b : Bool) → count_open (rows_of world list) ≡ length (filter (λ answer. not (is_denied answer)) (map (answer_of (launch_of world) program) (map meant list)))
+      → length (cond b (record { question = question; is_open = b } ∷ filter (λ row. row.is_open) (rows_of world list)) (filter (λ row. row.is_open) (rows_of world list)))
+      ≡ length (filter (λ answer. not (is_denied answer)) ((if b then Open (meant question) (calls_for (launch_of world) program (meant question)) else Denied (meant question)) ∷ map (answer_of (launch_of world) program) (map meant list)))
+  by true h = ap suc h
+  by false h = h
 
 module _ (asked : Asked) (is : IsAsked asked) where
-  pub few_denied : (denied count : ℕ) → denied ≡ denied_among asked asked.questions.items → count ≡ length asked.questions.items → denied ≤ count
-  few_denied denied count told all = few_are asked is denied count told all
-
-  pub all_answers : (count : ℕ) → count ≡ length asked.questions.items → count ≡ length (answers_of (world_in asked) asked.service.program)
+  pub all_answers : (count : ℕ) → count ≡ length asked.questions.items → count ≡ length (answers_of (world_in asked) asked.bounded.service.program)
   all_answers count all = all ∙ sym (all_are asked is)
 
-  pub denied_answers : (denied : ℕ) → denied ≡ denied_among asked asked.questions.items → denied ≡ length (filter is_denied (answers_of (world_in asked) asked.service.program))
-  denied_answers denied told = told ∙ those_denied asked is
+  pub open_answers : (open' : ℕ) (list : List Question) → list ≡ asked.questions.items → open' ≡ count_open (rows_of (world_in asked) list)
+      → open' ≡ length (filter (λ answer. not (is_denied answer)) (answers_of (world_in asked) asked.bounded.service.program))
+  open_answers open' list lends told =
+      told ∙ ap (λ these. count_open (rows_of (world_in asked) these)) lends ∙ open_are (world_in asked) asked.bounded.service.program asked.questions.items
+      ∙ ap (λ these. length (filter (λ answer. not (is_denied answer)) (map (answer_of (launch_in asked) asked.bounded.service.program) these))) is.questions
 
-  pub open_answers : (denied count : ℕ) → denied ≡ denied_among asked asked.questions.items → count ≡ length asked.questions.items
-      → count - denied ≡ length (filter (λ answer. not (is_denied answer)) (answers_of (world_in asked) asked.service.program))
-  open_answers denied count told all =
-      let answers = answers_of (world_in asked) asked.service.program in
-      let closed = denied_answers denied told in
-      let every = all_answers count all in
-      let whole = both is_denied answers in
-      omega (arith, closed, whole, every)
+  pub denied_answers : (open' count : ℕ) → open' ≡ length (filter (λ answer. not (is_denied answer)) (answers_of (world_in asked) asked.bounded.service.program)) → count ≡ length (answers_of (world_in asked) asked.bounded.service.program)
+      → count - open' ≡ length (filter is_denied (answers_of (world_in asked) asked.bounded.service.program))
+  denied_answers open' count told every =
+      let whole = both is_denied (answers_of (world_in asked) asked.bounded.service.program) in
+      omega (arith, told, whole, every)

@@ -5,17 +5,13 @@ use Rattle.call_table.specs.Table as calls
 use Rattle.command_answers.specs.Endings.{is_answer, is_whole}
 use Rattle.command_answers.specs.Laws.{GoTogether}
 use Rattle.dropin_merge.specs.declared.resolved.Resolved.{Resolved}
-use Rattle.exec_settings.specs.AreSettings.{AreSettings}
-use Rattle.exec_settings.specs.Mounts.{unit_mentions}
-use Rattle.exec_settings.specs.declared.service.Settings.{Settings}
 use Rattle.judge_command.specs.Answers.{AreAnswers}
 use Rattle.judge_command.specs.ByRule.{AnswersAreTrue, answers_of}
-use Rattle.kern_mounts.specs.declared.step.MountStep.{MountStep}
-use Rattle.mount_plan.specs.Host.{host_of}
-use Rattle.plan_command.specs.Planned.{IsPlan}
+use Rattle.launched_units.specs.Launching.{IsLaunchedUnit}
+use Rattle.launcher.specs.declared.launched.Launched.{Launched as Service}
 use Rattle.site_table.specs.Table.{Site}
 use Rattle.sample_inputs.specs.Made.{IsSample}
-use Rattle.sample_command.specs.Counts.{Counts, IsJudged}
+use Rattle.sample_command.specs.Counts.{Counts, CountsAnswers}
 use Rattle.sample_command.specs.Prints.{PrintsSample, sample_laws, sampled_text}
 use Rattle.sample_command.specs.declared.sampled.Sampled.{Sampled}
 
@@ -27,11 +23,10 @@ together n = record {
 }
 
 -- over the tables that the world was launched with
-pub prints_it : (n : ℕ) (unit : Resolved) (table : calls.Table) (site : Site) (settings : Settings) (plan : List MountStep) (counts : Sampled)
-    → IsSample n unit table site → AreSettings unit table site settings → IsPlan (host_of site) (unit_mentions unit site) plan → IsJudged n table site settings plan counts → AnswersAreTrue → PrintsSample n (sampled_text counts)
-prints_it n unit table site settings plan counts sample are is judged answers =
-    let service = judged.service in
-    let left = judged.launched.leaves_one_process.leaves.is in
+pub prints_it : (n : ℕ) (unit : Resolved) (table : calls.Table) (site : Site) (service : Service) (counts : Sampled)
+    → IsSample n unit table site → IsLaunchedUnit unit table site service → CountsAnswers n service.world service.program counts → AnswersAreTrue → PrintsSample n (sampled_text counts)
+prints_it n unit table site service counts sample is counted answers =
+    let left = is.launched.leaves_one_process.leaves.is in
     let tables : service.world.calls ≡ table = ap (λ made. made.calls) left in
     let sites : service.world.site ≡ site = ap (λ made. made.site) left in
     let told = answers_of service.world service.program in
@@ -40,18 +35,14 @@ prints_it n unit table site settings plan counts sample are is judged answers =
       table = table;
       site = site;
       is_sample = sample;
-      settings = settings;
-      are_settings = are;
-      plan = plan;
-      is_plan = is;
       service = service;
-      is_launched = judged.launched;
+      is_launched = is;
       answers = told;
       are_answers =
           subst (λ own. AreAnswers own site service.world told) tables
           (subst (λ own. AreAnswers service.world.calls own service.world told) sites
-          (answers service.world service.program judged.launched.is_served judged.launched.runs_its_program));
+          (answers service.world service.program is.launched.is_served is.launched.runs_its_program));
       counts = counts;
-      are_counts = subst (λ own. Counts n own told counts) sites judged.counted;
+      are_counts = subst (λ own. Counts n own told counts) sites counted;
       is_its_text = refl;
     }

@@ -1,15 +1,10 @@
 -- The counts of a sample.
 use Rattle.std.specs.Prelude.{◌≡◌, ℕ, List, filter, length, not}
 use Rattle.abs_path.specs.Paths.{Path}
-use Rattle.call_table.specs.Table as calls
-use Rattle.exec_settings.specs.declared.service.Settings.{Settings}
 use Rattle.judge_command.specs.Answers.{Answer, is_denied}
 use Rattle.judge_command.specs.ByRule.{answers_of}
-use Rattle.kern_mounts.specs.Split.{Table}
 use Rattle.kernel_model.specs.World.{World}
-use Rattle.launcher.specs.declared.launched.Launched.{Launched as Service}
 use Rattle.site_table.specs.Table.{Site}
-use Rattle.unit_launch.specs.Launching.{IsLaunched}
 use Rattle.sample_command.specs.declared.sampled.Sampled.{Sampled}
 
 -- how many rows a site has, `/` and `/proc` among them, how many questions are asked, and how many of these are denied, and open
@@ -23,9 +18,3 @@ pub record Counts (n : ℕ) (site : Site) (answers : List Answer) (counts : Samp
 -- of the answers by the rule
 abbrev pub CountsAnswers : ℕ → World → Path → Sampled → Type 0
 CountsAnswers n world program counts = Counts n world.site (answers_of world program) counts
-
--- the settings are launched with this plan, and the answers to all that is asked of the service are counted
-pub record IsJudged (n : ℕ) (table : calls.Table) (site : Site) (settings : Settings) (plan : Table) (counts : Sampled) : Type 0 where
-  pub service : Service
-  pub launched : IsLaunched table site settings plan service
-  pub counted : CountsAnswers n service.world service.program counts

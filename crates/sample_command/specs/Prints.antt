@@ -6,16 +6,10 @@ use Rattle.command_answers.specs.Laws.{Laws}
 use Rattle.command_answers.specs.declared.ending.Ending.{Ending}
 use Rattle.command_answers.specs.declared.ending.Ending.TheVariants.{Done}
 use Rattle.dropin_merge.specs.declared.resolved.Resolved.{Resolved}
-use Rattle.exec_settings.specs.AreSettings.{AreSettings}
-use Rattle.exec_settings.specs.Mounts.{unit_mentions}
-use Rattle.exec_settings.specs.declared.service.Settings.{Settings}
 use Rattle.judge_command.specs.Answers.{Answer, AreAnswers}
-use Rattle.kern_mounts.specs.declared.step.MountStep.{MountStep}
+use Rattle.launched_units.specs.Launching.{IsLaunchedUnit}
 use Rattle.launcher.specs.declared.launched.Launched.{Launched as Service}
-use Rattle.mount_plan.specs.Host.{host_of}
-use Rattle.plan_command.specs.Planned.{IsPlan}
 use Rattle.site_table.specs.Table.{Site}
-use Rattle.unit_launch.specs.Launching.{IsLaunched}
 use Rattle.sample_inputs.specs.Made.{IsSample}
 use Rattle.sample_command.specs.Counts.{Counts}
 use Rattle.sample_command.specs.declared.sampled.Sampled.{Sampled}
@@ -37,12 +31,8 @@ pub record PrintsSample (n : ℕ) (text : List ℕ) : Type 0 where
   pub table : calls.Table
   pub site : Site
   pub is_sample : IsSample n unit table site
-  pub settings : Settings
-  pub are_settings : AreSettings unit table site settings
-  pub plan : List MountStep
-  pub is_plan : IsPlan (host_of site) (unit_mentions unit site) plan
   pub service : Service
-  pub is_launched : IsLaunched table site settings plan service
+  pub is_launched : IsLaunchedUnit unit table site service
   pub answers : List Answer
   pub are_answers : AreAnswers table site service.world answers
   pub counts : Sampled

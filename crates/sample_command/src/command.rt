@@ -4,9 +4,8 @@ ghost use Rattle.command_answers.specs.Laws.{IsAdmitted};
 ghost use Rattle.sample_command.specs.Prints.{ending_of, sample_laws, sampled_text};
 
 use crate::judging::judge_sample;
-use crate::planning::plan_sample;
+use crate::launching::launch_sample;
 use crate::sampled::Sampled;
-use crate::settling::settle;
 use command_answers::Stop;
 use judge_command::truths;
 use plain_launch::launches_end_well;
@@ -26,9 +25,8 @@ pub fn prepare(alloc: Global, number: u32) -> Result<Sampled, Stop>
     sample_settings::plan();
     launches_end_well();
     let inputs = made(alloc, number)?;
-    let settings = settle(alloc, &inputs)?;
     inputs.calls.look_at();
-    let plan = plan_sample(alloc, &settings.mentions, &inputs.site)?;
-    let counts = judge_sample(alloc, number, &settings, plan.list(), &inputs)?;
+    let service = launch_sample(alloc, &inputs)?;
+    let counts = judge_sample(alloc, number, service)?;
     Ok(counts)
 }
