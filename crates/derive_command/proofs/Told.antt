@@ -9,12 +9,11 @@ use Rattle.command_answers.specs.declared.ending.Ending.{Ending}
 use Rattle.command_answers.specs.declared.ending.Ending.TheVariants.{Done, LaunchRefused}
 use Rattle.command_answers.specs.declared.stop.Stop.{Stop}
 use Rattle.command_answers.specs.declared.stop.Stop.TheVariants as stop
-use Rattle.launched_units.specs.declared.refusal.UnitRefusal.TheVariants.{Settings, Plan, Launch, Memory}
 use Rattle.site_table.specs.Table.{Site}
 use Rattle.trace_profile.specs.Derived.{Derives}
 use Rattle.trace_profile.specs.Extended.{drop_in_text}
 use Rattle.trace_profile.specs.declared.derived.DeriveError.{DeriveError}
-use Rattle.trace_profile.specs.declared.derived.DeriveError.TheVariants.{Seccomp, Unit as OfUnit}
+use Rattle.trace_profile.specs.declared.derived.DeriveError.TheVariants.{Seccomp, Settings, Plan, Launch, Memory}
 use Rattle.trace_profile.specs.declared.derived.Derived.{Derived}
 use Rattle.started_units.specs.Starting.{given}
 use Rattle.derive_command.specs.Prints.{ending_of, text_of}
@@ -44,10 +43,10 @@ out_reads_nothing (Err stop.Memory) out e = cc
 
 pub telling_reads_nothing : (name path : List ℕ) (error : DeriveError) (result : Result Allowing Stop) → Tells name path error result → IsErrOf result stop.ReadFault → ⊥
 telling_reads_nothing name path (Seccomp number) result tells = stop_reads_nothing _ result tells
-telling_reads_nothing name path (OfUnit (Settings error)) result tells = stop_reads_nothing _ result tells
-telling_reads_nothing name path (OfUnit (Plan error)) result tells = stop_reads_nothing _ result tells
-telling_reads_nothing name path (OfUnit (Launch refusal)) result tells = ready_reads_nothing _ LaunchRefused result tells
-telling_reads_nothing name path (OfUnit Memory) result tells = out_reads_nothing result tells
+telling_reads_nothing name path (Settings error) result tells = stop_reads_nothing _ result tells
+telling_reads_nothing name path (Plan error) result tells = stop_reads_nothing _ result tells
+telling_reads_nothing name path (Launch refusal) result tells = ready_reads_nothing _ LaunchRefused result tells
+telling_reads_nothing name path Memory result tells = out_reads_nothing result tells
 
 module _ (name path : List ℕ) (unit : Resolved) (table : Table) (site : Site) (script : List Call) where
   abbrev Answers : Result Allowing Stop → Type 0
@@ -69,13 +68,13 @@ module _ (name path : List ℕ) (unit : Resolved) (table : Table) (site : Site) 
   -- what is told of an error answers
   pub error_answers : (error : DeriveError) (result : Result Allowing Stop) → Derives unit table site script (Err error) → Tells name path error result → Answers result
   error_answers (Seccomp number) result derives tells = by_line _ result (at_seccomp name path (given unit table site) script number derives) tells
-  error_answers (OfUnit (Settings error)) result derives tells = by_line _ result (at_settings name path (given unit table site) script error derives.0 derives.1) tells
-  error_answers (OfUnit (Plan error)) result derives tells = by_line _ result (at_paths name path (given unit table site) script error derives.0 derives.1.0 derives.1.1) tells
-  error_answers (OfUnit (Launch refusal)) (Ok allowing) derives tells = answers_refused name path (given unit table site) script refusal allowing derives.0 derives.1 tells.0 tells.1
-  error_answers (OfUnit (Launch refusal)) (Err (stop.Refused told)) derives tells = absurd tells
-  error_answers (OfUnit (Launch refusal)) (Err stop.ReadFault) derives tells = tt
-  error_answers (OfUnit (Launch refusal)) (Err stop.Memory) derives tells = tt
-  error_answers (OfUnit Memory) result derives tells = by_memory result tells
+  error_answers (Settings error) result derives tells = by_line _ result (at_settings name path (given unit table site) script error derives.0 derives.1) tells
+  error_answers (Plan error) result derives tells = by_line _ result (at_paths name path (given unit table site) script error derives.0 derives.1.0 derives.1.1) tells
+  error_answers (Launch refusal) (Ok allowing) derives tells = answers_refused name path (given unit table site) script refusal allowing derives.0 derives.1 tells.0 tells.1
+  error_answers (Launch refusal) (Err (stop.Refused told)) derives tells = absurd tells
+  error_answers (Launch refusal) (Err stop.ReadFault) derives tells = tt
+  error_answers (Launch refusal) (Err stop.Memory) derives tells = tt
+  error_answers Memory result derives tells = by_memory result tells
 
   -- and so does the drop-in of what is derived
   pub derived_answers : (derived : Derived) (lent : List ℕ) (result : Result Allowing Stop) → Derives unit table site script (Ok derived) → lent ≡ derived.names → IsReady (drop_in_text table lent) Done result → Answers result

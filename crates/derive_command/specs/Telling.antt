@@ -6,13 +6,12 @@ use Rattle.command_answers.specs.declared.ending.Ending.TheVariants.{Done, Launc
 use Rattle.command_answers.specs.declared.stop.Stop.{Stop}
 use Rattle.command_answers.specs.declared.stop.Stop.TheVariants as stop
 use Rattle.launched_units.specs.Launching.{IsRefusedUnit}
-use Rattle.launched_units.specs.declared.refusal.UnitRefusal.TheVariants.{Settings, Plan, Launch, Memory}
 use Rattle.plan_command.specs.Refusals.{error_line}
 use Rattle.trace_profile.specs.Derived.{IsDerived, IsOnlyOne}
 use Rattle.trace_profile.specs.Extended.{drop_in_text, open_unit}
 use Rattle.trace_profile.specs.PlainNames.{HasPlainNames}
 use Rattle.trace_profile.specs.declared.derived.DeriveError.{DeriveError}
-use Rattle.trace_profile.specs.declared.derived.DeriveError.TheVariants.{Seccomp, Unit as OfUnit}
+use Rattle.trace_profile.specs.declared.derived.DeriveError.TheVariants.{Seccomp, Settings, Plan, Launch, Memory}
 use Rattle.unit_inputs.specs.Inputs.{Inputs}
 use Rattle.unit_launch.specs.Refusals.{refusal_line}
 use Rattle.unit_launch.specs.declared.refusal.LaunchRefusal.{LaunchRefusal}
@@ -44,10 +43,10 @@ IsOutOfMemory (Err stop.Memory) = Unit {0}
 -- why nothing is derived: the line of what is refused, of the script or of the unit; a launch that is refused is the text
 abbrev pub Tells : List ℕ → List ℕ → DeriveError → Result Allowing Stop → Type 0
 Tells name path (Seccomp number) result = StopsWith (seccomp_line path number) result
-Tells name path (OfUnit (Settings error)) result = StopsWith (settings_line name error) result
-Tells name path (OfUnit (Plan error)) result = StopsWith (error_line name error) result
-Tells name path (OfUnit (Launch refusal)) result = IsReady (refusal_line refusal) LaunchRefused result
-Tells name path (OfUnit Memory) result = IsOutOfMemory result
+Tells name path (Settings error) result = StopsWith (settings_line name error) result
+Tells name path (Plan error) result = StopsWith (error_line name error) result
+Tells name path (Launch refusal) result = IsReady (refusal_line refusal) LaunchRefused result
+Tells name path Memory result = IsOutOfMemory result
 
 -- what answers the calls of a script over any table: the drop-in that allows the least list, which is the only one where the
 -- names of the table are plain; or the line of the launch that is refused though every call is allowed

@@ -15,7 +15,6 @@ use call_table::CallTable;
 use command_answers::{Ending, Ready, Stop, put_piece, refuse};
 use dropin_merge::Resolved;
 use host_io::{Sink, SinkError};
-use launched_units::UnitRefusal;
 use plan_command::plan_line;
 use script_text::Script;
 use site_table::SiteTable;
@@ -73,12 +72,10 @@ fn tell(alloc: Global, name: &str, path: &str, error: DeriveError) -> Result<All
 {
     match error {
         DeriveError::Seccomp(number) => Err(refuse(seccomp_line(alloc, path, number))),
-        DeriveError::Unit(refusal) => match refusal {
-            UnitRefusal::Settings(error) => Err(refuse(settings_line(alloc, name, &error))),
-            UnitRefusal::Plan(error) => Err(refuse(plan_line(alloc, name, &error))),
-            UnitRefusal::Launch(refused) => refuse_launch(alloc, &refused),
-            UnitRefusal::Memory => Err(Stop::Memory),
-        },
+        DeriveError::Settings(error) => Err(refuse(settings_line(alloc, name, &error))),
+        DeriveError::Plan(error) => Err(refuse(plan_line(alloc, name, &error))),
+        DeriveError::Launch(refusal) => refuse_launch(alloc, &refusal),
+        DeriveError::Memory => Err(Stop::Memory),
     }
 }
 

@@ -1,19 +1,39 @@
 -- What is derived for a script, with what holds of every table, site and script.
-use Rattle.std.proofs.Common.{◌≡◌, ◌<◌, ◌^◌, None, Ok, List, All}
+use Rattle.std.proofs.Common.{◌≡◌, ◌<◌, ◌^◌, None, Result, Ok, Err, List, All, sym, subst}
+use Rattle.std.specs.Prelude.{IsErrAnd}
 use Rattle.std.proofs.lemmas.List.Elements.{recursion_from_All}
 use Rattle.call_table.specs.Facts.{IsWhole}
 use Rattle.call_table.specs.Table as calls
 use Rattle.dropin_merge.specs.declared.resolved.Resolved.{Resolved}
 use Rattle.kernel_calls.specs.Calls.{IsCall}
 use Rattle.kernel_calls.specs.declared.call.Call.{Call}
+use Rattle.launched_units.specs.Launching.{IsNotLaunched}
+use Rattle.launched_units.specs.declared.refusal.UnitRefusal.{UnitRefusal}
+use Rattle.launched_units.specs.declared.refusal.UnitRefusal.TheVariants as refusal
 use Rattle.launcher.proofs.TwoAbis.{word_archs}
 use Rattle.site_table.specs.Table.{IsSite, Site}
 use Rattle.trace_profile.specs.Derived.{Derives}
+use Rattle.trace_profile.specs.Errors.{error_of}
+use Rattle.trace_profile.specs.Extended.{open_unit}
 use Rattle.trace_profile.specs.Finding.{DerivesOpen}
 use Rattle.trace_profile.specs.Scripts.{first_seccomp}
+use Rattle.trace_profile.specs.declared.derived.DeriveError.{DeriveError}
 use Rattle.trace_profile.specs.declared.derived.Derived.{Derived}
 use Rattle.trace_profile.proofs.OneList.{least_is_only_one}
 
 module _ (unit : Resolved) (table : calls.Table) (site : Site) (script : List Call) (sound : IsSite site) (whole : IsWhole table) (native : table.arch < 2 ^ 32) (second : calls.arch_of table 1 < 2 ^ 32) (fit : All IsCall script) (none : first_seccomp table script ≡ None) where
   pub derives_all : (derived : Derived) → DerivesOpen unit table site script (Ok derived) → Derives unit table site script (Ok derived)
   derives_all derived is = (none, is, λ plain. least_is_only_one unit table site script derived.names sound whole (word_archs table native second) (recursion_from_All IsCall script fit) none plain is)
+
+-- why there is nothing
+module _ (unit : Resolved) (table : calls.Table) (site : Site) (script : List Call) (none : first_seccomp table script ≡ None) where
+  refuses : (error : UnitRefusal) → IsNotLaunched (open_unit unit table) table site error → Derives unit table site script (Err (error_of error))
+  refuses (refusal.Settings own) is = (none, is)
+  refuses (refusal.Plan own) is = (none, is)
+  refuses (refusal.Launch own) is = (none, is)
+  refuses refusal.Memory is = tt
+
+  pub derives_none : (error : UnitRefusal) (result : Result Derived DeriveError) → IsErrAnd result (λ told. told ≡ error_of error) → IsNotLaunched (open_unit unit table) table site error
+      → Derives unit table site script result
+  derives_none error (Ok derived) is not_it = absurd is
+  derives_none error (Err told) is not_it = subst (λ own. Derives unit table site script (Err own)) (sym is) (refuses error not_it)

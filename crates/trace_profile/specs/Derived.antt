@@ -1,5 +1,5 @@
 -- The least list of names with which a unit answers a script as with all names.
-use Rattle.std.specs.Prelude.{◌≡◌, ◌≢◌, ℕ, Bool, true, false, List, Some, None, Result, Ok, Err}
+use Rattle.std.specs.Prelude.{◌≡◌, ◌≢◌, ⊤, ℕ, Bool, true, false, List, Some, None, Result, Ok, Err}
 use Rattle.std.specs.List.{All}
 use Rattle.call_table.specs.Table as calls
 use Rattle.dropin_merge.specs.declared.resolved.Resolved.{Resolved}
@@ -8,7 +8,7 @@ use Rattle.kernel_model.specs.Runs.{replies}
 use Rattle.kernel_model.specs.declared.reply.Reply.{Reply}
 use Rattle.launched_units.specs.Launching.{IsLaunchedUnit, IsNotLaunched}
 use Rattle.launched_units.specs.declared.refusal.UnitRefusal.{UnitRefusal}
-use Rattle.launched_units.specs.declared.refusal.UnitRefusal.TheVariants.{Memory}
+use Rattle.launched_units.specs.declared.refusal.UnitRefusal.TheVariants as refusal
 use Rattle.launcher.specs.declared.launched.Launched.{Launched as Service}
 use Rattle.site_table.specs.Table.{Site}
 use Rattle.trace_profile.specs.Extended.{extended, open_unit}
@@ -16,7 +16,7 @@ use Rattle.trace_profile.specs.Names.{AreNames, without}
 use Rattle.trace_profile.specs.PlainNames.{HasPlainNames, IsBesideDefault}
 use Rattle.trace_profile.specs.Scripts.{first_seccomp}
 use Rattle.trace_profile.specs.declared.derived.DeriveError.{DeriveError}
-use Rattle.trace_profile.specs.declared.derived.DeriveError.TheVariants.{Seccomp, Unit}
+use Rattle.trace_profile.specs.declared.derived.DeriveError.TheVariants.{Seccomp, Settings, Plan, Launch, Memory}
 use Rattle.trace_profile.specs.declared.derived.Derived.{Derived}
 
 -- what lists of names are tried on: a unit over a table of calls and a site, a script, and the replies that are wanted
@@ -38,7 +38,7 @@ Serves tried names = Replies tried names tried.said
 
 -- it is not launched, or some reply is another
 pub data Fails (tried : Tried) (names : List ℕ) : Type 0 where
-  not_launched : (error : UnitRefusal) → error ≢ Memory → IsNotLaunched (extended tried.unit tried.table names) tried.table tried.site error → Fails tried names
+  not_launched : (error : UnitRefusal) → error ≢ refusal.Memory → IsNotLaunched (extended tried.unit tried.table names) tried.table tried.site error → Fails tried names
   other_reply : (own : List Reply) → Replies tried names own → own ≢ tried.said → Fails tried names
 
 -- the list serves, and without any of its names it does not
@@ -66,7 +66,10 @@ abbrev pub Derives : Resolved → calls.Table → Site → List Call → Result 
 Derives unit table site script (Ok derived) =
     (first_seccomp table script ≡ None) × IsDerived unit table site script derived.names × (HasPlainNames table → IsOnlyOne unit table site script derived.names)
 Derives unit table site script (Err (Seccomp number)) = first_seccomp table script ≡ Some number
-Derives unit table site script (Err (Unit error)) = (first_seccomp table script ≡ None) × IsNotLaunched (open_unit unit table) table site error
+Derives unit table site script (Err (Settings error)) = (first_seccomp table script ≡ None) × IsNotLaunched (open_unit unit table) table site (refusal.Settings error)
+Derives unit table site script (Err (Plan error)) = (first_seccomp table script ≡ None) × IsNotLaunched (open_unit unit table) table site (refusal.Plan error)
+Derives unit table site script (Err (Launch refused)) = (first_seccomp table script ≡ None) × IsNotLaunched (open_unit unit table) table site (refusal.Launch refused)
+Derives unit table site script (Err Memory) = ⊤
 
 -- a list that was tried serves or fails
 abbrev pub Tells : Tried → List ℕ → Bool → Type 0

@@ -1,3 +1,4 @@
+pub mod Errors
 pub mod Extended
 pub mod Replies
 pub mod Scripts

@@ -1,10 +1,13 @@
 //! What is derived, and why nothing is.
 
 ghost use Rattle.std.specs.Prelude.{◌≡◌};
-ghost use Rattle.trace_profile.specs.declared.derived.DeriveError.TheVariants.{Unit};
+ghost use Rattle.trace_profile.specs.Errors.{error_of};
 
+use exec_settings::SettingsError;
 use item_list::ItemList;
 use launched_units::UnitRefusal;
+use mount_plan::PlanError;
+use unit_launch::LaunchRefusal;
 
 /// Places of call lines among those of calls.txt, from 0, ascending; contracts see them as a list.
 pub type Names = ItemList<u32>;
@@ -22,14 +25,25 @@ pub enum DeriveError {
     /// This call of the script, counted from 1, is the first that asks to push a program, seccomp(2). Its answer rests on the
     /// lengths of the launch's programs, which are not the same for all lists.
     Seccomp(u64),
-    /// The unit that allows every call is not launched, or memory ran out.
-    Unit(UnitRefusal),
+    /// The unit that allows every call has no settings.
+    Settings(SettingsError),
+    /// It has no plan of mounts.
+    Plan(PlanError),
+    /// It is not launched.
+    Launch(LaunchRefusal),
+    /// Memory ran out.
+    Memory,
 }
 
 impl From<UnitRefusal> for DeriveError {
-    ghost from_gives = { λ refusal e. e ≡ Unit refusal };
+    ghost from_gives = { λ refusal e. e ≡ error_of refusal };
 
     fn from(refusal: UnitRefusal) -> Self {
-        DeriveError::Unit(refusal)
+        match refusal {
+            UnitRefusal::Settings(error) => DeriveError::Settings(error),
+            UnitRefusal::Plan(error) => DeriveError::Plan(error),
+            UnitRefusal::Launch(refused) => DeriveError::Launch(refused),
+            UnitRefusal::Memory => DeriveError::Memory,
+        }
     }
 }

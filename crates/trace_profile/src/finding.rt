@@ -75,8 +75,8 @@ fn calls_fit(script: &[Call])
 /// With these names and `@default` allowed, and no other call, the unit is launched and each call of the script has the reply
 /// that it has where every call of the table is allowed. Without any of them it is not launched, or some reply is another. Where
 /// the names of the table are plain, the list with these facts is the only one, and none of its names is in `@default`.
-/// Seccomp tells the first call of the script that asks to push a program, before all else; Settings, Plan and Launch of a unit
-/// come, in this order, exactly where the unit that allows every call is refused so. Memory may come at any unit.
+/// Seccomp tells the first call of the script that asks to push a program, before all else; Settings, Plan and Launch come, in
+/// this order, exactly where the unit that allows every call is refused so. Memory may come at any unit.
 pub fn derive(
     alloc: Global,
     unit: &Resolved,

@@ -10,14 +10,14 @@ returns-in-Seccomp c =
 
 pub returns-in-Settings : goal.returns-in-Settings
 returns-in-Settings c =
-    rw (c.in-Unit.is, c.in-Settings.is) (stop_tells c.settings_line.result (settings_line c.args.name.now c.in-Settings.error) c.refuse-in-Settings.result c.refuse-in-Settings.ensures.tells_the_line c.settings_line.ensures.tells_the_refusal)
+    rw c.in-Settings.is (stop_tells c.settings_line.result (settings_line c.args.name.now c.in-Settings.error) c.refuse-in-Settings.result c.refuse-in-Settings.ensures.tells_the_line c.settings_line.ensures.tells_the_refusal)
 
 pub returns-in-Plan : goal.returns-in-Plan
 returns-in-Plan c =
-    rw (c.in-Unit.is, c.in-Plan.is) (stop_tells c.plan_line.result (error_line c.args.name.now c.in-Plan.error) c.refuse-in-Plan.result c.refuse-in-Plan.ensures.tells_the_line c.plan_line.ensures.tells_the_refusal)
+    rw c.in-Plan.is (stop_tells c.plan_line.result (error_line c.args.name.now c.in-Plan.error) c.refuse-in-Plan.result c.refuse-in-Plan.ensures.tells_the_line c.plan_line.ensures.tells_the_refusal)
 
 pub returns-in-Launch : goal.returns-in-Launch
-returns-in-Launch c = rw (c.in-Unit.is, c.in-Launch.is) c.refuse_launch.ensures
+returns-in-Launch c = rw c.in-Launch.is c.refuse_launch.ensures
 
 pub returns-in-Memory : goal.returns-in-Memory
-returns-in-Memory c = rw (c.in-Unit.is, c.in-Memory.is) tt
+returns-in-Memory c = rw c.in-Memory.is tt

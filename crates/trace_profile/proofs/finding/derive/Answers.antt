@@ -2,7 +2,7 @@ use Rattle.std.proofs.Common.{rules, ◌≡◌, All, None, List, subst}
 use Rattle.kernel_calls.specs.Calls.{IsCall}
 use Rattle.kernel_calls.specs.declared.call.Call.{Call}
 use Rattle.trace_profile.specs.Scripts.{first_seccomp}
-use Rattle.trace_profile.proofs.Whole.{derives_all}
+use Rattle.trace_profile.proofs.Whole.{derives_all, derives_none}
 use Rattle.trace_profile.proofs.finding.derive.Goals as goal
 
 pub returns : goal.returns
@@ -11,4 +11,11 @@ returns c =
     record {
       derives = derives_all c.args.unit.now c.args.calls.now c.args.site.now c.args.script.now c.dynamic_uid-uid.ensures.holds_of_each_site c.look_at.ensures.whole c.look_at.ensures.native c.look_at.ensures.second
           (subst (λ (script : List Call). All IsCall script) c.list-2.ensures c.calls_fit.ensures) none c.in_ok-derive_open.field-0 c.in_ok-derive_open.ensures;
+    }
+
+pub returns-in_err-derive_open : goal.returns-in_err-derive_open
+returns-in_err-derive_open c =
+    let none : first_seccomp c.args.calls.now c.args.script.now ≡ None = search rules in
+    record {
+      derives = derives_none c.args.unit.now c.args.calls.now c.args.site.now c.args.script.now none c.in_err-derive_open.field-0.0 c.from_residual.result c.from_residual.ensures.1 c.in_err-derive_open.ensures;
     }

@@ -1,0 +1,11 @@
+-- Why nothing is derived for a unit that is not launched.
+use Rattle.launched_units.specs.declared.refusal.UnitRefusal.{UnitRefusal}
+use Rattle.launched_units.specs.declared.refusal.UnitRefusal.TheVariants as refusal
+use Rattle.trace_profile.specs.declared.derived.DeriveError.{DeriveError}
+use Rattle.trace_profile.specs.declared.derived.DeriveError.TheVariants.{Settings, Plan, Launch, Memory}
+
+abbrev pub error_of : UnitRefusal → DeriveError
+error_of (refusal.Settings error) = Settings error
+error_of (refusal.Plan error) = Plan error
+error_of (refusal.Launch refused) = Launch refused
+error_of refusal.Memory = Memory
