@@ -1,3 +1,4 @@
 pub mod Taking
 pub mod Keyed
 pub mod Named
+pub mod Asked

@@ -1,9 +1,8 @@
 -- The units of a host, by the map that holds them.
-use Rattle.std.proofs.Common.{◌≡◌, ℕ, ◌<◌, ◌≤◌, Bool, true, false, cond, List, length, Option, Some, None, Ok, Err, map, Vec, String, Global, refl, sym, ap, ◌∙◌, subst, arith}
-use Rattle.std.specs.Prelude.{◌||◌, nat_lt, IfSome, flat_map, string_bytes}
+use Rattle.std.proofs.Common.{◌≡◌, ℕ, ◌<◌, ◌≤◌, Bool, true, false, cond, length, Option, None, Ok, Err, map, Vec, String, Global, refl, sym, ap, ◌∙◌, arith}
+use Rattle.std.specs.Prelude.{◌||◌, nat_lt, IfSome, flat_map}
 use Rattle.std.specs.List.{list_any}
 use Rattle.std.specs.Map.{values_of}
-use Rattle.std.specs.Str.{bytes_eq}
 use Rattle.std.specs.String.{string_cmp}
 use Rattle.std.specs.BTreeMap.{BTreeMap, IsOrdered}
 use Rattle.std.proofs.lemmas.Bool.Decides.{nat_tests}
@@ -17,8 +16,8 @@ use Rattle.dropin_merge.specs.Winners.{in_byte_order}
 use Rattle.dropin_merge.proofs.Ordered.{any-in_byte_order, in_byte_order-sorted}
 use Rattle.dropin_merge.proofs.Reading.{told_from, told_to}
 use Rattle.fleet_names.specs.Answers.{AreNamed}
-use Rattle.fleet_names.specs.Steps.{CollectsUnits, unit_among}
-use Rattle.fleet_names.specs.Units.{are_too_many, units_in, units_of}
+use Rattle.fleet_names.specs.Steps.{CollectsUnits}
+use Rattle.fleet_names.specs.Units.{are_too_many, units_of}
 use Rattle.fleet_names.specs.declared.errors.NamesError.{NamesError}
 use Rattle.fleet_names.specs.declared.errors.NamesError.TheVariants.{TooMany, ReadFault, Memory}
 use Rattle.fleet_names.proofs.Keyed.{given, keyed, lookup_given, lookup_keyed, same_from_lookups, sorted_given, sorted_keyed, values_given, values_keyed}

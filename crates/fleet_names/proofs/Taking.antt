@@ -1,5 +1,5 @@
 -- The units that were taken, name by name and folder by folder.
-use Rattle.std.proofs.Common.{◌≡◌, ℕ, ◌+◌, ◌<◌, ◌≤◌, Bool, true, false, cond, List, [], ◌∷◌, ◌++◌, length, drop, get_or, Option, Some, None, Ok, Err, map, Vec, String, Global, Bor, refl, sym, ap, ◌∙◌, subst, arith}
+use Rattle.std.proofs.Common.{◌≡◌, ℕ, ◌+◌, ◌<◌, ◌≤◌, Bool, true, false, cond, List, [], ◌∷◌, length, drop, get_or, Option, Some, None, Ok, Err, map, Vec, String, Global, Bor, refl, sym, ap, ◌∙◌, subst, arith}
 use Rattle.std.specs.Prelude.{◌||◌, nat_lt, IfSome, flat_map, string_bytes}
 use Rattle.std.specs.Option.{option_or}
 use Rattle.std.specs.Str.{bytes_eq}
@@ -129,7 +129,7 @@ collected_stops files m folder left all ReadFault before said = tt
 collected_stops files m folder left all Memory before said = tt
 
 -- a turn of the loop over folders
-texts_left : (folders : List (Bor (List ℕ))) (i : ℕ) (d : Bor (List ℕ)) → i < length folders → map (λ folder. folder.now) (drop i folders) ≡ (get_or folders i d).now ∷ map (λ folder. folder.now) (drop (i + 1) folders)
+pub texts_left : (folders : List (Bor (List ℕ))) (i : ℕ) (d : Bor (List ℕ)) → i < length folders → map (λ folder. folder.now) (drop i folders) ≡ (get_or folders i d).now ∷ map (λ folder. folder.now) (drop (i + 1) folders)
 texts_left folders i d h = ap (map (λ (folder : Bor (List ℕ)). folder.now)) (drop_more folders i d h)
 
 pub collected_turn : (files : Files) (told : Option Files) (m n : BTreeMap (String Global) Name) (folders : List (Bor (List ℕ))) (i : ℕ) (d : Bor (List ℕ)) (names : Vec (String Global) Global) (slice : List (String Global)) (all : List (List ℕ))

@@ -1,3 +1,4 @@
 pub mod Units
 pub mod Answers
 pub mod Steps
+pub mod Asking

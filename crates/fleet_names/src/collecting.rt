@@ -4,8 +4,11 @@ ghost use Rattle.std.specs.BTreeMap.{get_by_text};
 ghost use Rattle.std.specs.Map.{values_of};
 ghost use Rattle.std.specs.Option.{option_or};
 ghost use Rattle.std.specs.String.{string_bytes};
+ghost use Rattle.host_io.specs.Calls.{Went};
+ghost use Rattle.dropin_merge.specs.Asking.{folder_asks};
 ghost use Rattle.dropin_merge.specs.Places.{locations};
 ghost use Rattle.fleet_names.specs.Answers.{HasCause};
+ghost use Rattle.fleet_names.specs.Asking.{course, names_asks};
 ghost use Rattle.fleet_names.specs.Steps.{CollectsUnits, unit_among, unit_called};
 ghost use Rattle.fleet_names.specs.declared.errors.NamesError.TheVariants.{Memory};
 
@@ -59,6 +62,7 @@ fn collect_units<S: Shelf>(
     folders: &[&str],
 ) -> Result<Units, NamesError>
     ensures collects_the_units { IfSome (S.told shelf.old) (λ files. CollectsUnits files (map (λ folder. folder.now) folders.now) result) }
+    ensures asks_in_order { IfSome (S.told shelf.old) (λ files. Went S.asks shelf.old shelf.new (folder_asks files (map (λ folder. folder.now) folders.now)) (course result)) }
     ensures map_stays { S.told shelf.new ≡ S.told shelf.old }
     ensures fault_rose { HasCause (S.faults shelf.old) (S.faults shelf.new) result }
 {
@@ -73,6 +77,7 @@ fn collect_units<S: Shelf>(
 /// The units among the files of the folders of units.
 pub fn collect_all<S: Shelf>(alloc: Global, shelf: &mut S) -> Result<Units, NamesError>
     ensures collects_the_units { IfSome (S.told shelf.old) (λ files. CollectsUnits files locations result) }
+    ensures asks_in_order { IfSome (S.told shelf.old) (λ files. Went S.asks shelf.old shelf.new (names_asks files) (course result)) }
     ensures map_stays { S.told shelf.new ≡ S.told shelf.old }
     ensures fault_rose { HasCause (S.faults shelf.old) (S.faults shelf.new) result }
 {

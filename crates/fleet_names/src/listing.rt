@@ -1,7 +1,9 @@
 //! The names of the files in a folder of units.
-ghost use Rattle.std.specs.Prelude.{◌≡◌, IfSome};
+ghost use Rattle.std.specs.Prelude.{◌≡◌, ◌∷◌, [], IfSome};
+ghost use Rattle.host_io.specs.Calls.{NamesIn, Went};
 ghost use Rattle.host_io.specs.Files.{names_in};
 ghost use Rattle.fleet_names.specs.Answers.{HasCause};
+ghost use Rattle.fleet_names.specs.Asking.{course};
 ghost use Rattle.fleet_names.specs.Steps.{ListsFolder};
 
 use crate::errors::NamesError;
@@ -15,6 +17,7 @@ pub fn list_folder<S: Shelf>(
     folder: &str,
 ) -> Result<Vec<String>, NamesError>
     ensures lists_the_folder { IfSome (S.told shelf.old) (λ files. ListsFolder (names_in files folder.now) result) }
+    ensures asks_for_it { Went S.asks shelf.old shelf.new (NamesIn folder.now ∷ []) (course result) }
     ensures map_stays { S.told shelf.new ≡ S.told shelf.old }
     ensures fault_rose { HasCause (S.faults shelf.old) (S.faults shelf.new) result }
 {

@@ -1,5 +1,6 @@
 use Rattle.std.proofs.Common.{◌≡◌, drop, map, Some}
 use Rattle.host_io.specs.Files.{Files}
+use Rattle.fleet_names.proofs.Asked.{GoesThrough}
 use Rattle.fleet_names.proofs.Taking.{Collected}
 use Rattle.fleet_names.proofs.collecting.collect_units.Given as goal
 
@@ -8,4 +9,5 @@ invariant-loop-folder g l = record {
   told : g.S.Shelf.told l.shelf ≡ g.S.Shelf.told l.fn.shelf;
   stays : g.S.Shelf.faults l.shelf ≡ g.S.Shelf.faults l.fn.shelf;
   collected : (files : Files) → g.S.Shelf.told l.fn.shelf ≡ Some files → Collected files l.units (map (λ folder. folder.now) (drop l.folder-index l.folders)) (map (λ folder. folder.now) l.folders);
+  asks : (files : Files) → g.S.Shelf.told l.fn.shelf ≡ Some files → GoesThrough g.S.Shelf.asks l.fn.shelf l.shelf l.folders l.folder-index files;
 }

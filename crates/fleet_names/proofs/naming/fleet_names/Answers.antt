@@ -1,4 +1,7 @@
 use Rattle.std.proofs.Common.{arith}
+use Rattle.std.proofs.lemmas.Result.{err_from_is_err_and}
+use Rattle.host_io.proofs.Calling.{told_cut}
+use Rattle.fleet_names.specs.Asking.{names_asks}
 use Rattle.fleet_names.proofs.Named.{names_units, refuses_many}
 use Rattle.fleet_names.proofs.naming.fleet_names.Goals as goal
 
@@ -11,3 +14,9 @@ pub returns-clause-names_the_units : goal.returns-clause-names_the_units
 returns-clause-names_the_units g c =
     names_units (g.S.Shelf.told c.args.shelf.now) c.in_ok-units.units c.in_ok-in_byte_order.field-0 c.len.ensures.ordered c.in_ok-units.ensures.collects_the_units
     (omega (arith, c.if-len-gt-MOST_UNITS.false, c.len.ensures.len)) c.in_ok-in_byte_order.ensures
+
+pub returns-in_err-in_byte_order-clause-asks_in_order : goal.returns-in_err-in_byte_order-clause-asks_in_order
+returns-in_err-in_byte_order-clause-asks_in_order g c =
+    let p = err_from_is_err_and c.from_residual-in_err-in_byte_order.result c.from_residual-in_err-in_byte_order.ensures.1 in
+    rw (p.1, p.2)
+    (told_cut g.S.Shelf.asks (g.S.Shelf.told c.args.shelf.now) c.args.shelf.now _ names_asks c.in_ok-units.ensures.asks_in_order)
