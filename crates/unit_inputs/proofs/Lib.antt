@@ -1,1 +1,3 @@
+pub mod Ended
+pub mod Ordering
 pub mod Reading

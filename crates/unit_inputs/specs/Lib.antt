@@ -4,3 +4,4 @@ pub mod CallsRefusals
 pub mod SiteRefusals
 pub mod Inputs
 pub mod ReadsFor
+pub mod Asking

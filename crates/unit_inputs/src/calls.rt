@@ -1,6 +1,9 @@
 // The table of system calls, with the lines of its refusals.
 ghost use Rattle.std.specs.Prelude.{◌≡◌, IfOk, IfSome, IsErrOf};
+ghost use Rattle.host_io.specs.Calls.{Went};
+ghost use Rattle.command_answers.specs.Asking.{course};
 ghost use Rattle.command_answers.specs.Stops.{HasReadCause, IsAnswer};
+ghost use Rattle.unit_inputs.specs.Asking.{table_asks};
 ghost use Rattle.unit_inputs.specs.CallsRefusals.{calls_cause, calls_in, calls_line, calls_said, line_cause, no_call};
 
 use crate::files::read_input;
@@ -63,6 +66,7 @@ fn table_of_bytes(alloc: Global, bytes: &[u8]) -> Result<Box<CallTable>, Stop>
 /// The table of calls.txt.
 pub fn read_table<S: Shelf>(alloc: Global, shelf: &mut S) -> Result<Box<CallTable>, Stop>
     ensures reads_the_table { IfSome (S.told shelf.old) (λ files. IsAnswer (λ table. table.value) result (calls_in files)) }
+    ensures asks_for_it { Went S.asks shelf.old shelf.new table_asks (course result) }
     ensures map_stays { S.told shelf.new ≡ S.told shelf.old }
     ensures fault_rose { HasReadCause (S.faults shelf.old) (S.faults shelf.new) result }
 {

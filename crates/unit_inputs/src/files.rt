@@ -1,5 +1,7 @@
 // The bytes of a file that has to be there.
-ghost use Rattle.std.specs.Prelude.{◌≡◌, IfSome};
+ghost use Rattle.std.specs.Prelude.{◌≡◌, ◌∷◌, [], IfSome};
+ghost use Rattle.host_io.specs.Calls.{Went};
+ghost use Rattle.command_answers.specs.Asking.{course, input_file};
 ghost use Rattle.command_answers.specs.Stops.{HasReadCause, IsAnswer};
 ghost use Rattle.unit_inputs.specs.FileRefusals.{bytes_in};
 
@@ -10,6 +12,7 @@ use std::alloc::Global;
 /// The bytes of a file, which is refused where it is missing or has more than 1 MiB.
 pub fn read_input<S: Shelf>(alloc: Global, shelf: &mut S, path: &str) -> Result<Vec<u8>, Stop>
     ensures reads_the_file { IfSome (S.told shelf.old) (λ files. IsAnswer (λ bytes. bytes.items) result (bytes_in files path.now)) }
+    ensures asks_for_it { Went S.asks shelf.old shelf.new (input_file path.now ∷ []) (course result) }
     ensures map_stays { S.told shelf.new ≡ S.told shelf.old }
     ensures fault_rose { HasReadCause (S.faults shelf.old) (S.faults shelf.new) result }
 {

@@ -1,7 +1,9 @@
 // The inputs of a command on a unit.
 ghost use Rattle.std.specs.Prelude.{◌≡◌, IfOk, IfSome, Some};
+ghost use Rattle.command_answers.specs.Asking.{course};
 ghost use Rattle.command_answers.specs.Stops.{Prepares};
 ghost use Rattle.unit_names.specs.Cutting.{name_of};
+ghost use Rattle.unit_inputs.specs.Asking.{AsksInOrder, input_asks};
 ghost use Rattle.unit_inputs.specs.ReadsFor.{ReadsFor};
 ghost use Rattle.unit_inputs.specs.Inputs.{input_refusals, inputs_of, inputs_view};
 
@@ -28,12 +30,14 @@ pub struct UnitInputs {
 
 /// Reads the inputs of a command on a unit: the unit, as `dropin_merge` resolves it, then calls.txt and site.toml.
 ///
-/// The first that is refused decides, and the next is not read. Each of the two tables is refused where it is missing
+/// The first that is refused decides, and the next is not read: what is asked of the shelf, over files that are told, is in this
+/// order, up to the first that is refused. Each of the two tables is refused where it is missing
 /// or has more than 1 MiB, and then for what it says. A fault comes only where the shelf's count of faults rose, and
 /// only for the name of a service; without one nothing is read.
 pub fn read_inputs<S: Shelf>(alloc: Global, shelf: &mut S, unit: &str) -> Result<UnitInputs, Stop>
     ensures reads_by_the_files { IfSome (S.told shelf.old) (λ files. Prepares (λ inputs. inputs_of files unit.now ≡ Some (inputs_view inputs)) (input_refusals files unit.now) result) }
     ensures names_the_unit { IfOk result (λ inputs. name_of unit.now ≡ Some inputs.unit.value.name) }
+    ensures asks_in_order { AsksInOrder S.asks (S.told shelf.old) (λ files. input_asks files unit.now) shelf.old shelf.new (course result) }
     ensures reads_for_the_unit { ReadsFor S.told S.faults unit.now shelf.old shelf.new result }
 {
     let unit = read_unit(alloc, shelf, unit)?;

@@ -1,6 +1,9 @@
 // The site, with the lines of its refusals.
 ghost use Rattle.std.specs.Prelude.{◌≡◌, IfOk, IfSome, IsErrOf};
+ghost use Rattle.host_io.specs.Calls.{Went};
+ghost use Rattle.command_answers.specs.Asking.{course};
 ghost use Rattle.command_answers.specs.Stops.{HasReadCause, IsAnswer};
+ghost use Rattle.unit_inputs.specs.Asking.{site_asks};
 ghost use Rattle.unit_inputs.specs.SiteRefusals.{cause_word, row_cause, site_cause, site_in, site_line, site_said};
 
 use crate::files::read_input;
@@ -75,6 +78,7 @@ fn site_of_bytes(alloc: Global, bytes: &[u8]) -> Result<Box<SiteTable>, Stop>
 /// The site of site.toml.
 pub fn read_site<S: Shelf>(alloc: Global, shelf: &mut S) -> Result<Box<SiteTable>, Stop>
     ensures reads_the_site { IfSome (S.told shelf.old) (λ files. IsAnswer (λ site. site.value) result (site_in files)) }
+    ensures asks_for_it { Went S.asks shelf.old shelf.new site_asks (course result) }
     ensures map_stays { S.told shelf.new ≡ S.told shelf.old }
     ensures fault_rose { HasReadCause (S.faults shelf.old) (S.faults shelf.new) result }
 {

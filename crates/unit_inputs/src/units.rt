@@ -1,8 +1,11 @@
 // The unit, with the lines of its refusals.
 ghost use Rattle.std.specs.Prelude.{◌≡◌, IfOk, IfSome, Some};
+ghost use Rattle.dropin_merge.specs.Asking.{resolve_asks};
+ghost use Rattle.command_answers.specs.Asking.{course};
 ghost use Rattle.command_answers.specs.Refusals.{refused_line};
 ghost use Rattle.command_answers.specs.Stops.{HasReadCause, IsAnswer};
 ghost use Rattle.unit_names.specs.Cutting.{name_of};
+ghost use Rattle.unit_inputs.specs.Asking.{AsksInOrder};
 ghost use Rattle.unit_inputs.specs.ReadsFor.{ReadsFor};
 ghost use Rattle.unit_inputs.specs.UnitRefusals.{HasNameOrTells, text_cause, unit_in, unit_line};
 
@@ -63,6 +66,7 @@ fn check_name(alloc: Global, unit: &str) -> Result<(), Stop>
 fn read_files<S: Shelf>(alloc: Global, shelf: &mut S, unit: &str) -> Result<Box<Resolved>, Stop>
     ensures resolves_by_the_files { IfSome (S.told shelf.old) (λ files. IsAnswer (λ resolved. resolved.value) result (unit_in files unit.now)) }
     ensures names_the_unit { IfOk result (λ resolved. name_of unit.now ≡ Some resolved.value.name) }
+    ensures asks_in_order { AsksInOrder S.asks (S.told shelf.old) (λ files. resolve_asks files unit.now) shelf.old shelf.new (course result) }
     ensures map_stays { S.told shelf.new ≡ S.told shelf.old }
     ensures fault_rose { HasReadCause (S.faults shelf.old) (S.faults shelf.new) result }
 {
@@ -78,6 +82,7 @@ fn read_files<S: Shelf>(alloc: Global, shelf: &mut S, unit: &str) -> Result<Box<
 pub fn read_unit<S: Shelf>(alloc: Global, shelf: &mut S, unit: &str) -> Result<Box<Resolved>, Stop>
     ensures resolves_by_the_files { IfSome (S.told shelf.old) (λ files. IsAnswer (λ resolved. resolved.value) result (unit_in files unit.now)) }
     ensures names_the_unit { IfOk result (λ resolved. name_of unit.now ≡ Some resolved.value.name) }
+    ensures asks_in_order { AsksInOrder S.asks (S.told shelf.old) (λ files. resolve_asks files unit.now) shelf.old shelf.new (course result) }
     ensures reads_for_the_unit { ReadsFor S.told S.faults unit.now shelf.old shelf.new result }
 {
     check_name(alloc, unit)?;
