@@ -5,7 +5,7 @@ use Rattle.host_io.specs.Files.{Files}
 use Rattle.command_answers.specs.Stops.{Prepares, first_refusal}
 use Rattle.command_answers.specs.declared.stop.Stop.{Stop}
 use Rattle.command_answers.specs.declared.stop.Stop.TheVariants as stop
-use Rattle.command_answers.proofs.Refusing.{behind_none}
+use Rattle.command_answers.proofs.Refusing.{behind_none, stops_before}
 use Rattle.unit_inputs.specs.Inputs.{Inputs, input_refusals, inputs_of, inputs_view}
 use Rattle.unit_inputs.specs.declared.inputs.UnitInputs.{UnitInputs}
 use Rattle.unit_settings.specs.Settled.{AreSettled, refusals_by, refusals_of, unit_refusals}
@@ -24,3 +24,10 @@ settled (Some files) unit inputs (Ok one) read settles = (refusals_with files un
 settled (Some files) unit inputs (Err (stop.Refused line)) read settles = refusals_with files unit (input_refusals files unit) (refusals_of unit) (inputs_view inputs) read.0 read.1 ∙ settles
 settled (Some files) unit inputs (Err stop.ReadFault) read settles = tt
 settled (Some files) unit inputs (Err stop.Memory) read settles = tt
+
+-- an input is refused, whatever may be refused behind them
+pub stops_at_inputs : {U : Type 0} (Q : Files → U → Type 0) (told : Option Files) (unit : List ℕ) (more : Files → List (Option (List ℕ))) (why : Stop)
+    → IfSome told (λ files. Prepares (λ (inputs : UnitInputs). inputs_of files unit ≡ Some (inputs_view inputs)) (input_refusals files unit) (Err why))
+    → IfSome told (λ files. Prepares (Q files) (input_refusals files unit ++ more files) (Err why))
+stops_at_inputs Q None unit more why said = tt
+stops_at_inputs Q (Some files) unit more why said = stops_before (λ (inputs : UnitInputs). inputs_of files unit ≡ Some (inputs_view inputs)) (Q files) why (input_refusals files unit) (more files) said

@@ -1,7 +1,9 @@
 //! The inputs of a unit with its settings.
 ghost use Rattle.std.specs.Prelude.{◌≡◌, IfOk, IfSome, IsErrOf, Some};
+ghost use Rattle.command_answers.specs.Asking.{course};
 ghost use Rattle.command_answers.specs.Stops.{Prepares};
 ghost use Rattle.unit_inputs.specs.Inputs.{inputs_of, inputs_view};
+ghost use Rattle.unit_inputs.specs.Asking.{AsksInOrder, input_asks};
 ghost use Rattle.unit_inputs.specs.ReadsFor.{ReadsFor};
 ghost use Rattle.unit_settings.specs.Settled.{AreSettled, refusals_of, unit_refusals};
 
@@ -50,6 +52,7 @@ pub fn settle(alloc: Global, unit: &str, inputs: UnitInputs) -> Result<SettledUn
 pub fn settle_unit<S: Shelf>(alloc: Global, shelf: &mut S, unit: &str) -> Result<SettledUnit, Stop>
     ensures settles_by_the_files { IfSome (S.told shelf.old) (λ files. Prepares (λ one. inputs_of files unit.now ≡ Some (inputs_view one.inputs)) (unit_refusals files unit.now) result) }
     ensures has_settings { IfOk result (λ one. AreSettled (inputs_view one.inputs) one.settings.value) }
+    ensures asks_in_order { AsksInOrder S.asks (S.told shelf.old) (λ files. input_asks files unit.now) shelf.old shelf.new (course result) }
     ensures reads_for_the_unit { ReadsFor S.told S.faults unit.now shelf.old shelf.new result }
 {
     let inputs = read_inputs(alloc, shelf, unit)?;
