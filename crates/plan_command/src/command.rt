@@ -1,5 +1,7 @@
 //! The command `plan` and the name of a unit.
+ghost use Rattle.command_answers.specs.Asking.{course};
 ghost use Rattle.command_answers.specs.Laws.{IsAdmitted, laws_over};
+ghost use Rattle.unit_inputs.specs.Asking.{AsksInOrder, input_asks};
 ghost use Rattle.unit_inputs.specs.ReadsFor.{ReadsFor};
 ghost use Rattle.plan_command.specs.Prints.{ending_of, mounts_text, plan_laws};
 
@@ -40,6 +42,7 @@ impl Ready for Mounts {
 /// settings and of the paths that they mention, and plans the mounts.
 pub fn prepare<S: Shelf>(alloc: Global, shelf: &mut S, unit: &str) -> Result<Mounts, Stop>
     ensures prepares { IsAdmitted (laws_over (S.told shelf.old) (plan_laws unit.now)) ending_of mounts_text result }
+    ensures asks_in_order { AsksInOrder S.asks (S.told shelf.old) (λ files. input_asks files unit.now) shelf.old shelf.new (course result) }
     ensures reads_for_the_unit { ReadsFor S.told S.faults unit.now shelf.old shelf.new result }
 {
     let one = settle_unit(alloc, shelf, unit)?;

@@ -4,6 +4,10 @@ use Rattle.command_answers.proofs.FileCommands.{at_stop}
 use Rattle.plan_command.specs.Prints.{ending_of, mounts_text, plan_laws}
 use Rattle.unit_inputs.proofs.Reading.{read_then_stopped}
 use Rattle.plan_command.proofs.Prepared.{ready, stops_at_paths, stops_before_paths}
+use Rattle.unit_inputs.specs.Asking.{input_asks}
+use Rattle.unit_inputs.proofs.Ordering.{order_quiet_stopped}
+use Rattle.kern_mounts.specs.declared.step.MountStep.{MountStep}
+use Rattle.std.proofs.Common.{List}
 use Rattle.plan_command.proofs.command.prepare.Goals as goal
 
 pub plan_mounts-requires : goal.plan_mounts-requires
@@ -38,3 +42,7 @@ returns-clause-prepares g c =
     c.deref-2.ensures
     c.in_ok-one.ensures.settles_by_the_files
     c.in_ok-table.ensures.plan_or_first_refusal
+
+pub returns-in_err-table-clause-asks_in_order : goal.returns-in_err-table-clause-asks_in_order
+returns-in_err-table-clause-asks_in_order g c =
+    order_quiet_stopped g.S.Shelf.asks (g.S.Shelf.told c.args.shelf.now) (λ files. input_asks files c.args.unit.now) c.args.shelf.now c.settle_unit.new.shelf (List MountStep) c.from_residual-in_err-table.result c.in_err-table.field-0.0 c.from_residual-in_err-table.ensures.1 c.in_err-table.ensures.reads_nothing c.in_ok-one.ensures.asks_in_order
