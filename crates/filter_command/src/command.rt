@@ -2,8 +2,10 @@
 ghost use Rattle.std.specs.Prelude.{IfOk, IsErrOf};
 ghost use Rattle.std.specs.List.{All};
 ghost use Rattle.call_rules.specs.Sizes.{CanCompile};
+ghost use Rattle.command_answers.specs.Asking.{course};
 ghost use Rattle.command_answers.specs.Laws.{IsAdmitted, laws_over};
 ghost use Rattle.command_answers.specs.Stops.{RefusesNothing};
+ghost use Rattle.unit_inputs.specs.Asking.{AsksInOrder, input_asks};
 ghost use Rattle.unit_inputs.specs.ReadsFor.{ReadsFor};
 ghost use Rattle.filter_command.specs.Compiled.{AreCompiled};
 ghost use Rattle.filter_command.specs.Prints.{ending_of, filter_laws, filters_text};
@@ -58,6 +60,7 @@ fn compiled(alloc: Global, filters: &[Filter]) -> Result<Filters, Stop>
 /// the settings, and compiles the filters.
 pub fn prepare<S: Shelf>(alloc: Global, shelf: &mut S, unit: &str) -> Result<Filters, Stop>
     ensures prepares { IsAdmitted (laws_over (S.told shelf.old) (filter_laws unit.now)) ending_of filters_text result }
+    ensures asks_in_order { AsksInOrder S.asks (S.told shelf.old) (λ files. input_asks files unit.now) shelf.old shelf.new (course result) }
     ensures reads_for_the_unit { ReadsFor S.told S.faults unit.now shelf.old shelf.new result }
 {
     let one = settle_unit(alloc, shelf, unit)?;

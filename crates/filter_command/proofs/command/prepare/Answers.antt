@@ -5,6 +5,8 @@ use Rattle.unit_inputs.proofs.Reading.{read_then}
 use Rattle.unit_settings.specs.declared.settling.SettledUnit.{SettledUnit}
 use Rattle.filter_command.specs.Prints.{ending_of, filter_laws, filters_text}
 use Rattle.filter_command.proofs.Prepared.{prepared}
+use Rattle.unit_inputs.specs.Asking.{input_asks}
+use Rattle.unit_inputs.proofs.Ordering.{order_quiet}
 use Rattle.filter_command.proofs.command.prepare.Goals as goal
 
 pub returns-in_err-one-clause-prepares : goal.returns-in_err-one-clause-prepares
@@ -19,3 +21,7 @@ returns-clause-prepares g c =
 
 pub returns-clause-reads_for_the_unit : goal.returns-clause-reads_for_the_unit
 returns-clause-reads_for_the_unit g c = read_then g.S.Shelf.told g.S.Shelf.faults c.args.unit.now _ _ c.in_ok-one.one c.in_ok-one.ensures.reads_for_the_unit c.compiled.result c.compiled.ensures.reads_nothing
+
+pub returns-clause-asks_in_order : goal.returns-clause-asks_in_order
+returns-clause-asks_in_order g c =
+    order_quiet g.S.Shelf.asks (g.S.Shelf.told c.args.shelf.now) (λ files. input_asks files c.args.unit.now) c.args.shelf.now c.settle_unit.new.shelf c.compiled.result c.compiled.ensures.reads_nothing c.in_ok-one.ensures.asks_in_order
