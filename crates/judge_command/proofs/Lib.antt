@@ -5,3 +5,4 @@ pub mod Texts
 pub mod Prepared
 pub mod Runs
 pub mod Lent
+pub mod InOrder
