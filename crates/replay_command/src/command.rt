@@ -1,6 +1,8 @@
 //! The command `replay`, the name of a unit and the path of a script.
 ghost use Rattle.std.specs.Prelude.{◌≡◌, IsSome};
 ghost use Rattle.unit_names.specs.Cutting.{name_of};
+ghost use Rattle.unit_inputs.specs.Asking.{AsksInOrder, asks_with_file};
+ghost use Rattle.command_answers.specs.Asking.{course_of_run};
 ghost use Rattle.command_answers.specs.Laws.{laws_over};
 ghost use Rattle.command_answers.specs.Runs.{IsRun};
 ghost use Rattle.replay_command.specs.Prepared.{CanBeStarted};
@@ -36,6 +38,7 @@ pub fn answer<S: Shelf, K: Sink>(
 ) -> Ending
     ensures runs { IsRun (laws_over (S.told shelf.old) (replay_laws unit.now script.now)) result
         (record { shelf_before = S.faults shelf.old; shelf_after = S.faults shelf.new; sink = record { faults_before = K.faults out.old; faults_after = K.faults out.new; taken_before = K.taken out.old; taken_after = K.taken out.new } }) }
+    ensures asks_in_order { AsksInOrder S.asks (S.told shelf.old) (λ files. asks_with_file files unit.now script.now) shelf.old shelf.new (course_of_run result) }
     ensures unread_without_a_name { (IsSome (name_of unit.now) → ⊥) → shelf.new ≡ shelf.old }
     ensures map_stays { S.told shelf.new ≡ S.told shelf.old }
 {

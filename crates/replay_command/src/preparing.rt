@@ -1,7 +1,9 @@
 //! What `replay` reads, and what it takes from that.
 ghost use Rattle.std.specs.Prelude.{All, IfOk, IfSome};
+ghost use Rattle.command_answers.specs.Asking.{course};
 ghost use Rattle.command_answers.specs.Stops.{Prepares};
 ghost use Rattle.kernel_calls.specs.Calls.{IsCall};
+ghost use Rattle.unit_inputs.specs.Asking.{AsksInOrder, asks_with_file};
 ghost use Rattle.unit_inputs.specs.ReadsFor.{ReadsFor};
 ghost use Rattle.replay_command.specs.Prepared.{CanBeStarted, IsPrepared, replay_refusals};
 
@@ -46,6 +48,7 @@ pub fn prepare<S: Shelf>(
 ) -> Result<Prepared, Stop>
     ensures prepares { IfSome (S.told shelf.old) (λ files. Prepares (IsPrepared files unit.now script.now) (replay_refusals files unit.now script.now) result) }
     ensures can_be_started { IfOk result CanBeStarted }
+    ensures asks_in_order { AsksInOrder S.asks (S.told shelf.old) (λ files. asks_with_file files unit.now script.now) shelf.old shelf.new (course result) }
     ensures reads_for_the_unit { ReadsFor S.told S.faults unit.now shelf.old shelf.new result }
 {
     let inputs = read_inputs(alloc, shelf, unit)?;

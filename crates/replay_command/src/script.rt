@@ -1,5 +1,7 @@
 //! The script, with the lines of its refusals.
-ghost use Rattle.std.specs.Prelude.{◌≡◌, IfOk, IfSome, IsErrOf};
+ghost use Rattle.std.specs.Prelude.{◌≡◌, ◌∷◌, [], IfOk, IfSome, IsErrOf};
+ghost use Rattle.host_io.specs.Calls.{Went};
+ghost use Rattle.command_answers.specs.Asking.{course, input_file};
 ghost use Rattle.command_answers.specs.Stops.{HasReadCause, IsAnswer};
 ghost use Rattle.replay_command.specs.Scripts.{line_cause, script_cause, script_in, script_line, script_said};
 
@@ -63,6 +65,7 @@ pub fn read_script<S: Shelf>(
     calls: &CallTable,
 ) -> Result<Script, Stop>
     ensures reads_the_script { IfSome (S.told shelf.old) (λ files. IsAnswer (λ script. script) result (script_in files path.now calls.now)) }
+    ensures asks_for_it { Went S.asks shelf.old shelf.new (input_file path.now ∷ []) (course result) }
     ensures map_stays { S.told shelf.new ≡ S.told shelf.old }
     ensures fault_rose { HasReadCause (S.faults shelf.old) (S.faults shelf.new) result }
 {

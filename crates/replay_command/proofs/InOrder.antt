@@ -1,0 +1,27 @@
+-- The calls of a run, by how it ended behind what was read.
+use Rattle.std.proofs.Common.{ℕ, List, Option, inl, inr, refl}
+use Rattle.std.specs.Prelude.{IsTrue}
+use Rattle.host_io.specs.Calls.{Ask, ShelfCall, Whole}
+use Rattle.host_io.specs.Files.{Files}
+use Rattle.command_answers.specs.Asking.{course_of_run}
+use Rattle.command_answers.specs.Endings.{is_whole}
+use Rattle.command_answers.specs.Printing.{Output}
+use Rattle.command_answers.specs.declared.ending.Ending.{Ending}
+use Rattle.unit_inputs.specs.Asking.{AsksInOrder}
+use Rattle.unit_inputs.proofs.Ended.{order_out, order_printed}
+use Rattle.unit_launch.specs.declared.launching.UnitLaunch.{UnitLaunch}
+use Rattle.unit_launch.specs.declared.launching.UnitLaunch.TheVariants.{Launched, Refused}
+use Rattle.replay_command.specs.Started.{FinishesStarted, ending_of, text_of}
+use Rattle.replay_command.specs.Texts.{ending_behind}
+use Rattle.replay_command.specs.declared.preparing.Prepared.{Prepared}
+
+told_whole : (launch : UnitLaunch) → IsTrue (is_whole (ending_behind launch))
+told_whole (Launched service) = refl
+told_whole (Refused refusal) = refl
+
+module _ {S : Type 0} (asks : S → ShelfCall → S → Type 0) (told : Option Files) (wanted : Files → List Ask) (a b : S) where
+  -- what is prepared is launched and printed, or memory ran out
+  pub order_started : (prepared : Prepared) (ended : Ending) (output : Output) → FinishesStarted prepared ended output → AsksInOrder asks told wanted a b Whole → AsksInOrder asks told wanted a b (course_of_run ended)
+  order_started prepared ended output (inl printed) made =
+      order_printed asks told wanted a b (ending_of printed.replay) (text_of printed.replay) ended output (told_whole printed.replay.launch) printed.prints made
+  order_started prepared ended output (inr out) made = order_out asks told wanted a b ended out.0 made
