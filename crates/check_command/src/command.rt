@@ -1,5 +1,7 @@
 //! The command `check`, the name of a unit, the name of a filter and the path of a file.
+ghost use Rattle.command_answers.specs.Asking.{course};
 ghost use Rattle.command_answers.specs.Laws.{IsAdmitted};
+ghost use Rattle.unit_inputs.specs.Asking.{AsksInOrder, asks_with_file};
 ghost use Rattle.unit_inputs.specs.ReadsFor.{ReadsFor};
 ghost use Rattle.check_command.specs.Checked.{checked_text, ending_of};
 ghost use Rattle.check_command.specs.Prints.{check_laws};
@@ -23,6 +25,7 @@ pub fn prepare<S: Shelf>(
     path: &str,
 ) -> Result<Checked, Stop>
     ensures prepares { IsAdmitted (check_laws (S.told shelf.old) unit.now name.now path.now) ending_of checked_text result }
+    ensures asks_in_order { AsksInOrder S.asks (S.told shelf.old) (λ files. asks_with_file files unit.now path.now) shelf.old shelf.new (course result) }
     ensures reads_for_the_unit { ReadsFor S.told S.faults unit.now shelf.old shelf.new result }
 {
     let prepared = read_all(alloc, shelf, unit, path)?;

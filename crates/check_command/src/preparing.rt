@@ -1,5 +1,7 @@
 //! What `check` reads, and what it takes from that.
 ghost use Rattle.std.specs.Prelude.{IfOk, IfSome};
+ghost use Rattle.command_answers.specs.Asking.{course};
+ghost use Rattle.unit_inputs.specs.Asking.{AsksInOrder, asks_with_file};
 ghost use Rattle.unit_inputs.specs.ReadsFor.{ReadsFor};
 ghost use Rattle.unit_settings.specs.Settled.{AreSettled};
 ghost use Rattle.check_command.specs.Prepared.{IsPrepared, inputs_in};
@@ -30,6 +32,7 @@ pub fn read_all<S: Shelf>(
 ) -> Result<Prepared, Stop>
     ensures prepares { IfSome (S.told shelf.old) (λ files. IsPrepared files unit.now path.now result) }
     ensures settled { IfOk result (λ prepared. AreSettled (inputs_in prepared) prepared.unit.settings.value) }
+    ensures asks_in_order { AsksInOrder S.asks (S.told shelf.old) (λ files. asks_with_file files unit.now path.now) shelf.old shelf.new (course result) }
     ensures reads_for_the_unit { ReadsFor S.told S.faults unit.now shelf.old shelf.new result }
 {
     let inputs = read_inputs(alloc, shelf, unit)?;

@@ -1,5 +1,7 @@
 //! The program of a file, with the lines of its refusals.
-ghost use Rattle.std.specs.Prelude.{◌≡◌, IfOk, IfSome, IsErrOf};
+ghost use Rattle.std.specs.Prelude.{◌≡◌, ◌∷◌, [], IfOk, IfSome, IsErrOf};
+ghost use Rattle.host_io.specs.Calls.{Went};
+ghost use Rattle.command_answers.specs.Asking.{course, input_file};
 ghost use Rattle.command_answers.specs.Stops.{HasReadCause};
 ghost use Rattle.check_command.specs.Causes.{file_cause, file_line, placed, program_cause};
 ghost use Rattle.check_command.specs.Programs.{IsProgramIn, IsProgramOf};
@@ -74,6 +76,7 @@ fn program_of_bytes(alloc: Global, path: &str, bytes: &[u8]) -> Result<Program, 
 /// The program of the file at a path, or the line of its first refusal.
 pub fn read_program<S: Shelf>(alloc: Global, shelf: &mut S, path: &str) -> Result<Program, Stop>
     ensures reads_the_program { IfSome (S.told shelf.old) (λ files. IsSaid (λ program. program) (IsProgramIn files path.now) result) }
+    ensures asks_for_it { Went S.asks shelf.old shelf.new (input_file path.now ∷ []) (course result) }
     ensures map_stays { S.told shelf.new ≡ S.told shelf.old }
     ensures fault_rose { HasReadCause (S.faults shelf.old) (S.faults shelf.new) result }
 {

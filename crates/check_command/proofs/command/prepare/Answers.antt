@@ -4,6 +4,8 @@ use Rattle.unit_inputs.proofs.Reading.{read_then}
 use Rattle.check_command.specs.Checked.{checked_text, ending_of}
 use Rattle.check_command.specs.Prints.{check_laws}
 use Rattle.check_command.proofs.Together.{compared_as, stops_before}
+use Rattle.unit_inputs.specs.Asking.{asks_with_file}
+use Rattle.unit_inputs.proofs.Ordering.{order_quiet}
 use Rattle.check_command.proofs.command.prepare.Goals as goal
 
 pub returns-in_err-prepared-clause-prepares : goal.returns-in_err-prepared-clause-prepares
@@ -18,3 +20,7 @@ returns-clause-prepares g c =
 pub returns-clause-reads_for_the_unit : goal.returns-clause-reads_for_the_unit
 returns-clause-reads_for_the_unit g c =
     read_then g.S.Shelf.told g.S.Shelf.faults c.args.unit.now _ _ c.in_ok-prepared.prepared c.in_ok-prepared.ensures.reads_for_the_unit c.compare.result c.compare.ensures.reads_nothing
+
+pub returns-clause-asks_in_order : goal.returns-clause-asks_in_order
+returns-clause-asks_in_order g c =
+    order_quiet g.S.Shelf.asks (g.S.Shelf.told c.args.shelf.now) (λ files. asks_with_file files c.args.unit.now c.args.path.now) c.args.shelf.now c.read_all.new.shelf c.compare.result c.compare.ensures.reads_nothing c.in_ok-prepared.ensures.asks_in_order

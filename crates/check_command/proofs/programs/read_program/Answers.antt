@@ -5,6 +5,9 @@ use Rattle.command_answers.proofs.FileCommands.{at_stop}
 use Rattle.check_command.specs.Programs.{IsProgramIn, IsProgramOf}
 use Rattle.check_command.specs.Said.{IsSaid}
 use Rattle.check_command.proofs.Steps.{no_bytes, some_bytes}
+use Rattle.command_answers.proofs.Asking.{went_quiet}
+use Rattle.std.proofs.Common.{[], ◌∷◌}
+use Rattle.command_answers.specs.Asking.{input_file}
 use Rattle.check_command.proofs.programs.read_program.Goals as goal
 
 pub returns-in_err-bytes-clause-reads_the_program : goal.returns-in_err-bytes-clause-reads_the_program
@@ -16,3 +19,7 @@ pub returns-clause-reads_the_program : goal.returns-clause-reads_the_program
 returns-clause-reads_the_program g c =
     some_bytes (g.S.Shelf.told c.args.shelf.now) c.args.path.now c.in_ok-bytes.bytes.items c.program_of_bytes.result c.in_ok-bytes.ensures.reads_the_file
     (subst (λ bytes. IsSaid (λ (program : List Insn). program) (IsProgramOf c.args.path.now bytes) c.program_of_bytes.result) c.as_slice.ensures.value c.program_of_bytes.ensures.says)
+
+pub returns-clause-asks_for_it : goal.returns-clause-asks_for_it
+returns-clause-asks_for_it g c =
+    went_quiet g.S.Shelf.asks c.args.shelf.now c.read_input.new.shelf (input_file c.args.path.now ∷ []) c.program_of_bytes.result c.program_of_bytes.ensures.reads_nothing c.in_ok-bytes.ensures.asks_for_it
