@@ -1,8 +1,10 @@
 //! The command `score`, the name of a unit and the path of a policy.
 ghost use Rattle.std.specs.Prelude.{IfOk};
 ghost use Rattle.exposure_score.specs.StoredTests.{stored_by};
+ghost use Rattle.command_answers.specs.Asking.{course};
 ghost use Rattle.command_answers.specs.Laws.{IsAdmitted, laws_over};
 ghost use Rattle.service_facts.specs.Facts.{AreFacts};
+ghost use Rattle.unit_inputs.specs.Asking.{AsksInOrder, asks_with_file};
 ghost use Rattle.unit_inputs.specs.ReadsFor.{ReadsFor};
 ghost use Rattle.score_command.specs.Prepared.{CanBeWeighed, inputs_in};
 ghost use Rattle.score_command.specs.Prints.{ending_of, score_laws, scored_text};
@@ -44,6 +46,7 @@ pub fn prepare<S: Shelf>(
     tests: &[CustomTest],
 ) -> Result<Scored, Stop>
     ensures prepares { IsAdmitted (laws_over (S.told shelf.old) (score_laws unit.now policy.now threshold (stored_by (λ test. test.id) (λ test. test.range) (λ test. ⟦<Box<dyn Fn(&Facts) -> u32> as Fn(&Facts) -> u32>⟧.post test.check) tests.now))) ending_of scored_text result }
+    ensures asks_in_order { AsksInOrder S.asks (S.told shelf.old) (λ files. asks_with_file files unit.now policy.now) shelf.old shelf.new (course result) }
     ensures reads_for_the_unit { ReadsFor S.told S.faults unit.now shelf.old shelf.new result }
 {
     let prepared = read_all(alloc, shelf, unit, policy)?;

@@ -1,5 +1,7 @@
 //! The policy, with the lines of its refusals.
-ghost use Rattle.std.specs.Prelude.{◌≡◌, IfOk, IfSome, IsErrOf};
+ghost use Rattle.std.specs.Prelude.{◌≡◌, ◌∷◌, [], IfOk, IfSome, IsErrOf};
+ghost use Rattle.host_io.specs.Calls.{Went};
+ghost use Rattle.command_answers.specs.Asking.{course, input_file};
 ghost use Rattle.command_answers.specs.Stops.{HasReadCause, IsAnswer};
 ghost use Rattle.score_command.specs.Policies.{policy_cause, policy_in, policy_line, policy_said};
 
@@ -55,6 +57,7 @@ fn policy_of_bytes(alloc: Global, path: &str, bytes: &[u8]) -> Result<Policy, St
 /// The policy of a path, or the line of its first refusal.
 pub fn read_policy<S: Shelf>(alloc: Global, shelf: &mut S, path: &str) -> Result<Policy, Stop>
     ensures reads_the_policy { IfSome (S.told shelf.old) (λ files. IsAnswer (λ policy. policy) result (policy_in files path.now)) }
+    ensures asks_for_it { Went S.asks shelf.old shelf.new (input_file path.now ∷ []) (course result) }
     ensures map_stays { S.told shelf.new ≡ S.told shelf.old }
     ensures fault_rose { HasReadCause (S.faults shelf.old) (S.faults shelf.new) result }
 {

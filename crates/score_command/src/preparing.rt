@@ -1,6 +1,8 @@
 //! What `score` reads, and what it takes from that.
 ghost use Rattle.std.specs.Prelude.{IfOk, IfSome};
+ghost use Rattle.command_answers.specs.Asking.{course};
 ghost use Rattle.command_answers.specs.Stops.{Prepares};
+ghost use Rattle.unit_inputs.specs.Asking.{AsksInOrder, asks_with_file};
 ghost use Rattle.unit_inputs.specs.ReadsFor.{ReadsFor};
 ghost use Rattle.score_command.specs.Prepared.{CanBeWeighed, IsPrepared};
 ghost use Rattle.score_command.specs.Refusals.{read_refusals};
@@ -32,6 +34,7 @@ pub fn read_all<S: Shelf>(
 ) -> Result<Prepared, Stop>
     ensures can_be_weighed { IfOk result CanBeWeighed }
     ensures prepares { IfSome (S.told shelf.old) (λ files. Prepares (IsPrepared files unit.now policy.now) (read_refusals files unit.now policy.now) result) }
+    ensures asks_in_order { AsksInOrder S.asks (S.told shelf.old) (λ files. asks_with_file files unit.now policy.now) shelf.old shelf.new (course result) }
     ensures reads_for_the_unit { ReadsFor S.told S.faults unit.now shelf.old shelf.new result }
 {
     let inputs = read_inputs(alloc, shelf, unit)?;

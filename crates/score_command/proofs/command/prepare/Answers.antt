@@ -5,6 +5,10 @@ use Rattle.score_command.specs.Prints.{ending_of, score_laws, scored_text}
 use Rattle.score_command.specs.Weighed.{IsScoreOf}
 use Rattle.unit_inputs.proofs.Reading.{read_then_stopped}
 use Rattle.score_command.proofs.Prepared.{ready, stops_at_weights, stops_before_weighing}
+use Rattle.unit_inputs.specs.Asking.{asks_with_file}
+use Rattle.exposure_score.specs.declared.rows.Score.{Score}
+use Rattle.unit_inputs.proofs.Ordering.{order_cut, order_quiet_stopped}
+use Rattle.std.proofs.lemmas.Result.{err_from_is_err_and}
 use Rattle.score_command.proofs.command.prepare.Goals as goal
 
 pub returns-in_err-prepared-clause-prepares : goal.returns-in_err-prepared-clause-prepares
@@ -30,3 +34,13 @@ returns-clause-prepares g c =
     let stored = stored_by (λ test. test.id) (λ test. test.range) (λ test shown answer. (goal.Fn-dyn g).post (test.check.vtable, test.check.value) (shown, tt) answer) c.args.tests.now in
     ready (g.S.Shelf.told c.args.shelf.now) c.args.unit.now c.args.policy.now c.args.threshold stored c.in_ok-prepared.prepared c.in_ok-known.known c.in_ok-known.ensures.known
     c.in_ok-score.score c.in_ok-prepared.ensures.can_be_weighed c.in_ok-prepared.ensures.prepares c.in_ok-score.ensures.weighs
+
+pub returns-in_err-score-clause-asks_in_order : goal.returns-in_err-score-clause-asks_in_order
+returns-in_err-score-clause-asks_in_order g c =
+    order_quiet_stopped g.S.Shelf.asks (g.S.Shelf.told c.args.shelf.now) (λ files. asks_with_file files c.args.unit.now c.args.policy.now) c.args.shelf.now c.read_all.new.shelf Score c.from_residual-in_err-score.result c.in_err-score.field-0.0 c.from_residual-in_err-score.ensures.1 c.in_err-score.ensures.reads_nothing c.in_ok-prepared.ensures.asks_in_order
+
+pub returns-in_err-known-clause-asks_in_order : goal.returns-in_err-known-clause-asks_in_order
+returns-in_err-known-clause-asks_in_order g c =
+    let p = err_from_is_err_and c.from_residual-in_err-known.result c.from_residual-in_err-known.ensures.1 in
+    rw (p.1, p.2)
+    (order_cut g.S.Shelf.asks (g.S.Shelf.told c.args.shelf.now) (λ files. asks_with_file files c.args.unit.now c.args.policy.now) c.args.shelf.now c.read_all.new.shelf c.in_ok-prepared.ensures.asks_in_order)
