@@ -6,6 +6,11 @@ use Rattle.unit_inputs.specs.Inputs.{inputs_of, inputs_view}
 use Rattle.started_units.specs.Starting.{given}
 use Rattle.derive_command.specs.Prints.{derive_laws, ending_of, text_of}
 use Rattle.derive_command.proofs.Prepared.{admitted_as, named, read_behind, same_inputs, stops_at_inputs, stops_at_script}
+use Rattle.unit_inputs.specs.Asking.{asks_with_file}
+use Rattle.host_io.specs.Calls.{Whole}
+use Rattle.kernel_calls.specs.declared.call.Call.{Call}
+use Rattle.std.proofs.Common.{List}
+use Rattle.unit_inputs.proofs.Ordering.{order_quiet, stops_at_file, stops_before_file, with_file}
 use Rattle.derive_command.proofs.command.prepare.Goals as goal
 
 pub returns-in_err-inputs-clause-prepares : goal.returns-in_err-inputs-clause-prepares
@@ -30,3 +35,19 @@ pub returns-clause-reads_for_the_unit : goal.returns-clause-reads_for_the_unit
 returns-clause-reads_for_the_unit g c =
     read_behind g.S.Shelf.told g.S.Shelf.faults c.args.unit.now _ _ _ c.in_ok-inputs.inputs c.in_ok-made.made c.in_ok-inputs.ensures.reads_for_the_unit
     (named (name_of c.args.unit.now) c.in_ok-inputs.inputs.unit.value.name c.in_ok-inputs.ensures.names_the_unit) c.in_ok-made.ensures.map_stays c.in_ok-made.ensures.fault_rose c.answer.result c.answer.ensures.reads_nothing
+
+pub returns-in_err-inputs-clause-asks_in_order : goal.returns-in_err-inputs-clause-asks_in_order
+returns-in_err-inputs-clause-asks_in_order g c =
+    stops_before_file g.S.Shelf.asks (g.S.Shelf.told c.args.shelf.now) c.args.unit.now c.args.script.now c.args.shelf.now _ c.from_residual.result c.in_err-inputs.field-0.0 c.from_residual.ensures.1
+    c.in_err-inputs.ensures.reads_by_the_files c.in_err-inputs.ensures.asks_in_order
+
+pub returns-in_err-made-clause-asks_in_order : goal.returns-in_err-made-clause-asks_in_order
+returns-in_err-made-clause-asks_in_order g c =
+    stops_at_file g.S.Shelf.asks (g.S.Shelf.told c.args.shelf.now) c.args.unit.now c.args.script.now c.args.shelf.now c.read_inputs.new.shelf (List Call) c.read_script.new.shelf (g.S.Shelf.told c.read_inputs.new.shelf) c.in_ok-inputs.inputs
+    c.from_residual-in_err-made.result c.in_err-made.field-0.0 c.from_residual-in_err-made.ensures.1 c.in_ok-inputs.ensures.reads_for_the_unit.map_stays c.in_ok-inputs.ensures.reads_by_the_files c.in_ok-inputs.ensures.asks_in_order c.in_err-made.ensures.asks_for_it
+
+pub returns-clause-asks_in_order : goal.returns-clause-asks_in_order
+returns-clause-asks_in_order g c =
+    order_quiet g.S.Shelf.asks (g.S.Shelf.told c.args.shelf.now) (λ files. asks_with_file files c.args.unit.now c.args.script.now) c.args.shelf.now c.read_script.new.shelf c.answer.result c.answer.ensures.reads_nothing
+    (with_file g.S.Shelf.asks (g.S.Shelf.told c.args.shelf.now) c.args.unit.now c.args.script.now c.args.shelf.now c.read_inputs.new.shelf c.read_script.new.shelf (g.S.Shelf.told c.read_inputs.new.shelf) c.in_ok-inputs.inputs Whole
+    c.in_ok-inputs.ensures.reads_for_the_unit.map_stays c.in_ok-inputs.ensures.reads_by_the_files c.in_ok-inputs.ensures.asks_in_order c.in_ok-made.ensures.asks_for_it)
