@@ -1,6 +1,8 @@
 //! The command `effect`, the name of a unit and the path of a drop-in.
 
+ghost use Rattle.command_answers.specs.Asking.{course};
 ghost use Rattle.command_answers.specs.Laws.{IsAdmitted, laws_over};
+ghost use Rattle.unit_inputs.specs.Asking.{AsksInOrder, asks_with_file};
 ghost use Rattle.unit_inputs.specs.ReadsFor.{ReadsFor};
 ghost use Rattle.effect_command.specs.Prints.{effect_laws, ending_of, text_of};
 
@@ -22,6 +24,7 @@ pub fn prepare<S: Shelf>(
     path: &str,
 ) -> Result<Effect, Stop>
     ensures prepares { IsAdmitted (laws_over (S.told shelf.old) (effect_laws unit.now path.now)) ending_of text_of result }
+    ensures asks_in_order { AsksInOrder S.asks (S.told shelf.old) (λ files. asks_with_file files unit.now path.now) shelf.old shelf.new (course result) }
     ensures reads_for_the_unit { ReadsFor S.told S.faults unit.now shelf.old shelf.new result }
 {
     let inputs = read_inputs(alloc, shelf, unit)?;

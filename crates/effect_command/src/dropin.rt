@@ -1,5 +1,7 @@
 //! The drop-in, with the lines of its refusals.
-ghost use Rattle.std.specs.Prelude.{◌≡◌, IfOk, IfSome, IsErrOf};
+ghost use Rattle.std.specs.Prelude.{◌≡◌, ◌∷◌, [], IfOk, IfSome, IsErrOf};
+ghost use Rattle.host_io.specs.Calls.{Went};
+ghost use Rattle.command_answers.specs.Asking.{course, input_file};
 ghost use Rattle.command_answers.specs.Refusals.{refused_line};
 ghost use Rattle.command_answers.specs.Stops.{HasReadCause, IsAnswer};
 ghost use Rattle.unit_inputs.specs.UnitRefusals.{text_cause};
@@ -35,6 +37,7 @@ fn said(alloc: Global, path: &str, bytes: &[u8]) -> Result<UnitText, Stop>
 /// The drop-in at a path, or the line of its first refusal: it is there, has at most 1 MiB, and can be read as a file of a unit.
 pub fn read_dropin<S: Shelf>(alloc: Global, shelf: &mut S, path: &str) -> Result<UnitText, Stop>
     ensures reads_the_dropin { IfSome (S.told shelf.old) (λ files. IsAnswer (λ text. text) result (dropin_in files path.now)) }
+    ensures asks_for_it { Went S.asks shelf.old shelf.new (input_file path.now ∷ []) (course result) }
     ensures map_stays { S.told shelf.new ≡ S.told shelf.old }
     ensures fault_rose { HasReadCause (S.faults shelf.old) (S.faults shelf.new) result }
 {

@@ -6,6 +6,10 @@ use Rattle.unit_inputs.specs.Inputs.{inputs_of, inputs_view}
 use Rattle.started_units.specs.Starting.{given}
 use Rattle.effect_command.specs.Prints.{effect_laws, ending_of, text_of}
 use Rattle.effect_command.proofs.Prepared.{admitted_as, named, read_behind, same_inputs, stops_at_dropin, stops_at_inputs}
+use Rattle.unit_inputs.specs.Asking.{asks_with_file}
+use Rattle.host_io.specs.Calls.{Whole}
+use Rattle.unit_grammar.specs.declared.unit.UnitText.{UnitText}
+use Rattle.unit_inputs.proofs.Ordering.{order_quiet, stops_at_file, stops_before_file, with_file}
 use Rattle.effect_command.proofs.command.prepare.Goals as goal
 
 pub returns-in_err-inputs-clause-prepares : goal.returns-in_err-inputs-clause-prepares
@@ -30,3 +34,19 @@ pub returns-clause-reads_for_the_unit : goal.returns-clause-reads_for_the_unit
 returns-clause-reads_for_the_unit g c =
     read_behind g.S.Shelf.told g.S.Shelf.faults c.args.unit.now _ _ _ c.in_ok-inputs.inputs c.in_ok-more.more c.in_ok-inputs.ensures.reads_for_the_unit
     (named (name_of c.args.unit.now) c.in_ok-inputs.inputs.unit.value.name c.in_ok-inputs.ensures.names_the_unit) c.in_ok-more.ensures.map_stays c.in_ok-more.ensures.fault_rose c.answer.result c.answer.ensures.reads_nothing
+
+pub returns-in_err-inputs-clause-asks_in_order : goal.returns-in_err-inputs-clause-asks_in_order
+returns-in_err-inputs-clause-asks_in_order g c =
+    stops_before_file g.S.Shelf.asks (g.S.Shelf.told c.args.shelf.now) c.args.unit.now c.args.path.now c.args.shelf.now _ c.from_residual.result c.in_err-inputs.field-0.0 c.from_residual.ensures.1
+    c.in_err-inputs.ensures.reads_by_the_files c.in_err-inputs.ensures.asks_in_order
+
+pub returns-in_err-more-clause-asks_in_order : goal.returns-in_err-more-clause-asks_in_order
+returns-in_err-more-clause-asks_in_order g c =
+    stops_at_file g.S.Shelf.asks (g.S.Shelf.told c.args.shelf.now) c.args.unit.now c.args.path.now c.args.shelf.now c.read_inputs.new.shelf UnitText c.read_dropin.new.shelf (g.S.Shelf.told c.read_inputs.new.shelf) c.in_ok-inputs.inputs
+    c.from_residual-in_err-more.result c.in_err-more.field-0.0 c.from_residual-in_err-more.ensures.1 c.in_ok-inputs.ensures.reads_for_the_unit.map_stays c.in_ok-inputs.ensures.reads_by_the_files c.in_ok-inputs.ensures.asks_in_order c.in_err-more.ensures.asks_for_it
+
+pub returns-clause-asks_in_order : goal.returns-clause-asks_in_order
+returns-clause-asks_in_order g c =
+    order_quiet g.S.Shelf.asks (g.S.Shelf.told c.args.shelf.now) (λ files. asks_with_file files c.args.unit.now c.args.path.now) c.args.shelf.now c.read_dropin.new.shelf c.answer.result c.answer.ensures.reads_nothing
+    (with_file g.S.Shelf.asks (g.S.Shelf.told c.args.shelf.now) c.args.unit.now c.args.path.now c.args.shelf.now c.read_inputs.new.shelf c.read_dropin.new.shelf (g.S.Shelf.told c.read_inputs.new.shelf) c.in_ok-inputs.inputs Whole
+    c.in_ok-inputs.ensures.reads_for_the_unit.map_stays c.in_ok-inputs.ensures.reads_by_the_files c.in_ok-inputs.ensures.asks_in_order c.in_ok-more.ensures.asks_for_it)
