@@ -46,7 +46,7 @@ module _ (told : Option Files) (path : List ℕ) (stored : StoredTests) where
 
   module _ (inputs : FleetInputs) (read : IfSome told (λ files. Prepares {T = FleetInputs} (λ inputs. AreInputs files path (inputs_view inputs)) (read_refusals files path) (Ok inputs))) where
     -- what is refused behind the inputs is a policy that weighs nothing
-    refused_as : (files : Files) → Prepares {T = FleetInputs} (λ inputs. AreInputs files path (inputs_view inputs)) (read_refusals files path) (Ok inputs)
+    pub refused_as : (files : Files) → Prepares {T = FleetInputs} (λ inputs. AreInputs files path (inputs_view inputs)) (read_refusals files path) (Ok inputs)
         → first_refusal (fleet_refusals files path stored) ≡ first_refusal (weight_refusal path (weight_of (inputs_view inputs).calls stored (inputs_view inputs).policy) ∷ [])
     refused_as files is =
         behind_none (read_refusals files path) (weights_in path stored (calls_in files) (policy_in files path)) is.0

@@ -16,7 +16,6 @@ use Rattle.command_answers.specs.declared.stop.Stop.{Stop}
 use Rattle.score_command.specs.Weights.{no_weight_line, weight_refusal}
 use Rattle.fleet_report.specs.Order.{AreInOrder}
 use Rattle.fleet_report.specs.Outcomes.{IsRowOf}
-use Rattle.fleet_report.specs.declared.errors.FleetError.{FleetError}
 use Rattle.fleet_report.specs.declared.errors.FleetError.TheVariants.{NoWeight}
 use Rattle.fleet_report.specs.declared.rows.FleetRow.{FleetRow}
 use Rattle.fleet_command.specs.Inputs.{Inputs, inputs_view}

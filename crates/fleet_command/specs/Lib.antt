@@ -3,3 +3,4 @@ pub mod Refusals
 pub mod Reports
 pub mod Texts
 pub mod Prints
+pub mod Asking

@@ -1,6 +1,9 @@
 //! The names of the units, with the line of their refusal.
 ghost use Rattle.std.specs.Prelude.{◌≡◌, IfSome};
+ghost use Rattle.command_answers.specs.Asking.{course};
 ghost use Rattle.command_answers.specs.Stops.{HasReadCause, IsAnswer};
+ghost use Rattle.fleet_names.specs.Asking.{names_asks};
+ghost use Rattle.unit_inputs.specs.Asking.{AsksInOrder};
 ghost use Rattle.fleet_command.specs.Refusals.{names_in};
 
 use command_answers::{Stop, refuse, refused_line};
@@ -12,6 +15,7 @@ use unit_names::UnitName;
 /// The names of the units in byte order, or the line that there are too many.
 pub fn read_names<S: Shelf>(alloc: Global, shelf: &mut S) -> Result<Vec<UnitName>, Stop>
     ensures reads_the_names { IfSome (S.told shelf.old) (λ files. IsAnswer (λ names. names.items) result (names_in files)) }
+    ensures asks_in_order { AsksInOrder S.asks (S.told shelf.old) names_asks shelf.old shelf.new (course result) }
     ensures map_stays { S.told shelf.new ≡ S.told shelf.old }
     ensures fault_rose { HasReadCause (S.faults shelf.old) (S.faults shelf.new) result }
 {

@@ -1,6 +1,9 @@
 //! What `fleet` reads before the first unit.
 ghost use Rattle.std.specs.Prelude.{◌≡◌, IfSome};
+ghost use Rattle.command_answers.specs.Asking.{course};
 ghost use Rattle.command_answers.specs.Stops.{HasReadCause, Prepares};
+ghost use Rattle.unit_inputs.specs.Asking.{AsksInOrder};
+ghost use Rattle.fleet_command.specs.Asking.{read_asks};
 ghost use Rattle.fleet_command.specs.Inputs.{AreInputs, inputs_view};
 ghost use Rattle.fleet_command.specs.Refusals.{read_refusals};
 
@@ -31,6 +34,7 @@ pub struct FleetInputs {
 /// Reads the names of the units, calls.txt, site.toml and the policy, and finds the first refusal of them.
 pub fn read_all<S: Shelf>(alloc: Global, shelf: &mut S, path: &str) -> Result<FleetInputs, Stop>
     ensures prepares { IfSome (S.told shelf.old) (λ files. Prepares (λ inputs. AreInputs files path.now (inputs_view inputs)) (read_refusals files path.now) result) }
+    ensures asks_in_order { AsksInOrder S.asks (S.told shelf.old) (λ files. read_asks files path.now) shelf.old shelf.new (course result) }
     ensures map_stays { S.told shelf.new ≡ S.told shelf.old }
     ensures fault_rose { HasReadCause (S.faults shelf.old) (S.faults shelf.new) result }
 {

@@ -2,7 +2,10 @@
 ghost use Rattle.std.specs.Prelude.{◌≡◌, ◌∷◌, [], IfSome};
 ghost use Rattle.exposure_score.specs.StoredTests.{stored_by};
 ghost use Rattle.policy_weights.specs.Weights.{weight_of};
+ghost use Rattle.command_answers.specs.Asking.{course};
 ghost use Rattle.command_answers.specs.Stops.{HasReadCause, Prepares};
+ghost use Rattle.fleet_report.specs.Asking.{rows_asks, unless_weightless};
+ghost use Rattle.unit_inputs.specs.Asking.{AsksInOrder};
 ghost use Rattle.score_command.specs.Weights.{weight_refusal};
 ghost use Rattle.fleet_command.specs.Inputs.{inputs_view};
 ghost use Rattle.fleet_command.specs.Reports.{AreFleet};
@@ -25,6 +28,7 @@ pub fn report<S: Shelf>(
 ) -> Result<Vec<FleetRow>, Stop>
     ensures reports { IfSome (S.told shelf.old) (λ files. Prepares (λ rows. AreFleet files (inputs_view inputs.now) (stored_by (λ test. test.id) (λ test. test.range) (λ test. ⟦<Box<dyn Fn(&Facts) -> u32> as Fn(&Facts) -> u32>⟧.post test.check) tests.now) rows.items)
         (weight_refusal path.now (weight_of (inputs_view inputs.now).calls (stored_by (λ test. test.id) (λ test. test.range) (λ test. ⟦<Box<dyn Fn(&Facts) -> u32> as Fn(&Facts) -> u32>⟧.post test.check) tests.now) (inputs_view inputs.now).policy) ∷ []) result) }
+    ensures asks_in_order { AsksInOrder S.asks (S.told shelf.old) (λ files. unless_weightless (weight_of (inputs_view inputs.now).calls (stored_by (λ test. test.id) (λ test. test.range) (λ test. ⟦<Box<dyn Fn(&Facts) -> u32> as Fn(&Facts) -> u32>⟧.post test.check) tests.now) (inputs_view inputs.now).policy) (rows_asks files (inputs_view inputs.now).names)) shelf.old shelf.new (course result) }
     ensures map_stays { S.told shelf.new ≡ S.told shelf.old }
     ensures fault_rose { HasReadCause (S.faults shelf.old) (S.faults shelf.new) result }
 {

@@ -1,3 +1,4 @@
 pub mod Came
 pub mod Ordered
 pub mod Gathered
+pub mod Asked

@@ -1,6 +1,6 @@
 -- The comparison of rows is an order, and rows that are sorted by it stand in theirs.
-use Rattle.std.proofs.Common.{◌≡◌, ◌∙◌, ℕ, ◌<◌, ◌≤◌, ◌⊎◌, Bool, true, false, List, length, get_or, refl, sym, ap, inl, inr, arith}
-use Rattle.std.specs.Prelude.{AllPairs, nat_lt, ◌==◌, cond}
+use Rattle.std.proofs.Common.{◌≡◌, ◌∙◌, ℕ, ◌<◌, ◌⊎◌, Bool, true, false, List, get_or, refl, sym, ap, inl, inr, arith}
+use Rattle.std.specs.Prelude.{nat_lt, ◌==◌, cond}
 use Rattle.std.specs.declared.cmp.Ordering.{Ordering}
 use Rattle.std.specs.declared.cmp.Ordering.TheVariants.{Less, Equal, Greater}
 use Rattle.std.specs.Cmp.{IsTotalOrder}
@@ -12,7 +12,7 @@ use Rattle.std.proofs.lemmas.Cmp.{back_total, nat_cmp_total, nat_list_cmp_total,
 use Rattle.std.proofs.lemmas.List.Sorted.{ranks_by, sorted_far}
 use Rattle.unit_names.specs.Names.{text_of}
 use Rattle.fleet_report.specs.Comparing.{outcome_cmp, row_cmp}
-use Rattle.fleet_report.specs.Order.{AreInOrder, AreNamedInOrder, MayStandBefore, StandBy}
+use Rattle.fleet_report.specs.Order.{AreInOrder, StandBy}
 use Rattle.fleet_report.specs.declared.rows.FleetOutcome.{FleetOutcome}
 use Rattle.fleet_report.specs.declared.rows.FleetOutcome.TheVariants.{Scored, Unresolved, Unset}
 use Rattle.fleet_report.specs.declared.rows.FleetRow.{FleetRow}

@@ -2,3 +2,4 @@ pub mod Outcomes
 pub mod Order
 pub mod Comparing
 pub mod Answers
+pub mod Asking

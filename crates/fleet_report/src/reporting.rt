@@ -3,7 +3,9 @@ ghost use Rattle.std.specs.Prelude.{◌≡◌, ◌↔◌, ◌<◌, IfOk, IfSome,
 ghost use Rattle.std.specs.List.{All};
 ghost use Rattle.exposure_score.specs.StoredTests.{stored_by};
 ghost use Rattle.policy_weights.specs.Weights.{weight_of};
+ghost use Rattle.host_io.specs.Calls.{Went};
 ghost use Rattle.fleet_report.specs.Answers.{HasCause};
+ghost use Rattle.fleet_report.specs.Asking.{course, rows_asks, unless_weightless};
 ghost use Rattle.fleet_report.specs.Order.{AreInOrder};
 ghost use Rattle.fleet_report.specs.Outcomes.{IsRowOf, TellsNoFault};
 
@@ -34,6 +36,7 @@ fn rows_of<S: Shelf>(
     ensures a_row_a_name { IfOk result (λ rows. map (λ row. row.name) rows.items ≡ names.now) }
     ensures by_their_files { IfSome (S.told shelf.old) (λ files. IfOk result (λ rows. All (IsRowOf files calls.now site.now policy.now (stored_by (λ test. test.id) (λ test. test.range) (λ test. ⟦<Box<dyn Fn(&Facts) -> u32> as Fn(&Facts) -> u32>⟧.post test.check) tests.now)) rows.items)) }
     ensures tells_no_fault { IfOk result (λ rows. All (λ row. TellsNoFault row.outcome) rows.items) }
+    ensures asks_in_order { IfSome (S.told shelf.old) (λ files. Went S.asks shelf.old shelf.new (rows_asks files names.now) (course result)) }
     ensures map_stays { S.told shelf.new ≡ S.told shelf.old }
     ensures fault_rose { HasCause (S.faults shelf.old) (S.faults shelf.new) result }
     ensures never_weightless { IsErrOf result FleetError.NoWeight → ⊥ }
@@ -61,7 +64,7 @@ fn ordered_rows(mut rows: Vec<FleetRow>) -> Vec<FleetRow>
 /// settings are accepted; else its row has the refusal. What its row may be rests on no files of other units.
 ///
 /// `NoWeight` comes exactly where the weights of the policy's tests that are not skipped sum to 0, whether or not there is a
-/// unit, and then nothing is read. `ReadFault` comes only where the shelf's count of faults rose, and any other answer leaves it.
+/// unit, and then nothing is read. Else the units are read in the order of the names, whatever comes of each, and nothing but them. `ReadFault` comes only where the shelf's count of faults rose, and any other answer leaves it.
 pub fn fleet<S: Shelf>(
     alloc: Global,
     shelf: &mut S,
@@ -76,6 +79,7 @@ pub fn fleet<S: Shelf>(
     ensures tells_no_fault { IfOk result (λ rows. All (λ row. TellsNoFault row.outcome) rows.items) }
     ensures least_protected_first { IfOk result (λ rows. AreInOrder rows.items) }
     ensures no_weight { IsErrOf result FleetError.NoWeight ↔ (weight_of calls.now (stored_by (λ test. test.id) (λ test. test.range) (λ test. ⟦<Box<dyn Fn(&Facts) -> u32> as Fn(&Facts) -> u32>⟧.post test.check) tests.now) policy.now ≡ 0) }
+    ensures asks_in_order { IfSome (S.told shelf.old) (λ files. Went S.asks shelf.old shelf.new (unless_weightless (weight_of calls.now (stored_by (λ test. test.id) (λ test. test.range) (λ test. ⟦<Box<dyn Fn(&Facts) -> u32> as Fn(&Facts) -> u32>⟧.post test.check) tests.now) policy.now) (rows_asks files names.now)) (course result)) }
     ensures unread_without_weight { IsErrOf result FleetError.NoWeight → shelf.new ≡ shelf.old }
     ensures map_stays { S.told shelf.new ≡ S.told shelf.old }
     ensures fault_rose { HasCause (S.faults shelf.old) (S.faults shelf.new) result }

@@ -6,7 +6,9 @@ ghost use Rattle.exposure_score.specs.StoredTests.{stored_by};
 ghost use Rattle.policy_weights.specs.Weights.{weight_of};
 ghost use Rattle.dropin_merge.specs.Resolving.{resolved_of};
 ghost use Rattle.unit_names.specs.Names.{text_of};
+ghost use Rattle.host_io.specs.Calls.{Went};
 ghost use Rattle.fleet_report.specs.Answers.{HasCause};
+ghost use Rattle.fleet_report.specs.Asking.{course, row_asks};
 ghost use Rattle.fleet_report.specs.Outcomes.{HasExposure, IsOutcome, IsRowOf, TellsNoFault};
 ghost use Rattle.fleet_report.specs.declared.errors.FleetError.TheVariants.{Memory};
 
@@ -84,6 +86,7 @@ fn outcome_by_files<S: Shelf>(
     requires weighs { 0 < weight_of calls.now (stored_by (λ test. test.id) (λ test. test.range) (λ test. ⟦<Box<dyn Fn(&Facts) -> u32> as Fn(&Facts) -> u32>⟧.post test.check) tests.now) policy.now }
     ensures comes_of_its_files { IfSome (S.told shelf.old) (λ files. IfOk result (IsOutcome calls.now site.now policy.now (stored_by (λ test. test.id) (λ test. test.range) (λ test. ⟦<Box<dyn Fn(&Facts) -> u32> as Fn(&Facts) -> u32>⟧.post test.check) tests.now) (resolved_of files (text_of name.now)))) }
     ensures tells_no_fault { IfOk result TellsNoFault }
+    ensures asks_in_order { IfSome (S.told shelf.old) (λ files. Went S.asks shelf.old shelf.new (row_asks files name.now) (course result)) }
     ensures map_stays { S.told shelf.new ≡ S.told shelf.old }
     ensures fault_rose { HasCause (S.faults shelf.old) (S.faults shelf.new) result }
     ensures never_weightless { IsErrOf result FleetError.NoWeight → ⊥ }
@@ -110,6 +113,7 @@ pub fn row_of<S: Shelf>(
     ensures same_name { IfOk result (λ row. row.name ≡ name.now) }
     ensures is_the_row { IfSome (S.told shelf.old) (λ files. IfOk result (IsRowOf files calls.now site.now policy.now (stored_by (λ test. test.id) (λ test. test.range) (λ test. ⟦<Box<dyn Fn(&Facts) -> u32> as Fn(&Facts) -> u32>⟧.post test.check) tests.now))) }
     ensures tells_no_fault { IfOk result (λ row. TellsNoFault row.outcome) }
+    ensures asks_in_order { IfSome (S.told shelf.old) (λ files. Went S.asks shelf.old shelf.new (row_asks files name.now) (course result)) }
     ensures map_stays { S.told shelf.new ≡ S.told shelf.old }
     ensures fault_rose { HasCause (S.faults shelf.old) (S.faults shelf.new) result }
     ensures never_weightless { IsErrOf result FleetError.NoWeight → ⊥ }

@@ -1,7 +1,12 @@
-use Rattle.std.proofs.Common.{Vec, Global, ◌∙◌, ap, rules, sym}
+use Rattle.std.proofs.Common.{Err, Global, Ok, Vec, ap, rules, sym, ◌∙◌}
 use Rattle.exposure_score.specs.StoredTests.{stored_by}
 use Rattle.policy_weights.specs.Weights.{weight_of}
+use Rattle.command_answers.proofs.Asking.{told_line}
+use Rattle.fleet_report.specs.Asking.{rows_asks, unless_weightless}
+use Rattle.fleet_report.specs.declared.errors.FleetError.TheVariants as fleet
 use Rattle.fleet_report.specs.declared.rows.FleetRow.{FleetRow}
+use Rattle.unit_inputs.proofs.Ordering.{order_quiet}
+use Rattle.fleet_command.proofs.Asked.{reported_so}
 use Rattle.fleet_command.specs.Inputs.{inputs_view}
 use Rattle.fleet_command.specs.Reports.{AreFleet}
 use Rattle.fleet_command.proofs.Reported.{reported, weightless}
@@ -18,3 +23,27 @@ returns-in-Err-NoWeight-clause-reports g c =
     weightless (g.S.Shelf.told c.args.shelf.now) (λ files (rows : Vec FleetRow Global). AreFleet files (inputs_view c.args.inputs.now) stored rows.items) c.args.path.now
     (weight_of (inputs_view c.args.inputs.now).calls stored (inputs_view c.args.inputs.now).policy) c.refused_line.result c.refuse.result
     (ap (λ table. weight_of table stored (inputs_view c.args.inputs.now).policy) (sym c.deref-2.ensures) ∙ c.fleet-rows.ensures.no_weight.0 (search rules)) c.refuse.ensures.tells_the_line c.refused_line.ensures.tells_what_and_why
+
+pub returns-in-Ok-clause-asks_in_order : goal.returns-in-Ok-clause-asks_in_order
+returns-in-Ok-clause-asks_in_order g c =
+    let stored = stored_by (λ test. test.id) (λ test. test.range) (λ test shown answer. (goal.Fn-dyn g).post (test.check.vtable, test.check.value) (shown, tt) answer) c.args.tests.now in
+    reported_so g.S.Shelf.asks (g.S.Shelf.told c.args.shelf.now) c.args.shelf.now c.fleet-rows.new.shelf c.args.inputs.now stored c.deref.result.now c.deref-2.result.now c.fleet-rows.result (Ok c.in-Ok.rows) c.deref.ensures.value c.deref-2.ensures (search rules) c.fleet-rows.ensures.asks_in_order
+
+pub returns-in-Err-NoWeight-clause-asks_in_order : goal.returns-in-Err-NoWeight-clause-asks_in_order
+returns-in-Err-NoWeight-clause-asks_in_order g c =
+    let stored = stored_by (λ test. test.id) (λ test. test.range) (λ test shown answer. (goal.Fn-dyn g).post (test.check.vtable, test.check.value) (shown, tt) answer) c.args.tests.now in
+    order_quiet g.S.Shelf.asks (g.S.Shelf.told c.args.shelf.now)
+    (λ files. unless_weightless (weight_of (inputs_view c.args.inputs.now).calls stored (inputs_view c.args.inputs.now).policy) (rows_asks files (inputs_view c.args.inputs.now).names))
+    c.args.shelf.now c.fleet-rows.new.shelf {T = Vec FleetRow Global} (Err c.refuse.result)
+    (told_line c.refused_line.result c.refuse.result c.refuse.ensures.tells_the_line)
+    (reported_so g.S.Shelf.asks (g.S.Shelf.told c.args.shelf.now) c.args.shelf.now c.fleet-rows.new.shelf c.args.inputs.now stored c.deref.result.now c.deref-2.result.now c.fleet-rows.result (Err fleet.NoWeight) c.deref.ensures.value c.deref-2.ensures (search rules) c.fleet-rows.ensures.asks_in_order)
+
+pub returns-in-Err-ReadFault-clause-asks_in_order : goal.returns-in-Err-ReadFault-clause-asks_in_order
+returns-in-Err-ReadFault-clause-asks_in_order g c =
+    let stored = stored_by (λ test. test.id) (λ test. test.range) (λ test shown answer. (goal.Fn-dyn g).post (test.check.vtable, test.check.value) (shown, tt) answer) c.args.tests.now in
+    reported_so g.S.Shelf.asks (g.S.Shelf.told c.args.shelf.now) c.args.shelf.now c.fleet-rows.new.shelf c.args.inputs.now stored c.deref.result.now c.deref-2.result.now c.fleet-rows.result (Err fleet.ReadFault) c.deref.ensures.value c.deref-2.ensures (search rules) c.fleet-rows.ensures.asks_in_order
+
+pub returns-in-Err-Memory-clause-asks_in_order : goal.returns-in-Err-Memory-clause-asks_in_order
+returns-in-Err-Memory-clause-asks_in_order g c =
+    let stored = stored_by (λ test. test.id) (λ test. test.range) (λ test shown answer. (goal.Fn-dyn g).post (test.check.vtable, test.check.value) (shown, tt) answer) c.args.tests.now in
+    reported_so g.S.Shelf.asks (g.S.Shelf.told c.args.shelf.now) c.args.shelf.now c.fleet-rows.new.shelf c.args.inputs.now stored c.deref.result.now c.deref-2.result.now c.fleet-rows.result (Err fleet.Memory) c.deref.ensures.value c.deref-2.ensures (search rules) c.fleet-rows.ensures.asks_in_order

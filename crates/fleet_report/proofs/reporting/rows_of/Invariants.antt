@@ -3,6 +3,7 @@ use Rattle.std.specs.List.{All}
 use Rattle.exposure_score.specs.StoredTests.{stored_by}
 use Rattle.host_io.specs.Files.{Files}
 use Rattle.fleet_report.specs.Outcomes.{IsRowOf, TellsNoFault}
+use Rattle.fleet_report.proofs.Asked.{GoesThrough}
 use Rattle.fleet_report.proofs.reporting.rows_of.Given as goal
 
 abbrev pub invariant-loop-name : goal.invariant-loop-name
@@ -12,5 +13,6 @@ invariant-loop-name g l = record {
   names : map (λ row. row.name) l.rows.items ≡ take l.name-index l.names;
   rows : (files : Files) → g.S.Shelf.told l.fn.shelf ≡ Some files
       → All (IsRowOf files l.calls l.site l.policy (stored_by (λ test. test.id) (λ test. test.range) (λ test shown answer. (goal.Fn-dyn g).post (test.check.vtable, test.check.value) (shown, tt) answer) l.tests)) l.rows.items;
+  asks : (files : Files) → g.S.Shelf.told l.fn.shelf ≡ Some files → GoesThrough g.S.Shelf.asks l.fn.shelf l.shelf l.names l.name-index files;
   faultless : All (λ row. TellsNoFault row.outcome) l.rows.items;
 }
