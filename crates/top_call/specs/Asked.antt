@@ -1,5 +1,6 @@
 -- What is asked, and the laws of what is asked: the request decides first, and the files second.
-use Rattle.std.specs.Prelude.{ℕ, List, map, Option, Some, None}
+use Rattle.std.specs.Prelude.{ℕ, List, [], map, Option, Some, None}
+use Rattle.host_io.specs.Calls.{Ask}
 use Rattle.host_io.specs.Files.{Files}
 use Rattle.exposure_score.specs.StoredTests.{StoredTests}
 use Rattle.command_answers.specs.Laws.{Laws, fixed_laws, laws_over}
@@ -13,6 +14,8 @@ use Rattle.derive_command.specs.Prints.{derive_laws}
 use Rattle.effect_command.specs.Prints.{effect_laws}
 use Rattle.score_command.specs.Prints.{score_laws}
 use Rattle.check_command.specs.Prints.{check_laws}
+use Rattle.unit_inputs.specs.Asking.{asks_with_file, input_asks}
+use Rattle.fleet_command.specs.Asking.{fleet_asks}
 use Rattle.fleet_command.specs.Prints.{fleet_laws}
 use Rattle.sample_command.specs.Prints.{sample_laws}
 use Rattle.top_call.specs.Requests.{Request, HelpAlone, VersionAlone, FilterOf, PlanOf, JudgeOf, ReplayOf, DeriveOf, EffectOf, ScoreOf, CheckOf, FleetOf, SampleOf, request_in}
@@ -62,3 +65,27 @@ Accepts asked = (laws_of asked).accepts
 -- files are read for it
 abbrev pub ReadsFiles : Asked → Type 0
 ReadsFiles asked = (laws_of asked).reads
+
+-- each request has its calls of the shelf, in their order, by the files: the inputs of a unit, and where one is named a file behind
+-- them; or what `fleet` reads
+abbrev pub asks_for : Request → StoredTests → Files → List Ask
+asks_for HelpAlone stored = λ files. []
+asks_for VersionAlone stored = λ files. []
+asks_for (FilterOf unit) stored = λ files. input_asks files unit
+asks_for (PlanOf unit) stored = λ files. input_asks files unit
+asks_for (JudgeOf unit) stored = λ files. input_asks files unit
+asks_for (ReplayOf unit script) stored = λ files. asks_with_file files unit script
+asks_for (DeriveOf unit script) stored = λ files. asks_with_file files unit script
+asks_for (EffectOf unit dropin) stored = λ files. asks_with_file files unit dropin
+asks_for (ScoreOf unit policy threshold) stored = λ files. asks_with_file files unit policy
+asks_for (CheckOf unit filter path) stored = λ files. asks_with_file files unit path
+asks_for (FleetOf policy) stored = λ files. fleet_asks files policy stored
+asks_for (SampleOf number) stored = λ files. []
+
+-- words that are no command ask for none
+abbrev pub asks_by : Option Request → StoredTests → Files → List Ask
+asks_by None stored = λ files. []
+asks_by (Some request) stored = asks_for request stored
+
+abbrev pub asks_of : Asked → Files → List Ask
+asks_of asked = asks_by (request_in asked.words) asked.stored

@@ -2,9 +2,11 @@
 ghost use Rattle.std.specs.Prelude.{◌≡◌, IfSome, IsTrue};
 ghost use Rattle.std.specs.Option.{option_map};
 ghost use Rattle.exposure_score.specs.StoredTests.{stored_by};
+ghost use Rattle.command_answers.specs.Asking.{course_of_run};
 ghost use Rattle.command_answers.specs.Endings.{is_whole};
 ghost use Rattle.command_answers.specs.Runs.{Completes, EndsBy, HasFaultCause, IsRun, WroteWhole, WrotePrefix};
-ghost use Rattle.top_call.specs.Asked.{Accepts, Prints, ReadsFiles, asked, laws_by, laws_for, laws_of};
+ghost use Rattle.unit_inputs.specs.Asking.{AsksInOrder};
+ghost use Rattle.top_call.specs.Asked.{Accepts, Prints, ReadsFiles, asked, asks_by, asks_for, asks_of, laws_by, laws_for, laws_of};
 ghost use Rattle.top_call.specs.Requests.{IsNumbered, request_of};
 
 use crate::request::{Request, parse};
@@ -26,6 +28,7 @@ fn answer_request<S: Shelf, K: Sink>(
     requires numbered { IsNumbered request }
     ensures runs { IsRun (laws_for (request_of request.entry) (S.told shelf.old) (stored_by (λ test. test.id) (λ test. test.range) (λ test. ⟦<Box<dyn Fn(&Facts) -> u32> as Fn(&Facts) -> u32>⟧.post test.check) tests.now)) result
         (record { shelf_before = S.faults shelf.old; shelf_after = S.faults shelf.new; sink = record { faults_before = K.faults out.old; faults_after = K.faults out.new; taken_before = K.taken out.old; taken_after = K.taken out.new } }) }
+    ensures reads_in_order { AsksInOrder S.asks (S.told shelf.old) (asks_for (request_of request.entry) (stored_by (λ test. test.id) (λ test. test.range) (λ test. ⟦<Box<dyn Fn(&Facts) -> u32> as Fn(&Facts) -> u32>⟧.post test.check) tests.now)) shelf.old shelf.new (course_of_run result) }
     ensures reads_only_for_it { ((laws_for (request_of request.entry) (S.told shelf.old) (stored_by (λ test. test.id) (λ test. test.range) (λ test. ⟦<Box<dyn Fn(&Facts) -> u32> as Fn(&Facts) -> u32>⟧.post test.check) tests.now)).reads → ⊥) → shelf.new ≡ shelf.old }
     ensures map_stays { S.told shelf.new ≡ S.told shelf.old }
 {
@@ -76,6 +79,7 @@ fn answer<S: Shelf, K: Sink>(
     requires numbered { IfSome request IsNumbered }
     ensures runs { IsRun (laws_by (option_map request_of request.entry) (S.told shelf.old) (stored_by (λ test. test.id) (λ test. test.range) (λ test. ⟦<Box<dyn Fn(&Facts) -> u32> as Fn(&Facts) -> u32>⟧.post test.check) tests.now)) result
         (record { shelf_before = S.faults shelf.old; shelf_after = S.faults shelf.new; sink = record { faults_before = K.faults out.old; faults_after = K.faults out.new; taken_before = K.taken out.old; taken_after = K.taken out.new } }) }
+    ensures reads_in_order { AsksInOrder S.asks (S.told shelf.old) (asks_by (option_map request_of request.entry) (stored_by (λ test. test.id) (λ test. test.range) (λ test. ⟦<Box<dyn Fn(&Facts) -> u32> as Fn(&Facts) -> u32>⟧.post test.check) tests.now)) shelf.old shelf.new (course_of_run result) }
     ensures reads_only_for_it { ((laws_by (option_map request_of request.entry) (S.told shelf.old) (stored_by (λ test. test.id) (λ test. test.range) (λ test. ⟦<Box<dyn Fn(&Facts) -> u32> as Fn(&Facts) -> u32>⟧.post test.check) tests.now)).reads → ⊥) → shelf.new ≡ shelf.old }
     ensures map_stays { S.told shelf.new ≡ S.told shelf.old }
 {
@@ -89,6 +93,9 @@ fn answer<S: Shelf, K: Sink>(
 ///
 /// The words are those behind the program's name, and the tests those that a score may ask beside the settings. The status
 /// says how it ended: with 0, 1, 2, 3, 7 and 8 a whole text was printed, with 4 nothing, and with 5 and 6 a prefix of one.
+///
+/// Over files that the shelf tells, exactly the calls of what is asked are made, in their order, up to the first that is refused or
+/// fails, and each answer is judged before the next call.
 pub fn run<S: Shelf, K: Sink>(
     alloc: Global,
     words: &[&str],
@@ -103,6 +110,7 @@ pub fn run<S: Shelf, K: Sink>(
         (record { shelf_before = S.faults shelf.old; shelf_after = S.faults shelf.new; sink = record { faults_before = K.faults out.old; faults_after = K.faults out.new; taken_before = K.taken out.old; taken_after = K.taken out.new } }) }
     ensures completes { Completes (Accepts (asked words.now (S.told shelf.old) (stored_by (λ test. test.id) (λ test. test.range) (λ test. ⟦<Box<dyn Fn(&Facts) -> u32> as Fn(&Facts) -> u32>⟧.post test.check) tests.items))) result
         (record { shelf_before = S.faults shelf.old; shelf_after = S.faults shelf.new; sink = record { faults_before = K.faults out.old; faults_after = K.faults out.new; taken_before = K.taken out.old; taken_after = K.taken out.new } }) }
+    ensures reads_in_order { AsksInOrder S.asks (S.told shelf.old) (asks_of (asked words.now (S.told shelf.old) (stored_by (λ test. test.id) (λ test. test.range) (λ test. ⟦<Box<dyn Fn(&Facts) -> u32> as Fn(&Facts) -> u32>⟧.post test.check) tests.items))) shelf.old shelf.new (course_of_run result) }
     ensures reads_only_for_a_command { (ReadsFiles (asked words.now (S.told shelf.old) (stored_by (λ test. test.id) (λ test. test.range) (λ test. ⟦<Box<dyn Fn(&Facts) -> u32> as Fn(&Facts) -> u32>⟧.post test.check) tests.items)) → ⊥) → shelf.new ≡ shelf.old }
     ensures map_stays { S.told shelf.new ≡ S.told shelf.old }
 {

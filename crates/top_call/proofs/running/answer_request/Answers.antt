@@ -23,6 +23,13 @@ use Rattle.sample_command.specs.Prints.{sample_laws, sampled_text, ending_of as 
 use Rattle.sample_command.proofs.Prepared.{together as sample_together}
 use Rattle.top_call.specs.Texts.{help_text, version_text}
 use Rattle.top_call.proofs.Runs.{ran_fixed}
+use Rattle.std.proofs.Common.{[]}
+use Rattle.host_io.specs.Calls.{Whole}
+use Rattle.unit_inputs.specs.Asking.{asks_with_file, input_asks}
+use Rattle.unit_inputs.proofs.Ended.{order_finished}
+use Rattle.unit_inputs.proofs.Ordering.{asked_so, order_quiet}
+use Rattle.fleet_command.specs.Asking.{fleet_asks}
+use Rattle.top_call.proofs.Asked.{asked_fixed}
 use Rattle.top_call.proofs.running.answer_request.Goals as goal
 
 pub returns-in-Help-clause-runs : goal.returns-in-Help-clause-runs
@@ -90,3 +97,74 @@ returns-in-Sample-clause-runs g c =
     rw c.in-Sample.is
     (ran (sample_laws c.in-Sample.number) (sample_together c.in-Sample.number) _ sample_ending sampled_text c.prepare-in-Sample.result c.finish-in-Sample.result
     c.prepare-in-Sample.ensures.prepares c.prepare-in-Sample.ensures.reads_nothing (quiet _ _ c.prepare-in-Sample.result refl c.prepare-in-Sample.ensures.reads_nothing) c.finish-in-Sample.ensures.finishes)
+
+pub returns-in-Help-clause-reads_in_order : goal.returns-in-Help-clause-reads_in_order
+returns-in-Help-clause-reads_in_order g c =
+    rw c.in-Help.is
+    (asked_fixed g.S.Shelf.asks (g.S.Shelf.told c.args.shelf.now) c.args.shelf.now c.help.result Done c.finish.result _ refl c.help.ensures.ending c.finish.ensures.finishes)
+
+pub returns-in-Version-clause-reads_in_order : goal.returns-in-Version-clause-reads_in_order
+returns-in-Version-clause-reads_in_order g c =
+    rw c.in-Version.is
+    (asked_fixed g.S.Shelf.asks (g.S.Shelf.told c.args.shelf.now) c.args.shelf.now c.version.result Done c.finish-in-Version.result _ refl c.version.ensures.ending c.finish-in-Version.ensures.finishes)
+
+pub returns-in-Filter-clause-reads_in_order : goal.returns-in-Filter-clause-reads_in_order
+returns-in-Filter-clause-reads_in_order g c =
+    rw c.in-Filter.is
+    (order_finished g.S.Shelf.asks (g.S.Shelf.told c.args.shelf.now) (λ files. input_asks files c.in-Filter.unit.now) c.args.shelf.now c.prepare.new.shelf (laws_over (g.S.Shelf.told c.args.shelf.now) (filter_laws c.in-Filter.unit.now)) (filter_together (g.S.Shelf.told c.args.shelf.now) c.in-Filter.unit.now) filter_ending filters_text c.prepare.result c.finish-in-Filter.result _
+    c.prepare.ensures.prepares c.finish-in-Filter.ensures.finishes c.prepare.ensures.asks_in_order)
+
+pub returns-in-Plan-clause-reads_in_order : goal.returns-in-Plan-clause-reads_in_order
+returns-in-Plan-clause-reads_in_order g c =
+    rw c.in-Plan.is
+    (order_finished g.S.Shelf.asks (g.S.Shelf.told c.args.shelf.now) (λ files. input_asks files c.in-Plan.unit.now) c.args.shelf.now c.prepare-in-Plan.new.shelf (laws_over (g.S.Shelf.told c.args.shelf.now) (plan_laws c.in-Plan.unit.now)) (plan_together (g.S.Shelf.told c.args.shelf.now) c.in-Plan.unit.now) plan_ending mounts_text c.prepare-in-Plan.result c.finish-in-Plan.result _
+    c.prepare-in-Plan.ensures.prepares c.finish-in-Plan.ensures.finishes c.prepare-in-Plan.ensures.asks_in_order)
+
+pub returns-in-Judge-clause-reads_in_order : goal.returns-in-Judge-clause-reads_in_order
+returns-in-Judge-clause-reads_in_order g c =
+    rw c.in-Judge.is
+    (c.answer.ensures.asks_in_order)
+
+pub returns-in-Replay-clause-reads_in_order : goal.returns-in-Replay-clause-reads_in_order
+returns-in-Replay-clause-reads_in_order g c =
+    rw c.in-Replay.is
+    (c.answer-in-Replay.ensures.asks_in_order)
+
+pub returns-in-Derive-clause-reads_in_order : goal.returns-in-Derive-clause-reads_in_order
+returns-in-Derive-clause-reads_in_order g c =
+    rw c.in-Derive.is
+    (order_finished g.S.Shelf.asks (g.S.Shelf.told c.args.shelf.now) (λ files. asks_with_file files c.in-Derive.unit.now c.in-Derive.script.now) c.args.shelf.now c.prepare-in-Derive.new.shelf (laws_over (g.S.Shelf.told c.args.shelf.now) (derive_laws c.in-Derive.unit.now c.in-Derive.script.now)) (derive_together (g.S.Shelf.told c.args.shelf.now) c.in-Derive.unit.now c.in-Derive.script.now) derive_ending derive_text c.prepare-in-Derive.result c.finish-in-Derive.result _
+    c.prepare-in-Derive.ensures.prepares c.finish-in-Derive.ensures.finishes c.prepare-in-Derive.ensures.asks_in_order)
+
+pub returns-in-Effect-clause-reads_in_order : goal.returns-in-Effect-clause-reads_in_order
+returns-in-Effect-clause-reads_in_order g c =
+    rw c.in-Effect.is
+    (order_finished g.S.Shelf.asks (g.S.Shelf.told c.args.shelf.now) (λ files. asks_with_file files c.in-Effect.unit.now c.in-Effect.dropin.now) c.args.shelf.now c.prepare-in-Effect.new.shelf (laws_over (g.S.Shelf.told c.args.shelf.now) (effect_laws c.in-Effect.unit.now c.in-Effect.dropin.now)) (effect_together (g.S.Shelf.told c.args.shelf.now) c.in-Effect.unit.now c.in-Effect.dropin.now) effect_ending effect_text c.prepare-in-Effect.result c.finish-in-Effect.result _
+    c.prepare-in-Effect.ensures.prepares c.finish-in-Effect.ensures.finishes c.prepare-in-Effect.ensures.asks_in_order)
+
+pub returns-in-Score-clause-reads_in_order : goal.returns-in-Score-clause-reads_in_order
+returns-in-Score-clause-reads_in_order g c =
+    rw c.in-Score.is
+    (let stored = stored_by (λ test. test.id) (λ test. test.range) (λ test shown answer. (goal.Fn-dyn g).post (test.check.vtable, test.check.value) (shown, tt) answer) c.args.tests.now in
+    order_finished g.S.Shelf.asks (g.S.Shelf.told c.args.shelf.now) (λ files. asks_with_file files c.in-Score.unit.now c.in-Score.policy.now) c.args.shelf.now c.prepare-in-Score.new.shelf (laws_over (g.S.Shelf.told c.args.shelf.now) (score_laws c.in-Score.unit.now c.in-Score.policy.now c.in-Score.threshold stored)) (score_together (g.S.Shelf.told c.args.shelf.now) c.in-Score.unit.now c.in-Score.policy.now c.in-Score.threshold stored) score_ending scored_text c.prepare-in-Score.result c.finish-in-Score.result _
+    c.prepare-in-Score.ensures.prepares c.finish-in-Score.ensures.finishes c.prepare-in-Score.ensures.asks_in_order)
+
+pub returns-in-Check-clause-reads_in_order : goal.returns-in-Check-clause-reads_in_order
+returns-in-Check-clause-reads_in_order g c =
+    rw c.in-Check.is
+    (order_finished g.S.Shelf.asks (g.S.Shelf.told c.args.shelf.now) (λ files. asks_with_file files c.in-Check.unit.now c.in-Check.path.now) c.args.shelf.now c.prepare-in-Check.new.shelf (check_laws (g.S.Shelf.told c.args.shelf.now) c.in-Check.unit.now c.in-Check.name.now c.in-Check.path.now) (check_together c.in-Check.unit.now c.in-Check.name.now c.in-Check.path.now (g.S.Shelf.told c.args.shelf.now)) check_ending checked_text c.prepare-in-Check.result c.finish-in-Check.result _
+    c.prepare-in-Check.ensures.prepares c.finish-in-Check.ensures.finishes c.prepare-in-Check.ensures.asks_in_order)
+
+pub returns-in-Fleet-clause-reads_in_order : goal.returns-in-Fleet-clause-reads_in_order
+returns-in-Fleet-clause-reads_in_order g c =
+    rw c.in-Fleet.is
+    (let stored = stored_by (λ test. test.id) (λ test. test.range) (λ test shown answer. (goal.Fn-dyn g).post (test.check.vtable, test.check.value) (shown, tt) answer) c.args.tests.now in
+    order_finished g.S.Shelf.asks (g.S.Shelf.told c.args.shelf.now) (λ files. fleet_asks files c.in-Fleet.policy.now stored) c.args.shelf.now c.prepare-in-Fleet.new.shelf (laws_over (g.S.Shelf.told c.args.shelf.now) (fleet_laws c.in-Fleet.policy.now stored)) (fleet_together (g.S.Shelf.told c.args.shelf.now) c.in-Fleet.policy.now stored) fleet_ending fleet_text c.prepare-in-Fleet.result c.finish-in-Fleet.result _
+    c.prepare-in-Fleet.ensures.prepares c.finish-in-Fleet.ensures.finishes c.prepare-in-Fleet.ensures.asks_in_order)
+
+pub returns-in-Sample-clause-reads_in_order : goal.returns-in-Sample-clause-reads_in_order
+returns-in-Sample-clause-reads_in_order g c =
+    rw c.in-Sample.is
+    (order_finished g.S.Shelf.asks (g.S.Shelf.told c.args.shelf.now) (λ files. []) c.args.shelf.now c.args.shelf.now (sample_laws c.in-Sample.number) (sample_together c.in-Sample.number) sample_ending sampled_text c.prepare-in-Sample.result c.finish-in-Sample.result _
+    c.prepare-in-Sample.ensures.prepares c.finish-in-Sample.ensures.finishes
+    (order_quiet g.S.Shelf.asks (g.S.Shelf.told c.args.shelf.now) (λ files. []) c.args.shelf.now c.args.shelf.now c.prepare-in-Sample.result c.prepare-in-Sample.ensures.reads_nothing (asked_so g.S.Shelf.asks (g.S.Shelf.told c.args.shelf.now) [] c.args.shelf.now c.args.shelf.now Whole refl)))

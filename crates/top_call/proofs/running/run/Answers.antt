@@ -3,6 +3,7 @@ use Rattle.std.specs.Option.{option_map}
 use Rattle.exposure_score.specs.StoredTests.{stored_by}
 use Rattle.top_call.specs.Requests.{request_of}
 use Rattle.top_call.proofs.Runs.{of_words}
+use Rattle.top_call.proofs.Asked.{asked_of_words}
 use Rattle.top_call.proofs.running.run.Goals as goal
 
 pub returns-clause-prints_the_whole_text : goal.returns-clause-prints_the_whole_text
@@ -24,3 +25,8 @@ pub returns-clause-completes : goal.returns-clause-completes
 returns-clause-completes g c =
     (of_words (option_map request_of c.parse.result) (map (λ word. word.now) c.args.words.now) (g.S.Shelf.told c.args.shelf.now) (λ tests. stored_by (λ test. test.id) (λ test. test.range) (λ test shown answer. (goal.Fn-dyn g).post (test.check.vtable, test.check.value) (shown, tt) answer) tests)
     c.deref.result.now c.args.tests.items c.answer.result c.of.result _ c.parse.ensures.request c.deref.ensures.value c.of.ensures.is_the_ending c.answer.ensures.runs).completes
+
+pub returns-clause-reads_in_order : goal.returns-clause-reads_in_order
+returns-clause-reads_in_order g c =
+    asked_of_words g.S.Shelf.asks (g.S.Shelf.told c.args.shelf.now) c.args.shelf.now c.answer.new.shelf (option_map request_of c.parse.result) (map (λ word. word.now) c.args.words.now) (λ tests. stored_by (λ test. test.id) (λ test. test.range) (λ test shown answer. (goal.Fn-dyn g).post (test.check.vtable, test.check.value) (shown, tt) answer) tests)
+    c.deref.result.now c.args.tests.items c.answer.result c.of.result c.parse.ensures.request c.deref.ensures.value c.of.ensures.is_the_ending c.answer.ensures.reads_in_order
