@@ -1,0 +1,38 @@
+//! A question, read as it is printed.
+ghost use Rattle.std.specs.Prelude.{IfOk};
+ghost use Rattle.call_table.specs.Table.{Table};
+ghost use Rattle.site_table.specs.Table.{Site};
+ghost use Rattle.question_text.specs.Printed.{ArePrinted, Reads};
+
+use crate::printed::{PrintedQuestion, print_questions};
+use call_table::CallTable;
+use questions::Question;
+use site_table::SiteTable;
+use std::alloc::{AllocError, Global};
+
+/// The question among all printed ones of which this is printed, without a line feed, if there is one.
+pub fn find_question(printed: &[PrintedQuestion], text: &[u8]) -> Option<Question>
+    ensures reads { (table : Table) (site : Site) → ArePrinted table site printed.now → Reads table site text.now result }
+{
+    for one in printed {
+        if one.text.as_slice() == text {
+            return Some(one.question);
+        }
+    }
+    None
+}
+
+/// The question of the list of a table of calls and a site of which this is printed, without a line feed, if there is one.
+///
+/// The one error is want of memory.
+pub fn read_question(
+    alloc: Global,
+    calls: &CallTable,
+    site: &SiteTable,
+    text: &[u8],
+) -> Result<Option<Question>, AllocError>
+    ensures reads { IfOk result (Reads calls.now site.now text.now) }
+{
+    let printed = print_questions(alloc, calls, site)?;
+    Ok(find_question(printed.as_slice(), text))
+}
