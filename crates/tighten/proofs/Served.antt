@@ -164,6 +164,7 @@ module _ (tried : Tried) (exact : QuestionsAreExact) (list : List Question) (all
       → tight.open_before ≡ count_open (rows_of own.service.world list) → tight.denied_before ≡ length list - tight.open_before
       → tight.open_after ≡ count_open (rows_of held.bounded.service.world list) → tight.denied_after ≡ length list - tight.open_after → IsTight tried tight
   tight_is own held tight serving most items opened shut opened_after shut_after = record {
+    itself = record { service = own.service; launched = serving.launched; pleases = serving.pleases };
     serves = subst (Serves tried) (sym items) (serves_ordered tried held most.holds);
     no_more = λ item lo hi new. subst (λ these. Stops tried (item ∷ these)) (sym items) (stops item lo hi (sym (has_in_order set item lo hi) ∙ ap (λ these. has these item) (sym items) ∙ new) (most.settled item lo hi));
     are_items = subst (All (λ item. (1 ≤ item) × (item ≤ 17))) (sym items) (in_order_within set);

@@ -1,5 +1,5 @@
 -- How far a unit can be tightened.
-use Rattle.std.specs.Prelude.{◌≡◌, ◌≤◌, ⊤, ℕ, false, List, ◌∷◌, Result, Ok, Err}
+use Rattle.std.specs.Prelude.{◌≡◌, ◌≤◌, ⊤, ℕ, false, List, [], ◌∷◌, Result, Ok, Err}
 use Rattle.std.specs.List.{All}
 use Rattle.std.specs.List.Sorted.{IsStrictlyIncreasing}
 use Rattle.call_table.specs.Table as calls
@@ -23,9 +23,10 @@ pub record AreCounts (unit : Resolved) (table : calls.Table) (site : Site) (deni
   pub denied_are : denied ≡ count_denied rows
   pub open_are : open' ≡ count_open rows
 
--- the items serve, and with any other item they do not; each stands once, in the order of the lines; the counts are those of the
--- unit and of the unit with the items
+-- the unit itself serves, and so do the items, and with any other item they do not; each stands once, in the order of the lines; the
+-- counts are those of the unit and of the unit with the items
 pub record IsTight (tried : Tried) (tight : Tight) : Type 0 where
+  pub itself : Serves tried []
   pub serves : Serves tried tight.items
   pub no_more : (item : ℕ) → 1 ≤ item → item ≤ 17 → has tight.items item ≡ false → Stops tried (item ∷ tight.items)
   pub are_items : All (λ item. (1 ≤ item) × (item ≤ 17)) tight.items
