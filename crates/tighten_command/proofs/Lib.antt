@@ -1,0 +1,4 @@
+pub mod Telling
+pub mod Taken
+pub mod Prepared
+pub mod Reading

@@ -1,0 +1,172 @@
+-- What is ready, and the line of a refusal, are what the definitions admit, and the laws go together.
+use Rattle.std.proofs.Common.{◌≡◌, ◌∙◌, ℕ, List, Option, Some, None, Result, Ok, Err, refl, sym, ap, subst, inl, inr}
+use Rattle.std.specs.List.{All}
+use Rattle.kernel_laws.specs.Questions.{questions}
+use Rattle.questions.specs.Meanings.{meant}
+use Rattle.std.specs.Prelude.{◌⊎◌, Contains, IfSome, IsErrOf, IsSome, IsTrue}
+use Rattle.host_io.specs.Files.{Files}
+use Rattle.call_table.specs.Table.{Table}
+use Rattle.command_answers.specs.Endings.{is_answer, is_whole}
+use Rattle.command_answers.specs.Laws.{GoTogether, IsAdmitted}
+use Rattle.command_answers.specs.Stops.{HasReadCause, IsAnswer, Prepares, first_refusal}
+use Rattle.command_answers.specs.declared.ending.Ending.{Ending}
+use Rattle.command_answers.specs.declared.ending.Ending.TheVariants.{Done, LaunchRefused, Refused}
+use Rattle.command_answers.specs.declared.stop.Stop.{Stop}
+use Rattle.command_answers.specs.declared.stop.Stop.TheVariants as stop
+use Rattle.command_answers.proofs.Refusing.{quiet}
+use Rattle.dropin_merge.specs.declared.resolved.Resolved.{Resolved}
+use Rattle.questions.specs.declared.question.Question.{Question}
+use Rattle.site_table.specs.Table.{Site}
+use Rattle.tighten.specs.Tried.{Tried, tried_with}
+use Rattle.tighten.specs.Wishes.{Wishes}
+use Rattle.unit_inputs.specs.FileRefusals.{bytes_in}
+use Rattle.unit_inputs.specs.Inputs.{Inputs, input_refusals, inputs_of, inputs_view}
+use Rattle.unit_inputs.specs.ReadsFor.{ReadsFor}
+use Rattle.unit_inputs.specs.declared.inputs.UnitInputs.{UnitInputs}
+use Rattle.unit_names.specs.Cutting.{name_of}
+use Rattle.tighten_command.specs.KeepFiles.{IsKeepIn, IsKeepOf, no_file, of_file}
+use Rattle.tighten_command.specs.Prints.{Admits, MayEndUntold, RefusesBefore, an_input, ending_of, refuses, tells, text_of, the_keep, tighten_laws}
+use Rattle.tighten_command.specs.Said.{IsSaid}
+use Rattle.tighten_command.specs.Telling.{IsTold, TellsTight, denies, no_launch, no_plan, no_settings, refuses_wish, tightened}
+use Rattle.tighten_command.specs.declared.hardening.Hardening.{Hardening}
+use Rattle.tighten_command.proofs.Telling.{said_as}
+
+-- ---- the file of what is to be kept
+-- the bytes of the file are not there
+bytes_stop : {T : Type 0} (see : T → List ℕ) (files : Files) (table : Table) (site : Site) (path : List ℕ) (why : Stop) → IsAnswer see (Err why) (bytes_in files path) → IsSaid {T = List Question} (λ keep. keep) (IsKeepIn files table site path) (Err why)
+bytes_stop see files table site path (stop.Refused line) said = no_file line.items said
+bytes_stop see files table site path stop.ReadFault said = tt
+bytes_stop see files table site path stop.Memory said = tt
+
+pub no_bytes : {T V : Type 0} (see : T → List ℕ) (view : V → List Question) (told : Option Files) (table : Table) (site : Site) (path : List ℕ) (why : Stop) → IfSome told (λ files. IsAnswer see (Err why) (bytes_in files path))
+    → IfSome told (λ files. IsSaid view (IsKeepIn files table site path) (Err why))
+no_bytes see view None table site path why said = tt
+no_bytes see view (Some files) table site path (stop.Refused line) said = no_file line.items said
+no_bytes see view (Some files) table site path stop.ReadFault said = tt
+no_bytes see view (Some files) table site path stop.Memory said = tt
+
+-- or they say what is to be kept, or not
+pub some_bytes : {V : Type 0} (view : V → List Question) (told : Option Files) (table : Table) (site : Site) (path bytes : List ℕ) (result : Result V Stop) → IfSome told (λ files. bytes_in files path ≡ Ok bytes)
+    → IsSaid view (IsKeepOf table site path bytes) result → IfSome told (λ files. IsSaid view (IsKeepIn files table site path) result)
+some_bytes view None table site path bytes result are said = tt
+some_bytes view (Some files) table site path bytes result are said = said_as view (IsKeepOf table site path bytes) (IsKeepIn files table site path) (λ found is. of_file bytes found are is) result said
+
+-- ---- the laws
+module _ (unit : List ℕ) (tried : Tried) where
+  -- what is told of a unit is told whole, and ends in one of three ways
+  told_may : (ending : Ending) (text : List ℕ) → TellsTight unit tried ending text → MayEndUntold ending
+  told_may _ _ (tightened tight is) = inr (inl refl)
+  told_may _ _ (no_settings error is) = inl refl
+  told_may _ _ (no_plan error is) = inl refl
+  told_may _ _ (no_launch refusal is) = inr (inr refl)
+  told_may _ _ (denies number is) = inl refl
+  told_may _ _ (refuses_wish number is) = inl refl
+
+untold_whole : (ending : Ending) → MayEndUntold ending → IsTrue (is_whole ending)
+untold_whole ending (inl refused) = subst (λ own. IsTrue (is_whole own)) (sym refused) refl
+untold_whole ending (inr (inl done)) = subst (λ own. IsTrue (is_whole own)) (sym done) refl
+untold_whole ending (inr (inr launch)) = subst (λ own. IsTrue (is_whole own)) (sym launch) refl
+
+-- an ending that is no refusal is an answer
+unrefused : (ending : Ending) → MayEndUntold ending → (ending ≡ Refused → ⊥) → IsTrue (is_answer ending)
+unrefused ending (inl refused) not = absurd (not refused)
+unrefused ending (inr (inl done)) not = subst (λ own. IsTrue (is_answer own)) (sym done) refl
+unrefused ending (inr (inr launch)) not = subst (λ own. IsTrue (is_answer own)) (sym launch) refl
+
+module _ (unit path : List ℕ) (wishes : Wishes) where
+  admitted_may : (files : Files) (ending : Ending) (text : List ℕ) → Admits files unit path wishes ending text → MayEndUntold ending
+  admitted_may files _ _ (refuses line is) = inl refl
+  admitted_may files _ _ (tells inputs keep are is ending text told) = told_may unit (tried_with inputs.unit inputs.calls inputs.site keep wishes) ending text told
+
+  pub together : (told : Option Files) → GoTogether (tighten_laws told unit path wishes)
+  together None = record {
+    ends = λ ending text admitted. admitted;
+    whole = λ ending may. untold_whole ending may;
+    answers = λ accepts ending may. absurd accepts;
+  }
+  together (Some files) = record {
+    ends = λ ending text admitted. (text, admitted);
+    whole = λ ending may. untold_whole ending (admitted_may files ending may.0 may.1);
+    answers = λ accepts ending may. unrefused ending (admitted_may files ending may.0 may.1) (λ refused. accepts may.0 (subst (λ own. Admits files unit path wishes own may.0) refused may.1));
+  }
+
+-- the inputs are read, and none is refused
+abbrev pub AreRead : Files → List ℕ → UnitInputs → Type 0
+AreRead files unit inputs = (first_refusal (input_refusals files unit) ≡ None) × (inputs_of files unit ≡ Some (inputs_view inputs))
+
+module _ (unit path : List ℕ) (wishes : Wishes) where
+  -- an input is refused
+  pub stops_at_inputs : (P : Files → UnitInputs → Type 0) (told : Option Files) (why : Stop) → IfSome told (λ files. Prepares (P files) (input_refusals files unit) (Err why)) → IsAdmitted (tighten_laws told unit path wishes) ending_of text_of (Err why)
+  stops_at_inputs P None (stop.Refused line) said = inl refl
+  stops_at_inputs P (Some files) (stop.Refused line) said = refuses line.items (an_input line.items said)
+  stops_at_inputs P told stop.ReadFault said = tt
+  stops_at_inputs P told stop.Memory said = tt
+
+  -- what is to be kept is refused
+  refused_keep : (files : Files) (inputs : UnitInputs) (line : List ℕ) → AreRead files unit inputs → IsKeepIn files (inputs_view inputs).calls (inputs_view inputs).site path (Err line) → Admits files unit path wishes Refused line
+  refused_keep files inputs line read is = refuses line (the_keep line (inputs_view inputs) read.1 is)
+
+  pub stops_at_keep : {V : Type 0} (view : V → List Question) (told now : Option Files) (inputs : UnitInputs) (table : Table) (site : Site) (why : Stop) → now ≡ told → table ≡ (inputs_view inputs).calls → site ≡ (inputs_view inputs).site
+      → IfSome told (λ files. AreRead files unit inputs) → IfSome now (λ files. IsSaid view (IsKeepIn files table site path) (Err why)) → IsAdmitted (tighten_laws told unit path wishes) ending_of text_of (Err why)
+  stops_at_keep view None now inputs table site (stop.Refused line) same calls_are site_is read said = inl refl
+  stops_at_keep view (Some files) now inputs table site (stop.Refused line) same calls_are site_is read said =
+      refused_keep files inputs line.items read
+      (subst (λ own. IsKeepIn files (inputs_view inputs).calls own path (Err line.items)) site_is
+      (subst (λ own. IsKeepIn files own site path (Err line.items)) calls_are
+      (subst (λ own. IfSome own (λ files. IsKeepIn files table site path (Err line.items))) same said)))
+  stops_at_keep view told now inputs table site stop.ReadFault same calls_are site_is read said = tt
+  stops_at_keep view told now inputs table site stop.Memory same calls_are site_is read said = tt
+
+  -- what is told of the unit is admitted
+  module _ {V : Type 0} (view : V → List Question) (told now : Option Files) (inputs : UnitInputs) (table : Table) (site : Site) (value : V) (same : now ≡ told) (calls_are : table ≡ (inputs_view inputs).calls) (site_is : site ≡ (inputs_view inputs).site)
+      (read : IfSome told (λ files. AreRead files unit inputs)) (said : IfSome now (λ files. IsSaid view (IsKeepIn files table site path) (Ok value))) where
+    keep_is : (files : Files) → told ≡ Some files → IsKeepIn files (inputs_view inputs).calls (inputs_view inputs).site path (Ok (view value))
+    keep_is files e =
+        subst (λ own. IsKeepIn files (inputs_view inputs).calls own path (Ok (view value))) site_is
+        (subst (λ own. IsKeepIn files own site path (Ok (view value))) calls_are
+        (subst (λ own. IfSome own (λ files. IsKeepIn files table site path (Ok (view value)))) (same ∙ e) said))
+
+    abbrev own_tried : Tried
+    own_tried = tried_with (inputs_view inputs).unit (inputs_view inputs).calls (inputs_view inputs).site (view value) wishes
+
+    admits : (own : Option Files) → told ≡ own → (ending : Ending) (text : List ℕ) → TellsTight unit own_tried ending text → (tighten_laws own unit path wishes).admits ending text
+    admits None e ending text is = told_may unit own_tried ending text is
+    admits (Some files) e ending text is = tells (inputs_view inputs) (view value) (subst (λ own. IfSome own (λ files. AreRead files unit inputs)) e read).1 (keep_is files e) ending text is
+
+    answered : (result : Result Hardening Stop) → IsTold (TellsTight unit own_tried) result → IsAdmitted (tighten_laws told unit path wishes) ending_of text_of result
+    answered (Ok hardening) is = admits told refl hardening.ending hardening.text.items is
+    answered (Err (stop.Refused line)) is = admits told refl Refused line.items is
+    answered (Err stop.ReadFault) is = tt
+    answered (Err stop.Memory) is = tt
+
+    -- also where its parts are lent
+    pub answered_as : (own : Resolved) (lent_table : Table) (lent_site : Site) (keep : List Question) (result : Result Hardening Stop) → own ≡ (inputs_view inputs).unit → lent_table ≡ (inputs_view inputs).calls → lent_site ≡ (inputs_view inputs).site → keep ≡ view value
+        → IsTold (TellsTight unit (tried_with own lent_table lent_site keep wishes)) result → IsAdmitted (tighten_laws told unit path wishes) ending_of text_of result
+    answered_as own lent_table lent_site keep result one two three four is =
+        answered result
+        (subst (λ these. IsTold (TellsTight unit (tried_with (inputs_view inputs).unit (inputs_view inputs).calls (inputs_view inputs).site these wishes)) result) four
+        (subst (λ these. IsTold (TellsTight unit (tried_with (inputs_view inputs).unit (inputs_view inputs).calls these keep wishes)) result) three
+        (subst (λ these. IsTold (TellsTight unit (tried_with (inputs_view inputs).unit these lent_site keep wishes)) result) two
+        (subst (λ these. IsTold (TellsTight unit (tried_with these lent_table lent_site keep wishes)) result) one is))))
+
+-- what is lent is of the list that is lent
+pub lent_listed : (table own : Table) (site lent_site : Site) (keep lent : List Question) → table ≡ own → site ≡ lent_site → lent ≡ keep → All (λ question. Contains (questions table site) (meant question)) keep
+    → All (λ question. Contains (questions own lent_site) (meant question)) lent
+lent_listed table own site lent_site keep lent one two three listed =
+    subst (λ (these : Site). All (λ question. Contains (questions own these) (meant question)) lent) two
+    (subst (λ (these : Table). All (λ question. Contains (questions these site) (meant question)) lent) one
+    (subst (λ (these : List Question). All (λ question. Contains (questions table site) (meant question)) these) (sym three) listed))
+
+pub named : {X : Type 0} (found : Option X) (name : X) → found ≡ Some name → IsSome found
+named None name is = cc
+named (Some own) name is = refl
+
+-- what reads nothing, behind a file that was read for a unit with a name
+module _ {S T U : Type 0} (told : S → Option Files) (faults : S → ℕ) (unit : List ℕ) (before mid now : S) (value : T) (more : U) (reads : ReadsFor told faults unit before mid (Ok value)) (name : IsSome (name_of unit)) (stays : told now ≡ told mid) (cause : HasReadCause (faults mid) (faults now) (Ok more)) where
+  pub read_behind : {V : Type 0} (result : Result V Stop) → (IsErrOf result stop.ReadFault → ⊥) → ReadsFor told faults unit before now result
+  read_behind result nothing = record {
+    reads_for_a_name = λ e. absurd (nothing e);
+    unread_without_a_name = λ none. absurd (none name);
+    map_stays = stays ∙ reads.map_stays;
+    fault_rose = quiet (faults before) (faults now) result (cause.no_other_fault ∙ reads.fault_rose.no_other_fault) nothing;
+  }

@@ -1,0 +1,74 @@
+-- What a step of preparing tells.
+use Rattle.std.proofs.Common.{◌≡◌, ℕ, List, Result, Ok, Err, refl, sym, subst}
+use Rattle.std.specs.Prelude.{IfOk, IsErrOf, Vec}
+use Rattle.std.specs.declared.alloc.AllocError.{AllocError}
+use Rattle.std.specs.declared.alloc.Global.{Global}
+use Rattle.command_answers.specs.Stops.{stop_of}
+use Rattle.command_answers.specs.declared.ending.Ending.{Ending}
+use Rattle.command_answers.specs.declared.ending.Ending.TheVariants.{Done, LaunchRefused, Refused}
+use Rattle.command_answers.specs.declared.stop.Stop.{Stop}
+use Rattle.command_answers.specs.declared.stop.Stop.TheVariants as stop
+use Rattle.tighten.specs.Tight.{IsTight, Tightens}
+use Rattle.tighten.specs.Tried.{Tried}
+use Rattle.tighten.specs.declared.tight.Tight.{Tight}
+use Rattle.tighten.specs.declared.tight.TightenError.{TightenError}
+use Rattle.tighten.specs.declared.tight.TightenError.TheVariants as error
+use Rattle.tighten_command.specs.Lines.{tight_text}
+use Rattle.tighten_command.specs.Said.{IsSaid}
+use Rattle.tighten_command.specs.Telling.{IsTold, TellsError, TellsTight, denies, no_launch, no_plan, no_settings, refuses_wish, tightened}
+use Rattle.tighten_command.specs.declared.hardening.Hardening.{Hardening}
+
+module _ {T V : Type 0} (see : T → V) (IsWanted : Result V (List ℕ) → Type 0) where
+  -- the line of a refusal that stands, where there was memory for it
+  said_line : (line : Result (Vec ℕ Global) AllocError) (text : List ℕ) → IfOk line (λ own. own.items ≡ text) → IsWanted (Err text) → IsSaid see IsWanted (Err (stop_of line))
+  said_line (Ok line) text is wanted = subst (λ own. IsWanted (Err own)) (sym is) wanted
+  said_line (Err error) text is wanted = tt
+
+  pub said_refused : (line : Result (Vec ℕ Global) AllocError) (text : List ℕ) (told : Stop) → told ≡ stop_of line → IfOk line (λ own. own.items ≡ text) → IsWanted (Err text) → IsSaid see IsWanted (Err told)
+  said_refused line text told same is wanted = subst (λ own. IsSaid see IsWanted (Err own)) (sym same) (said_line line text is wanted)
+
+  -- what is wanted by one relation is so by another
+  pub said_as : (IsOther : Result V (List ℕ) → Type 0) → ((said : Result V (List ℕ)) → IsWanted said → IsOther said) → (result : Result T Stop) → IsSaid see IsWanted result → IsSaid see IsOther result
+  said_as IsOther as_other (Ok value) said = as_other (Ok (see value)) said
+  said_as IsOther as_other (Err (stop.Refused line)) said = as_other (Err line.items) said
+  said_as IsOther as_other (Err stop.ReadFault) said = tt
+  said_as IsOther as_other (Err stop.Memory) said = tt
+
+module _ (P : Ending → List ℕ → Type 0) where
+  told_line : (line : Result (Vec ℕ Global) AllocError) (text : List ℕ) → IfOk line (λ own. own.items ≡ text) → P Refused text → IsTold P (Err (stop_of line))
+  told_line (Ok line) text is holds = subst (P Refused) (sym is) holds
+  told_line (Err error) text is holds = tt
+
+  -- the line of a refusal, where there was memory for it
+  pub told_refused : (line : Result (Vec ℕ Global) AllocError) (text : List ℕ) (told : Stop) → told ≡ stop_of line → IfOk line (λ own. own.items ≡ text) → P Refused text → IsTold P (Err told)
+  told_refused line text told same is holds = subst (λ own. IsTold P (Err own)) (sym same) (told_line line text is holds)
+
+  -- what is told by one relation is told by another
+  pub told_as : (Q : Ending → List ℕ → Type 0) → ((ending : Ending) (text : List ℕ) → P ending text → Q ending text) → (result : Result Hardening Stop) → IsTold P result → IsTold Q result
+  told_as Q as_other (Ok hardening) told = as_other hardening.ending hardening.text.items told
+  told_as Q as_other (Err (stop.Refused line)) told = as_other Refused line.items told
+  told_as Q as_other (Err stop.ReadFault) told = absurd told
+  told_as Q as_other (Err stop.Memory) told = tt
+
+  -- nothing is read for it
+  pub told_reads_nothing : (result : Result Hardening Stop) → IsTold P result → IsErrOf result stop.ReadFault → ⊥
+  told_reads_nothing (Ok hardening) told is = cc
+  told_reads_nothing (Err (stop.Refused line)) told is = cc
+  told_reads_nothing (Err stop.ReadFault) told is = told
+  told_reads_nothing (Err stop.Memory) told is = cc
+
+-- this ending and this text
+as_told : (P : Ending → List ℕ → Type 0) (own ending : Ending) (line text : List ℕ) → (ending ≡ own) × (text ≡ line) → P own line → P ending text
+as_told P own ending line text is holds = subst (λ one. P one text) (sym is.0) (subst (P own) (sym is.1) holds)
+
+module _ (unit : List ℕ) (tried : Tried) where
+  pub tells_tight : (tight : Tight) → IsTight tried tight → (ending : Ending) (text : List ℕ) → (ending ≡ Done) × (text ≡ tight_text tight) → TellsTight unit tried ending text
+  tells_tight tight is ending text told = as_told (TellsTight unit tried) Done ending _ text told (tightened tight is)
+
+  pub tells_error : (error : TightenError) → Tightens tried (Err error) → (ending : Ending) (text : List ℕ) → TellsError unit error ending text → TellsTight unit tried ending text
+  tells_error (error.Settings error) is ending text told = as_told (TellsTight unit tried) Refused ending _ text told (no_settings error is)
+  tells_error (error.Plan error) is ending text told = as_told (TellsTight unit tried) Refused ending _ text told (no_plan error is)
+  tells_error (error.Launch refusal) is ending text told = as_told (TellsTight unit tried) LaunchRefused ending _ text told (no_launch refusal is)
+  tells_error (error.Keep number) is ending text told = as_told (TellsTight unit tried) Refused ending _ text told (denies number is)
+  tells_error (error.Wish number) is ending text told = as_told (TellsTight unit tried) Refused ending _ text told (refuses_wish number is)
+  tells_error error.Memory is ending text told = absurd told

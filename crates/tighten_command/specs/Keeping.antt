@@ -1,0 +1,47 @@
+-- Which questions the lines of a file are, or why they are none.
+use Rattle.std.specs.Prelude.{◌≡◌, ◌<◌, ◌≤◌, ℕ, true, false, List, length, map, slice_get, take, Some, Result, Ok, Err, Contains}
+use Rattle.std.specs.List.{All}
+use Rattle.call_table.specs.Table as calls
+use Rattle.site_table.specs.Table.{Site}
+use Rattle.kernel_laws.specs.Questions as asked
+use Rattle.line_text.specs.Lines.{Line, is_text, lines_of}
+use Rattle.questions.specs.Meanings.{meant}
+use Rattle.questions.specs.declared.question.Question.{Question}
+use Rattle.question_text.specs.Printed.{IsPrintedSo}
+use Rattle.report_text.specs.Wording.{question_words}
+use Rattle.tighten_command.specs.declared.keeping.KeepError.{KeepError}
+use Rattle.tighten_command.specs.declared.keeping.KeepError.TheVariants as error
+
+-- each line is what is printed of a question of the list: these, in their order
+pub record AreOf (table : calls.Table) (site : Site) (lines : List Line) (keep : List Question) : Type 0 where
+  pub printed : map (λ question. question_words table site (meant question)) keep ≡ map (λ line. line.text) lines
+  pub listed : All (λ question. Contains (asked.questions table site) (meant question)) keep
+
+-- a line that is what is printed of no question stands behind at most 512 that are, and has this number
+pub record IsFirstOther (table : calls.Table) (site : Site) (lines : List Line) (number : ℕ) : Type 0 where
+  pub place : ℕ
+  pub few : place ≤ 512
+  pub keep : List Question
+  pub before : AreOf table site (take place lines) keep
+  pub line : Line
+  pub stands : slice_get lines place ≡ Some line
+  pub is_other : (question : asked.Question) → IsPrintedSo table site line.text question → ⊥
+  pub numbered : number ≡ line.number
+
+-- there are more than 512, before any line that is none
+pub record AreTooMany (table : calls.Table) (site : Site) (lines : List Line) : Type 0 where
+  pub more : 512 < length lines
+  pub keep : List Question
+  pub are : AreOf table site (take 513 lines) keep
+
+-- by the lines that count; want of memory may come at any of them
+pub data ReadsLines (table : calls.Table) (site : Site) (lines : List Line) : Result (List Question) KeepError → Type 0 where
+  questions : (keep : List Question) → AreOf table site lines keep → length keep ≤ 512 → ReadsLines table site lines (Ok keep)
+  other_line : (number : ℕ) → IsFirstOther table site lines number → ReadsLines table site lines (Err (error.Line number))
+  too_many : AreTooMany table site lines → ReadsLines table site lines (Err error.TooMany)
+  no_memory : ReadsLines table site lines (Err error.Memory)
+
+-- by the bytes: they are text first; empty lines and lines that begin with `#` do not count
+pub data ReadsKeep (table : calls.Table) (site : Site) (bytes : List ℕ) : Result (List Question) KeepError → Type 0 where
+  not_text : is_text bytes ≡ false → ReadsKeep table site bytes (Err error.NotText)
+  text_lines : (said : Result (List Question) KeepError) → is_text bytes ≡ true → ReadsLines table site (lines_of bytes) said → ReadsKeep table site bytes said

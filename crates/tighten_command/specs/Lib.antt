@@ -1,0 +1,6 @@
+pub mod Said
+pub mod Keeping
+pub mod KeepFiles
+pub mod Lines
+pub mod Telling
+pub mod Prints

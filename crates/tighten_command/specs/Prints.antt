@@ -1,0 +1,59 @@
+-- What `tighten` prints, by the files.
+use Rattle.std.specs.Prelude.{◌≡◌, ◌⊎◌, ℕ, IsSome, List, Option, Some, None, Ok, Err}
+use Rattle.host_io.specs.Files.{Files}
+use Rattle.command_answers.specs.Laws.{Laws}
+use Rattle.command_answers.specs.Stops.{first_refusal}
+use Rattle.command_answers.specs.declared.ending.Ending.{Ending}
+use Rattle.command_answers.specs.declared.ending.Ending.TheVariants.{Done, LaunchRefused, Refused}
+use Rattle.questions.specs.declared.question.Question.{Question}
+use Rattle.tighten.specs.Tried.{tried_with}
+use Rattle.tighten.specs.Wishes.{Wishes}
+use Rattle.unit_inputs.specs.Inputs.{Inputs, input_refusals, inputs_of}
+use Rattle.unit_names.specs.Cutting.{name_of}
+use Rattle.tighten_command.specs.KeepFiles.{IsKeepIn}
+use Rattle.tighten_command.specs.Telling.{TellsTight}
+use Rattle.tighten_command.specs.declared.hardening.Hardening.{Hardening}
+
+-- what is refused before anything is tried, the first that is: an input of the unit, then what is to be kept
+pub data RefusesBefore (files : Files) (unit path : List ℕ) : List ℕ → Type 0 where
+  an_input : (line : List ℕ) → first_refusal (input_refusals files unit) ≡ Some line → RefusesBefore files unit path line
+  the_keep : (line : List ℕ) (inputs : Inputs) → inputs_of files unit ≡ Some inputs → IsKeepIn files inputs.calls inputs.site path (Err line) → RefusesBefore files unit path line
+
+-- that line is printed; or what is told of the unit, where these questions are to be kept
+pub data Admits (files : Files) (unit path : List ℕ) (wishes : Wishes) : Ending → List ℕ → Type 0 where
+  refuses : (line : List ℕ) → RefusesBefore files unit path line → Admits files unit path wishes Refused line
+  tells : (inputs : Inputs) (keep : List Question) → inputs_of files unit ≡ Some inputs → IsKeepIn files inputs.calls inputs.site path (Ok keep)
+      → (ending : Ending) (text : List ℕ) → TellsTight unit (tried_with inputs.unit inputs.calls inputs.site keep wishes) ending text → Admits files unit path wishes ending text
+
+-- where the files are not told, only the endings are known
+abbrev pub MayEndUntold : Ending → Type 0
+MayEndUntold ending = (ending ≡ Refused) ⊎ ((ending ≡ Done) ⊎ (ending ≡ LaunchRefused))
+
+abbrev pub admits_over : Option Files → List ℕ → List ℕ → Wishes → Ending → List ℕ → Type 0
+admits_over None unit path wishes ending text = MayEndUntold ending
+admits_over (Some files) unit path wishes ending text = Admits files unit path wishes ending text
+
+-- an ending comes exactly where its text is admitted
+abbrev pub may_end_over : Option Files → List ℕ → List ℕ → Wishes → Ending → Type 0
+may_end_over None unit path wishes ending = MayEndUntold ending
+may_end_over (Some files) unit path wishes ending = (text : List ℕ) × Admits files unit path wishes ending text
+
+-- nothing is refused, whatever a wish may answer
+abbrev pub accepts_over : Option Files → List ℕ → List ℕ → Wishes → Type 0
+accepts_over None unit path wishes = ⊥
+accepts_over (Some files) unit path wishes = (line : List ℕ) → Admits files unit path wishes Refused line → ⊥
+
+abbrev pub tighten_laws : Option Files → List ℕ → List ℕ → Wishes → Laws
+tighten_laws told unit path wishes = record {
+  admits = admits_over told unit path wishes;
+  may_end = may_end_over told unit path wishes;
+  accepts = accepts_over told unit path wishes;
+  reads = IsSome (name_of unit);
+}
+
+-- what is ready
+abbrev pub text_of : Hardening → List ℕ
+text_of hardening = hardening.text.items
+
+abbrev pub ending_of : Hardening → Ending
+ending_of hardening = hardening.ending

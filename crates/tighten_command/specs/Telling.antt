@@ -1,0 +1,47 @@
+-- What is told of a unit that is tightened, and of one that is not; want of memory tells nothing.
+use Rattle.std.specs.Prelude.{◌≡◌, ℕ, List, Result, Ok, Err}
+use Rattle.command_answers.specs.declared.ending.Ending.{Ending}
+use Rattle.command_answers.specs.declared.ending.Ending.TheVariants.{Done, LaunchRefused, Refused}
+use Rattle.command_answers.specs.declared.stop.Stop.{Stop}
+use Rattle.command_answers.specs.declared.stop.Stop.TheVariants as stop
+use Rattle.exec_settings.specs.declared.errors.SettingsError.{SettingsError}
+use Rattle.launched_units.specs.Launching.{IsNotLaunched}
+use Rattle.launched_units.specs.declared.refusal.UnitRefusal.TheVariants as refusal
+use Rattle.mount_plan.specs.declared.error.PlanError.{PlanError}
+use Rattle.plan_command.specs.Refusals.{error_line}
+use Rattle.tighten.specs.Tight.{Denies, IsTight, RefusesWish}
+use Rattle.tighten.specs.Tried.{Tried}
+use Rattle.tighten.specs.declared.tight.Tight.{Tight}
+use Rattle.tighten.specs.declared.tight.TightenError.{TightenError}
+use Rattle.tighten.specs.declared.tight.TightenError.TheVariants.{Settings, Plan, Launch, Keep, Wish, Memory}
+use Rattle.unit_launch.specs.Refusals.{refusal_line}
+use Rattle.unit_launch.specs.declared.refusal.LaunchRefusal.{LaunchRefusal}
+use Rattle.unit_settings.specs.Refusals.{settings_line}
+use Rattle.tighten_command.specs.Lines.{keep_line, tight_text, wish_line}
+use Rattle.tighten_command.specs.declared.hardening.Hardening.{Hardening}
+
+-- A unit is tightened: what can be added is told. Or nothing is added, since the unit itself has no settings, no plan or no launch,
+-- of which the last is told with a status of its own; or denies a question that is to be kept; or does not grant a wish.
+pub data TellsTight (unit : List ℕ) (tried : Tried) : Ending → List ℕ → Type 0 where
+  tightened : (tight : Tight) → IsTight tried tight → TellsTight unit tried Done (tight_text tight)
+  no_settings : (error : SettingsError) → IsNotLaunched tried.unit tried.table tried.site (refusal.Settings error) → TellsTight unit tried Refused (settings_line unit error)
+  no_plan : (error : PlanError) → IsNotLaunched tried.unit tried.table tried.site (refusal.Plan error) → TellsTight unit tried Refused (error_line unit error)
+  no_launch : (refused : LaunchRefusal) → IsNotLaunched tried.unit tried.table tried.site (refusal.Launch refused) → TellsTight unit tried LaunchRefused (refusal_line refused)
+  denies : (number : ℕ) → Denies tried number → TellsTight unit tried Refused (keep_line unit number)
+  refuses_wish : (number : ℕ) → RefusesWish tried number → TellsTight unit tried Refused (wish_line unit number)
+
+-- why nothing is added, as it is told
+abbrev pub TellsError : List ℕ → TightenError → Ending → List ℕ → Type 0
+TellsError unit (Settings error) ending text = (ending ≡ Refused) × (text ≡ settings_line unit error)
+TellsError unit (Plan error) ending text = (ending ≡ Refused) × (text ≡ error_line unit error)
+TellsError unit (Launch refused) ending text = (ending ≡ LaunchRefused) × (text ≡ refusal_line refused)
+TellsError unit (Keep number) ending text = (ending ≡ Refused) × (text ≡ keep_line unit number)
+TellsError unit (Wish number) ending text = (ending ≡ Refused) × (text ≡ wish_line unit number)
+TellsError unit Memory ending text = ⊥
+
+-- what is ready, or the line of the refusal, is such, unless memory ran out
+abbrev pub IsTold : (Ending → List ℕ → Type 0) → Result Hardening Stop → Type 0
+IsTold P (Ok hardening) = P hardening.ending hardening.text.items
+IsTold P (Err (stop.Refused line)) = P Refused line.items
+IsTold P (Err stop.ReadFault) = ⊥
+IsTold P (Err stop.Memory) = Unit {0}

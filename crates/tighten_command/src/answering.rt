@@ -1,0 +1,80 @@
+//! What `tighten` prints.
+ghost use Rattle.std.specs.Prelude.{◌≡◌, ◌≤◌, Contains, IsErrOf};
+ghost use Rattle.std.specs.List.{All};
+ghost use Rattle.kernel_laws.specs.Questions.{questions};
+ghost use Rattle.questions.specs.Meanings.{meant};
+ghost use Rattle.tighten.specs.Tried.{tried_with};
+ghost use Rattle.tighten.specs.Wishes.{wishes_by};
+ghost use Rattle.tighten_command.specs.Telling.{IsTold, TellsError, TellsTight};
+ghost use Rattle.tighten_command.specs.Lines.{tight_text};
+ghost use Rattle.unit_launch.specs.Refusals.{refusal_line};
+ghost use Rattle.command_answers.specs.declared.ending.Ending.TheVariants.{Done, LaunchRefused};
+
+use crate::hardening::Hardening;
+use crate::lines::{keep_line, tight_text, wish_line};
+use asked_service::VerdictRow;
+use call_table::CallTable;
+use command_answers::{Ending, Stop, refuse};
+use dropin_merge::Resolved;
+use plan_command::plan_line;
+use questions::Question;
+use site_table::SiteTable;
+use std::alloc::Global;
+use tighten::{StoredWish, Tight, TightenError, tighten};
+use unit_launch::{LaunchRefusal, refusal_line};
+use unit_settings::settings_line;
+
+// What can be added.
+fn tell_tight(alloc: Global, tight: &Tight) -> Result<Hardening, Stop>
+    requires are_items { All (λ item. (1 ≤ item) × (item ≤ 17)) tight.now.items }
+    ensures { IsTold (λ ending text. (ending ≡ Done) × (text ≡ tight_text tight.now)) result }
+{
+    Ok(Hardening {
+        text: tight_text(alloc, tight)?,
+        ending: Ending::Done,
+    })
+}
+
+// The line of a launch that is refused.
+fn tell_refused(alloc: Global, refusal: &LaunchRefusal) -> Result<Hardening, Stop>
+    ensures { IsTold (λ ending text. (ending ≡ LaunchRefused) × (text ≡ refusal_line refusal.now)) result }
+{
+    Ok(Hardening {
+        text: refusal_line(alloc, refusal)?,
+        ending: Ending::LaunchRefused,
+    })
+}
+
+// Why nothing can be added, as it is told.
+fn tell_error(alloc: Global, name: &str, error: TightenError) -> Result<Hardening, Stop>
+    ensures { IsTold (TellsError name.now error) result }
+{
+    match error {
+        TightenError::Settings(error) => Err(refuse(settings_line(alloc, name, &error))),
+        TightenError::Plan(error) => Err(refuse(plan_line(alloc, name, &error))),
+        TightenError::Launch(refusal) => tell_refused(alloc, &refusal),
+        TightenError::Keep(number) => Err(refuse(keep_line(alloc, name, number))),
+        TightenError::Wish(number) => Err(refuse(wish_line(alloc, name, number))),
+        TightenError::Memory => Err(Stop::Memory),
+    }
+}
+
+/// Tightens the unit, and tells what can be added; or why it has no settings, no plan or no launch, or lacks what is wanted.
+pub fn answer(
+    alloc: Global,
+    name: &str,
+    unit: &Resolved,
+    calls: &CallTable,
+    site: &SiteTable,
+    keep: &[Question],
+    wishes: &[StoredWish],
+) -> Result<Hardening, Stop>
+    requires listed { All (λ question. Contains (questions calls.now site.now) (meant question)) keep.now }
+    ensures answers { IsTold (TellsTight name.now (tried_with unit.now calls.now site.now keep.now (wishes_by (λ wish. wish.must_open) (λ wish. ⟦<Box<dyn Fn(&[VerdictRow]) -> bool> as Fn(&[VerdictRow]) -> bool>⟧.post wish.test) wishes.now))) result }
+    ensures reads_nothing { IsErrOf result Stop.ReadFault → ⊥ }
+{
+    match tighten(alloc, unit, calls, site, keep, wishes) {
+        Ok(tight) => tell_tight(alloc, &tight),
+        Err(error) => tell_error(alloc, name, error),
+    }
+}

@@ -1,0 +1,77 @@
+//! The file of the questions that are to be kept, with the lines of its refusals.
+ghost use Rattle.std.specs.Prelude.{◌≡◌, ◌∷◌, [], Contains, IfOk, IfSome, IsErrOf};
+ghost use Rattle.std.specs.List.{All};
+ghost use Rattle.host_io.specs.Calls.{Went};
+ghost use Rattle.command_answers.specs.Asking.{course, input_file};
+ghost use Rattle.command_answers.specs.Stops.{HasReadCause};
+ghost use Rattle.kernel_laws.specs.Questions.{questions};
+ghost use Rattle.questions.specs.Meanings.{meant};
+ghost use Rattle.tighten_command.specs.KeepFiles.{IsKeepIn, IsKeepOf, keep_cause, keep_line};
+ghost use Rattle.tighten_command.specs.Said.{IsSaid};
+
+use crate::keeping::{KeepError, read_questions};
+use call_table::CallTable;
+use command_answers::{Stop, refuse, refused_line};
+use host_io::Shelf;
+use site_table::SiteTable;
+use std::alloc::{AllocError, Global};
+use tighten::Questions;
+use unit_inputs::read_input;
+
+// Why a file does not say what is to be kept.
+fn keep_cause(alloc: Global, error: KeepError) -> Result<Vec<u8>, AllocError>
+    ensures { IfOk result (λ why. why.items ≡ keep_cause error) }
+{
+    match error {
+        KeepError::NotText => b"not-text".to_vec(alloc),
+        KeepError::Line(number) => Ok(format!(in alloc; "line {number} question")?.into_bytes()),
+        KeepError::TooMany => b"too-many".to_vec(alloc),
+        KeepError::Memory => Ok(Vec::new(alloc)),
+    }
+}
+
+// The line of a file that does not say what is to be kept.
+fn keep_line(alloc: Global, path: &str, error: KeepError) -> Result<Vec<u8>, AllocError>
+    ensures { IfOk result (λ line. line.items ≡ keep_line path.now error) }
+{
+    let why = keep_cause(alloc, error)?;
+    refused_line(alloc, path, why.as_slice())
+}
+
+// What the bytes of a file say is to be kept.
+fn keep_of_bytes(
+    alloc: Global,
+    path: &str,
+    bytes: &[u8],
+    calls: &CallTable,
+    site: &SiteTable,
+) -> Result<Questions, Stop>
+    ensures says { IsSaid (λ keep. keep) (IsKeepOf calls.now site.now path.now bytes.now) result }
+    ensures listed { IfOk result (All (λ question. Contains (questions calls.now site.now) (meant question))) }
+    ensures reads_nothing { IsErrOf result Stop.ReadFault → ⊥ }
+{
+    match read_questions(alloc, bytes, calls, site) {
+        Ok(keep) => Ok(keep),
+        Err(KeepError::Memory) => Err(Stop::Memory),
+        Err(error) => Err(refuse(keep_line(alloc, path, error))),
+    }
+}
+
+/// The questions that are to be kept, of the file at a path, or the line of its first refusal: it is there, has at most 1 MiB, is
+/// text, and each line that counts is a question of the list, of which there are at most 512.
+pub fn read_keep<S: Shelf>(
+    alloc: Global,
+    shelf: &mut S,
+    path: &str,
+    calls: &CallTable,
+    site: &SiteTable,
+) -> Result<Questions, Stop>
+    ensures reads_what_is_kept { IfSome (S.told shelf.old) (λ files. IsSaid (λ keep. keep) (IsKeepIn files calls.now site.now path.now) result) }
+    ensures listed { IfOk result (All (λ question. Contains (questions calls.now site.now) (meant question))) }
+    ensures asks_for_it { Went S.asks shelf.old shelf.new (input_file path.now ∷ []) (course result) }
+    ensures map_stays { S.told shelf.new ≡ S.told shelf.old }
+    ensures fault_rose { HasReadCause (S.faults shelf.old) (S.faults shelf.new) result }
+{
+    let bytes = read_input(alloc, shelf, path)?;
+    keep_of_bytes(alloc, path, bytes.as_slice(), calls, site)
+}
