@@ -1,0 +1,104 @@
+-- What one verdict tells of a unit without some of its lines.
+use Rattle.std.proofs.Common.{◌≡◌, ◌∙◌, ℕ, Bool, true, false, List, Some, Result, Ok, Err, Vec, Global, refl, sym, ap, ap₂, subst}
+use Rattle.std.specs.Prelude.{Contains, IfOk}
+use Rattle.std.specs.declared.alloc.AllocError.{AllocError}
+use Rattle.asked_service.proofs.Exact.{all_at}
+use Rattle.asked_service.specs.Asked.{IsBounded, is_open_by}
+use Rattle.asked_service.specs.declared.bounding.Bounded.{Bounded}
+use Rattle.command_answers.specs.Stops.{Prepares}
+use Rattle.command_answers.specs.declared.stop.Stop.{Stop}
+use Rattle.command_answers.specs.declared.stop.Stop.TheVariants as stop
+use Rattle.call_table.specs.Table as calls
+use Rattle.dropin_merge.specs.declared.resolved.Resolved.{Resolved}
+use Rattle.kernel_laws.specs.Bound.{is_open}
+use Rattle.kernel_laws.specs.Launched.{Launch, launch_of}
+use Rattle.kernel_laws.specs.Questions as asked
+use Rattle.kernel_model.specs.World.{World}
+use Rattle.kernel_ways.specs.Laws.{IsExact, IsServedWorld, QuestionsAreExact}
+use Rattle.launcher.specs.declared.launched.Launched.{Launched as Service}
+use Rattle.questions.specs.Meanings.{meant}
+use Rattle.questions.specs.declared.question.Question.{Question}
+use Rattle.site_table.specs.Table.{Site}
+use Rattle.started_units.specs.Starting.{StartsAs, first_start, given, start_refusals}
+use Rattle.unit_inputs.specs.Inputs.{Inputs}
+use Rattle.unit_launch.specs.declared.launching.UnitLaunch.{UnitLaunch}
+use Rattle.unit_launch.specs.declared.launching.UnitLaunch.TheVariants.{Launched}
+use Rattle.unit_lines.specs.Without.{without}
+use Rattle.unit_values.specs.declared.value.Place.{Place}
+use Rattle.deciding_lines.specs.Deciding.{IsLineOf, IsReasonAt, unit_refused as not_settled}
+use Rattle.deciding_lines.specs.Tried.{IsDeniedWithout, IsOpenWithout, IsRefusal, IsSaid, TellsOpen, Tried, denied, inputs_without, unit_refused}
+use Rattle.deciding_lines.specs.declared.reason.Reason.{Reason}
+
+-- a verdict by the rule says so
+said_exactly : (world : World) (question : asked.Question) (answer : Bool) → IsExact world question → answer ≡ is_open (launch_of world) question → IsSaid world question answer
+said_exactly world question true exact is = exact.opens (sym is)
+said_exactly world question false exact is = exact.denies (sym is)
+
+pub said : QuestionsAreExact → (world : World) → IsServedWorld world → (question : Question) → Contains (asked.questions world.calls world.site) (meant question)
+    → (answer : Bool) → answer ≡ is_open_by world question → IsSaid world (meant question) answer
+said exact world served question listed answer is =
+    said_exactly world (meant question) answer (all_at (IsExact world) (asked.questions world.calls world.site) (meant question) (exact world served) listed) is
+
+-- also where it is bounded
+module _ (service : Service) (bounded : Bounded) (same : bounded.service ≡ service) (question : Question) (is_listed : Contains (asked.questions service.world.calls service.world.site) (meant question)) where
+  pub listed_of : Contains (asked.questions bounded.service.world.calls bounded.service.world.site) (meant question)
+  listed_of = subst (λ (own : Service). Contains (asked.questions own.world.calls own.world.site) (meant question)) (sym same) is_listed
+
+  pub said_of : QuestionsAreExact → IsBounded bounded → (answer : Bool) → answer ≡ is_open_by bounded.service.world question → IsSaid service.world (meant question) answer
+  said_of exact bounds answer is =
+      subst (λ (own : Service). IsSaid own.world (meant question) answer) same (said exact bounded.service.world bounds.served question listed_of answer is)
+
+-- what starts is served, over the tables
+module _ (inputs : Inputs) (service : Service) (starts : StartsAs inputs (Launched service)) where
+  pub served : IsServedWorld service.world
+  served = starts.comes_to.is_served
+
+  pub own_calls : service.world.calls ≡ inputs.calls
+  own_calls = ap (λ (made : Launch). made.calls) starts.comes_to.leaves_one_process.leaves.is
+
+  pub own_site : service.world.site ≡ inputs.site
+  own_site = ap (λ (made : Launch). made.site) starts.comes_to.leaves_one_process.leaves.is
+
+  pub listed : (question : asked.Question) → Contains (asked.questions inputs.calls inputs.site) question → Contains (asked.questions service.world.calls service.world.site) question
+  listed question is =
+      subst (λ (table : calls.Table). Contains (asked.questions table service.world.site) question) (sym own_calls)
+      (subst (λ (site : Site). Contains (asked.questions inputs.calls site) question) (sym own_site) is)
+
+module _ (tried : Tried) (places : List Place) (less : Resolved) (is : less ≡ without places tried.inputs.unit) where
+  pub as_without : (P : Inputs → Type 0) → P (given less tried.inputs.calls tried.inputs.site) → P (inputs_without tried.inputs places)
+  as_without P holds = subst (λ (own : Resolved). P (given own tried.inputs.calls tried.inputs.site)) is holds
+
+  -- what is started is the unit without them
+  pub starts_without : (launch : UnitLaunch) → Prepares (StartsAs (given less tried.inputs.calls tried.inputs.site)) (start_refusals tried.name (given less tried.inputs.calls tried.inputs.site)) (Ok launch) → StartsAs (inputs_without tried.inputs places) launch
+  starts_without launch prepared = as_without (λ inputs. StartsAs inputs launch) prepared.1
+
+  pub refused_without : (line : Vec ℕ Global) → Prepares (StartsAs (given less tried.inputs.calls tried.inputs.site)) (start_refusals tried.name (given less tried.inputs.calls tried.inputs.site)) (Err (stop.Refused line)) → first_start tried.name (inputs_without tried.inputs places) ≡ Some line.items
+  refused_without line refused = as_without (λ inputs. first_start tried.name inputs ≡ Some line.items) refused
+
+  pub tells_stop : (why : Stop) → Prepares {T = UnitLaunch} (StartsAs (given less tried.inputs.calls tried.inputs.site)) (start_refusals tried.name (given less tried.inputs.calls tried.inputs.site)) (Err why)
+      → (result : Result Bool AllocError) → IfOk result (λ open'. (open' ≡ false) × IsRefusal why) → IfOk result (TellsOpen tried places)
+  tells_stop why refused (Err none) is = tt
+  tells_stop (stop.Refused line) refused (Ok answer) is = subst (TellsOpen tried places) (sym is.0) (unit_refused line.items (refused_without line refused))
+  tells_stop stop.ReadFault refused (Ok answer) is = absurd is.1
+  tells_stop stop.Memory refused (Ok answer) is = absurd is.1
+
+  pub reason_of_stop : (why : Stop) → Prepares {T = UnitLaunch} (StartsAs (given less tried.inputs.calls tried.inputs.site)) (start_refusals tried.name (given less tried.inputs.calls tried.inputs.site)) (Err why)
+      → (result : Result Reason AllocError) → IfOk result (IsLineOf why) → IfOk result (IsReasonAt tried places)
+  reason_of_stop why refused (Err none) is = tt
+  reason_of_stop (stop.Refused line) refused (Ok told) is = subst (IsReasonAt tried places) (sym is) (not_settled line.items (refused_without line refused))
+  reason_of_stop stop.ReadFault refused (Ok told) is = absurd is
+  reason_of_stop stop.Memory refused (Ok told) is = absurd is
+
+-- what is told of a launch without them
+module _ (tried : Tried) (places : List Place) where
+  pub tells_service : (service : Service) → StartsAs (inputs_without tried.inputs places) (Launched service)
+      → (result : Result Bool AllocError) → IfOk result (IsSaid service.world tried.question) → IfOk result (TellsOpen tried places)
+  tells_service service starts (Ok true) found = record { service = service; starts = starts; shown = found }
+  tells_service service starts (Ok false) found = denied (record { service = service; starts = starts; denied = found })
+  tells_service service starts (Err none) found = tt
+
+  pub open_as : (service : Service) → StartsAs (inputs_without tried.inputs places) (Launched service) → (answer : Bool) → answer ≡ true → IsSaid service.world tried.question answer → IsOpenWithout tried places
+  open_as service starts answer is found = record { service = service; starts = starts; shown = subst (IsSaid service.world tried.question) is found }
+
+  pub denied_as : (service : Service) → StartsAs (inputs_without tried.inputs places) (Launched service) → (answer : Bool) → answer ≡ false → IsSaid service.world tried.question answer → IsDeniedWithout tried places
+  denied_as service starts answer is found = record { service = service; starts = starts; denied = subst (IsSaid service.world tried.question) is found }

@@ -1,0 +1,19 @@
+use Rattle.deciding_lines.specs.Tried.{launch_refused, tried_of, inputs_without}
+use Rattle.deciding_lines.proofs.Asked.{listed, served, tells_service}
+use Rattle.deciding_lines.proofs.trial.Trial.is_open_as.Goals as goal
+
+pub is_open_of-requires : goal.is_open_of-requires
+is_open_of-requires c =
+    let tried = tried_of c.args.self.now in
+    let starts = rw c.in-Launched.is at c.requires.starts in
+    record {
+      served = served (inputs_without tried.inputs c.args.places.now) c.in-Launched.service starts;
+      listed = listed (inputs_without tried.inputs c.args.places.now) c.in-Launched.service starts tried.question c.requires.can_be_tried;
+    }
+
+pub returns-in-Launched : goal.returns-in-Launched
+returns-in-Launched c =
+    tells_service (tried_of c.args.self.now) c.args.places.now c.in-Launched.service (rw c.in-Launched.is at c.requires.starts) c.is_open_of.result c.is_open_of.ensures.tells
+
+pub returns : goal.returns
+returns c = launch_refused c.in-Refused.field-0 (rw c.in-Refused.is at c.requires.starts)

@@ -1,0 +1,4 @@
+pub mod Bare
+pub mod Tried
+pub mod Deciding
+pub mod Searching

@@ -1,0 +1,77 @@
+-- A unit without some of its assignments in force, asked one question.
+use Rattle.std.specs.Prelude.{◌≡◌, ℕ, Bool, true, false, List, Some, Contains}
+use Rattle.command_answers.specs.declared.stop.Stop.{Stop}
+use Rattle.command_answers.specs.declared.stop.Stop.TheVariants as stop
+use Rattle.kernel_laws.specs.Denied.{IsDenied}
+use Rattle.kernel_laws.specs.Questions.{Question, questions}
+use Rattle.kernel_model.specs.World.{World}
+use Rattle.kernel_ways.specs.Laws.{IsShown}
+use Rattle.launcher.specs.declared.launched.Launched.{Launched as Service}
+use Rattle.questions.specs.Meanings.{meant}
+use Rattle.started_units.specs.Starting.{StartsAs, first_start, given}
+use Rattle.unit_inputs.specs.Inputs.{Inputs}
+use Rattle.unit_launch.specs.declared.launching.UnitLaunch.TheVariants.{Launched, Refused}
+use Rattle.unit_launch.specs.declared.refusal.LaunchRefusal.{LaunchRefusal}
+use Rattle.unit_lines.specs.Without.{without}
+use Rattle.unit_values.specs.declared.value.Place.{Place}
+use Rattle.deciding_lines.specs.declared.trial.Trial.{Trial}
+
+-- a unit by its name, with the tables, and what is asked
+pub record Tried : Type 0 where
+  pub name : List ℕ
+  pub inputs : Inputs
+  pub question : Question
+
+abbrev pub tried_of : Trial → Tried
+tried_of trial = record { name = trial.name.now; inputs = given trial.unit.now trial.calls.now trial.site.now; question = meant trial.question }
+
+-- the question is one of those of the tables
+abbrev pub CanBeTried : Trial → Type 0
+CanBeTried trial = Contains (questions trial.calls.now trial.site.now) (meant trial.question)
+
+-- the same tables, and the unit without the assignments in force at these places
+abbrev pub inputs_without : Inputs → List Place → Inputs
+inputs_without inputs places = given (without places inputs.unit) inputs.calls inputs.site
+
+-- the unit has settings, a plan of its mounts and a launch, and some list of calls shows the question
+pub record IsOpenFor (inputs : Inputs) (question : Question) : Type 0 where
+  pub service : Service
+  pub starts : StartsAs inputs (Launched service)
+  pub shown : IsShown service.world question
+
+-- it has them, and no list of calls of its service reaches the question
+pub record IsDeniedFor (inputs : Inputs) (question : Question) : Type 0 where
+  pub service : Service
+  pub starts : StartsAs inputs (Launched service)
+  pub denied : IsDenied service.world question
+
+-- it is denied; or the launch of the unit is refused, or a setting or a path of it
+pub data IsShutFor (name : List ℕ) (inputs : Inputs) (question : Question) : Type 0 where
+  denied : IsDeniedFor inputs question → IsShutFor name inputs question
+  launch_refused : (refusal : LaunchRefusal) → StartsAs inputs (Refused refusal) → IsShutFor name inputs question
+  unit_refused : (line : List ℕ) → first_start name inputs ≡ Some line → IsShutFor name inputs question
+
+-- without the assignments in force at these places
+abbrev pub IsOpenWithout : Tried → List Place → Type 0
+IsOpenWithout tried places = IsOpenFor (inputs_without tried.inputs places) tried.question
+
+abbrev pub IsDeniedWithout : Tried → List Place → Type 0
+IsDeniedWithout tried places = IsDeniedFor (inputs_without tried.inputs places) tried.question
+
+abbrev pub IsShutWithout : Tried → List Place → Type 0
+IsShutWithout tried places = IsShutFor tried.name (inputs_without tried.inputs places) tried.question
+
+-- what is told of a set, and of a service
+abbrev pub TellsOpen : Tried → List Place → Bool → Type 0
+TellsOpen tried places true = IsOpenWithout tried places
+TellsOpen tried places false = IsShutWithout tried places
+
+abbrev pub IsSaid : World → Question → Bool → Type 0
+IsSaid world question true = IsShown world question
+IsSaid world question false = IsDenied world question
+
+-- a stop that is a refusal
+abbrev pub IsRefusal : Stop → Type 0
+IsRefusal (stop.Refused line) = Unit {0}
+IsRefusal stop.ReadFault = ⊥
+IsRefusal stop.Memory = ⊥

@@ -1,0 +1,94 @@
+//! A unit without some of its lines, asked one question.
+ghost use Rattle.std.specs.Prelude.{◌≡◌, Contains, IfOk, false};
+ghost use Rattle.kernel_laws.specs.Questions.{questions};
+ghost use Rattle.kernel_ways.specs.Laws.{IsServedWorld};
+ghost use Rattle.questions.specs.Meanings.{meant};
+ghost use Rattle.started_units.specs.Starting.{StartsAs};
+ghost use Rattle.deciding_lines.specs.Tried.{CanBeTried, IsRefusal, IsSaid, TellsOpen, inputs_without, tried_of};
+
+use asked_service::bound;
+use call_table::CallTable;
+use command_answers::Stop;
+use dropin_merge::Resolved;
+use kernel_ways::openness;
+use launcher::Launched;
+use questions::Question;
+use site_table::SiteTable;
+use started_units::start;
+use std::alloc::{AllocError, Global};
+use unit_launch::UnitLaunch;
+use unit_lines::without;
+use unit_values::Place;
+
+/// What sets of lines are tried on, and what is asked.
+#[derive(Drop)]
+pub struct Trial<'a> {
+    /// The name of the unit, which refusals tell.
+    pub name: &'a str,
+    /// The unit.
+    pub unit: &'a Resolved,
+    /// The table of calls.
+    pub calls: &'a CallTable,
+    /// The host.
+    pub site: &'a SiteTable,
+    /// The question, one of those of the tables.
+    pub question: Question,
+}
+
+/// Whether a question is open of a launched service: one verdict.
+pub fn is_open_of(
+    alloc: Global,
+    service: Launched<'_>,
+    question: &Question,
+) -> Result<bool, AllocError>
+    requires served { IsServedWorld service.world }
+    requires listed { Contains (questions service.world.calls service.world.site) (meant question.now) }
+    ensures tells { IfOk result (IsSaid service.entry.world (meant question.now)) }
+{
+    // Why it is so.
+    openness();
+    let bounded = bound(alloc, service)?;
+    Ok(bounded.is_open(question))
+}
+
+// Whether it is open of a unit that is stopped before its launch: it is not, unless memory ran out.
+fn is_open_at_stop(stop: Stop) -> Result<bool, AllocError>
+    ensures { IfOk result (λ answer. (answer ≡ false) × IsRefusal stop) }
+{
+    match stop {
+        Stop::Refused(_) => Ok(false),
+        Stop::ReadFault | Stop::Memory => Err(AllocError),
+    }
+}
+
+impl Trial<'_> {
+    // Whether it is open of the unit without some lines, which is launched to this.
+    fn is_open_as(
+        &self,
+        alloc: Global,
+        places: &[Place],
+        launch: UnitLaunch<'_>,
+    ) -> Result<bool, AllocError>
+        requires can_be_tried { CanBeTried self.now }
+        requires starts { StartsAs (inputs_without (tried_of self.now).inputs places.now) launch }
+        ensures { IfOk result (TellsOpen (tried_of self.now) places.now) }
+    {
+        match launch {
+            UnitLaunch::Launched(service) => is_open_of(alloc, service, &self.question),
+            UnitLaunch::Refused(_) => Ok(false),
+        }
+    }
+
+    /// Whether the question is open of the unit without the assignments in force at these places. Without settings, a plan or a
+    /// launch it is not.
+    pub fn is_open_without(&self, alloc: Global, places: &[Place]) -> Result<bool, AllocError>
+        requires can_be_tried { CanBeTried self.now }
+        ensures tells { IfOk result (TellsOpen (tried_of self.now) places.now) }
+    {
+        let less = without(alloc, self.unit, places)?;
+        match start(alloc, self.name, &less, self.calls, self.site) {
+            Ok(launch) => self.is_open_as(alloc, places, launch),
+            Err(stop) => is_open_at_stop(stop),
+        }
+    }
+}
