@@ -1,0 +1,4 @@
+pub mod Named
+pub mod Joined
+pub mod Prepared
+pub mod Told

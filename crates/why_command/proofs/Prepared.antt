@@ -1,0 +1,149 @@
+-- What is prepared, step by step.
+use Rattle.std.proofs.Common.{◌≡◌, ◌∙◌, ℕ, List, [], ◌∷◌, ◌++◌, Some, None, Option, Result, Ok, Err, Vec, Global, ◌⊎◌, inl, inr, refl, sym, ap, subst}
+use Rattle.std.specs.declared.alloc.AllocError.{AllocError}
+use Rattle.std.specs.Prelude.{Contains, IfOk, IfSome, IsErrOf, IsSome, IsTrue}
+use Rattle.host_io.specs.Files.{Files}
+use Rattle.call_table.specs.Table.{Table}
+use Rattle.command_answers.specs.Endings.{is_answer}
+use Rattle.command_answers.specs.Laws.{AcceptsFiles, GoTogether, IsAdmitted, laws_over}
+use Rattle.command_answers.specs.Stops.{HasReadCause, IsAnswer, Prepares, first_refusal, refusal_in, stop_of}
+use Rattle.command_answers.specs.declared.ending.Ending.{Ending}
+use Rattle.command_answers.specs.declared.ending.Ending.TheVariants.{Done, LaunchRefused}
+use Rattle.command_answers.specs.declared.stop.Stop.{Stop}
+use Rattle.command_answers.specs.declared.stop.Stop.TheVariants as stop
+use Rattle.command_answers.proofs.FileCommands.{go_together, ready_is_admitted, stop_is_admitted}
+use Rattle.command_answers.proofs.Refusing.{passes, quiet, stops, stops_as, stops_before}
+use Rattle.deciding_lines.specs.Tried.{Tried}
+use Rattle.dropin_merge.specs.declared.resolved.Resolved.{Resolved}
+use Rattle.kernel_laws.specs.Questions as asked
+use Rattle.questions.specs.Meanings.{meant}
+use Rattle.questions.specs.declared.question.Question.{Question}
+use Rattle.site_table.specs.Table.{Site}
+use Rattle.started_units.specs.Starting.{given, start_refusals}
+use Rattle.unit_inputs.specs.Inputs.{Inputs, input_refusals, inputs_of, inputs_view}
+use Rattle.unit_inputs.specs.ReadsFor.{ReadsFor}
+use Rattle.unit_inputs.specs.declared.inputs.UnitInputs.{UnitInputs}
+use Rattle.unit_launch.specs.declared.launching.UnitLaunch.{UnitLaunch}
+use Rattle.unit_launch.specs.declared.launching.UnitLaunch.TheVariants.{Launched, Refused}
+use Rattle.unit_settings.specs.Settled.{refusals_by}
+use Rattle.unit_settings.proofs.Steps.{refusals_with}
+use Rattle.why_command.specs.Asking.{question_in, refused_question}
+use Rattle.why_command.specs.Prints.{PrintsWhy, TellsLaunch, TellsWhy, ending_of, refusals_behind, text_of, why_laws, why_refusals}
+use Rattle.why_command.specs.declared.why.Why.{Why}
+
+-- each ends as it may
+ends_so : (tried : Tried) (launch : UnitLaunch) (ending : Ending) (text : List ℕ) → TellsLaunch tried launch ending text → (ending ≡ Done) ⊎ (ending ≡ LaunchRefused)
+ends_so tried (Refused refusal) ending text tells = inr tells.0
+ends_so tried (Launched service) ending text tells = inl tells.0
+
+module _ (told : Option Files) (unit : List ℕ) (words : List (List ℕ)) where
+  -- each ending behind an answer is one
+  answered : (ending : Ending) → (why_laws unit words).may_end ending → IsTrue (is_answer ending)
+  answered ending (inl done) = subst (λ e. IsTrue (is_answer e)) (sym done) refl
+  answered ending (inr launch) = subst (λ e. IsTrue (is_answer e)) (sym launch) refl
+
+  pub together : GoTogether (laws_over told (why_laws unit words))
+  together = go_together (why_laws unit words) told answered
+
+-- the inputs are read and none is refused
+abbrev pub AreRead : Files → List ℕ → UnitInputs → Type 0
+AreRead files unit inputs = (first_refusal (input_refusals files unit) ≡ None) × (inputs_of files unit ≡ Some (inputs_view inputs))
+
+-- an input is refused
+pub stops_at_inputs : (P : Files → UnitInputs → Type 0) (told : Option Files) (unit : List ℕ) (words : List (List ℕ)) (stop : Stop) → IfSome told (λ files. Prepares (P files) (input_refusals files unit) (Err stop)) → IsAdmitted (laws_over told (why_laws unit words)) ending_of text_of (Err stop)
+stops_at_inputs P told unit words stop said = stop_is_admitted (why_laws unit words) ending_of text_of (λ (made : Why). Unit {0}) told stop (before told said)
+  where
+    before : (told : Option Files) → IfSome told (λ files. Prepares (P files) (input_refusals files unit) (Err stop)) → IfSome told (λ files. Prepares (λ (made : Why). Unit {0}) (why_refusals files unit words) (Err stop))
+    before None said = tt
+    before (Some files) said = stops_before (P files) (λ (made : Why). Unit {0}) stop (input_refusals files unit) (refusals_by (refusals_behind unit words) (inputs_of files unit)) said
+
+module _ (told : Option Files) (unit : List ℕ) (words : List (List ℕ)) (inputs : UnitInputs) (are : IfSome told (λ files. AreRead files unit inputs)) where
+  read_is : (files : Files) → told ≡ Some files → AreRead files unit inputs
+  read_is files e = subst (λ own. IfSome own (λ files. AreRead files unit inputs)) e are
+
+  behind_inputs : (files : Files) → told ≡ Some files → first_refusal (why_refusals files unit words) ≡ first_refusal (refusals_behind unit words (inputs_view inputs))
+  behind_inputs files e = refusals_with files unit (input_refusals files unit) (refusals_behind unit words) (inputs_view inputs) (read_is files e).0 (read_is files e).1
+
+  -- what stops behind them is admitted
+  stops_behind : (P : Why → Type 0) (some : List (Option (List ℕ))) (why : Stop) → first_refusal (refusals_behind unit words (inputs_view inputs)) ≡ first_refusal some → Prepares P some (Err why) → IsAdmitted (laws_over told (why_laws unit words)) ending_of text_of (Err why)
+  stops_behind P some why same is = stop_is_admitted (why_laws unit words) ending_of text_of P told why (at told refl)
+    where
+      at : (own : Option Files) → told ≡ own → IfSome own (λ files. Prepares P (why_refusals files unit words) (Err why))
+      at None e = tt
+      at (Some files) e = stops_as P why some (why_refusals files unit words) (behind_inputs files e ∙ same) is
+
+  -- the words are no question
+  pub stops_at_question : (calls : Table) (site : Site) (why : Stop) → calls ≡ (inputs_view inputs).calls → site ≡ (inputs_view inputs).site
+      → IsAnswer {T = Question} meant (Err why) (question_in calls site words) → IsAdmitted (laws_over told (why_laws unit words)) ending_of text_of (Err why)
+  stops_at_question calls site why one two is =
+      stops_behind (λ made. Unit {0}) (refusals_behind unit words (inputs_view inputs)) why refl
+      (stops meant (λ (made : Why). Unit {0}) (question_in (inputs_view inputs).calls (inputs_view inputs).site words) why (start_refusals unit (inputs_view inputs))
+      (subst (λ (own : Site). IsAnswer {T = Question} meant (Err why) (question_in (inputs_view inputs).calls own words)) two
+      (subst (λ (own : Table). IsAnswer {T = Question} meant (Err why) (question_in own site words)) one is)))
+
+  -- behind a question
+  module _ (question : asked.Question) (question_is : question_in (inputs_view inputs).calls (inputs_view inputs).site words ≡ Ok question) where
+    abbrev tried : Tried
+    tried = record { name = unit; inputs = inputs_view inputs; question = question }
+
+    behind_question : first_refusal (refusals_behind unit words (inputs_view inputs)) ≡ first_refusal (start_refusals unit (inputs_view inputs))
+    behind_question = passes (question_in (inputs_view inputs).calls (inputs_view inputs).site words) question (start_refusals unit (inputs_view inputs)) question_is
+
+    admitted : (result : Result Why Stop) → Prepares (λ made. TellsWhy tried (ending_of made) (text_of made)) (start_refusals unit (inputs_view inputs)) result → IsAdmitted (laws_over told (why_laws unit words)) ending_of text_of result
+    admitted (Err why) answers = stops_behind (λ made. TellsWhy tried (ending_of made) (text_of made)) (start_refusals unit (inputs_view inputs)) why behind_question answers
+    admitted (Ok made) answers = ready_is_admitted (why_laws unit words) ending_of text_of told made (ends_so tried answers.1.launch (ending_of made) (text_of made) answers.1.tells) (printed told refl)
+      where
+        printed : (own : Option Files) → told ≡ own → IfSome own (λ files. AcceptsFiles (why_laws unit words) files × PrintsWhy files unit words (ending_of made) (text_of made))
+        printed None e = tt
+        printed (Some files) e = (
+          behind_inputs files e ∙ behind_question ∙ answers.0,
+          record {
+            tried = tried;
+            name_is = refl;
+            inputs_are = (read_is files e).1;
+            question_is = question_is;
+            tells = answers.1;
+          },
+        )
+
+  -- also where the inputs are lent
+  pub admitted_as : (calls : Table) (site : Site) (question : asked.Question) → calls ≡ (inputs_view inputs).calls → site ≡ (inputs_view inputs).site
+      → question_in calls site words ≡ Ok question → (own : Inputs) → own ≡ inputs_view inputs → (result : Result Why Stop)
+      → Prepares (λ made. TellsWhy (record { name = unit; inputs = own; question = question }) (ending_of made) (text_of made)) (start_refusals unit own) result
+      → IsAdmitted (laws_over told (why_laws unit words)) ending_of text_of result
+  admitted_as calls site question one two is own same result answers =
+      admitted question
+      (subst (λ (these : Site). question_in (inputs_view inputs).calls these words ≡ Ok question) two (subst (λ (these : Table). question_in these site words ≡ Ok question) one is))
+      result (subst (λ (these : Inputs). Prepares (λ made. TellsWhy (record { name = unit; inputs = these; question = question }) (ending_of made) (text_of made)) (start_refusals unit these) result) same answers)
+
+-- the inputs, as their parts are lent
+pub same_inputs : (inputs : Inputs) (unit : Resolved) (calls : Table) (site : Site) → unit ≡ inputs.unit → calls ≡ inputs.calls → site ≡ inputs.site → given unit calls site ≡ inputs
+same_inputs inputs unit calls site one two three =
+    ap (λ own. given own calls site) one ∙ ap (λ own. given inputs.unit own site) two ∙ ap (λ own. given inputs.unit inputs.calls own) three
+
+-- what reads nothing, behind what was read for the unit
+pub read_behind : {S T V : Type 0} (told : S → Option Files) (faults : S → ℕ) (unit : List ℕ) (before now : S) (value : T) → ReadsFor told faults unit before now (Ok value)
+    → (result : Result V Stop) → (IsErrOf result stop.ReadFault → ⊥) → ReadsFor told faults unit before now result
+read_behind told faults unit before now value reads result nothing = record {
+  reads_for_a_name = λ e. absurd (nothing e);
+  unread_without_a_name = reads.unread_without_a_name;
+  map_stays = reads.map_stays;
+  fault_rose = quiet (faults before) (faults now) result reads.fault_rose.no_other_fault nothing;
+}
+
+-- a stop that reads nothing, whatever was wanted
+pub as_any : {A B : Type 0} (why : Stop) → (IsErrOf {T = A} (Err why) stop.ReadFault → ⊥) → IsErrOf {T = B} (Err why) stop.ReadFault → ⊥
+as_any (stop.Refused line) nothing e = cc
+as_any stop.ReadFault nothing e = nothing refl
+as_any stop.Memory nothing e = cc
+
+-- the line of words that are no question
+pub refused_tells : (line : Result (Vec ℕ Global) AllocError) (told : Stop) → told ≡ stop_of line → IfOk line (λ l. l.items ≡ refused_question) → (wanted : Result asked.Question (List ℕ)) → wanted ≡ Err refused_question
+    → IsAnswer {T = Question} meant (Err told) wanted
+refused_tells (Ok line) told is holds wanted same = subst (λ one. IsAnswer {T = Question} meant (Err one) wanted) (sym is) (same ∙ ap Err (sym holds))
+refused_tells (Err none) told is holds wanted same = subst (λ one. IsAnswer {T = Question} meant (Err one) wanted) (sym is) tt
+
+-- also of the tables as they are lent
+pub listed_as : (table other : Table) (site own : Site) → table ≡ other → site ≡ own → (question : asked.Question) → Contains (asked.questions table site) question → Contains (asked.questions other own) question
+listed_as table other site own one two question is =
+    subst (λ (these : Table). Contains (asked.questions these own) question) one (subst (λ (these : Site). Contains (asked.questions table these) question) two is)

@@ -1,0 +1,121 @@
+-- What is told of a launched service.
+use Rattle.std.proofs.Common.{◌≡◌, ◌∙◌, ℕ, Bool, true, false, List, ◌++◌, Result, Ok, Err, Vec, Global, refl, sym, ap, subst}
+use Rattle.std.specs.Prelude.{Contains, IfOk, IsErrOf, flat_map}
+use Rattle.std.specs.declared.alloc.AllocError.{AllocError}
+use Rattle.asked_service.specs.Asked.{IsBounded, is_open_by}
+use Rattle.asked_service.specs.Rows.{IsSo}
+use Rattle.asked_service.specs.declared.bounding.Bounded.{Bounded}
+use Rattle.call_table.specs.Table as calls
+use Rattle.chosen_calls.specs.Makers.{AreMadeByService}
+use Rattle.command_answers.specs.Stops.{Prepares, first_refusal}
+use Rattle.command_answers.specs.declared.ending.Ending.{Ending}
+use Rattle.command_answers.specs.declared.stop.Stop.{Stop}
+use Rattle.command_answers.specs.declared.stop.Stop.TheVariants as stop
+use Rattle.deciding_lines.proofs.Asked.{listed, own_calls, own_site}
+use Rattle.deciding_lines.specs.Deciding.{IsReason}
+use Rattle.deciding_lines.specs.Tried.{Tried}
+use Rattle.deciding_lines.specs.declared.reason.Reason.{Reason}
+use Rattle.judge_command.specs.Answers.{Denied, Open}
+use Rattle.judge_command.specs.Report.{answer_lines}
+use Rattle.kernel_calls.specs.declared.call.Call.{Call}
+use Rattle.kernel_laws.specs.Bound.{is_open}
+use Rattle.kernel_laws.specs.Denied.{IsDenied, Shows}
+use Rattle.kernel_laws.specs.Launched.{launch_of}
+use Rattle.kernel_laws.specs.Questions as asked
+use Rattle.kernel_model.specs.World.{World}
+use Rattle.kernel_ways.specs.Laws.{IsServedWorld}
+use Rattle.kernel_ways.specs.Offers.{RunsProgram}
+use Rattle.launcher.specs.declared.launched.Launched.{Launched as Service}
+use Rattle.open_calls.specs.declared.service.Service.{Service as Maker}
+use Rattle.questions.specs.Meanings.{meant}
+use Rattle.questions.specs.declared.question.Question.{Question}
+use Rattle.site_table.specs.Table.{Site}
+use Rattle.started_units.specs.Starting.{StartsAs, start_refusals}
+use Rattle.unit_launch.specs.declared.launching.UnitLaunch.{UnitLaunch}
+use Rattle.unit_launch.specs.declared.launching.UnitLaunch.TheVariants.{Launched}
+use Rattle.why_command.specs.Asking.{CanBeAsked}
+use Rattle.why_command.specs.Lines.{reason_text}
+use Rattle.why_command.specs.Prints.{TellsLaunch, TellsService, TellsWhy, denied_by, ending_of, open_by, text_of}
+use Rattle.why_command.specs.Stopping.{IsReadyWith}
+use Rattle.why_command.specs.declared.why.Why.{Why}
+
+-- what starts can be asked
+pub can_be_asked : (tried : Tried) (service : Service) (bounded : Bounded) → StartsAs tried.inputs (Launched service) → bounded.service ≡ service → IsBounded bounded → CanBeAsked tried bounded
+can_be_asked tried service bounded starts same bounds = record {
+  is_bounded = bounds;
+  program = subst (λ (own : Service). RunsProgram (launch_of own.world) own.program) (sym same) starts.comes_to.runs_its_program;
+  calls = ap (λ (own : Service). own.world.calls) same ∙ own_calls tried.inputs service starts;
+  site = ap (λ (own : Service). own.world.site) same ∙ own_site tried.inputs service starts;
+}
+
+pub lists_it : (tried : Tried) (bounded : Bounded) → CanBeAsked tried bounded → (question : asked.Question) → Contains (asked.questions tried.inputs.calls tried.inputs.site) question
+    → Contains (asked.questions bounded.service.world.calls bounded.service.world.site) question
+lists_it tried bounded can question is =
+    subst (λ (table : calls.Table). Contains (asked.questions table bounded.service.world.site) question) (sym can.calls)
+    (subst (λ (site : Site). Contains (asked.questions tried.inputs.calls site) question) (sym can.site) is)
+
+-- for whom calls are made
+module _ (bounded : Bounded) (maker : Maker) (is : (maker.world.now ≡ bounded.service.world) × (maker.program.now ≡ bounded.service.program)) where
+  pub maker_served : IsServedWorld bounded.service.world → IsServedWorld maker.world.now
+  maker_served served = subst IsServedWorld (sym is.0) served
+
+  pub maker_runs : RunsProgram (launch_of bounded.service.world) bounded.service.program → RunsProgram (launch_of maker.world.now) maker.program.now
+  maker_runs runs = subst (λ program. RunsProgram (launch_of maker.world.now) program) (sym is.1) (subst (λ (world : World). RunsProgram (launch_of world) bounded.service.program) (sym is.0) runs)
+
+  pub maker_lists : (question : asked.Question) → Contains (asked.questions bounded.service.world.calls bounded.service.world.site) question → Contains (asked.questions maker.world.now.calls maker.world.now.site) question
+  maker_lists question listed = subst (λ (world : World). Contains (asked.questions world.calls world.site) question) (sym is.0) listed
+
+  pub maker_opens : (question : asked.Question) → is_open (launch_of bounded.service.world) question ≡ true → is_open (launch_of maker.world.now) question ≡ true
+  maker_opens question open' = subst (λ (world : World). is_open (launch_of world) question ≡ true) (sym is.0) open'
+
+  -- a question that is open is told with a list that shows it
+  pub tells_open : (tried : Tried) (question : Question) → tried.question ≡ meant question → IsSo bounded.service.world question true → (list : List Call)
+      → Shows maker.world.now (meant question) list → AreMadeByService maker.world.now.calls list
+      → (text : List ℕ) → text ≡ answer_lines tried.inputs.calls tried.inputs.site (Open (meant question) list) → TellsService tried bounded.service text
+  tells_open tried question same so list shows made text says =
+      open_by list (
+        subst (λ one. Shows bounded.service.world one list) (sym same) (subst (λ (world : World). Shows world (meant question) list) is.0 shows),
+        subst (λ (world : World). AreMadeByService world.calls list) is.0 made,
+        λ denied. (let e : true ≡ false = so.1 (subst (IsDenied bounded.service.world) same denied) in cc),
+      )
+      (says ∙ ap (λ one. answer_lines tried.inputs.calls tried.inputs.site (Open one list)) (sym same))
+
+-- a question that is denied is told with what denies it
+pub tells_denied : (tried : Tried) (bounded : Bounded) (question : Question) → tried.question ≡ meant question → IsSo bounded.service.world question false → (told : Reason) → IsReason tried told
+    → (text : List ℕ) → text ≡ answer_lines tried.inputs.calls tried.inputs.site (Denied (meant question)) ++ reason_text tried.inputs.unit told → TellsService tried bounded.service text
+tells_denied tried bounded question same so told reason text says =
+    denied_by told (subst (IsDenied bounded.service.world) (sym same) (so.0 refl)) reason
+    (says ∙ ap (λ one. answer_lines tried.inputs.calls tried.inputs.site (Denied one) ++ reason_text tried.inputs.unit told) (sym same))
+
+-- what holds of a text holds of one that is the same
+pub told_as : (P : List ℕ → Type 0) (wanted : List ℕ) → P wanted → (result : Result (Vec ℕ Global) AllocError) → IfOk result (λ text. text.items ≡ wanted) → IfOk result (λ text. P text.items)
+told_as P wanted holds (Ok text) is = subst P (sym is) holds
+told_as P wanted holds (Err none) is = tt
+
+-- what is so of an answer that is found
+pub so_as : (world : World) (question : Question) (answer found : Bool) → found ≡ answer → IsSo world question found → IsSo world question answer
+so_as world question answer found is so = subst (IsSo world question) is so
+
+pub told_of_it : (tried : Tried) (service : Service) (bounded : Bounded) → bounded.service ≡ service → (result : Result (Vec ℕ Global) AllocError)
+    → IfOk result (λ text. TellsService tried bounded.service text.items) → IfOk result (λ text. TellsService tried service text.items)
+told_of_it tried service bounded same result told = subst (λ (own : Service). IfOk result (λ text. TellsService tried own text.items)) same told
+
+-- what is ready is the answer
+pub answers_launch : (tried : Tried) (launch : UnitLaunch) → Prepares (StartsAs tried.inputs) (start_refusals tried.name tried.inputs) (Ok launch) → (result : Result Why Stop) → IsReadyWith (TellsLaunch tried launch) result
+    → Prepares (λ made. TellsWhy tried (ending_of made) (text_of made)) (start_refusals tried.name tried.inputs) result
+answers_launch tried launch starts (Ok made) ready = (starts.0, record { launch = launch; starts = starts.1; tells = ready })
+answers_launch tried launch starts (Err (stop.Refused line)) ready = absurd ready
+answers_launch tried launch starts (Err stop.ReadFault) ready = absurd ready
+answers_launch tried launch starts (Err stop.Memory) ready = tt
+
+pub answers_stop : (tried : Tried) (why : Stop) → Prepares {T = UnitLaunch} (StartsAs tried.inputs) (start_refusals tried.name tried.inputs) (Err why)
+    → Prepares (λ (made : Why). TellsWhy tried (ending_of made) (text_of made)) (start_refusals tried.name tried.inputs) (Err why)
+answers_stop tried (stop.Refused line) is = is
+answers_stop tried stop.ReadFault is = tt
+answers_stop tried stop.Memory is = tt
+
+pub ready_reads_nothing : (P : Ending → List ℕ → Type 0) (result : Result Why Stop) → IsReadyWith P result → IsErrOf result stop.ReadFault → ⊥
+ready_reads_nothing P (Ok why) ready e = cc
+ready_reads_nothing P (Err (stop.Refused line)) ready e = cc
+ready_reads_nothing P (Err stop.ReadFault) ready e = absurd ready
+ready_reads_nothing P (Err stop.Memory) ready e = cc

@@ -1,0 +1,45 @@
+-- The lines of `why`.
+use Rattle.std.specs.Prelude.{ℕ, List, [], ◌∷◌, ◌++◌, codes, filter, flat_map, if◌then◌else◌, length}
+use Rattle.std.specs.Fmt.{decimal}
+use Rattle.deciding_lines.specs.declared.reason.Reason.{Reason}
+use Rattle.deciding_lines.specs.declared.reason.Reason.TheVariants as reason
+use Rattle.dropin_merge.specs.declared.resolved.Resolved.{Resolved}
+use Rattle.dropin_merge.specs.declared.resolved.UnitFile.{UnitFile}
+use Rattle.report_text.specs.Notes.{path_at}
+use Rattle.text_forms.specs.Escaped.{escaped_word}
+use Rattle.unit_lines.specs.Lines.{lines_of}
+use Rattle.unit_lines.specs.Without.{is_among}
+use Rattle.unit_lines.specs.declared.line.UnitLine.{UnitLine}
+use Rattle.unit_values.specs.declared.value.Place.{Place}
+
+-- the file, the number of the line, and what it assigns, as written
+abbrev pub place_words : List UnitFile → UnitLine → List ℕ
+place_words files line =
+    escaped_word (path_at files line.place.file) ++ (codes " " ++ (decimal line.place.line ++ (codes " " ++ (line.key ++ (codes "=" ++ line.value)))))
+
+abbrev pub by_line : List UnitFile → UnitLine → List ℕ
+by_line files line = codes "by " ++ (place_words files line ++ 10 ∷ [])
+
+-- those that stand at some places
+abbrev pub lines_at : List Place → List UnitLine → List UnitLine
+lines_at places lines = filter (λ line. is_among places line.place) lines
+
+abbrev pub told_unless : List UnitFile → List Place → UnitLine → List ℕ
+told_unless files places line = if is_among places line.place then by_line files line else []
+
+abbrev pub by_lines : List UnitFile → List Place → List UnitLine → List ℕ
+by_lines files places lines = flat_map (told_unless files places) lines
+
+-- how many there are
+abbrev pub lines_line : ℕ → List ℕ
+lines_line count = codes "lines " ++ (decimal count ++ 10 ∷ [])
+
+-- the assignments in force at some places, in the order of files and lines, and how many they are
+abbrev pub lines_text : Resolved → List Place → List ℕ
+lines_text unit places = by_lines unit.files places (lines_of unit) ++ lines_line (length (lines_at places (lines_of unit)))
+
+-- what denies a question
+abbrev pub reason_text : Resolved → Reason → List ℕ
+reason_text unit reason.Nothing = codes "nothing" ++ 10 ∷ []
+reason_text unit (reason.Lines places) = lines_text unit places.items
+reason_text unit (reason.NotLaunched line) = codes "without " ++ line.items

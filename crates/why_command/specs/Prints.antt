@@ -1,0 +1,77 @@
+-- What `why` prints, by the files.
+use Rattle.std.specs.Prelude.{◌≡◌, ◌⊎◌, ◌++◌, ◌∷◌, ℕ, IsSome, List, Option, Some, Ok, flat_map}
+use Rattle.host_io.specs.Files.{Files}
+use Rattle.command_answers.specs.Laws.{FileLaws}
+use Rattle.command_answers.specs.Stops.{refusal_in}
+use Rattle.command_answers.specs.declared.ending.Ending.{Ending}
+use Rattle.command_answers.specs.declared.ending.Ending.TheVariants.{Done, LaunchRefused}
+use Rattle.deciding_lines.specs.Deciding.{IsReason}
+use Rattle.deciding_lines.specs.Tried.{Tried}
+use Rattle.deciding_lines.specs.declared.reason.Reason.{Reason}
+use Rattle.judge.specs.declared.answer.Verdict.TheVariants as verdict
+use Rattle.judge_command.specs.Answers.{Denied, Open, IsTrueAnswer}
+use Rattle.judge_command.specs.Report.{answer_lines}
+use Rattle.kernel_calls.specs.declared.call.Call.{Call}
+use Rattle.launcher.specs.declared.launched.Launched.{Launched as Service}
+use Rattle.started_units.specs.Starting.{StartsAs, start_refusals}
+use Rattle.unit_inputs.specs.Inputs.{Inputs, input_refusals, inputs_of}
+use Rattle.unit_launch.specs.Refusals.{refusal_line}
+use Rattle.unit_launch.specs.declared.launching.UnitLaunch.{UnitLaunch}
+use Rattle.unit_launch.specs.declared.launching.UnitLaunch.TheVariants.{Launched, Refused}
+use Rattle.unit_names.specs.Cutting.{name_of}
+use Rattle.unit_settings.specs.Settled.{refusals_by}
+use Rattle.why_command.specs.Asking.{question_in}
+use Rattle.why_command.specs.Lines.{reason_text}
+use Rattle.why_command.specs.declared.why.Why.{Why}
+
+-- the answer of `judge` to the question: open, with calls that show it, or denied, with what denies it
+pub data TellsService (tried : Tried) (service : Service) (text : List ℕ) : Type 0 where
+  open_by : (list : List Call) → IsTrueAnswer service.world (Open tried.question list)
+      → text ≡ answer_lines tried.inputs.calls tried.inputs.site (Open tried.question list)
+      → TellsService tried service text
+  denied_by : (told : Reason) → IsTrueAnswer service.world (Denied tried.question) → IsReason tried told
+      → text ≡ answer_lines tried.inputs.calls tried.inputs.site (Denied tried.question) ++ reason_text tried.inputs.unit told
+      → TellsService tried service text
+
+-- or the launch is refused
+abbrev pub TellsLaunch : Tried → UnitLaunch → Ending → List ℕ → Type 0
+TellsLaunch tried (Refused refusal) ending text = (ending ≡ LaunchRefused) × (text ≡ refusal_line refusal)
+TellsLaunch tried (Launched service) ending text = (ending ≡ Done) × TellsService tried service text
+
+-- what the unit is launched to, and what is told of that
+pub record TellsWhy (tried : Tried) (ending : Ending) (text : List ℕ) : Type 0 where
+  pub launch : UnitLaunch
+  pub starts : StartsAs tried.inputs launch
+  pub tells : TellsLaunch tried launch ending text
+
+-- what is refused behind the inputs: the question, and the settings and paths of the unit
+abbrev pub refusals_behind : List ℕ → List (List ℕ) → Inputs → List (Option (List ℕ))
+refusals_behind unit words inputs = refusal_in (question_in inputs.calls inputs.site words) ∷ start_refusals unit inputs
+
+-- the order of refusals
+abbrev pub why_refusals : Files → List ℕ → List (List ℕ) → List (Option (List ℕ))
+why_refusals files unit words = input_refusals files unit ++ refusals_by (refusals_behind unit words) (inputs_of files unit)
+
+-- by the inputs of the unit, and the question that the words ask
+pub record PrintsWhy (files : Files) (unit : List ℕ) (words : List (List ℕ)) (ending : Ending) (text : List ℕ) : Type 0 where
+  pub tried : Tried
+  pub name_is : tried.name ≡ unit
+  pub inputs_are : inputs_of files unit ≡ Some tried.inputs
+  pub question_is : question_in tried.inputs.calls tried.inputs.site words ≡ Ok tried.question
+  pub tells : TellsWhy tried ending text
+
+-- the refusals in their order; a launch that is refused is told with status 7
+abbrev pub why_laws : List ℕ → List (List ℕ) → FileLaws
+why_laws unit words = record {
+  refusals = λ files. why_refusals files unit words;
+  prints = λ files ending text. PrintsWhy files unit words ending text;
+  may_end = λ ending. (ending ≡ Done) ⊎ (ending ≡ LaunchRefused);
+  reads = IsSome (name_of unit);
+}
+
+-- what is ready
+abbrev pub text_of : Why → List ℕ
+text_of why = why.text.items
+
+abbrev pub ending_of : Why → Ending
+ending_of why = why.ending

@@ -1,0 +1,103 @@
+//! The answer to a question, and what denies it.
+ghost use Rattle.std.specs.Prelude.{◌≡◌, IfOk, IsErrOf, false, true};
+ghost use Rattle.asked_service.specs.Asked.{is_open_by};
+ghost use Rattle.asked_service.specs.Rows.{IsSo};
+ghost use Rattle.command_answers.specs.Stops.{Prepares};
+ghost use Rattle.deciding_lines.specs.Tried.{CanBeTried, tried_of};
+ghost use Rattle.started_units.specs.Starting.{StartsAs, start_refusals};
+ghost use Rattle.unit_launch.specs.declared.launching.UnitLaunch.TheVariants.{Launched as Started};
+ghost use Rattle.why_command.specs.Asking.{CanBeAsked};
+ghost use Rattle.why_command.specs.Prints.{TellsLaunch, TellsService, TellsWhy, ending_of, text_of};
+ghost use Rattle.why_command.specs.Stopping.{IsReadyWith};
+
+use crate::telling::{denied_text, open_text};
+use crate::why::Why;
+use asked_service::{Bounded, bound};
+use command_answers::{Ending, Stop};
+use deciding_lines::Trial;
+use launcher::Launched;
+use open_calls::{Service, calls};
+use started_units::start;
+use std::alloc::{AllocError, Global};
+use unit_launch::{UnitLaunch, refusal_line};
+
+// A question that is open, with the calls that reach it.
+fn tell_open(alloc: Global, trial: &Trial<'_>, bounded: &Bounded<'_>) -> Result<Vec<u8>, AllocError>
+    requires can_be_tried { CanBeTried trial.now }
+    requires can_be_asked { CanBeAsked (tried_of trial.now) bounded.now }
+    requires is_open { is_open_by bounded.now.service.world trial.now.question ≡ true }
+    requires is_so { IsSo bounded.now.service.world trial.now.question true }
+    ensures { IfOk result (λ text. TellsService (tried_of trial.now) bounded.now.service text.items) }
+{
+    let service = Service::of(alloc, &bounded.service, &bounded.ceiling)?;
+    let list = calls(&service, &trial.question)?;
+    open_text(alloc, &trial.question, &list, trial.calls, trial.site)
+}
+
+// A question that is denied, with what denies it.
+fn tell_denied(
+    alloc: Global,
+    trial: &Trial<'_>,
+    bounded: &Bounded<'_>,
+) -> Result<Vec<u8>, AllocError>
+    requires can_be_tried { CanBeTried trial.now }
+    requires is_so { IsSo bounded.now.service.world trial.now.question false }
+    ensures { IfOk result (λ text. TellsService (tried_of trial.now) bounded.now.service text.items) }
+{
+    let reason = trial.reason(alloc)?;
+    denied_text(
+        alloc,
+        &trial.question,
+        trial.unit,
+        &reason,
+        trial.calls,
+        trial.site,
+    )
+}
+
+// What is told of a launched service.
+fn tell_service(
+    alloc: Global,
+    trial: &Trial<'_>,
+    service: Launched<'_>,
+) -> Result<Vec<u8>, AllocError>
+    requires can_be_tried { CanBeTried trial.now }
+    requires starts { StartsAs (tried_of trial.now).inputs (Started service) }
+    ensures { IfOk result (λ text. TellsService (tried_of trial.now) service.entry text.items) }
+{
+    let bounded = bound(alloc, service)?;
+    if bounded.is_open(&trial.question) {
+        tell_open(alloc, trial, &bounded)
+    } else {
+        tell_denied(alloc, trial, &bounded)
+    }
+}
+
+// What is told of what a unit is launched to.
+fn tell_launch(alloc: Global, trial: &Trial<'_>, launch: UnitLaunch<'_>) -> Result<Why, Stop>
+    requires can_be_tried { CanBeTried trial.now }
+    requires starts { StartsAs (tried_of trial.now).inputs launch }
+    ensures { IsReadyWith (TellsLaunch (tried_of trial.now) launch.entry) result }
+{
+    match launch {
+        UnitLaunch::Launched(service) => Ok(Why {
+            text: tell_service(alloc, trial, service)?,
+            ending: Ending::Done,
+        }),
+        UnitLaunch::Refused(refusal) => Ok(Why {
+            text: refusal_line(alloc, &refusal)?,
+            ending: Ending::LaunchRefused,
+        }),
+    }
+}
+
+/// Launches the unit, and tells whether the question is open, with calls that reach it, or denied, with what denies it; or finds
+/// the first refusal of the settings and paths of the unit.
+pub fn answer(alloc: Global, trial: &Trial<'_>) -> Result<Why, Stop>
+    requires can_be_tried { CanBeTried trial.now }
+    ensures answers { Prepares (λ made. TellsWhy (tried_of trial.now) (ending_of made) (text_of made)) (start_refusals trial.now.name.now (tried_of trial.now).inputs) result }
+    ensures reads_nothing { IsErrOf result Stop.ReadFault → ⊥ }
+{
+    let launch = start(alloc, trial.name, trial.unit, trial.calls, trial.site)?;
+    tell_launch(alloc, trial, launch)
+}

@@ -1,0 +1,40 @@
+//! The command `why`, the name of a unit and the words of a question.
+ghost use Rattle.std.specs.Prelude.{map};
+ghost use Rattle.command_answers.specs.Asking.{course};
+ghost use Rattle.command_answers.specs.Laws.{IsAdmitted, laws_over};
+ghost use Rattle.unit_inputs.specs.Asking.{AsksInOrder, input_asks};
+ghost use Rattle.unit_inputs.specs.ReadsFor.{ReadsFor};
+ghost use Rattle.why_command.specs.Prints.{ending_of, text_of, why_laws};
+
+use crate::answering::answer;
+use crate::asking::asked_question;
+use crate::why::Why;
+use command_answers::Stop;
+use deciding_lines::Trial;
+use host_io::Shelf;
+use std::alloc::Global;
+use unit_inputs::read_inputs;
+
+/// Prepares `why`, the name of a unit and the words of a question: reads the unit, calls.txt and site.toml, finds the first refusal
+/// of them, of the question and of the settings and paths of the unit, and tells the answer with what denies it.
+pub fn prepare<S: Shelf>(
+    alloc: Global,
+    shelf: &mut S,
+    unit: &str,
+    words: &[&str],
+) -> Result<Why, Stop>
+    ensures prepares { IsAdmitted (laws_over (S.told shelf.old) (why_laws unit.now (map (λ word. word.now) words.now))) ending_of text_of result }
+    ensures asks_in_order { AsksInOrder S.asks (S.told shelf.old) (λ files. input_asks files unit.now) shelf.old shelf.new (course result) }
+    ensures reads_for_the_unit { ReadsFor S.told S.faults unit.now shelf.old shelf.new result }
+{
+    let inputs = read_inputs(alloc, shelf, unit)?;
+    let question = asked_question(alloc, words, &inputs.calls, &inputs.site)?;
+    let trial = Trial {
+        name: unit,
+        unit: &inputs.unit,
+        calls: &inputs.calls,
+        site: &inputs.site,
+        question,
+    };
+    answer(alloc, &trial)
+}

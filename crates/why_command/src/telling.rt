@@ -1,0 +1,84 @@
+//! What is told of a question.
+ghost use Rattle.std.specs.Prelude.{◌≡◌, ◌++◌, Contains, IfOk, OnOk, flat_map};
+ghost use Rattle.deciding_lines.specs.Deciding.{IsReason};
+ghost use Rattle.kernel_laws.specs.Questions.{questions};
+ghost use Rattle.questions.specs.Meanings.{meant};
+ghost use Rattle.report_text.specs.Answers.{call_line};
+ghost use Rattle.judge.specs.declared.answer.Verdict.TheVariants as verdict;
+ghost use Rattle.report_text.specs.Answers.{verdict_line};
+ghost use Rattle.why_command.specs.Lines.{reason_text};
+
+use crate::lines::lines_text;
+use call_table::CallTable;
+use deciding_lines::Reason;
+use dropin_merge::Resolved;
+use judge::Verdict;
+use kernel_calls::Call;
+use questions::Question;
+use report_text::{call_line, verdict_line};
+use site_table::SiteTable;
+use std::alloc::{AllocError, Global};
+
+// Tells calls, one behind the other.
+fn push_calls(
+    alloc: Global,
+    text: &mut Vec<u8>,
+    list: &[Call],
+    calls: &CallTable,
+) -> Result<(), AllocError>
+    ensures { OnOk result (text.new.items ≡ text.old.items ++ flat_map (call_line calls.now) list.now) }
+{
+    for call in list {
+        text.extend_from_slice(call_line(alloc, call, calls)?.as_slice())?;
+    }
+    Ok(())
+}
+
+/// A question that is open, above the calls that reach it.
+pub fn open_text(
+    alloc: Global,
+    question: &Question,
+    list: &[Call],
+    calls: &CallTable,
+    site: &SiteTable,
+) -> Result<Vec<u8>, AllocError>
+    requires asked { Contains (questions calls.now site.now) (meant question.now) }
+    ensures { IfOk result (λ text. text.items ≡ verdict_line calls.now site.now (meant question.now) verdict.Open ++ flat_map (call_line calls.now) list.now) }
+{
+    let mut text = verdict_line(alloc, question, Verdict::Open, calls, site)?;
+    push_calls(alloc, &mut text, list, calls)?;
+    Ok(text)
+}
+
+// What denies it.
+fn reason_text(alloc: Global, unit: &Resolved, reason: &Reason) -> Result<Vec<u8>, AllocError>
+    ensures { IfOk result (λ text. text.items ≡ reason_text unit.now reason.now) }
+{
+    match reason {
+        Reason::Nothing => b"nothing\n".to_vec(alloc),
+        Reason::Lines(places) => lines_text(alloc, unit, places),
+        Reason::NotLaunched(line) => {
+            let mut text = b"without ".to_vec(alloc)?;
+            text.extend_from_slice(line)?;
+            Ok(text)
+        }
+    }
+}
+
+/// A question that is denied, above what denies it.
+pub fn denied_text(
+    alloc: Global,
+    question: &Question,
+    unit: &Resolved,
+    reason: &Reason,
+    calls: &CallTable,
+    site: &SiteTable,
+) -> Result<Vec<u8>, AllocError>
+    requires asked { Contains (questions calls.now site.now) (meant question.now) }
+    ensures { IfOk result (λ text. text.items ≡ verdict_line calls.now site.now (meant question.now) verdict.Denied ++ reason_text unit.now reason.now) }
+{
+    let mut text = verdict_line(alloc, question, Verdict::Denied, calls, site)?;
+    let told = reason_text(alloc, unit, reason)?;
+    text.extend_from_slice(&told)?;
+    Ok(text)
+}
