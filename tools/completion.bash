@@ -7,7 +7,7 @@ _lentsheep() {
             mapfile -t COMPREPLY < <(compgen -d -- "$current")
             return
             ;;
-        --calls | --site | --html | --expect | --write)
+        --calls | --site | --html | --expect | --write | --drop-in)
             mapfile -t COMPREPLY < <(compgen -f -- "$current")
             return
             ;;
@@ -17,7 +17,7 @@ _lentsheep() {
         word=${COMP_WORDS[at]}
         case $word in
             --root | --units) at=$((at + 1)) root=${COMP_WORDS[at]-} ;;
-            --calls | --site | --top | --html | --expect | --write) at=$((at + 1)) ;;
+            --calls | --site | --top | --html | --expect | --write | --drop-in) at=$((at + 1)) ;;
             -*) ;;
             *) [ -n "$command" ] && behind=$((behind + 1)) || command=$word ;;
         esac
@@ -25,7 +25,7 @@ _lentsheep() {
     local commands
     commands=$("${COMP_WORDS[0]}" --help 2>/dev/null | awk '/^  [a-z-]+ \[?[A-Z]/ { print $1 }')
     case $current:$command:$behind in
-        -*) mapfile -t COMPREPLY < <(compgen -W '--root --units --calls --site --fresh --full --top --brief --json --html --expect --write --compare --help --version' -- "$current") ;;
+        -*) mapfile -t COMPREPLY < <(compgen -W '--root --units --calls --site --fresh --full --top --drop-in --brief --json --html --expect --write --compare --help --version' -- "$current") ;;
         *::*) mapfile -t COMPREPLY < <(compgen -W "$commands" -- "$current") ;;
         *:sample:* | *:fleet:0) ;;
         *:check:1)

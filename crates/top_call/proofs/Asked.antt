@@ -11,6 +11,7 @@ use Rattle.command_answers.specs.declared.ending.Ending.{Ending}
 use Rattle.unit_inputs.specs.Asking.{AsksInOrder}
 use Rattle.unit_inputs.proofs.Ended.{order_printed}
 use Rattle.unit_inputs.proofs.Ordering.{asked_so}
+use Rattle.tighten.specs.Wishes.{Wishes}
 use Rattle.top_call.specs.Asked.{asks_by, asks_of}
 use Rattle.top_call.specs.Requests.{Request, request_in}
 use Rattle.top_call.specs.Texts.{ending_of, text_of}
@@ -25,10 +26,10 @@ module _ {S : Type 0} (asks : S → ShelfCall → S → Type 0) (told : Option F
       (asked_so asks told [] a a Whole refl)
 
   -- what was asked for a request was asked for the words that ask for it, with the tests that are lent
-  pub asked_of_words : {T : Type 0} (a b : S) (request : Option Request) (words : List (List ℕ)) (stored : List T → StoredTests) (lent tests : List T) (ended status : Ending)
+  pub asked_of_words : {T : Type 0} (a b : S) (request : Option Request) (words : List (List ℕ)) (stored : List T → StoredTests) (granted : Wishes) (lent tests : List T) (ended status : Ending)
       → request ≡ request_in words → lent ≡ tests → status ≡ ended → AsksInOrder asks told (asks_by request (stored lent)) a b (course_of_run ended)
-      → AsksInOrder asks told (asks_of (record { words = words; told = told; stored = stored tests })) a b (course_of_run status)
-  asked_of_words a b request words stored lent tests ended status is lends same made =
+      → AsksInOrder asks told (asks_of (record { words = words; told = told; stored = stored tests; wishes = granted })) a b (course_of_run status)
+  asked_of_words a b request words stored granted lent tests ended status is lends same made =
       subst (λ ending. AsksInOrder asks told (asks_by (request_in words) (stored tests)) a b (course_of_run ending)) (sym same)
       (subst (λ these. AsksInOrder asks told (asks_by (request_in words) (stored these)) a b (course_of_run ended)) lends
       (subst (λ own. AsksInOrder asks told (asks_by own (stored lent)) a b (course_of_run ended)) is made))

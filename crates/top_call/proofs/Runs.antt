@@ -11,6 +11,7 @@ use Rattle.command_answers.specs.declared.ending.Ending.{Ending}
 use Rattle.command_answers.proofs.FileCommands.{fixed_go_together}
 use Rattle.command_answers.proofs.Refusing.{quiet}
 use Rattle.command_answers.proofs.Runs.{ran}
+use Rattle.tighten.specs.Wishes.{Wishes}
 use Rattle.top_call.specs.Asked.{laws_by, laws_of}
 use Rattle.top_call.specs.Requests.{Request, request_in}
 use Rattle.top_call.specs.Texts.{ending_of, text_of}
@@ -21,11 +22,12 @@ ran_fixed fixed only line accepted outside ended whole answers ends is same fini
     ran (fixed_laws only line accepted) (fixed_go_together only line accepted whole answers) outside ending_of text_of (Ok fixed) ended
     (ends, is) (λ e. cc) (quiet outside.shelf_before outside.shelf_after (Ok fixed) same (λ e. cc)) finished
 
--- a run for a request is one for the words that ask for it, with the tests that are lent
-pub of_words : {T : Type 0} (request : Option Request) (words : List (List ℕ)) (told : Option Files) (stored : List T → StoredTests) (lent tests : List T) (ended status : Ending) (outside : Outside)
-    → request ≡ request_in words → lent ≡ tests → status ≡ ended → IsRun (laws_by request told (stored lent)) ended outside
-    → IsRun (laws_of (record { words = words; told = told; stored = stored tests })) status outside
-of_words request words told stored lent tests ended status outside asks lends same run =
-    subst (λ ending. IsRun (laws_by (request_in words) told (stored tests)) ending outside) (sym same)
-    (subst (λ these. IsRun (laws_by (request_in words) told (stored these)) ended outside) lends
-    (subst (λ own. IsRun (laws_by own told (stored lent)) ended outside) asks run))
+-- a run for a request is one for the words that ask for it, with the tests and wishes that are lent
+pub of_words : {T W : Type 0} (request : Option Request) (words : List (List ℕ)) (told : Option Files) (stored : List T → StoredTests) (granted : List W → Wishes) (lent tests : List T) (lent_wishes wishes : List W) (ended status : Ending) (outside : Outside)
+    → request ≡ request_in words → lent ≡ tests → lent_wishes ≡ wishes → status ≡ ended → IsRun (laws_by request told (stored lent) (granted lent_wishes)) ended outside
+    → IsRun (laws_of (record { words = words; told = told; stored = stored tests; wishes = granted wishes })) status outside
+of_words request words told stored granted lent tests lent_wishes wishes ended status outside asks lends lends_wishes same run =
+    subst (λ ending. IsRun (laws_by (request_in words) told (stored tests) (granted wishes)) ending outside) (sym same)
+    (subst (λ these. IsRun (laws_by (request_in words) told (stored tests) (granted these)) ended outside) lends_wishes
+    (subst (λ these. IsRun (laws_by (request_in words) told (stored these) (granted lent_wishes)) ended outside) lends
+    (subst (λ own. IsRun (laws_by own told (stored lent) (granted lent_wishes)) ended outside) asks run)))

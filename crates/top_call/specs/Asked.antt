@@ -3,6 +3,7 @@ use Rattle.std.specs.Prelude.{ℕ, List, [], map, Option, Some, None}
 use Rattle.host_io.specs.Calls.{Ask}
 use Rattle.host_io.specs.Files.{Files}
 use Rattle.exposure_score.specs.StoredTests.{StoredTests}
+use Rattle.tighten.specs.Wishes.{Wishes}
 use Rattle.command_answers.specs.Laws.{Laws, fixed_laws, laws_over}
 use Rattle.command_answers.specs.declared.ending.Ending.{Ending}
 use Rattle.command_answers.specs.declared.ending.Ending.TheVariants.{Done, NoCommand}
@@ -12,47 +13,52 @@ use Rattle.judge_command.specs.Prints.{judge_laws}
 use Rattle.replay_command.specs.Prints.{replay_laws}
 use Rattle.derive_command.specs.Prints.{derive_laws}
 use Rattle.effect_command.specs.Prints.{effect_laws}
+use Rattle.tighten_command.specs.Prints.{tighten_laws}
+use Rattle.why_command.specs.Prints.{why_laws}
 use Rattle.score_command.specs.Prints.{score_laws}
 use Rattle.check_command.specs.Prints.{check_laws}
 use Rattle.unit_inputs.specs.Asking.{asks_with_file, input_asks}
 use Rattle.fleet_command.specs.Asking.{fleet_asks}
 use Rattle.fleet_command.specs.Prints.{fleet_laws}
 use Rattle.sample_command.specs.Prints.{sample_laws}
-use Rattle.top_call.specs.Requests.{Request, HelpAlone, VersionAlone, FilterOf, PlanOf, JudgeOf, ReplayOf, DeriveOf, EffectOf, ScoreOf, CheckOf, FleetOf, SampleOf, request_in}
+use Rattle.top_call.specs.Requests.{Request, HelpAlone, VersionAlone, FilterOf, PlanOf, JudgeOf, ReplayOf, DeriveOf, EffectOf, TightenOf, WhyOf, ScoreOf, CheckOf, FleetOf, SampleOf, request_in}
 use Rattle.top_call.specs.Texts.{help_text, version_text, words_line}
 use denote.Ref.{Bor}
 
--- the words behind the program's name, the files of the shelf, where it tells them, and the tests that are handed in
+-- the words behind the program's name, the files of the shelf, where it tells them, and the tests and wishes that are handed in
 pub record Asked : Type 1 where
   pub words : List (List ℕ)
   pub told : Option Files
   pub stored : StoredTests
+  pub wishes : Wishes
 
-abbrev pub asked : List (Bor (List ℕ)) → Option Files → StoredTests → Asked
-asked words told stored = record { words = map (λ word. word.now) words; told = told; stored = stored }
+abbrev pub asked : List (Bor (List ℕ)) → Option Files → StoredTests → Wishes → Asked
+asked words told stored wishes = record { words = map (λ word. word.now) words; told = told; stored = stored; wishes = wishes }
 
 -- each request has its laws
-abbrev pub laws_for : Request → Option Files → StoredTests → Laws
-laws_for HelpAlone told stored = fixed_laws Done help_text (Unit {0})
-laws_for VersionAlone told stored = fixed_laws Done version_text (Unit {0})
-laws_for (FilterOf unit) told stored = laws_over told (filter_laws unit)
-laws_for (PlanOf unit) told stored = laws_over told (plan_laws unit)
-laws_for (JudgeOf unit) told stored = laws_over told (judge_laws unit)
-laws_for (ReplayOf unit script) told stored = laws_over told (replay_laws unit script)
-laws_for (DeriveOf unit script) told stored = laws_over told (derive_laws unit script)
-laws_for (EffectOf unit dropin) told stored = laws_over told (effect_laws unit dropin)
-laws_for (ScoreOf unit policy threshold) told stored = laws_over told (score_laws unit policy threshold stored)
-laws_for (CheckOf unit filter path) told stored = check_laws told unit filter path
-laws_for (FleetOf policy) told stored = laws_over told (fleet_laws policy stored)
-laws_for (SampleOf number) told stored = sample_laws number
+abbrev pub laws_for : Request → Option Files → StoredTests → Wishes → Laws
+laws_for HelpAlone told stored wishes = fixed_laws Done help_text (Unit {0})
+laws_for VersionAlone told stored wishes = fixed_laws Done version_text (Unit {0})
+laws_for (FilterOf unit) told stored wishes = laws_over told (filter_laws unit)
+laws_for (PlanOf unit) told stored wishes = laws_over told (plan_laws unit)
+laws_for (JudgeOf unit) told stored wishes = laws_over told (judge_laws unit)
+laws_for (ReplayOf unit script) told stored wishes = laws_over told (replay_laws unit script)
+laws_for (DeriveOf unit script) told stored wishes = laws_over told (derive_laws unit script)
+laws_for (EffectOf unit dropin) told stored wishes = laws_over told (effect_laws unit dropin)
+laws_for (TightenOf unit keep) told stored wishes = tighten_laws told unit keep wishes
+laws_for (WhyOf unit words) told stored wishes = laws_over told (why_laws unit words)
+laws_for (ScoreOf unit policy threshold) told stored wishes = laws_over told (score_laws unit policy threshold stored)
+laws_for (CheckOf unit filter path) told stored wishes = check_laws told unit filter path
+laws_for (FleetOf policy) told stored wishes = laws_over told (fleet_laws policy stored)
+laws_for (SampleOf number) told stored wishes = sample_laws number
 
 -- words that are no command are refused whatever the files
-abbrev pub laws_by : Option Request → Option Files → StoredTests → Laws
-laws_by None told stored = fixed_laws NoCommand words_line ⊥
-laws_by (Some request) told stored = laws_for request told stored
+abbrev pub laws_by : Option Request → Option Files → StoredTests → Wishes → Laws
+laws_by None told stored wishes = fixed_laws NoCommand words_line ⊥
+laws_by (Some request) told stored wishes = laws_for request told stored wishes
 
 abbrev pub laws_of : Asked → Laws
-laws_of asked = laws_by (request_in asked.words) asked.told asked.stored
+laws_of asked = laws_by (request_in asked.words) asked.told asked.stored asked.wishes
 
 -- the texts that are admitted, each with the ending behind it
 abbrev pub Prints : Asked → Ending → List ℕ → Type 0
@@ -77,6 +83,8 @@ asks_for (JudgeOf unit) stored = λ files. input_asks files unit
 asks_for (ReplayOf unit script) stored = λ files. asks_with_file files unit script
 asks_for (DeriveOf unit script) stored = λ files. asks_with_file files unit script
 asks_for (EffectOf unit dropin) stored = λ files. asks_with_file files unit dropin
+asks_for (TightenOf unit keep) stored = λ files. asks_with_file files unit keep
+asks_for (WhyOf unit words) stored = λ files. input_asks files unit
 asks_for (ScoreOf unit policy threshold) stored = λ files. asks_with_file files unit policy
 asks_for (CheckOf unit filter path) stored = λ files. asks_with_file files unit path
 asks_for (FleetOf policy) stored = λ files. fleet_asks files policy stored

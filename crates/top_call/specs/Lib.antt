@@ -1,4 +1,5 @@
 pub mod Texts
 pub mod Requests
 pub mod Asked
+pub mod Around
 pub mod Statuses

@@ -1,9 +1,9 @@
 -- What a list of words asks for.
-use Rattle.std.specs.Prelude.{List, [], ◌∷◌, ℕ, ◌≤◌, nat_le, codes, cond, Option, Some, None, option_map, option_and_then}
+use Rattle.std.specs.Prelude.{List, [], ◌∷◌, ℕ, ◌≤◌, nat_le, codes, cond, map, Option, Some, None, option_map, option_and_then}
 use Rattle.std.specs.Str.{bytes_eq}
 use Rattle.text_forms.specs.Numbers.{decimal_value}
 use Rattle.top_call.specs.declared.request.Request.{Request as Code}
-use Rattle.top_call.specs.declared.request.Request.TheVariants.{Help, Version, Filter, Plan, Judge, Replay, Derive, Effect, Score, Check, Fleet, Sample}
+use Rattle.top_call.specs.declared.request.Request.TheVariants.{Help, Version, Filter, Plan, Judge, Replay, Derive, Effect, Tighten, Why, Score, Check, Fleet, Sample}
 
 -- what is asked for
 pub data Request : Type 0 where
@@ -15,6 +15,8 @@ pub data Request : Type 0 where
   ReplayOf : (unit script : List ℕ) → Request
   DeriveOf : (unit script : List ℕ) → Request
   EffectOf : (unit dropin : List ℕ) → Request
+  TightenOf : (unit keep : List ℕ) → Request
+  WhyOf : (unit : List ℕ) (words : List (List ℕ)) → Request
   ScoreOf : (unit policy : List ℕ) (threshold : ℕ) → Request
   CheckOf : (unit filter path : List ℕ) → Request
   FleetOf : (policy : List ℕ) → Request
@@ -39,13 +41,14 @@ request_on word what =
     (cond (bytes_eq word (codes "fleet")) (Some (FleetOf what))
     (cond (bytes_eq word (codes "sample")) (option_map SampleOf (number_to what 999)) None))))
 
--- a word, a unit, and the path of a script, of a drop-in or of a policy; without a threshold no exposure is above it
+-- a word, a unit, and the path of a script, of a drop-in, of what is to be kept or of a policy; without a threshold no exposure is above it
 abbrev pub request_with : List ℕ → List ℕ → List ℕ → Option Request
 request_with word unit path =
     cond (bytes_eq word (codes "replay")) (Some (ReplayOf unit path))
     (cond (bytes_eq word (codes "derive")) (Some (DeriveOf unit path))
     (cond (bytes_eq word (codes "effect")) (Some (EffectOf unit path))
-    (cond (bytes_eq word (codes "score")) (Some (ScoreOf unit path 100)) None)))
+    (cond (bytes_eq word (codes "tighten")) (Some (TightenOf unit path))
+    (cond (bytes_eq word (codes "score")) (Some (ScoreOf unit path 100)) None))))
 
 -- a word, a unit, the path of a policy and a threshold, 0 to 100; or a word, a unit, the name of a filter and the path of a file
 abbrev pub request_above : List ℕ → List ℕ → List ℕ → List ℕ → Option Request
@@ -54,13 +57,25 @@ request_above word unit what last =
     (cond (bytes_eq word (codes "check")) (Some (CheckOf unit what last)) None)
 
 -- all other words are no command
+abbrev pub request_by : List (List ℕ) → Option Request
+request_by [] = None
+request_by (word ∷ []) = request_alone word
+request_by (word ∷ what ∷ []) = request_on word what
+request_by (word ∷ unit ∷ path ∷ []) = request_with word unit path
+request_by (word ∷ unit ∷ what ∷ last ∷ []) = request_above word unit what last
+request_by (word ∷ unit ∷ what ∷ last ∷ more ∷ words) = None
+
+-- `why`, a unit, and the words of a question, one or more
+abbrev pub request_why : List (List ℕ) → Option Request
+request_why (word ∷ unit ∷ first ∷ words) = cond (bytes_eq word (codes "why")) (Some (WhyOf unit (first ∷ words))) None
+request_why words = None
+
+abbrev pub or_else : Option Request → Option Request → Option Request
+or_else (Some request) other = Some request
+or_else None other = other
+
 abbrev pub request_in : List (List ℕ) → Option Request
-request_in [] = None
-request_in (word ∷ []) = request_alone word
-request_in (word ∷ what ∷ []) = request_on word what
-request_in (word ∷ unit ∷ path ∷ []) = request_with word unit path
-request_in (word ∷ unit ∷ what ∷ last ∷ []) = request_above word unit what last
-request_in (word ∷ unit ∷ what ∷ last ∷ more ∷ words) = None
+request_in words = or_else (request_why words) (request_by words)
 
 -- a request of the code, as contracts see it
 abbrev pub request_of : Code → Request
@@ -72,6 +87,8 @@ request_of (Judge unit) = JudgeOf unit.now
 request_of (Replay unit script) = ReplayOf unit.now script.now
 request_of (Derive unit script) = DeriveOf unit.now script.now
 request_of (Effect unit dropin) = EffectOf unit.now dropin.now
+request_of (Tighten unit keep) = TightenOf unit.now keep.now
+request_of (Why unit words) = WhyOf unit.now (map (λ word. word.now) words.now)
 request_of (Score unit policy threshold) = ScoreOf unit.now policy.now threshold
 request_of (Check unit filter path) = CheckOf unit.now filter.now path.now
 request_of (Fleet policy) = FleetOf policy.now
@@ -87,6 +104,8 @@ IsNumbered (Judge unit) = Unit {0}
 IsNumbered (Replay unit script) = Unit {0}
 IsNumbered (Derive unit script) = Unit {0}
 IsNumbered (Effect unit dropin) = Unit {0}
+IsNumbered (Tighten unit keep) = Unit {0}
+IsNumbered (Why unit words) = Unit {0}
 IsNumbered (Score unit policy threshold) = Unit {0}
 IsNumbered (Check unit filter path) = Unit {0}
 IsNumbered (Fleet policy) = Unit {0}

@@ -32,6 +32,10 @@ help_lines =
     codes "                 print the least list of calls that lets SCRIPT through, as a drop-in" ∷
     codes "  effect UNIT DROPIN" ∷
     codes "                 print what DROPIN, applied last, would close and open" ∷
+    codes "  tighten UNIT KEEP" ∷
+    codes "                 print the settings that can be added while all of KEEP stays open" ∷
+    codes "  why UNIT QUESTION" ∷
+    codes "                 print which lines of UNIT deny QUESTION, as judge words it" ∷
     codes "  score UNIT POLICY [THRESHOLD]" ∷
     codes "                 weigh what its sandbox leaves open, 0 to 100 in all" ∷
     codes "  check UNIT NAME FILE" ∷
@@ -49,6 +53,7 @@ help_lines =
     codes "  site.toml      the files, the users and the groups of the host" ∷
     codes "  SCRIPT         calls to make, one a line: PID NAME [PAYLOAD] [NUMBER ..]" ∷
     codes "  DROPIN         a file of settings, as the drop-ins of a unit are" ∷
+    codes "  KEEP           questions to be kept open, one a line as judge prints them" ∷
     codes "  POLICY         what tests of the sandbox weigh, as JSON" ∷
     codes "  FILE           a filter, 16 lower-case hex digits a line; NAME is one of the unit" ∷
     [] ∷
@@ -61,7 +66,7 @@ help_lines =
     codes "  4  a read failed, and nothing was printed" ∷
     codes "  5  a write failed, and the text was cut" ∷
     codes "  6  memory ran out, and the text was cut" ∷
-    codes "  7  the launch of judge, replay, derive or effect is refused" ∷
+    codes "  7  the launch of judge, replay, derive, effect, tighten or why is refused" ∷
     codes "  8  the filters of check differ, and the line says where" ∷
     [] ∷
     codes "lentsheep --root / COMMAND UNIT judges a service of this machine; --root --help says more." ∷

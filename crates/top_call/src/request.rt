@@ -1,7 +1,7 @@
 //! What the words of the command line ask for.
 ghost use Rattle.std.specs.Prelude.{◌≡◌, ◌≤◌, map, IfSome};
 ghost use Rattle.std.specs.Option.{option_map};
-ghost use Rattle.top_call.specs.Requests.{IsNumbered, number_to, request_above, request_alone, request_in, request_of, request_on, request_with};
+ghost use Rattle.top_call.specs.Requests.{IsNumbered, number_to, request_above, request_alone, request_in, request_by, request_of, request_on, request_why, request_with};
 
 use text_forms::read_decimal;
 
@@ -24,6 +24,10 @@ pub enum Request<'a> {
     Derive(&'a str, &'a str),
     /// What a drop-in, the second, opens or closes for a unit, the first.
     Effect(&'a str, &'a str),
+    /// The settings that can be added to a unit, the first, while the questions of a file, the second, stay open.
+    Tighten(&'a str, &'a str),
+    /// What lines of a unit deny a question, of which these are the words.
+    Why(&'a str, &'a [&'a str]),
     /// The exposure of a unit, the first, by a policy, the second, and the threshold that it is held against.
     Score(&'a str, &'a str, u32),
     /// Whether the program of a file, the third, decides every call as a filter, the second, of a unit, the first.
@@ -101,6 +105,7 @@ fn request_with<'a>(word: &str, unit: &'a str, path: &'a str) -> Option<Request<
         "replay" => Some(Request::Replay(unit, path)),
         "derive" => Some(Request::Derive(unit, path)),
         "effect" => Some(Request::Effect(unit, path)),
+        "tighten" => Some(Request::Tighten(unit, path)),
         "score" => Some(Request::Score(unit, path, MOST_EXPOSURE)),
         _ => None,
     }
@@ -118,9 +123,20 @@ fn request_above<'a>(word: &str, unit: &'a str, what: &'a str, last: &'a str) ->
     }
 }
 
-/// The request of the words, or none where they are no command.
-pub fn parse<'a>(words: &[&'a str]) -> Option<Request<'a>>
-    ensures request { option_map request_of result ≡ request_in (map (λ word. word.now) words.now) }
+// The request of `why`, a unit and the words of a question, one or more.
+fn request_why<'a>(words: &'a [&'a str]) -> Option<Request<'a>>
+    ensures request { option_map request_of result ≡ request_why (map (λ word. word.now) words.now) }
+    ensures numbered { IfSome result IsNumbered }
+{
+    if words.len() < 3 || words[0] != "why" {
+        return None;
+    }
+    Some(Request::Why(words[1], &words[2..]))
+}
+
+// The request of other words, by how many they are.
+fn request_by<'a>(words: &[&'a str]) -> Option<Request<'a>>
+    ensures request { option_map request_of result ≡ request_by (map (λ word. word.now) words.now) }
     ensures numbered { IfSome result IsNumbered }
 {
     match words {
@@ -129,5 +145,16 @@ pub fn parse<'a>(words: &[&'a str]) -> Option<Request<'a>>
         [word, unit, path] => request_with(word, unit, path),
         [word, unit, what, last] => request_above(word, unit, what, last),
         _ => None,
+    }
+}
+
+/// The request of the words, or none where they are no command.
+pub fn parse<'a>(words: &'a [&'a str]) -> Option<Request<'a>>
+    ensures request { option_map request_of result ≡ request_in (map (λ word. word.now) words.now) }
+    ensures numbered { IfSome result IsNumbered }
+{
+    match request_why(words) {
+        Some(request) => Some(request),
+        None => request_by(words),
     }
 }

@@ -1,4 +1,4 @@
-use Rattle.std.proofs.Common.{refl}
+use Rattle.std.proofs.Common.{[], map, refl}
 use Rattle.command_answers.specs.Laws.{laws_over}
 use Rattle.command_answers.specs.declared.ending.Ending.TheVariants.{Done}
 use Rattle.command_answers.proofs.Runs.{ran}
@@ -10,6 +10,11 @@ use Rattle.derive_command.specs.Prints.{derive_laws, ending_of as derive_ending,
 use Rattle.derive_command.proofs.Prepared.{together as derive_together}
 use Rattle.effect_command.specs.Prints.{effect_laws, ending_of as effect_ending, text_of as effect_text}
 use Rattle.effect_command.proofs.Prepared.{together as effect_together}
+use Rattle.tighten.specs.Wishes.{wishes_by}
+use Rattle.tighten_command.specs.Prints.{tighten_laws, ending_of as tighten_ending, text_of as tighten_text}
+use Rattle.tighten_command.proofs.Prepared.{together as tighten_together}
+use Rattle.why_command.specs.Prints.{why_laws, ending_of as why_ending, text_of as why_text}
+use Rattle.why_command.proofs.Prepared.{together as why_together}
 use Rattle.exposure_score.specs.StoredTests.{stored_by}
 use Rattle.score_command.specs.Prints.{score_laws, scored_text, ending_of as score_ending}
 use Rattle.score_command.proofs.Prepared.{together as score_together}
@@ -23,7 +28,6 @@ use Rattle.sample_command.specs.Prints.{sample_laws, sampled_text, ending_of as 
 use Rattle.sample_command.proofs.Prepared.{together as sample_together}
 use Rattle.top_call.specs.Texts.{help_text, version_text}
 use Rattle.top_call.proofs.Runs.{ran_fixed}
-use Rattle.std.proofs.Common.{[]}
 use Rattle.host_io.specs.Calls.{Whole}
 use Rattle.unit_inputs.specs.Asking.{asks_with_file, input_asks}
 use Rattle.unit_inputs.proofs.Ended.{order_finished}
@@ -72,10 +76,23 @@ returns-in-Effect-clause-runs g c =
     (ran (laws_over (g.S.Shelf.told c.args.shelf.now) (effect_laws c.in-Effect.unit.now c.in-Effect.dropin.now)) (effect_together (g.S.Shelf.told c.args.shelf.now) c.in-Effect.unit.now c.in-Effect.dropin.now) _ effect_ending effect_text c.prepare-in-Effect.result c.finish-in-Effect.result
     c.prepare-in-Effect.ensures.prepares c.prepare-in-Effect.ensures.reads_for_the_unit.reads_for_a_name c.prepare-in-Effect.ensures.reads_for_the_unit.fault_rose c.finish-in-Effect.ensures.finishes)
 
+pub returns-in-Tighten-clause-runs : goal.returns-in-Tighten-clause-runs
+returns-in-Tighten-clause-runs g c =
+    rw c.in-Tighten.is
+    (let wishes = wishes_by (λ wish. wish.must_open) (λ wish shown answer. (goal.dyn-2-members g).post (wish.test.vtable, wish.test.value) (shown, tt) answer) c.args.wishes.now in
+    ran (tighten_laws (g.S.Shelf.told c.args.shelf.now) c.in-Tighten.unit.now c.in-Tighten.keep.now wishes) (tighten_together c.in-Tighten.unit.now c.in-Tighten.keep.now wishes (g.S.Shelf.told c.args.shelf.now)) _ tighten_ending tighten_text c.prepare-in-Tighten.result c.finish-in-Tighten.result
+    c.prepare-in-Tighten.ensures.prepares c.prepare-in-Tighten.ensures.reads_for_the_unit.reads_for_a_name c.prepare-in-Tighten.ensures.reads_for_the_unit.fault_rose c.finish-in-Tighten.ensures.finishes)
+
+pub returns-in-Why-clause-runs : goal.returns-in-Why-clause-runs
+returns-in-Why-clause-runs g c =
+    rw c.in-Why.is
+    (ran (laws_over (g.S.Shelf.told c.args.shelf.now) (why_laws c.in-Why.unit.now (map (λ word. word.now) c.in-Why.words.now))) (why_together (g.S.Shelf.told c.args.shelf.now) c.in-Why.unit.now (map (λ word. word.now) c.in-Why.words.now)) _ why_ending why_text c.prepare-in-Why.result c.finish-in-Why.result
+    c.prepare-in-Why.ensures.prepares c.prepare-in-Why.ensures.reads_for_the_unit.reads_for_a_name c.prepare-in-Why.ensures.reads_for_the_unit.fault_rose c.finish-in-Why.ensures.finishes)
+
 pub returns-in-Score-clause-runs : goal.returns-in-Score-clause-runs
 returns-in-Score-clause-runs g c =
     rw c.in-Score.is
-    (let stored = stored_by (λ test. test.id) (λ test. test.range) (λ test shown answer. (goal.Fn-dyn g).post (test.check.vtable, test.check.value) (shown, tt) answer) c.args.tests.now in
+    (let stored = stored_by (λ test. test.id) (λ test. test.range) (λ test shown answer. (goal.dyn-1-members g).post (test.check.vtable, test.check.value) (shown, tt) answer) c.args.tests.now in
     ran (laws_over (g.S.Shelf.told c.args.shelf.now) (score_laws c.in-Score.unit.now c.in-Score.policy.now c.in-Score.threshold stored)) (score_together (g.S.Shelf.told c.args.shelf.now) c.in-Score.unit.now c.in-Score.policy.now c.in-Score.threshold stored) _ score_ending scored_text c.prepare-in-Score.result c.finish-in-Score.result
     c.prepare-in-Score.ensures.prepares c.prepare-in-Score.ensures.reads_for_the_unit.reads_for_a_name c.prepare-in-Score.ensures.reads_for_the_unit.fault_rose c.finish-in-Score.ensures.finishes)
 
@@ -88,7 +105,7 @@ returns-in-Check-clause-runs g c =
 pub returns-in-Fleet-clause-runs : goal.returns-in-Fleet-clause-runs
 returns-in-Fleet-clause-runs g c =
     rw c.in-Fleet.is
-    (let stored = stored_by (λ test. test.id) (λ test. test.range) (λ test shown answer. (goal.Fn-dyn g).post (test.check.vtable, test.check.value) (shown, tt) answer) c.args.tests.now in
+    (let stored = stored_by (λ test. test.id) (λ test. test.range) (λ test shown answer. (goal.dyn-1-members g).post (test.check.vtable, test.check.value) (shown, tt) answer) c.args.tests.now in
     ran (laws_over (g.S.Shelf.told c.args.shelf.now) (fleet_laws c.in-Fleet.policy.now stored)) (fleet_together (g.S.Shelf.told c.args.shelf.now) c.in-Fleet.policy.now stored) _ fleet_ending fleet_text c.prepare-in-Fleet.result c.finish-in-Fleet.result
     c.prepare-in-Fleet.ensures.prepares (λ fault. tt) c.prepare-in-Fleet.ensures.fault_rose c.finish-in-Fleet.ensures.finishes)
 
@@ -142,10 +159,23 @@ returns-in-Effect-clause-reads_in_order g c =
     (order_finished g.S.Shelf.asks (g.S.Shelf.told c.args.shelf.now) (λ files. asks_with_file files c.in-Effect.unit.now c.in-Effect.dropin.now) c.args.shelf.now c.prepare-in-Effect.new.shelf (laws_over (g.S.Shelf.told c.args.shelf.now) (effect_laws c.in-Effect.unit.now c.in-Effect.dropin.now)) (effect_together (g.S.Shelf.told c.args.shelf.now) c.in-Effect.unit.now c.in-Effect.dropin.now) effect_ending effect_text c.prepare-in-Effect.result c.finish-in-Effect.result _
     c.prepare-in-Effect.ensures.prepares c.finish-in-Effect.ensures.finishes c.prepare-in-Effect.ensures.asks_in_order)
 
+pub returns-in-Tighten-clause-reads_in_order : goal.returns-in-Tighten-clause-reads_in_order
+returns-in-Tighten-clause-reads_in_order g c =
+    rw c.in-Tighten.is
+    (let wishes = wishes_by (λ wish. wish.must_open) (λ wish shown answer. (goal.dyn-2-members g).post (wish.test.vtable, wish.test.value) (shown, tt) answer) c.args.wishes.now in
+    order_finished g.S.Shelf.asks (g.S.Shelf.told c.args.shelf.now) (λ files. asks_with_file files c.in-Tighten.unit.now c.in-Tighten.keep.now) c.args.shelf.now c.prepare-in-Tighten.new.shelf (tighten_laws (g.S.Shelf.told c.args.shelf.now) c.in-Tighten.unit.now c.in-Tighten.keep.now wishes) (tighten_together c.in-Tighten.unit.now c.in-Tighten.keep.now wishes (g.S.Shelf.told c.args.shelf.now)) tighten_ending tighten_text c.prepare-in-Tighten.result c.finish-in-Tighten.result _
+    c.prepare-in-Tighten.ensures.prepares c.finish-in-Tighten.ensures.finishes c.prepare-in-Tighten.ensures.asks_in_order)
+
+pub returns-in-Why-clause-reads_in_order : goal.returns-in-Why-clause-reads_in_order
+returns-in-Why-clause-reads_in_order g c =
+    rw c.in-Why.is
+    (order_finished g.S.Shelf.asks (g.S.Shelf.told c.args.shelf.now) (λ files. input_asks files c.in-Why.unit.now) c.args.shelf.now c.prepare-in-Why.new.shelf (laws_over (g.S.Shelf.told c.args.shelf.now) (why_laws c.in-Why.unit.now (map (λ word. word.now) c.in-Why.words.now))) (why_together (g.S.Shelf.told c.args.shelf.now) c.in-Why.unit.now (map (λ word. word.now) c.in-Why.words.now)) why_ending why_text c.prepare-in-Why.result c.finish-in-Why.result _
+    c.prepare-in-Why.ensures.prepares c.finish-in-Why.ensures.finishes c.prepare-in-Why.ensures.asks_in_order)
+
 pub returns-in-Score-clause-reads_in_order : goal.returns-in-Score-clause-reads_in_order
 returns-in-Score-clause-reads_in_order g c =
     rw c.in-Score.is
-    (let stored = stored_by (λ test. test.id) (λ test. test.range) (λ test shown answer. (goal.Fn-dyn g).post (test.check.vtable, test.check.value) (shown, tt) answer) c.args.tests.now in
+    (let stored = stored_by (λ test. test.id) (λ test. test.range) (λ test shown answer. (goal.dyn-1-members g).post (test.check.vtable, test.check.value) (shown, tt) answer) c.args.tests.now in
     order_finished g.S.Shelf.asks (g.S.Shelf.told c.args.shelf.now) (λ files. asks_with_file files c.in-Score.unit.now c.in-Score.policy.now) c.args.shelf.now c.prepare-in-Score.new.shelf (laws_over (g.S.Shelf.told c.args.shelf.now) (score_laws c.in-Score.unit.now c.in-Score.policy.now c.in-Score.threshold stored)) (score_together (g.S.Shelf.told c.args.shelf.now) c.in-Score.unit.now c.in-Score.policy.now c.in-Score.threshold stored) score_ending scored_text c.prepare-in-Score.result c.finish-in-Score.result _
     c.prepare-in-Score.ensures.prepares c.finish-in-Score.ensures.finishes c.prepare-in-Score.ensures.asks_in_order)
 
@@ -158,7 +188,7 @@ returns-in-Check-clause-reads_in_order g c =
 pub returns-in-Fleet-clause-reads_in_order : goal.returns-in-Fleet-clause-reads_in_order
 returns-in-Fleet-clause-reads_in_order g c =
     rw c.in-Fleet.is
-    (let stored = stored_by (λ test. test.id) (λ test. test.range) (λ test shown answer. (goal.Fn-dyn g).post (test.check.vtable, test.check.value) (shown, tt) answer) c.args.tests.now in
+    (let stored = stored_by (λ test. test.id) (λ test. test.range) (λ test shown answer. (goal.dyn-1-members g).post (test.check.vtable, test.check.value) (shown, tt) answer) c.args.tests.now in
     order_finished g.S.Shelf.asks (g.S.Shelf.told c.args.shelf.now) (λ files. fleet_asks files c.in-Fleet.policy.now stored) c.args.shelf.now c.prepare-in-Fleet.new.shelf (laws_over (g.S.Shelf.told c.args.shelf.now) (fleet_laws c.in-Fleet.policy.now stored)) (fleet_together (g.S.Shelf.told c.args.shelf.now) c.in-Fleet.policy.now stored) fleet_ending fleet_text c.prepare-in-Fleet.result c.finish-in-Fleet.result _
     c.prepare-in-Fleet.ensures.prepares c.finish-in-Fleet.ensures.finishes c.prepare-in-Fleet.ensures.asks_in_order)
 
