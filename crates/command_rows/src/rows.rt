@@ -56,6 +56,7 @@ impl Rows {
             }
             Some(("fail-read", rest)) => Ok(self.faults.reads.push(number(rest))?),
             Some(("fail-put", rest)) => Ok(self.faults.puts.push(number(rest))?),
+            Some(("wish", answer)) => Ok(self.faults.wishes.push(answer == "yes")?),
             _ => self.files.follow(alloc, line),
         }
     }

@@ -1,11 +1,14 @@
 //! A run over files in memory, with faults or without.
+use asked_service::VerdictRow;
 use exposure_score::{CustomTest, Facts, ambient_count, writable_paths};
 use host_io::{MemShelf, MemSink, are_files};
+use questions::{Question, Wish};
 use row_tools::said;
 use std::alloc::{AllocError, Global};
+use tighten::StoredWish;
 use top_call::run;
 
-/// What fails in a run, and how much the sink takes at once.
+/// What fails in a run, how much the sink takes at once, and what wishes answer.
 #[derive(Drop)]
 pub struct Faults {
     /// The calls of the shelf that fail, from 1.
@@ -14,6 +17,8 @@ pub struct Faults {
     pub puts: Vec<u64>,
     /// How many bytes a put takes at most.
     pub take: u64,
+    /// The answers of the wishes behind that of the program.
+    pub wishes: Vec<bool>,
 }
 
 impl Faults {
@@ -23,6 +28,7 @@ impl Faults {
             reads: Vec::new(alloc),
             puts: Vec::new(alloc),
             take,
+            wishes: Vec::new(alloc),
         }
     }
 }
@@ -47,15 +53,29 @@ pub fn run_over(
     }
     let mut shelf = MemShelf::new(files, faults.reads.clone()?);
     let mut sink = MemSink::new(alloc, faults.take, faults.puts.clone()?);
-    let code = run_words(alloc, words, &mut shelf, &mut sink)?;
+    let code = run_words(alloc, words, &faults.wishes, &mut shelf, &mut sink)?;
     let text = said(alloc, str::from_utf8(sink.taken()).unwrap_or("no text\n"))?;
     Ok(Printed { code, text })
 }
 
-// The status of these words, with the two stored tests of the program.
+// Whether some file can be executed by the verdicts.
+fn can_execute(rows: &[VerdictRow]) -> bool {
+    for row in rows {
+        if let Question::Path(Wish::Exec, _) = row.question {
+            if row.is_open {
+                return true;
+            }
+        }
+    }
+    false
+}
+
+// The status of these words, with the two stored tests of the program, and its wish before those that answer so. The closures are
+// handed in where they are made.
 fn run_words(
     alloc: Global,
     words: &[&str],
+    answers: &[bool],
     shelf: &mut MemShelf,
     sink: &mut MemSink,
 ) -> Result<u8, AllocError> {
@@ -65,5 +85,26 @@ fn run_words(
         CustomTest::new(said(alloc, "AmbientCount")?, 41, ambient),
         CustomTest::new(said(alloc, "WritablePaths")?, 128, paths),
     ]?;
-    Ok(run(alloc, words, shelf, sink, tests).code)
+    let executes = Box::new(alloc, |rows: &[VerdictRow]| can_execute(rows))?;
+    let mut wishes = vec![in alloc;
+        StoredWish::new(said(alloc, "OpenExec")?, Vec::new(alloc), executes),
+    ]?;
+    for answer in answers {
+        let none = Vec::new(alloc);
+        let wish = if *answer {
+            StoredWish::new(
+                said(alloc, "Granted")?,
+                none,
+                Box::new(alloc, |_rows: &[VerdictRow]| true)?,
+            )
+        } else {
+            StoredWish::new(
+                said(alloc, "Refused")?,
+                none,
+                Box::new(alloc, |_rows: &[VerdictRow]| false)?,
+            )
+        };
+        wishes.push(wish)?;
+    }
+    Ok(run(alloc, words, shelf, sink, tests, wishes).code)
 }

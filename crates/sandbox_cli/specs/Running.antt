@@ -5,6 +5,7 @@ use Rattle.std.specs.declared.alloc.Global.{Global}
 use Rattle.std.specs.declared.process.ExitCode.{ExitCode}
 use Rattle.host_io.specs.Files.{Files}
 use Rattle.exposure_score.specs.StoredTests.{StoredTests}
+use Rattle.tighten.specs.Wishes.{Wishes}
 use Rattle.command_answers.specs.Endings.{code_of}
 use Rattle.command_answers.specs.Runs.{IsRun, Outside}
 use Rattle.command_answers.specs.declared.ending.Ending.{Ending}
@@ -16,9 +17,9 @@ abbrev pub words_behind : {E : Type 0} → Result (Vec (String Global) Global) E
 words_behind (Ok all) = map string_bytes (drop 1 all.items)
 words_behind (Err error) = []
 
--- what is asked of a run: these words, over the files that are told, with these tests
-abbrev pub asked_by : List (List ℕ) → Option Files → StoredTests → Asked
-asked_by words told stored = record { words = words; told = told; stored = stored }
+-- what is asked of a run: these words, over the files that are told, with these tests and wishes
+abbrev pub asked_by : List (List ℕ) → Option Files → StoredTests → Wishes → Asked
+asked_by words told stored wishes = record { words = words; told = told; stored = stored; wishes = wishes }
 
 -- it ran to this ending; where no files are read for it, the shelf is untouched
 pub record RunsWords (asked : Asked) (outside : Outside) (untouched : Type 0) (ending : Ending) : Type 0 where

@@ -1,9 +1,10 @@
 //! Lentsheep judges the sandbox of a systemd service without starting it.
 //!
-//! `main` runs the words of the process over the current folder and the standard output, with two stored tests, and ends with
-//! the status. The top call is in `top_call`; its words, its texts and its statuses stand there.
+//! `main` runs the words of the process over the current folder and the standard output, with two stored tests and a wish,
+//! and ends with the status. The top call is in `top_call`; its words, its texts and its statuses stand there.
 #![tactic(auto)]
 
+mod executing;
 mod process;
 mod running;
 mod stored;

@@ -3,15 +3,20 @@ ghost use Rattle.std.specs.Prelude.{◌≡◌, IfOk, drop, map, string_bytes};
 ghost use Rattle.std.specs.Process.{exit_status};
 ghost use Rattle.exposure_score.specs.StoredTests.{stored_by};
 ghost use Rattle.command_answers.specs.Endings.{code_of};
+ghost use Rattle.tighten.specs.Wishes.{wishes_by};
+ghost use Rattle.top_call.specs.Around.{around};
 ghost use Rattle.sandbox_cli.specs.Running.{EndsWords, ExitsBy, asked_by, words_behind};
 ghost use Rattle.sandbox_cli.specs.Tests.{AreProgramTests};
+ghost use Rattle.sandbox_cli.specs.Wishes.{AreProgramWishes};
 
+use asked_service::VerdictRow;
 use command_answers::Ending;
 use exposure_score::{CustomTest, Facts};
 use host_io::{Shelf, Sink};
 use std::alloc::{AllocError, Global};
 use std::io;
 use std::process::ExitCode;
+use tighten::StoredWish;
 use top_call::{Status, run};
 
 // The words behind the program's name, which is the first argument.
@@ -42,22 +47,25 @@ pub fn exit_code(status: Status) -> ExitCode
     ExitCode::from(status.code)
 }
 
-// The status of a run of these words with these tests.
+// The status of a run of these words with these tests and wishes.
 fn run_words<S: Shelf, K: Sink>(
     alloc: Global,
     words: &[String],
     tests: Vec<CustomTest>,
+    wishes: Vec<StoredWish>,
     shelf: &mut S,
     out: &mut K,
 ) -> Status
-    ensures ends_as_the_words_run { EndsWords
-        (asked_by (map string_bytes words.now) (S.told shelf.old) (stored_by (λ test. test.id) (λ test. test.range) (λ test. ⟦<Box<dyn Fn(&Facts) -> u32> as Fn(&Facts) -> u32>⟧.post test.check) tests.items))
-        (record { shelf_before = S.faults shelf.old; shelf_after = S.faults shelf.new; sink = record { faults_before = K.faults out.old; faults_after = K.faults out.new; taken_before = K.taken out.old; taken_after = K.taken out.new } })
+    ensures ends_as_the_words_run { let stored = stored_by (λ test. test.id) (λ test. test.range) (λ test. ⟦<Box<dyn Fn(&Facts) -> u32> as Fn(&Facts) -> u32>⟧.post test.check) tests.items in
+        let granted = wishes_by (λ wish. wish.must_open) (λ wish. ⟦<Box<dyn Fn(&[VerdictRow]) -> bool> as Fn(&[VerdictRow]) -> bool>⟧.post wish.test) wishes.items in
+        EndsWords
+        (asked_by (map string_bytes words.now) (S.told shelf.old) stored granted)
+        (around S.faults K.faults K.taken shelf.old shelf.new out.old out.new)
         (shelf.new ≡ shelf.old) (out.new ≡ out.old) result }
     ensures map_stays { S.told shelf.new ≡ S.told shelf.old }
 {
     match texts_of(alloc, words) {
-        Ok(texts) => run(alloc, texts.as_slice(), shelf, out, tests),
+        Ok(texts) => run(alloc, texts.as_slice(), shelf, out, tests, wishes),
         Err(_) => Status::of(Ending::OutOfMemory),
     }
 }
@@ -67,39 +75,46 @@ fn run_arguments<S: Shelf, K: Sink>(
     alloc: Global,
     arguments: &io::Result<Vec<String>>,
     tests: Vec<CustomTest>,
+    wishes: Vec<StoredWish>,
     shelf: &mut S,
     out: &mut K,
 ) -> Status
-    ensures ends_as_the_words_run { EndsWords
-        (asked_by (words_behind arguments.now) (S.told shelf.old) (stored_by (λ test. test.id) (λ test. test.range) (λ test. ⟦<Box<dyn Fn(&Facts) -> u32> as Fn(&Facts) -> u32>⟧.post test.check) tests.items))
-        (record { shelf_before = S.faults shelf.old; shelf_after = S.faults shelf.new; sink = record { faults_before = K.faults out.old; faults_after = K.faults out.new; taken_before = K.taken out.old; taken_after = K.taken out.new } })
+    ensures ends_as_the_words_run { let stored = stored_by (λ test. test.id) (λ test. test.range) (λ test. ⟦<Box<dyn Fn(&Facts) -> u32> as Fn(&Facts) -> u32>⟧.post test.check) tests.items in
+        let granted = wishes_by (λ wish. wish.must_open) (λ wish. ⟦<Box<dyn Fn(&[VerdictRow]) -> bool> as Fn(&[VerdictRow]) -> bool>⟧.post wish.test) wishes.items in
+        EndsWords
+        (asked_by (words_behind arguments.now) (S.told shelf.old) stored granted)
+        (around S.faults K.faults K.taken shelf.old shelf.new out.old out.new)
         (shelf.new ≡ shelf.old) (out.new ≡ out.old) result }
     ensures map_stays { S.told shelf.new ≡ S.told shelf.old }
 {
     match arguments {
-        Ok(all) => run_words(alloc, behind_name(all), tests, shelf, out),
+        Ok(all) => run_words(alloc, behind_name(all), tests, wishes, shelf, out),
         Err(error) if error.kind() == io::ErrorKind::InvalidData => {
-            run_words(alloc, &[], tests, shelf, out)
+            run_words(alloc, &[], tests, wishes, shelf, out)
         }
         Err(_) => Status::of(Ending::OutOfMemory),
     }
 }
 
-/// Runs the words behind the program's name, in their order, over a shelf and a sink, with the two stored tests of the program. The
-/// exit status is the status of that run, or that of want of memory.
+/// Runs the words behind the program's name, in their order, over a shelf and a sink, with the two stored tests and the wish of the
+/// program. The exit status is the status of that run, or that of want of memory.
 pub fn run_here<S: Shelf, K: Sink>(
     alloc: Global,
     arguments: &io::Result<Vec<String>>,
     tests: Vec<CustomTest>,
+    wishes: Vec<StoredWish>,
     shelf: &mut S,
     out: &mut K,
 ) -> ExitCode
     requires the_programs_tests { AreProgramTests (λ test. test.id) (λ test. test.range) (λ test. ⟦<Box<dyn Fn(&Facts) -> u32> as Fn(&Facts) -> u32>⟧.post test.check) tests.items }
-    ensures exits_as_the_words_run { ExitsBy (EndsWords
-        (asked_by (words_behind arguments.now) (S.told shelf.old) (stored_by (λ test. test.id) (λ test. test.range) (λ test. ⟦<Box<dyn Fn(&Facts) -> u32> as Fn(&Facts) -> u32>⟧.post test.check) tests.items))
-        (record { shelf_before = S.faults shelf.old; shelf_after = S.faults shelf.new; sink = record { faults_before = K.faults out.old; faults_after = K.faults out.new; taken_before = K.taken out.old; taken_after = K.taken out.new } })
+    requires the_programs_wishes { AreProgramWishes (λ wish. string_bytes wish.id) (λ wish. wish.must_open) (λ wish. ⟦<Box<dyn Fn(&[VerdictRow]) -> bool> as Fn(&[VerdictRow]) -> bool>⟧.post wish.test) wishes.items }
+    ensures exits_as_the_words_run { let stored = stored_by (λ test. test.id) (λ test. test.range) (λ test. ⟦<Box<dyn Fn(&Facts) -> u32> as Fn(&Facts) -> u32>⟧.post test.check) tests.items in
+        let granted = wishes_by (λ wish. wish.must_open) (λ wish. ⟦<Box<dyn Fn(&[VerdictRow]) -> bool> as Fn(&[VerdictRow]) -> bool>⟧.post wish.test) wishes.items in
+        ExitsBy (EndsWords
+        (asked_by (words_behind arguments.now) (S.told shelf.old) stored granted)
+        (around S.faults K.faults K.taken shelf.old shelf.new out.old out.new)
         (shelf.new ≡ shelf.old) (out.new ≡ out.old)) result }
     ensures map_stays { S.told shelf.new ≡ S.told shelf.old }
 {
-    exit_code(run_arguments(alloc, arguments, tests, shelf, out))
+    exit_code(run_arguments(alloc, arguments, tests, wishes, shelf, out))
 }

@@ -1,18 +1,22 @@
-//! The stored tests of the program.
+//! The stored tests of the program, and its wish.
 
 ghost use Rattle.std.specs.Prelude.{◌≡◌, ◌≤◌};
 ghost use Rattle.exposure_score.specs.Stored.{ambient_count, writable_paths};
+ghost use Rattle.sandbox_cli.specs.Wishes.{can_execute};
 
+use crate::executing::can_execute;
 use crate::running::run_here;
+use asked_service::VerdictRow;
 use exposure_score::{CustomTest, Facts, ambient_count, writable_paths};
 use host_io::{Shelf, Sink};
 use std::alloc::{AllocError, Global};
 use std::io;
 use std::process::ExitCode;
+use tighten::StoredWish;
 
 /// Runs the arguments over a shelf and a sink, with the tests that a score may ask beside the settings: `AmbientCount`, how many
 /// ambient capabilities the service has, of 41 at most; and `WritablePaths`, how many words of ReadWritePaths= and BindPaths= are
-/// in force, of 128 at most.
+/// in force, of 128 at most; and with the wish for a tightened unit: `OpenExec`, that some file can be executed.
 pub fn run_with_tests<S: Shelf, K: Sink>(
     alloc: Global,
     arguments: &io::Result<Vec<String>>,
@@ -33,8 +37,20 @@ pub fn run_with_tests<S: Shelf, K: Sink>(
             ensures at_most_128 { result ≤ 128 }
         { writable_paths(facts) },
     )?;
+    let executes = Box::new(
+        alloc,
+        |rows: &[VerdictRow]|
+            ensures { result ≡ can_execute rows.now }
+        { can_execute(rows) },
+    )?;
     let mut tests = Vec::new(alloc);
     tests.push(CustomTest::new(String::from_str(alloc, "AmbientCount")?, 41, capabilities))?;
     tests.push(CustomTest::new(String::from_str(alloc, "WritablePaths")?, 128, paths))?;
-    Ok(run_here(alloc, arguments, tests, shelf, out))
+    let mut wishes = Vec::new(alloc);
+    wishes.push(StoredWish::new(
+        String::from_str(alloc, "OpenExec")?,
+        Vec::new(alloc),
+        executes,
+    ))?;
+    Ok(run_here(alloc, arguments, tests, wishes, shelf, out))
 }

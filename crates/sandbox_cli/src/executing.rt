@@ -1,0 +1,26 @@
+//! Whether some file can be executed, by the verdicts on a service.
+
+ghost use Rattle.std.specs.Prelude.{◌≡◌, ◌&&◌};
+ghost use Rattle.questions.specs.Meanings.{meant};
+ghost use Rattle.sandbox_cli.specs.Wishes.{asks_to_execute, can_execute};
+
+use asked_service::VerdictRow;
+use questions::{Question, Wish};
+
+// Whether a question asks to execute a file.
+fn asks_to_execute(question: &Question) -> bool
+    ensures { result ≡ asks_to_execute (meant question.now) }
+{
+    match question {
+        Question::Path(Wish::Exec, _) => true,
+        _ => false,
+    }
+}
+
+/// Whether some file can be executed by the verdicts.
+pub fn can_execute(rows: &[VerdictRow]) -> bool
+    ensures { result ≡ can_execute rows.now }
+{
+    rows.iter()
+        .any(|row| row.is_open && asks_to_execute(&row.question))
+}
