@@ -12,7 +12,7 @@ from .places import described
 from .program import Run
 from .values import (
     PATH_KINDS, Answer, Check, Counts, Derive, Effect, Filter, Filters, Fleet, Launch, Launched, LaunchKilled, LaunchPrivileged,
-    LaunchRefused, Plan, Printed, Refusal, Replay, Report, Sample, Score, Tighten, Unknown,
+    LaunchRefused, Plan, Printed, Refusal, Replay, Report, Sample, Score, Tighten, Unknown, Why,
 )  # fmt: skip
 
 #: Grows where a field goes or changes its meaning; fields that are added leave it as it is.
@@ -38,7 +38,7 @@ def _result(printed: Printed, view: View | None) -> Json:
         return _report(printed, view or View(printed))
     forms = {
         Plan: _plan, Filters: _filters, Replay: _replay, Score: _score, Sample: _sample, Check: _check, Fleet: _fleet,
-        Tighten: _tighten, Derive: _derive, Effect: _effect, Unknown: _unknown,
+        Tighten: _tighten, Derive: _derive, Effect: _effect, Why: _why, Unknown: _unknown,
     }  # fmt: skip
     return forms[type(printed)](printed)
 
@@ -197,6 +197,14 @@ def _effect(effect: Effect) -> Json:
         "closed": [it.text for it in effect.closed], "opened": [_answer(it) for it in effect.opened],
         "hidden": list(effect.hidden), "shown": list(effect.shown),
         "counts": None if effect.counts is None else dataclasses.asdict(effect.counts),
+    }  # fmt: skip
+
+
+def _why(why: Why) -> Json:
+    return {
+        "launch": _launch(why.launch), "answer": None if why.answer is None else _answer(why.answer), "nothing": why.nothing,
+        "by": [dataclasses.asdict(it) for it in why.by], "count": why.count,
+        "without": {"launch": _launch(why.without_launch), "refusal": _refusal(why.without_refusal)},
     }  # fmt: skip
 
 

@@ -15,7 +15,7 @@ from .calls import Call, read_call
 from .values import (
     SWITCHES, Answer, CallData, Changes, Check, Counts, Derive, Effect, Filter, Filters, Fleet, FleetRow, Instruction, Launch,
     Launched, LaunchKilled, LaunchPrivileged, LaunchRefused, Mount, Note, Plan, Printed, Question, Refusal, Replay, Reply,
-    Report, Sample, Score, ScoreTest, Tighten, Unknown,
+    Report, Sample, Score, ScoreTest, Tighten, UnitLine, Unknown, Why,
 )  # fmt: skip
 from .words import unescaped
 
@@ -36,6 +36,7 @@ _TEST = re.compile(r"test ([^ ]+) badness ([0-9]+) range ([0-9]+) weight ([0-9]+
 _EXPOSURE = re.compile(r"exposure ([0-9]+) threshold ([0-9]+)")
 _DIFFERS = re.compile("differs nr N arch N ip N args N N N N N N theirs N ours N".replace("N", "([0-9]+)"))
 _FLEET_ROW = re.compile(r"unit ([^ ]+) exposure ([0-9]+)")
+_BY = re.compile(r"by ([^ ]+) ([0-9]+) (.*)")
 _FLEET_END = re.compile(r"units ([0-9]+) refused ([0-9]+)")
 
 
@@ -316,19 +317,56 @@ def _effect(lines: list[str], cut: bool, refusal: Refusal | None) -> Effect:
     )  # fmt: skip
 
 
+def _why(lines: list[str], cut: bool, refusal: Refusal | None) -> Why:
+    launch, answer, count, without_launch, without_refusal = None, None, None, None, None
+    nothing = False
+    calls: list[Call] = []
+    by: list[UnitLine] = []
+    unread: list[str] = []
+    for line in lines:
+        word, _, rest = line.partition(" ")
+        call = read_call(line[2:]) if line.startswith("  ") else None
+        if call and answer and answer.is_open:
+            calls.append(call)
+        elif answer is None and (told_answer := _answer(line)):
+            answer = told_answer
+        elif found := _BY.fullmatch(line):
+            by.append(UnitLine(unescaped(found[1]), int(found[2]), found[3]))
+        elif numbers := _numbers(line, "lines"):
+            count = numbers[0]
+        elif line == "nothing":
+            nothing = True
+        elif word == "without" and (told := read_launch(rest)):
+            without_launch = told
+        elif word == "without" and (cause := read_refusal(rest)):
+            without_refusal = cause
+        elif told := read_launch(line):
+            launch = told
+        else:
+            unread.append(line)
+    if answer:
+        answer = Answer(answer.question, answer.is_open, tuple(calls))
+    told_reason = nothing or any(it is not None for it in (count, without_launch, without_refusal))
+    ended = refusal is not None or launch is not None or (answer is not None and (answer.is_open or told_reason))
+    return Why(
+        refusal, not cut and ended, tuple(unread), launch, answer, nothing, tuple(by), count, without_launch, without_refusal
+    )
+
+
 def _unknown(lines: list[str], cut: bool, refusal: Refusal | None) -> Unknown:
     return Unknown(refusal, not cut, tuple(lines), tuple(lines))
 
 
 _READERS: dict[str, Callable[[list[str], bool, Refusal | None], Printed]] = {
     "judge": _judge, "plan": _plan, "filter": _filter, "replay": _replay, "score": _score, "sample": _sample, "check": _check,
-    "fleet": _fleet, "tighten": _tighten, "derive": _derive, "effect": _effect,
+    "fleet": _fleet, "tighten": _tighten, "derive": _derive, "effect": _effect, "why": _why,
 }  # fmt: skip
 _FIRST_WORDS = {
     "unit": "judge", "mount": "plan", "mounts": "plan", "filter": "filter", "filters": "filter", "launched": "replay",
     "launch": "replay", "test": "score", "skip": "score", "exposure": "score", "sample": "sample", "same": "check",
     "differs": "check", "units": "fleet", "add": "tighten", "before": "tighten", "[Service]": "derive",
-    "closed": "effect", "opened": "effect", "hidden": "effect", "shown": "effect", "effect": "effect", "with": "effect",
+    "closed": "effect", "opened": "effect", "hidden": "effect", "shown": "effect", "effect": "effect", "with": "effect", "denied": "why",
+    "open": "why",
 }  # fmt: skip
 
 

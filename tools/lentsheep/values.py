@@ -339,6 +339,30 @@ class Effect(Printed):
 
 
 @dataclass(frozen=True)
+class UnitLine:
+    """A line of a unit's files: what it assigns, as written."""
+
+    file: str
+    line: int
+    text: str
+
+
+@dataclass(frozen=True)
+class Why(Printed):
+    """The text of `why`: the answer to one question, and of one that is denied the lines that deny it; none where `nothing` does;
+    or why the unit without all lines but ExecStart= has no service."""
+
+    command: ClassVar[str] = "why"
+    launch: Launch | None = None
+    answer: Answer | None = None
+    nothing: bool = False
+    by: tuple[UnitLine, ...] = ()
+    count: int | None = None
+    without_launch: Launch | None = None
+    without_refusal: Refusal | None = None
+
+
+@dataclass(frozen=True)
 class Unknown(Printed):
     """A text that is none of the above: only its lines are known."""
 

@@ -33,6 +33,7 @@ TEXTS = {
     "tighten": "add PrivateTmp=yes\nbefore denied 1 open 131\nafter denied 84 open 48\nitems 1\n",
     "derive": "[Service]\nSystemCallFilter=\nSystemCallFilter=@default read\n",
     "effect": "closed see /home\nopened read /tmp\n  1 open /tmp\nhidden /home\nshown /tmp\neffect closed 1 opened 1 hidden 1 shown 1\n",
+    "why": "denied cap CAP_SYS_ADMIN\nby etc/a.service 7 User=web\nby etc/a.service 12 CapabilityBoundingSet=\nlines 2\n",
     "other": "what is this\n",
 }
 

@@ -242,13 +242,32 @@ class Others(unittest.TestCase):
         alone = parse("launch killed step 2\n", "effect")
         self.assertEqual((values.LaunchKilled(2), None, True), (alone.launch, alone.with_launch, alone.whole))
 
+    def test_why(self):
+        text = "denied cap CAP_SYS_ADMIN\nby etc/a%20b.service 7 User=web\nby etc/c.conf 12 CapabilityBoundingSet=\n"
+        why = parse(f"{text}lines 2\n")
+        wanted = (values.UnitLine("etc/a b.service", 7, "User=web"), values.UnitLine("etc/c.conf", 12, "CapabilityBoundingSet="))
+        self.assertEqual(("why", True, (), wanted, 2), (why.command, why.whole, why.unread, why.by, why.count))
+        self.assertEqual(("cap CAP_SYS_ADMIN", False), (why.answer.question.text, why.answer.is_open))
+        self.assertFalse(parse(text).whole, "no last line")
+        opened = parse("open read /a\n  1 open /a\n")
+        self.assertEqual((True, ["1 open /a"]), (opened.whole, [call.text for call in opened.answer.calls]))
+
+    def test_why_without_lines(self):
+        nothing = parse("denied ns user\nnothing\n")
+        self.assertEqual((True, True, ()), (nothing.nothing, nothing.whole, nothing.by))
+        bare = parse("denied read /a\nwithout refused web.service no-path /a\n")
+        self.assertEqual((Refusal("web.service", ("no-path", "/a")), None, True), (bare.without_refusal, bare.refusal, bare.whole))
+        killed = parse("denied read /a\nwithout launch killed step 2\n")
+        self.assertEqual((values.LaunchKilled(2), None, True), (killed.without_launch, killed.launch, killed.whole))
+        self.assertEqual(values.LaunchKilled(2), parse("launch killed step 2\n", "why").launch)
+
     def test_refusals(self):
         for text, what, cause in [
             ("refused words", "words", ()), ("refused a%20b bad-name", "a b", ("bad-name",)),
             ("refused etc/a.service line 1 header", "etc/a.service", ("line", "1", "header")),
             ("refused web.service no-path /no%20pe", "web.service", ("no-path", "/no pe")),
         ]:  # fmt: skip
-            for command in ("judge", "plan", "filter", "replay", "score", "check", "fleet", "tighten", "derive", "effect", "what", None):
+            for command in ("judge", "plan", "filter", "replay", "score", "check", "fleet", "tighten", "derive", "effect", "why", "what", None):
                 found = parse(f"{text}\n", command)
                 self.assertEqual((Refusal(what, cause), True, ()), (found.refusal, found.whole, found.unread))
             self.assertEqual(text, found.refusal.text)
@@ -256,7 +275,7 @@ class Others(unittest.TestCase):
 
     def test_empty_texts(self):
         # a read that failed prints nothing
-        for command in ("judge", "plan", "filter", "replay", "score", "sample", "check", "fleet", "tighten", "effect"):
+        for command in ("judge", "plan", "filter", "replay", "score", "sample", "check", "fleet", "tighten", "effect", "why"):
             found = parse("", command)
             self.assertEqual((command, False, None), (found.command, found.whole, found.refusal))
         self.assertIsInstance(parse(b"\x00\xff\n"), values.Unknown)
