@@ -17,7 +17,7 @@ pub struct Faults {
     pub puts: Vec<u64>,
     /// How many bytes a put takes at most.
     pub take: u64,
-    /// The answers of the wishes behind that of the program.
+    /// The answers of the wishes that are handed in; where there are none it is that of the program.
     pub wishes: Vec<bool>,
 }
 
@@ -70,8 +70,8 @@ fn can_execute(rows: &[VerdictRow]) -> bool {
     false
 }
 
-// The status of these words, with the two stored tests of the program, and its wish before those that answer so. The closures are
-// handed in where they are made.
+// The status of these words, with the two stored tests of the program, and with wishes that answer so, or its own wish where there are
+// none. The closures are handed in where they are made.
 fn run_words(
     alloc: Global,
     words: &[&str],
@@ -85,10 +85,11 @@ fn run_words(
         CustomTest::new(said(alloc, "AmbientCount")?, 41, ambient),
         CustomTest::new(said(alloc, "WritablePaths")?, 128, paths),
     ]?;
-    let executes = Box::new(alloc, |rows: &[VerdictRow]| can_execute(rows))?;
-    let mut wishes = vec![in alloc;
-        StoredWish::new(said(alloc, "OpenExec")?, Vec::new(alloc), executes),
-    ]?;
+    let mut wishes = Vec::new(alloc);
+    if answers.is_empty() {
+        let executes = Box::new(alloc, |rows: &[VerdictRow]| can_execute(rows))?;
+        wishes.push(StoredWish::new(said(alloc, "OpenExec")?, Vec::new(alloc), executes))?;
+    }
     for answer in answers {
         let none = Vec::new(alloc);
         let wish = if *answer {
