@@ -7,8 +7,7 @@ use Rattle.judge.specs.declared.answer.Verdict.TheVariants as verdict
 use Rattle.kernel_laws.specs.Questions as asked
 use Rattle.kernel_model.specs.World.{World}
 use Rattle.kernel_ways.specs.Laws.{IsExact, IsServedWorld, QuestionsAreExact}
-use Rattle.questions.specs.Meanings.{meant}
-use Rattle.questions.specs.declared.question.Question.{Question}
+use Rattle.question_types.specs.declared.question.Question.{Question}
 use Rattle.asked_service.specs.Asked.{is_open_by}
 use Rattle.asked_service.specs.Rows.{AreRows, IsSo, rows_of}
 
@@ -19,21 +18,21 @@ all_at P (y ∷ xs) x all (zero, lt, is) = subst P is all.0
 all_at P (y ∷ xs) x all (suc at, lt, is) = all_at P xs x all.1 (at, (omega (arith, lt)), is)
 
 module _ (exact : QuestionsAreExact) (world : World) (served : IsServedWorld world) where
-  by_exact : (question : Question) → IsExact world (meant question) → IsSo world question (is_open_by world question)
+  by_exact : (question : Question) → IsExact world question → IsSo world question (is_open_by world question)
   by_exact question is = (is.denies, is.stays_denied)
 
-  pub it_is_so : (question : Question) → Contains (asked.questions world.calls world.site) (meant question) → IsSo world question (is_open_by world question)
-  it_is_so question listed = by_exact question (all_at (IsExact world) (asked.questions world.calls world.site) (meant question) (exact world served) listed)
+  pub it_is_so : (question : Question) → Contains (asked.questions world.calls world.site) question → IsSo world question (is_open_by world question)
+  it_is_so question listed = by_exact question (all_at (IsExact world) (asked.questions world.calls world.site) question (exact world served) listed)
 
-  same_questions : (list : List Question) → map (λ row. meant row.question) (rows_of world list) ≡ map meant list
+  same_questions : (list : List Question) → map (λ row. row.question) (rows_of world list) ≡ list
   same_questions [] = refl
-  same_questions (question ∷ list) = ap (λ rest. meant question ∷ rest) (same_questions list)
+  same_questions (question ∷ list) = ap (λ rest. question ∷ rest) (same_questions list)
 
-  each_so : (list : List Question) → AllByRecursion (IsExact world) (map meant list) → AllByRecursion (λ row. IsSo world row.question row.is_open) (rows_of world list)
+  each_so : (list : List Question) → AllByRecursion (IsExact world) list → AllByRecursion (λ row. IsSo world row.question row.is_open) (rows_of world list)
   each_so [] all = tt
   each_so (question ∷ list) all = (by_exact question all.0, each_so list all.1)
 
-  pub rows_are : (list : List Question) → map meant list ≡ asked.questions world.calls world.site → AreRows world (rows_of world list)
+  pub rows_are : (list : List Question) → list ≡ asked.questions world.calls world.site → AreRows world (rows_of world list)
   rows_are list all = record {
     one_each = same_questions list ∙ all;
     each_is_so = each_so list (subst (AllByRecursion (IsExact world)) (sym all) (exact world served));

@@ -3,10 +3,9 @@ use Rattle.std.proofs.Common.{◌≡◌, ℕ, zero, suc, ◌<◌, List, [], ◌�
 use Rattle.std.specs.Prelude.{Contains}
 use Rattle.call_table.specs.Table as calls
 use Rattle.kernel_laws.specs.Questions.{questions}
-use Rattle.questions.specs.Meanings.{meant}
-use Rattle.questions.specs.declared.question.Question.{Question}
-use Rattle.questions.specs.declared.question.Question.TheVariants.{Path}
-use Rattle.reach_paths.specs.declared.wish.Wish.TheVariants.{See}
+use Rattle.question_types.specs.declared.question.Question.{Question}
+use Rattle.question_types.specs.declared.question.Question.TheVariants.{Path}
+use Rattle.question_types.specs.declared.wish.Wish.TheVariants.{See}
 use Rattle.site_table.specs.Table.{Site}
 
 mapped : {X Y : Type 0} (f : X → Y) (xs : List X) (i : ℕ) (d x : X) → i < length xs → x ≡ get_or xs i d → Contains (map f xs) (f x)
@@ -19,5 +18,5 @@ abbrev pub some_question : Question
 some_question = Path See 0
 
 module _ (table : calls.Table) (site : Site) where
-  pub listed_at : (list : List Question) (i : ℕ) → i < length list → map meant list ≡ questions table site → Contains (questions table site) (meant (get_or list i some_question))
-  listed_at list i lt all = subst (λ own. Contains own (meant (get_or list i some_question))) all (mapped meant list i some_question (get_or list i some_question) lt refl)
+  pub listed_at : (list : List Question) (i : ℕ) → i < length list → list ≡ questions table site → Contains (questions table site) (get_or list i some_question)
+  listed_at list i lt all = subst (λ own. Contains own (get_or list i some_question)) all (mapped list i some_question (get_or list i some_question) lt refl)

@@ -5,8 +5,7 @@ use Rattle.kernel_laws.specs.Bound.{is_open}
 use Rattle.kernel_laws.specs.Launched.{launch_of}
 use Rattle.kernel_model.specs.World.{World}
 use Rattle.kernel_ways.specs.Laws.{IsServedWorld}
-use Rattle.questions.specs.Meanings.{meant}
-use Rattle.questions.specs.declared.question.Question.{Question}
+use Rattle.question_types.specs.declared.question.Question.{Question}
 use Rattle.asked_service.specs.declared.bounding.Bounded.{Bounded}
 
 -- its own ceiling
@@ -16,4 +15,4 @@ pub record IsBounded (bounded : Bounded) : Type 0 where
 
 -- by the rule for launched worlds
 abbrev pub is_open_by : World → Question → Bool
-is_open_by world question = is_open (launch_of world) (meant question)
+is_open_by world question = is_open (launch_of world) question

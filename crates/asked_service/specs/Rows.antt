@@ -8,19 +8,18 @@ use Rattle.kernel_laws.specs.Questions as asked
 use Rattle.kernel_model.specs.World.{World}
 use Rattle.launched_units.specs.Launching.{IsLaunchedUnit}
 use Rattle.launcher.specs.declared.launched.Launched.{Launched as Service}
-use Rattle.questions.specs.Meanings.{meant}
-use Rattle.questions.specs.declared.question.Question.{Question}
+use Rattle.question_types.specs.declared.question.Question.{Question}
 use Rattle.site_table.specs.Table.{Site}
 use Rattle.asked_service.specs.Asked.{is_open_by}
 use Rattle.asked_service.specs.declared.rows.VerdictRow.{VerdictRow}
 
 -- it is denied, where no list of calls of the service and its descendants reaches it, and nowhere else
 abbrev pub IsSo : World → Question → Bool → Type 0
-IsSo world question is_open = (is_open ≡ false) ↔ IsDenied world (meant question)
+IsSo world question is_open = (is_open ≡ false) ↔ IsDenied world question
 
 -- one verdict on each question of the tables, in their order, each of them so
 pub record AreRows (world : World) (rows : List VerdictRow) : Type 0 where
-  pub one_each : map (λ row. meant row.question) rows ≡ asked.questions world.calls world.site
+  pub one_each : map (λ row. row.question) rows ≡ asked.questions world.calls world.site
   pub each_is_so : AllByRecursion (λ row. IsSo world row.question row.is_open) rows
 
 -- the verdicts on what the service of a unit is asked

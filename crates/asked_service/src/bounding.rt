@@ -4,7 +4,6 @@ ghost use Rattle.std.specs.Prelude.{◌≡◌, ◌↔◌, true, Contains, IfOk};
 ghost use Rattle.kernel_laws.specs.Launched.{launch_of};
 ghost use Rattle.kernel_laws.specs.Questions.{questions};
 ghost use Rattle.kernel_ways.specs.Laws.{IsServedWorld};
-ghost use Rattle.questions.specs.Meanings.{meant};
 ghost use Rattle.asked_service.specs.Asked.{IsBounded, is_open_by};
 ghost use Rattle.asked_service.specs.Rows.{IsSo};
 
@@ -12,7 +11,7 @@ use ceilings::{Ceiling, ceiling};
 use judge::{Verdict, verdict};
 use kernel_ways::openness;
 use launcher::Launched;
-use questions::Question;
+use question_types::Question;
 use std::alloc::{AllocError, Global};
 
 /// A launched service, with what bounds its processes.
@@ -50,7 +49,7 @@ impl Bounded<'_> {
     /// Whether a question of the tables is open: one verdict alone, which takes no memory.
     pub fn is_open(&self, question: &Question) -> bool
         requires bounded { IsBounded self.now }
-        requires listed { Contains (questions self.now.service.world.calls self.now.service.world.site) (meant question.now) }
+        requires listed { Contains (questions self.now.service.world.calls self.now.service.world.site) question.now }
         ensures is_so { IsSo self.now.service.world question.now result }
         ensures by_the_rule { result ≡ is_open_by self.now.service.world question.now }
     {

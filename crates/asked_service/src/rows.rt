@@ -2,13 +2,12 @@
 
 ghost use Rattle.std.specs.Prelude.{◌≡◌, ◌≤◌, IfOk, length, map};
 ghost use Rattle.kernel_laws.specs.Questions.{questions};
-ghost use Rattle.questions.specs.Meanings.{meant};
 ghost use Rattle.asked_service.specs.Asked.{IsBounded};
 ghost use Rattle.asked_service.specs.Rows.{AreRows, count_open, rows_of};
 
 use crate::bounding::Bounded;
 use kernel_ways::openness;
-use questions::Question;
+use question_types::Question;
 use std::alloc::{AllocError, Global};
 
 /// A question, and whether it is open.
@@ -27,7 +26,7 @@ pub fn verdict_rows(
     list: &[Question],
 ) -> Result<Vec<VerdictRow>, AllocError>
     requires bounded { IsBounded bounded.now }
-    requires all { map meant list.now ≡ questions bounded.now.service.world.calls bounded.now.service.world.site }
+    requires all { list.now ≡ questions bounded.now.service.world.calls bounded.now.service.world.site }
     ensures one_each_and_so { IfOk result (λ rows. AreRows bounded.now.service.world rows.items) }
     ensures by_the_rule { IfOk result (λ rows. rows.items ≡ rows_of bounded.now.service.world list.now) }
 {
@@ -46,7 +45,7 @@ pub fn verdict_rows(
 /// How many of all questions of the tables are open. It takes no memory.
 pub fn count_open(bounded: &Bounded<'_>, list: &[Question]) -> usize
     requires bounded { IsBounded bounded.now }
-    requires all { map meant list.now ≡ questions bounded.now.service.world.calls bounded.now.service.world.site }
+    requires all { list.now ≡ questions bounded.now.service.world.calls bounded.now.service.world.site }
     ensures counts { result ≡ count_open (rows_of bounded.now.service.world list.now) }
     ensures at_most_all { result ≤ length list.now }
 {

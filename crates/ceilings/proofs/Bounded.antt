@@ -7,7 +7,7 @@ use Rattle.cap_sets.specs.Sets.{has}
 use Rattle.kernel_laws.specs.Bound.{caps_at, power_of, any_uid, any_gid}
 use Rattle.kernel_laws.specs.Denied.{IsDenied}
 use Rattle.kernel_laws.specs.Launched.{launch_of, IsLaunchedWorld}
-use Rattle.kernel_laws.specs.Questions.{Cap, Uid, Gid}
+use Rattle.question_types.specs.declared.question.Question.TheVariants.{Cap, Uid, Gid}
 use Rattle.kernel_laws.proofs.Verdict.{denial_is_sound}
 use Rattle.kernel_model.specs.World.{World}
 use Rattle.kernel_ways.specs.Spared.{uids_of, gids_of}

@@ -8,7 +8,7 @@ use Rattle.site_table.specs.declared.row.Row.{Row}
 use Rattle.kernel_laws.specs.Bound.{is_owner, can_run, owned_by, grouped_by, power_of}
 use Rattle.kernel_laws.specs.Launched.{Launch}
 use Rattle.kernel_laws.specs.Questions.{some_ids}
-use Rattle.kernel_laws.specs.Reach.{Power}
+use Rattle.question_types.specs.declared.power.Power.{Power}
 use Rattle.ceilings.specs.declared.ids.IdKind.{IdKind}
 use Rattle.ceilings.specs.declared.ids.IdKind.TheVariants.{User, Group}
 use Rattle.ceilings.specs.Owners.{set_id, given_at, given_ids, uids_at, gids_at}

@@ -17,8 +17,11 @@ use Rattle.kern_mounts.specs.declared.step.What.TheVariants.{Host, Empty, Hidden
 use Rattle.kern_mounts.specs.declared.step.MountStep.{MountStep}
 use Rattle.kernel_laws.specs.Bound.{gathered, when, is_barred, can_run, file_gain, gain_at, caps_before}
 use Rattle.kernel_laws.specs.Launched.{Launch}
-use Rattle.kernel_laws.specs.Questions.{Wish, ToExec}
-use Rattle.kernel_laws.specs.Reach.{fits, shows_row, serves, reach_from, Power, Nowise, Unmounting, Mounting, reaches}
+use Rattle.question_types.specs.declared.wish.Wish.{Wish}
+use Rattle.question_types.specs.declared.wish.Wish.TheVariants.{Exec as ToExec}
+use Rattle.question_types.specs.declared.power.Power.{Power}
+use Rattle.question_types.specs.declared.power.Power.TheVariants.{None as Nowise, Unmount as Unmounting, Mount as Mounting}
+use Rattle.kernel_laws.specs.Reach.{fits, shows_row, serves, reach_from, reaches}
 use Rattle.kernel_laws.proofs.Bound.{gathered_has, gathered_within, within_when}
 use Rattle.kernel_ways.specs.Spared.{caps_by}
 

@@ -11,8 +11,10 @@ use Rattle.kern_mounts.specs.Entry.{Belongs, leads_to}
 use Rattle.kern_mounts.specs.Split.{Table}
 use Rattle.kern_mounts.specs.declared.step.MountStep.{MountStep}
 use Rattle.kern_mounts.specs.declared.step.What.TheVariants.{Host}
-use Rattle.kernel_laws.specs.Questions.{Wish, ToSee, ToRead, ToWrite, ToExec}
-use Rattle.kernel_laws.specs.Reach.{fits, shows_row, reach_from, reach, Nowise}
+use Rattle.question_types.specs.declared.wish.Wish.{Wish}
+use Rattle.question_types.specs.declared.wish.Wish.TheVariants.{See as ToSee, Read as ToRead, Write as ToWrite, Exec as ToExec}
+use Rattle.question_types.specs.declared.power.Power.TheVariants.{None as Nowise}
+use Rattle.kernel_laws.specs.Reach.{fits, shows_row, reach_from, reach}
 use Rattle.reach_paths.proofs.Looping.{from_here, none_from}
 use Rattle.ceilings.specs.Leads.{is_elsewhere, is_moved, lead_to, leads_of}
 

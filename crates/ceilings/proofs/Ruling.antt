@@ -6,18 +6,18 @@ use Rattle.std.proofs.lemmas.List.Folds.{list_any-append}
 use Rattle.call_table.proofs.AllCalls.{second_are}
 use Rattle.call_table.specs.Table.{Table, calls_in, every_call, second_calls}
 use Rattle.call_table.specs.declared.listed.CallLine.{CallLine}
-use Rattle.kernel_laws.specs.Kinds.{Kind}
+use Rattle.question_types.specs.declared.kind.CallKind.{CallKind}
 use Rattle.kernel_laws.specs.Launched.{Launch, lets, lets_line}
 
 pub some_in_all : (p : CallLine → Bool) (table : Table) → (list_any p table.calls || list_any p (calls_in table 1)) ≡ list_any p (every_call table)
 some_in_all p table = sym (list_any-append p table.calls (second_calls table.second) ∙ ap (λ (lines : List CallLine). list_any p table.calls || list_any p lines) (second_are table.second))
 
-lets_is : (launch : Launch) (kind : Kind) → list_any (lets_line launch kind) (every_call launch.calls) ≡ lets launch kind
+lets_is : (launch : Launch) (kind : CallKind) → list_any (lets_line launch kind) (every_call launch.calls) ≡ lets launch kind
 unfolding lets
 lets_is launch kind = refl
 
 -- by the calls of the native ABI, and where none of these passes by those of the other
-module _ (launch : Launch) (kind : Kind) (table : Table) (told : table ≡ launch.calls) (lines : List CallLine) (listed : lines ≡ table.calls) where
+module _ (launch : Launch) (kind : CallKind) (table : Table) (told : table ≡ launch.calls) (lines : List CallLine) (listed : lines ≡ table.calls) where
   native : (b : Bool) → b ≡ list_any (lets_line launch kind) lines → list_any (lets_line launch kind) launch.calls.calls ≡ b
   native b is = ap (list_any (lets_line launch kind)) (sym (listed ∙ ap (λ (t : Table). t.calls) told)) ∙ sym is
 

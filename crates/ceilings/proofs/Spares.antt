@@ -8,9 +8,10 @@ use Rattle.linux_numbers.specs.Capabilities.{cap_sys_admin, cap_setuid}
 use Rattle.cap_sets.specs.Sets.{has, union}
 use Rattle.cap_sets.proofs.Members.{within_union_left, within_self}
 use Rattle.kernel_laws.specs.Bound.{when, caps_before, caps_at, power_by, power_of, any_uid, any_gid, owned_by, ceiling}
-use Rattle.kernel_laws.specs.Kinds.{ChangesMounts, RemovesMounts, TakesUid}
+use Rattle.question_types.specs.declared.kind.CallKind.TheVariants.{ChangesMounts, RemovesMounts, TakesUid}
+use Rattle.question_types.specs.declared.power.Power.{Power}
+use Rattle.question_types.specs.declared.power.Power.TheVariants.{None as Nowise}
 use Rattle.kernel_laws.specs.Launched.{Launch, lets}
-use Rattle.kernel_laws.specs.Reach.{Power, Nowise}
 use Rattle.kernel_ways.specs.Spared.{power_using, uids_of, gids_of}
 use Rattle.ceilings.proofs.Growing.{caps_grow}
 

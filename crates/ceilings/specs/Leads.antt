@@ -7,8 +7,10 @@ use Rattle.kern_mounts.specs.declared.step.MountStep.{MountStep}
 use Rattle.kern_mounts.specs.declared.step.What.{What}
 use Rattle.kern_mounts.specs.declared.step.What.TheVariants.{Host, Empty, Hidden}
 use Rattle.kernel_laws.specs.Launched.{Launch}
-use Rattle.kernel_laws.specs.Questions.{Wish, ToSee, ToRead, ToWrite, ToExec}
-use Rattle.kernel_laws.specs.Reach.{Nowise, reach}
+use Rattle.question_types.specs.declared.wish.Wish.{Wish}
+use Rattle.question_types.specs.declared.wish.Wish.TheVariants.{See as ToSee, Read as ToRead, Write as ToWrite, Exec as ToExec}
+use Rattle.question_types.specs.declared.power.Power.TheVariants.{None as Nowise}
+use Rattle.kernel_laws.specs.Reach.{reach}
 use Rattle.ceilings.specs.declared.leads.RowLeads.{RowLeads}
 
 -- the entry that is found for a wish: who may see a row may read it

@@ -1,4 +1,3 @@
-pub mod Meanings
 pub mod Passing
 pub mod Leads
 pub mod Ruled

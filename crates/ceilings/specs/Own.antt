@@ -3,7 +3,6 @@ use Rattle.std.specs.Prelude.{◌≡◌, ℕ, ◌==◌}
 use Rattle.std.specs.List.{list_any}
 use Rattle.kernel_laws.specs.Bound.{caps_at, power_of, any_uid, any_gid}
 use Rattle.kernel_laws.specs.Launched.{Launch}
-use Rattle.reach_paths.specs.Meanings.{meant_power}
 use Rattle.ceilings.specs.declared.bounds.Ceiling.{Ceiling}
 use Rattle.ceilings.specs.Leads.{AreLeads}
 use Rattle.ceilings.specs.Passing.{ArePathCalls}
@@ -15,7 +14,7 @@ use Rattle.kernel_ways.specs.Spared.{uids_of, gids_of}
 -- kept of each line of the table of calls and of each row of the site
 pub record IsCeilingOf (launch : Launch) (top : Ceiling) : Type 0 where
   pub effective : top.effective ≡ caps_at launch (power_of launch)
-  pub power : meant_power top.power ≡ power_of launch
+  pub power : top.power ≡ power_of launch
   pub any_uid : top.any_uid ≡ any_uid launch (caps_at launch (power_of launch))
   pub any_gid : top.any_gid ≡ any_gid launch (caps_at launch (power_of launch))
   pub uids : (id : ℕ) → list_any (λ own. id == own) top.uids ≡ uids_of launch id

@@ -4,7 +4,7 @@ use Rattle.site_table.specs.declared.row.Row.{Row}
 use Rattle.kernel_laws.specs.Bound.{can_run}
 use Rattle.kernel_laws.specs.Launched.{Launch}
 use Rattle.kernel_laws.specs.Questions.{some_ids}
-use Rattle.kernel_laws.specs.Reach.{Power}
+use Rattle.question_types.specs.declared.power.Power.{Power}
 use Rattle.ceilings.specs.declared.ids.IdKind.{IdKind}
 use Rattle.ceilings.specs.declared.ids.IdKind.TheVariants.{User, Group}
 

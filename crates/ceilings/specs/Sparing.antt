@@ -5,7 +5,7 @@ use Rattle.kernel_calls.specs.Calls.{AreCalls}
 use Rattle.kernel_model.specs.Runs.{run}
 use Rattle.kernel_model.specs.World.{World}
 use Rattle.kernel_laws.specs.Denied.{Holds, Shows}
-use Rattle.kernel_laws.specs.Questions.{Question}
+use Rattle.question_types.specs.declared.question.Question.{Question}
 use Rattle.kernel_laws.specs.Spared.{AllSpare}
 
 -- these ids and no other, of all lists of calls that use CAP_SETUID and CAP_SETGID only where they may: some such list shows each of

@@ -5,7 +5,7 @@ use crate::leads::RowLeads;
 use crate::passing::PathCalls;
 use crate::ruled::LineRules;
 use cap_sets::CapSet;
-use reach_paths::Power;
+use question_types::Power;
 
 /// What no process of a launched service passes, in any world that any calls of its processes lead to.
 #[derive(Drop)]

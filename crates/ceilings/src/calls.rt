@@ -4,16 +4,16 @@ ghost use Rattle.std.specs.Prelude.{◌≡◌, ◌&&◌, find, option_copied, sl
 ghost use Rattle.std.specs.Str.{bytes_eq};
 ghost use Rattle.call_table.specs.Table.{arch_of, every_call};
 ghost use Rattle.kernel_calls.specs.Rules.{rule_of};
-ghost use Rattle.kernel_laws.specs.Kinds.{PlainCall};
+ghost use Rattle.question_types.specs.declared.kind.CallKind.TheVariants.{PlainCall};
 ghost use Rattle.kernel_laws.specs.Launched.{launch_of, lets_line, lets_rule, lets_words};
-ghost use Rattle.ceilings.specs.Meanings.{meant_kind};
 
-use crate::kinds::{CallKind, words};
+use crate::kinds::words;
 use bpf_code::{CallData, Decision};
 use call_names::{KnownCall, known_call};
 use call_table::{CallLine, CallTable};
 use kernel_calls::Rule;
 use kernel_model::World;
+use question_types::CallKind;
 
 /// The rule of a line of the table, by its name; None where the kernel lacks the call.
 #[tactic(auto, unfolding(kernel_calls::specs::Rules::rule_of))]
@@ -66,7 +66,7 @@ pub(crate) fn lets_rule(
     line: &CallLine,
     rule: Option<Rule>,
 ) -> bool
-    ensures { result ≡ lets_rule (launch_of world.now) (meant_kind kind) line.now.abi line.now.number rule }
+    ensures { result ≡ lets_rule (launch_of world.now) kind line.now.abi line.now.number rule }
 {
     let Some(rule) = rule else {
         return false;
@@ -80,7 +80,7 @@ pub(crate) fn lets_rule(
 /// Whether the call of this line can ask for the kind, and the filters of the first process let it through with the words
 /// that ask for it first, seccomp(2). Calls that cannot ask for the kind are not put to the filters.
 pub fn lets_line(world: &World<'_>, kind: CallKind, line: &CallLine) -> bool
-    ensures passes_with_the_first_words { result ≡ lets_line (launch_of world.now) (meant_kind kind) line.now }
+    ensures passes_with_the_first_words { result ≡ lets_line (launch_of world.now) kind line.now }
 {
     lets_rule(world, kind, line, rule_of(line))
 }
@@ -91,7 +91,7 @@ fn passing_among<'a>(
     kind: CallKind,
     lines: &'a [CallLine],
 ) -> Option<&'a CallLine>
-    ensures { option_copied result ≡ find (lets_line (launch_of world.now) (meant_kind kind)) lines.now }
+    ensures { option_copied result ≡ find (lets_line (launch_of world.now) kind) lines.now }
 {
     lines.iter().find(|line| lets_line(world, kind, line))
 }
@@ -100,7 +100,7 @@ fn passing_among<'a>(
 #[tactic(auto, using(crate::proofs::AllCalls::found_in_all))]
 pub fn passing_line<'a>(world: &'a World<'_>, kind: CallKind) -> Option<&'a CallLine>
     ensures first_that_passes { let launch = launch_of world.now in
-        option_copied result ≡ find (lets_line launch (meant_kind kind)) (every_call launch.calls) }
+        option_copied result ≡ find (lets_line launch kind) (every_call launch.calls) }
 {
     let table = world.call_table();
     match passing_among(world, kind, table.calls()) {

@@ -5,7 +5,6 @@ ghost use Rattle.linux_numbers.specs.Capabilities.{cap_setuid};
 ghost use Rattle.cap_sets.specs.Sets.{has, union};
 ghost use Rattle.kernel_laws.specs.Bound.{when, caps_before, file_gain, gain_at};
 ghost use Rattle.kernel_laws.specs.Launched.{IsLaunchedWorld, launch_of};
-ghost use Rattle.reach_paths.specs.Meanings.{meant_power};
 ghost use Rattle.ceilings.specs.Passing.{ArePassing};
 ghost use Rattle.kernel_ways.specs.Spared.{caps_by};
 
@@ -15,7 +14,7 @@ use crate::programs::can_run;
 use cap_sets::CapSet;
 use kernel_model::World;
 use linux_numbers::capabilities::CAP_SETUID;
-use reach_paths::Power;
+use question_types::Power;
 use site_table::Row;
 
 // What execve of a row, and capset after it, make effective: all of the bounding set for a program that is run as root; else
@@ -39,7 +38,7 @@ fn file_gain(world: &World<'_>, passing: Passing, row: &Row) -> CapSet
 fn gain_at(world: &World<'_>, passing: Passing, power: Power, row: &Row) -> CapSet
     requires launched { IsLaunchedWorld world.now }
     requires passing { ArePassing (launch_of world.now) passing }
-    ensures { result ≡ gain_at (launch_of world.now) (meant_power power) row.now }
+    ensures { result ≡ gain_at (launch_of world.now) power row.now }
 {
     let gain = file_gain(world, passing, row);
     if gain.bits() != 0 && can_run(world, power, row) {
@@ -53,7 +52,7 @@ fn gain_at(world: &World<'_>, passing: Passing, power: Power, row: &Row) -> CapS
 fn caps_before(world: &World<'_>, passing: Passing, power: Power) -> CapSet
     requires launched { IsLaunchedWorld world.now }
     requires passing { ArePassing (launch_of world.now) passing }
-    ensures { result ≡ caps_before (launch_of world.now) (meant_power power) }
+    ensures { result ≡ caps_before (launch_of world.now) power }
 {
     let rows = world.site_table().rows();
     let mut caps = launched_process(world).creds.effective();
@@ -79,7 +78,7 @@ fn with_root(caps: CapSet, bounding: CapSet, takes_uid: bool) -> CapSet
 pub(crate) fn caps_by(world: &World<'_>, passing: Passing, takes_uid: bool, power: Power) -> CapSet
     requires launched { IsLaunchedWorld world.now }
     requires passing { ArePassing (launch_of world.now) passing }
-    ensures { result ≡ caps_by (launch_of world.now) takes_uid (meant_power power) }
+    ensures { result ≡ caps_by (launch_of world.now) takes_uid power }
 {
     let creds = &launched_process(world).creds;
     if creds.no_new_privs() {

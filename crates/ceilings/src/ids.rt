@@ -2,14 +2,13 @@
 
 ghost use Rattle.std.specs.Prelude.{◌≡◌, ◌++◌, IfOk, OnOk};
 ghost use Rattle.kernel_laws.specs.Launched.{IsLaunchedWorld, launch_of};
-ghost use Rattle.reach_paths.specs.Meanings.{meant_power};
 ghost use Rattle.ceilings.specs.Owners.{set_id, given_at, given_ids, uids_at, gids_at};
 
 use crate::first::launched_process;
 use crate::programs::can_run;
 use item_list::ItemList;
 use kernel_model::World;
-use reach_paths::Power;
+use question_types::Power;
 use site_table::Row;
 use std::alloc::{AllocError, Global};
 
@@ -36,7 +35,7 @@ fn set_id(kind: IdKind, row: &Row) -> Option<u32>
 // The id that a program gives, if it can be run.
 fn given_at(world: &World<'_>, power: Power, kind: IdKind, row: &Row) -> Option<u32>
     requires { IsLaunchedWorld world.now }
-    ensures { result ≡ given_at kind (launch_of world.now) (meant_power power) row.now }
+    ensures { result ≡ given_at kind (launch_of world.now) power row.now }
 {
     match set_id(kind, row) {
         Some(id) if can_run(world, power, row) => Some(id),
@@ -53,7 +52,7 @@ fn push_given(
     rows: &[Row],
 ) -> Result<(), AllocError>
     requires { IsLaunchedWorld world.now }
-    ensures { OnOk result (ids.new.items ≡ ids.old.items ++ given_ids kind (launch_of world.now) (meant_power power) rows.now) }
+    ensures { OnOk result (ids.new.items ≡ ids.old.items ++ given_ids kind (launch_of world.now) power rows.now) }
 {
     for row in rows {
         if let Some(id) = given_at(world, power, kind, row) {
@@ -66,7 +65,7 @@ fn push_given(
 // The uid of the launch, and the owners of the set-user-id programs that can be run at this power.
 pub(crate) fn uids(alloc: Global, world: &World<'_>, power: Power) -> Result<IdList, AllocError>
     requires { IsLaunchedWorld world.now }
-    ensures { IfOk result (λ ids. ids ≡ uids_at (launch_of world.now) (meant_power power)) }
+    ensures { IfOk result (λ ids. ids ≡ uids_at (launch_of world.now) power) }
 {
     let creds = &launched_process(world).creds;
     let mut ids = Vec::new(alloc);
@@ -86,7 +85,7 @@ pub(crate) fn uids(alloc: Global, world: &World<'_>, power: Power) -> Result<IdL
 // The gid of the launch, its groups, and the groups of the set-group-id programs that can be run at this power.
 pub(crate) fn gids(alloc: Global, world: &World<'_>, power: Power) -> Result<IdList, AllocError>
     requires { IsLaunchedWorld world.now }
-    ensures { IfOk result (λ ids. ids ≡ gids_at (launch_of world.now) (meant_power power)) }
+    ensures { IfOk result (λ ids. ids ≡ gids_at (launch_of world.now) power) }
 {
     let creds = &launched_process(world).creds;
     let mut ids = Vec::new(alloc);

@@ -2,48 +2,12 @@
 
 ghost use Rattle.std.specs.Prelude.{◌≡◌, ◌<◌};
 ghost use Rattle.kernel_calls.specs.declared.rule.Rule.TheVariants.{Known, Plain};
-ghost use Rattle.kernel_laws.specs.Kinds.{ForPath, one_word, words};
-ghost use Rattle.reach_paths.specs.Meanings.{meant_wish};
-ghost use Rattle.ceilings.specs.Meanings.{meant_kind};
+ghost use Rattle.kernel_laws.specs.Kinds.{one_word, words};
+ghost use Rattle.question_types.specs.declared.kind.CallKind.TheVariants.{ForPath};
 
 use call_names::CallRule;
 use kernel_calls::Rule;
-use questions::{NamespaceType, Wish};
-
-/// What a call asks for, syscalls(2).
-#[derive(Clone, Copy)]
-pub enum CallKind {
-    /// That a row of the site is seen, read, written or executed.
-    ForPath(Wish),
-    /// Nothing but the call itself, which no rule of the kernel names.
-    PlainCall,
-    /// A socket of the family of this number, socket(2), socketcall(2).
-    ForFamily(u32),
-    /// A namespace of this type, clone(2), unshare(2).
-    ForNamespace(NamespaceType),
-    /// Memory to be written and executed, mmap(2).
-    MapsWx,
-    /// Memory to be executed, mprotect(2).
-    ProtectsX,
-    /// Shared memory to be executed, shmat(2).
-    AttachesX,
-    /// A realtime policy, sched(7).
-    SchedulesRealtime,
-    /// Another execution domain, personality(2).
-    TakesPersonality,
-    /// A mode with a set-user-id or set-group-id bit, chmod(2), inode(7).
-    SetsMode,
-    /// Another mount table, mount(2).
-    ChangesMounts,
-    /// Fewer mounts, umount2(2).
-    RemovesMounts,
-    /// Other sets of capabilities, capset(2).
-    SetsCaps,
-    /// Another uid, setuid(2), setresuid(2).
-    TakesUid,
-    /// Another gid, setgid(2), setresgid(2), setgroups(2).
-    TakesGid,
-}
+use question_types::{CallKind, Wish};
 
 /// PROT_WRITE and PROT_EXEC of mmap(2).
 const WRITE_AND_EXEC: u64 = 6;
@@ -84,7 +48,7 @@ fn one_word(at: usize, value: u64) -> [u64; 6]
 
 // The words with which a call of the rule does first what is wished of a path.
 fn path_words(wish: Wish, rule: CallRule) -> Option<[u64; 6]>
-    ensures { result ≡ words (ForPath (meant_wish wish)) (Known rule) }
+    ensures { result ≡ words (ForPath wish) (Known rule) }
 {
     match wish {
         Wish::See => match rule {
@@ -109,7 +73,7 @@ fn path_words(wish: Wish, rule: CallRule) -> Option<[u64; 6]>
 
 // The words with which a call of the rule asks first for what else the kernel has rules for.
 fn known_words(kind: CallKind, rule: CallRule) -> Option<[u64; 6]>
-    ensures { result ≡ words (meant_kind kind) (Known rule) }
+    ensures { result ≡ words kind (Known rule) }
 {
     let words = match (kind, rule) {
         (CallKind::ForPath(wish), _) => return path_words(wish, rule),
@@ -138,7 +102,7 @@ fn known_words(kind: CallKind, rule: CallRule) -> Option<[u64; 6]>
 
 // Of a plain call nothing else is asked than that it is made, without words.
 fn plain_words(kind: CallKind, cap: Option<u8>) -> Option<[u64; 6]>
-    ensures { result ≡ words (meant_kind kind) (Plain cap) }
+    ensures { result ≡ words kind (Plain cap) }
 {
     match kind {
         CallKind::PlainCall => Some(NO_WORDS),
@@ -148,7 +112,7 @@ fn plain_words(kind: CallKind, cap: Option<u8>) -> Option<[u64; 6]>
 
 /// The words with which a call of the rule asks for the kind first; None where no call of the rule asks for it.
 pub fn words(kind: CallKind, rule: Rule) -> Option<[u64; 6]>
-    ensures ask_first { result ≡ words (meant_kind kind) rule }
+    ensures ask_first { result ≡ words kind rule }
 {
     match rule {
         Rule::Known(rule) => known_words(kind, rule),

@@ -4,14 +4,14 @@ ghost use Rattle.std.specs.Prelude.{◌≡◌, slice_get, Some};
 ghost use Rattle.site_table.specs.declared.row.Row.{Row};
 ghost use Rattle.kernel_laws.specs.Launched.{IsLaunchedWorld, Launch, launch_of};
 ghost use Rattle.kernel_laws.specs.Reach.{reach};
-ghost use Rattle.reach_paths.specs.Meanings.{meant_power, meant_wish};
 ghost use Rattle.ceilings.specs.Leads.{lead_to, leads_of};
 ghost use Rattle.ceilings.specs.Own.{IsCeilingOf};
 
 use crate::bounds::Ceiling;
 use crate::first::launched_table;
 use kernel_model::World;
-use reach_paths::{Power, Wish, reach};
+use question_types::{Power, Wish};
+use reach_paths::reach;
 use site_table::Row;
 
 /// The first entries of a mount table that lead to a row, by their numbers, where some do.
@@ -28,7 +28,7 @@ pub struct RowLeads {
 impl RowLeads {
     /// That for what is wished.
     pub fn to(self, wish: Wish) -> Option<usize>
-        ensures of_the_wish { result ≡ lead_to self (meant_wish wish) }
+        ensures of_the_wish { result ≡ lead_to self wish }
     {
         match wish {
             Wish::See | Wish::Read => self.see,
@@ -66,7 +66,7 @@ pub fn reach_by(
 ) -> Option<usize>
     requires launched { IsLaunchedWorld world.now }
     requires of_the_row { leads ≡ leads_of (launch_of world.now).table row.now.path }
-    ensures by_the_rule { result ≡ reach (meant_power power) (launch_of world.now).table row.now.path (meant_wish wish) }
+    ensures by_the_rule { result ≡ reach power (launch_of world.now).table row.now.path wish }
 {
     match power {
         Power::None => leads.to(wish),

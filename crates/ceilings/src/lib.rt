@@ -24,7 +24,7 @@ pub use bounds::Ceiling;
 pub use calls::{lets_line, passing_line, plain_line, plain_line_at, rule_of};
 pub use first::{launched_process, launched_table};
 pub use ids::IdList;
-pub use kinds::{CallKind, words};
+pub use kinds::words;
 pub use leads::{RowLeads, reach_by};
 pub use making::ceiling;
 pub use passing::PathCalls;

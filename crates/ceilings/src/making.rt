@@ -5,11 +5,10 @@ ghost use Rattle.linux_numbers.specs.Capabilities.{cap_sys_admin};
 ghost use Rattle.cap_sets.specs.Sets.{has};
 ghost use Rattle.kernel_laws.specs.Bound.{power_by};
 ghost use Rattle.kernel_laws.specs.Denied.{IsDenied};
-ghost use Rattle.kernel_laws.specs.Kinds.{ChangesMounts, RemovesMounts, TakesUid, TakesGid};
+ghost use Rattle.question_types.specs.declared.kind.CallKind.TheVariants.{ChangesMounts, RemovesMounts, TakesUid, TakesGid};
+ghost use Rattle.question_types.specs.declared.question.Question.TheVariants.{Cap, Uid, Gid};
 ghost use Rattle.kernel_laws.specs.Launched.{IsLaunchedWorld, launch_of, lets};
-ghost use Rattle.kernel_laws.specs.Questions.{Cap, Uid, Gid};
 ghost use Rattle.kernel_ways.specs.Laws.{IsServedWorld, IsShown};
-ghost use Rattle.reach_paths.specs.Meanings.{meant_power};
 ghost use Rattle.site_table.specs.Ids.{greatest_id};
 ghost use Rattle.ceilings.specs.Own.{IsCeilingOf};
 ghost use Rattle.ceilings.specs.Sparing.{AreHadSparing};
@@ -46,7 +45,7 @@ pub fn ceiling(alloc: Global, launched: &Launched<'_>) -> Result<Ceiling, AllocE
 
     // CAP_SYS_ADMIN and the calls that pass give the power.
     ensures power_is_by_what_can_be_had { IfOk result (λ top. let launch = launch_of launched.now.world in
-        meant_power top.power
+        top.power
         ≡ power_by (has top.effective cap_sys_admin) (lets launch ChangesMounts) (lets launch RemovesMounts)) }
 
     // In no world of any run does a living process have more.

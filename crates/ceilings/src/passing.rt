@@ -2,14 +2,12 @@
 
 ghost use Rattle.std.specs.Prelude.{◌≡◌};
 ghost use Rattle.kernel_laws.specs.Launched.{launch_of};
-ghost use Rattle.reach_paths.specs.Meanings.{meant_wish};
 ghost use Rattle.ceilings.specs.Passing.{ArePassing, ArePathCalls, passes};
 ghost use Rattle.ceilings.specs.Ruled.{AreRules};
 
-use crate::kinds::CallKind;
 use crate::ruled::LineRules;
 use kernel_model::World;
-use questions::Wish;
+use question_types::{CallKind, Wish};
 
 /// What processes can ask of paths: whether some call passes that sees, reads, writes or executes what a path finds.
 #[derive(Clone, Copy)]
@@ -40,7 +38,7 @@ impl PathCalls {
 
     /// Whether some call passes that does what is wished.
     pub fn passes(self, wish: Wish) -> bool
-        ensures of_the_wish { result ≡ passes self (meant_wish wish) }
+        ensures of_the_wish { result ≡ passes self wish }
     {
         match wish {
             Wish::See => self.see,

@@ -3,7 +3,6 @@
 ghost use Rattle.std.specs.Prelude.{◌≡◌};
 ghost use Rattle.kernel_laws.specs.Bound.{power_by};
 ghost use Rattle.kernel_laws.specs.Launched.{IsLaunchedWorld, launch_of};
-ghost use Rattle.reach_paths.specs.Meanings.{meant_power};
 ghost use Rattle.ceilings.specs.Passing.{ArePassing};
 ghost use Rattle.kernel_ways.specs.Spared.{power_using};
 
@@ -11,11 +10,11 @@ use crate::gains::caps_by;
 use crate::passing::Passing;
 use kernel_model::World;
 use linux_numbers::capabilities::CAP_SYS_ADMIN;
-use reach_paths::Power;
+use question_types::Power;
 
 // By whether CAP_SYS_ADMIN can be had on the launched table, and which calls pass.
 fn power_by(has_admin: bool, mounts: bool, unmounts: bool) -> Power
-    ensures { meant_power result ≡ power_by has_admin mounts unmounts }
+    ensures { result ≡ power_by has_admin mounts unmounts }
 {
     match (has_admin, mounts, unmounts) {
         (true, true, _) => Power::Mount,
@@ -28,7 +27,7 @@ fn power_by(has_admin: bool, mounts: bool, unmounts: bool) -> Power
 pub(crate) fn power_using(world: &World<'_>, passing: Passing, takes_uid: bool) -> Power
     requires launched { IsLaunchedWorld world.now }
     requires passing { ArePassing (launch_of world.now) passing }
-    ensures { meant_power result ≡ power_using (launch_of world.now) takes_uid }
+    ensures { result ≡ power_using (launch_of world.now) takes_uid }
 {
     let caps = caps_by(world, passing, takes_uid, Power::None);
     power_by(

@@ -3,11 +3,11 @@
 ghost use Rattle.std.specs.Prelude.{◌≡◌};
 ghost use Rattle.kernel_laws.specs.Bound.{can_run, is_barred};
 ghost use Rattle.kernel_laws.specs.Launched.{IsLaunchedWorld, launch_of};
-ghost use Rattle.reach_paths.specs.Meanings.{meant_power};
 
 use crate::first::{launched_process, launched_table};
 use kernel_model::World;
-use reach_paths::{Power, Wish, reach};
+use question_types::{Power, Wish};
+use reach_paths::reach;
 use site_table::{Row, RowKind};
 
 /// Whether execve(2) refuses the row to every process that heeds its marks: its effective bit is set, and the bounding set of
@@ -22,7 +22,7 @@ pub fn is_barred(world: &World<'_>, row: &Row) -> bool
 /// Whether the row is a program that some mount table of the power leads to, and that execve(2) does not refuse.
 pub fn can_run(world: &World<'_>, power: Power, row: &Row) -> bool
     requires launched { IsLaunchedWorld world.now }
-    ensures runs { result ≡ can_run (launch_of world.now) (meant_power power) row.now }
+    ensures runs { result ≡ can_run (launch_of world.now) power row.now }
 {
     match row.kind {
         RowKind::Dir | RowKind::File => false,

@@ -4,15 +4,13 @@ ghost use Rattle.std.specs.Prelude.{◌≡◌, map, IfOk};
 ghost use Rattle.std.specs.List.{list_any};
 ghost use Rattle.kernel_calls.specs.Rules.{rule_of};
 ghost use Rattle.kernel_laws.specs.Launched.{can_make_user, launch_of, lets, lets_line};
-ghost use Rattle.ceilings.specs.Meanings.{meant_kind};
 ghost use Rattle.ceilings.specs.Ruled.{AreRules};
 
 use crate::calls::{lets_rule, rule_of};
-use crate::kinds::CallKind;
 use call_table::CallLine;
 use kernel_calls::Rule;
 use kernel_model::World;
-use questions::NamespaceType;
+use question_types::{CallKind, NamespaceType};
 use std::alloc::{AllocError, Global};
 
 /// The rules of all calls, by their positions; None where the kernel lacks the call.
@@ -38,7 +36,7 @@ fn rules_of(alloc: Global, lines: &[CallLine]) -> Result<Vec<Option<Rule>>, Allo
 // Whether the filters let the call of one of these lines through, which have these rules.
 fn lets_some(world: &World<'_>, kind: CallKind, lines: &[CallLine], rules: &[Option<Rule>]) -> bool
     requires { rules.now ≡ map rule_of lines.now }
-    ensures { result ≡ list_any (lets_line (launch_of world.now) (meant_kind kind)) lines.now }
+    ensures { result ≡ list_any (lets_line (launch_of world.now) kind) lines.now }
 {
     for (at, line) in lines.iter().enumerate() {
         if lets_rule(world, kind, line, rules[at]) {
@@ -64,7 +62,7 @@ impl LineRules {
     /// what `lets` says. It takes no memory.
     pub fn let_through(&self, world: &World<'_>, kind: CallKind) -> bool
         requires of_the_table { AreRules (launch_of world.now) self.now }
-        ensures some_call_passes { result ≡ lets (launch_of world.now) (meant_kind kind) }
+        ensures some_call_passes { result ≡ lets (launch_of world.now) kind }
     {
         let table = world.call_table();
         lets_some(world, kind, table.calls(), &self.native)

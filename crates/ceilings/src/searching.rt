@@ -11,7 +11,6 @@ ghost use Rattle.kern_mounts.specs.Entry.{Belongs, leads_to};
 ghost use Rattle.kern_mounts.specs.Mounts.{steps_of};
 ghost use Rattle.kernel_laws.specs.Launched.{IsLaunchedWorld, launch_of};
 ghost use Rattle.kernel_laws.specs.Reach.{fits, reach_from, shows_row};
-ghost use Rattle.reach_paths.specs.Meanings.{meant_wish};
 ghost use Rattle.ceilings.specs.Leads.{AreLeads, is_moved, leads_of};
 
 use crate::first::launched_table;
@@ -19,13 +18,14 @@ use crate::leads::RowLeads;
 use abs_path::AbsPath;
 use kern_mounts::{Flags, MountStep, MountTable, What};
 use kernel_model::World;
-use reach_paths::{Wish, is_covered};
+use question_types::Wish;
+use reach_paths::is_covered;
 use site_table::Row;
 use std::alloc::{AllocError, Global};
 
 // Whether what is wished may be done on a mount with these flags, mount(2).
 fn allows(flags: Flags, wish: Wish) -> bool
-    ensures { result ≡ fits (meant_wish wish) flags }
+    ensures { result ≡ fits wish flags }
 {
     match wish {
         Wish::See | Wish::Read => true,
@@ -110,7 +110,7 @@ fn first_from(
     wish: Wish,
 ) -> Option<usize>
     requires own { Belongs (steps_of search.now.table.now) row.now own }
-    ensures { result ≡ reach_from false row.now (meant_wish wish) (drop from (steps_of search.now.table.now)) from }
+    ensures { result ≡ reach_from false row.now wish (drop from (steps_of search.now.table.now)) from }
 {
     for at in from..search.table.len() {
         let entry = search.table.entry(at);

@@ -7,9 +7,10 @@ use Rattle.cap_sets.specs.Sets.{has, none, cut}
 use Rattle.cap_sets.proofs.Members.{has_cut, has_union, has_none}
 use Rattle.site_table.specs.declared.row.Row.{Row}
 use Rattle.kernel_laws.specs.Bound.{is_owner, can_run, file_gain, gain_at, gathered, when, caps_before, caps_at, with_root, power_by, power_of}
-use Rattle.kernel_laws.specs.Kinds.{ChangesMounts, RemovesMounts, SetsCaps, TakesUid}
+use Rattle.question_types.specs.declared.kind.CallKind.TheVariants.{ChangesMounts, RemovesMounts, SetsCaps, TakesUid}
+use Rattle.question_types.specs.declared.power.Power.{Power}
+use Rattle.question_types.specs.declared.power.Power.TheVariants.{None as Nowise, Unmount as Unmounting, Mount as Mounting}
 use Rattle.kernel_laws.specs.Launched.{Launch, lets}
-use Rattle.kernel_laws.specs.Reach.{Power, Nowise, Unmounting, Mounting}
 use Rattle.kernel_ways.proofs.Attained.{gathered_from}
 use Rattle.chosen_calls.specs.Gaining.{FileWay, Held, ByRun, ByCapset, CapWay, ByFile, ByRoot, AtOnce, Behind, gives_at_once, gives_by_capset, by_rows, by_launch, takes_root, cap_way, at_once, at_power, gain}
 use Rattle.chosen_calls.proofs.Lists.{member_found}

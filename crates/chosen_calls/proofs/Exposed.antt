@@ -27,10 +27,12 @@ use Rattle.kernel_calls.specs.Calls.{IsPath}
 use Rattle.kernel_calls.specs.declared.call.Call.{Call}
 use Rattle.kernel_calls.specs.declared.rule.Rule.{Rule}
 use Rattle.kernel_laws.specs.Bound.{caps_at}
-use Rattle.kernel_laws.specs.Kinds.{ChangesMounts, RemovesMounts}
+use Rattle.question_types.specs.declared.kind.CallKind.TheVariants.{ChangesMounts, RemovesMounts}
+use Rattle.question_types.specs.declared.wish.Wish.{Wish}
+use Rattle.question_types.specs.declared.power.Power.{Power}
+use Rattle.question_types.specs.declared.power.Power.TheVariants.{None as Nowise, Unmount as Unmounting, Mount as Mounting}
 use Rattle.kernel_laws.specs.Launched.{Launch, IsLaunched, lets}
-use Rattle.kernel_laws.specs.Questions.{Wish}
-use Rattle.kernel_laws.specs.Reach.{fits, Leads, Power, Nowise, Unmounting, Mounting, reach, reaches}
+use Rattle.kernel_laws.specs.Reach.{fits, Leads, reach, reaches}
 use Rattle.reach_paths.specs.First.{LeadsBy, Shows, IsFirst}
 use Rattle.reach_paths.proofs.Looping.{from_here}
 use Rattle.reach_paths.proofs.Naming.{named_both, rest_short}

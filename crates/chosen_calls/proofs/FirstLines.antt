@@ -8,14 +8,15 @@ use Rattle.call_table.specs.Table.{Abi, calls_in, every_call, second_calls}
 use Rattle.kernel_calls.specs.declared.payload.Payload.{Payload}
 use Rattle.kernel_calls.specs.declared.rule.Rule.{Rule}
 use Rattle.kernel_calls.specs.declared.rule.Rule.TheVariants.{Plain}
-use Rattle.kernel_laws.specs.Kinds.{Kind, words, no_words}
+use Rattle.question_types.specs.declared.kind.CallKind.{CallKind}
+use Rattle.kernel_laws.specs.Kinds.{words, no_words}
 use Rattle.kernel_laws.specs.Launched.{Launch, IsLaunched, lets, lets_line}
 use Rattle.kernel_ways.specs.Ways.{place_of}
 use Rattle.kernel_ways.proofs.Lines.{Line, first_by, line_at}
 use Rattle.chosen_calls.specs.First.{names_of, lets_name, line_in, first_line, no_line, line_of, args_of, own_rule, call_by}
 use Rattle.chosen_calls.proofs.Lists.{found_at, any_found, get_front, get_back}
 
-pub record ChosenLine (launch : Launch) (kind : Kind) : Type 0 where
+pub record ChosenLine (launch : Launch) (kind : CallKind) : Type 0 where
   pub line : Line launch kind
   pub is : line_of launch kind ≡ line.line
 
@@ -25,12 +26,12 @@ second_are None = refl
 second_are (Some second) = refl
 
 -- a line of the table whose call passes
-record Passing (launch : Launch) (kind : Kind) (line : CallLine) : Type 0 where
+record Passing (launch : Launch) (kind : CallKind) (line : CallLine) : Type 0 where
   at : ℕ
   listed : slice_get (every_call launch.calls) at ≡ Some line
   lets : lets_line launch kind line ≡ true
 
-module _ (launch : Launch) (kind : Kind) where
+module _ (launch : Launch) (kind : CallKind) where
   abbrev every : List CallLine
   every = every_call launch.calls
 
@@ -79,7 +80,7 @@ module _ (launch : Launch) (kind : Kind) where
       by (Some own) is e = passing_native line (is ∙ e)
 
 -- a call of the kind that passes is found
-pub first_is : (launch : Launch) (kind : Kind) → lets launch kind ≡ true → (line : CallLine) × (first_line launch kind ≡ Some line)
+pub first_is : (launch : Launch) (kind : CallKind) → lets launch kind ≡ true → (line : CallLine) × (first_line launch kind ≡ Some line)
 unfolding lets
 first_is launch kind e = by (line_in launch kind 0) (then (line_in launch kind 1) (any_found (lets_line launch kind) (every_call launch.calls) e))
   where
@@ -91,7 +92,7 @@ first_is launch kind e = by (line_in launch kind 0) (then (line_in launch kind 1
     by None a = a
     by (Some line) a = (line, refl)
 
-pub chosen : (launch : Launch) → IsLaunched launch → (kind : Kind) → lets launch kind ≡ true → ChosenLine launch kind
+pub chosen : (launch : Launch) → IsLaunched launch → (kind : CallKind) → lets launch kind ≡ true → ChosenLine launch kind
 unfolding line_of
 chosen launch l kind e =
     let first = first_is launch kind e in
@@ -99,7 +100,7 @@ chosen launch l kind e =
     let x = line_at launch l kind p.at first.0 p.listed p.lets in
     record { line = x.0; is = ap (λ o. unwrap_or o no_line) first.1 ∙ sym x.1 }
 
-module _ {launch : Launch} {kind : Kind} (c : ChosenLine launch kind) where
+module _ {launch : Launch} {kind : CallKind} (c : ChosenLine launch kind) where
   args_are : args_of kind c.line.line ≡ c.line.args
   args_are = ap (λ (r : Option Rule). unwrap_or (option_and_then (words kind) r) no_words) c.line.is ∙ ap (λ (w : Option (List ℕ)). unwrap_or w no_words) c.line.are
 

@@ -18,10 +18,12 @@ use Rattle.kern_mounts.specs.Split.{Table}
 use Rattle.kern_files.specs.Executing.{marks_of}
 use Rattle.kernel_calls.specs.declared.call.Call.{Call}
 use Rattle.kernel_laws.specs.Bound.{is_owner, is_barred, can_run, power_of}
-use Rattle.kernel_laws.specs.Kinds.{SetsCaps, TakesUid}
+use Rattle.question_types.specs.declared.kind.CallKind.TheVariants.{SetsCaps, TakesUid}
+use Rattle.question_types.specs.declared.wish.Wish.TheVariants.{Exec as ToExec}
+use Rattle.question_types.specs.declared.power.Power.{Power}
+use Rattle.question_types.specs.declared.power.Power.TheVariants.{None as Nowise}
 use Rattle.kernel_laws.specs.Launched.{Launch, IsLaunched, lets}
-use Rattle.kernel_laws.specs.Questions.{ToExec}
-use Rattle.kernel_laws.specs.Reach.{Power, Nowise, reaches}
+use Rattle.kernel_laws.specs.Reach.{reaches}
 use Rattle.kernel_ways.specs.Offers.{Offers, RunsProgram}
 use Rattle.kernel_ways.specs.Taking.{id_call, sets_call}
 use Rattle.kernel_ways.specs.Ways.{Way, here, by_creds, place_of}

@@ -19,11 +19,13 @@ use Rattle.kernel_calls.specs.declared.rule.Rule.{Rule}
 use Rattle.kernel_model.specs.World.{World}
 use Rattle.kernel_laws.specs.Bound.{is_owner, can_run, owned_by, grouped_by, any_uid, any_gid, caps_at, power_of, ceiling}
 use Rattle.kernel_laws.specs.Denied.{HasGid, Shows}
-use Rattle.kernel_laws.specs.Kinds.{Kind, TakesUid, TakesGid}
+use Rattle.question_types.specs.declared.kind.CallKind.{CallKind}
+use Rattle.question_types.specs.declared.kind.CallKind.TheVariants.{TakesUid, TakesGid}
+use Rattle.question_types.specs.declared.question.Question.{Question}
+use Rattle.question_types.specs.declared.power.Power.{Power}
+use Rattle.question_types.specs.declared.power.Power.TheVariants.{None as Nowise}
+use Rattle.question_types.specs.declared.question.Question.TheVariants as asking
 use Rattle.kernel_laws.specs.Launched.{Launch, IsLaunched, lets}
-use Rattle.kernel_laws.specs.Questions as q
-use Rattle.kernel_laws.specs.Questions.{Question}
-use Rattle.kernel_laws.specs.Reach.{Power, Nowise}
 use Rattle.kernel_ways.specs.Offers.{Offers, RunsProgram}
 use Rattle.kernel_ways.specs.Showing.{HaveAsked}
 use Rattle.kernel_ways.specs.Taking.{id_call}
@@ -45,16 +47,16 @@ use Rattle.chosen_calls.proofs.Lists.{member_found}
 use Rattle.chosen_calls.proofs.Rows.{gained, admin_gained}
 
 -- a call that takes the id, and what it leaves
-pub record Takes (launch : Launch) (kind : Kind) (id : ℕ) (question : Question) (creds : Creds) (table : Table) : Type 0 where
+pub record Takes (launch : Launch) (kind : CallKind) (id : ℕ) (question : Question) (creds : Creds) (table : Table) : Type 0 where
   pub end : Creds
   pub way : Way launch creds table (taking launch kind id) end table
   pub has : HaveAsked question end
 
-taking_is : (launch : Launch) (kind : Kind) (id : ℕ) (nr : CallAt) → place_of (line_of launch kind) ≡ nr → (rule : Rule) → own_rule (line_of launch kind) ≡ rule → taking launch kind id ≡ id_call nr rule id ∷ []
+taking_is : (launch : Launch) (kind : CallKind) (id : ℕ) (nr : CallAt) → place_of (line_of launch kind) ≡ nr → (rule : Rule) → own_rule (line_of launch kind) ≡ rule → taking launch kind id ≡ id_call nr rule id ∷ []
 taking_is launch kind id nr n rule r = ap (λ nr. id_call nr (own_rule (line_of launch kind)) id ∷ []) n ∙ ap (λ rule. id_call nr rule id ∷ []) r
 
 module _ (launch : Launch) (l : IsLaunched launch) (o : Offers launch) (id : ℕ) (small : id ≤ 4294967294) (creds : Creds) (table : Table) where
-  pub takes_uid : lets launch TakesUid ≡ true → has creds.effective 7 ≡ true → Takes launch TakesUid id (q.Uid id) creds table
+  pub takes_uid : lets launch TakesUid ≡ true → has creds.effective 7 ≡ true → Takes launch TakesUid id (asking.Uid id) creds table
   takes_uid e h =
       let c = chosen launch l TakesUid e in
       let change = privileged.uid_call launch o creds table id small c.line h in
@@ -62,7 +64,7 @@ module _ (launch : Launch) (l : IsLaunched launch) (o : Offers launch) (id : ℕ
       let Q : List Call → Type 0 = λ calls. Way launch creds table calls (with_uids creds (all_of id)) table in
       record { end = with_uids creds (all_of id); way = subst Q (sym same) (by_creds (id_call (place_of c.line.line) c.line.own id) change.makes here); has = ap (λ (ids : Ids). ids.effective) (uids_after creds (all_of id)) }
 
-  pub takes_gid : lets launch TakesGid ≡ true → has creds.effective 6 ≡ true → Takes launch TakesGid id (q.Gid id) creds table
+  pub takes_gid : lets launch TakesGid ≡ true → has creds.effective 6 ≡ true → Takes launch TakesGid id (asking.Gid id) creds table
   takes_gid e h =
       let c = chosen launch l TakesGid e in
       let change = privileged.gid_call launch o creds table id small c.line h in
@@ -102,7 +104,7 @@ module _ (launch : Launch) where
     ]
 
 module _ (world : World) (launch : Launch) (l : IsLaunched launch) (o : Offers launch) (s : IsSolo launch launch.creds launch.table world) (program : Path) (p : RunsProgram launch program) where
-  module _ (kind : Kind) (cap id : ℕ) (gives : Row → Bool) (question : Question)
+  module _ (kind : CallKind) (cap id : ℕ) (gives : Row → Bool) (question : Question)
       (by_run : (row : Row) → gives row ≡ true → (creds : Creds) → creds.no_new_privs ≡ false → HaveAsked question (exec_done creds (marks_of row) false))
       (by_take : (creds : Creds) (table : Table) → lets launch kind ≡ true → has creds.effective cap ≡ true → Takes launch kind id question creds table) where
     shows_by : {calls : List Call} (creds : Creds) (now : Table) → Way launch launch.creds launch.table calls creds now → HaveAsked question creds → Shows world question calls
@@ -171,14 +173,14 @@ module _ (world : World) (launch : Launch) (l : IsLaunched launch) (o : Offers l
 
   module _ (id : ℕ) (small : id ≤ 4294967294) where
     -- uids
-    pub uid_shown : (ceiling launch).uid id ≡ true → Shows world (q.Uid id) (uid_calls launch program id)
+    pub uid_shown : (ceiling launch).uid id ≡ true → Shows world (asking.Uid id) (uid_calls launch program id)
     uid_shown h = by (eqb id launch.creds.uids.effective) refl h
       where
         by : (b : Bool) → eqb id launch.creds.uids.effective ≡ b → (any_uid launch (caps_at launch (power_of launch)) || (b || (not launch.creds.no_new_privs && list_any (owned_by launch (power_of launch) id) launch.site.rows))) ≡ true
-            → Shows world (q.Uid id) (cond b [] (id_calls launch program TakesUid cap_setuid id (owns launch id)))
-        by true e h = creds_show launch launch.creds launch.creds launch.table launch.table world [] (q.Uid id) s here (sym (eqb-true id launch.creds.uids.effective e))
+            → Shows world (asking.Uid id) (cond b [] (id_calls launch program TakesUid cap_setuid id (owns launch id)))
+        by true e h = creds_show launch launch.creds launch.creds launch.table launch.table world [] (asking.Uid id) s here (sym (eqb-true id launch.creds.uids.effective e))
         by false e h =
-            id_shown TakesUid 7 id (owns launch id) (q.Uid id) (λ row own creds off. gains.uid_after creds (marks_of row) off ∙ owner_is id row.setuid creds.uids.effective own)
+            id_shown TakesUid 7 id (owns launch id) (asking.Uid id) (λ row own creds off. gains.uid_after creds (marks_of row) off ∙ owner_is id row.setuid creds.uids.effective own)
             (λ creds table passes held. takes_uid launch l o id small creds table passes held) (uid_open launch id h)
 
     -- gids
@@ -188,12 +190,12 @@ module _ (world : World) (launch : Launch) (l : IsLaunched launch) (o : Offers l
       | inr among ↦ inr (other_way id launch.creds.groups among)
     ]
 
-    pub gid_shown : (ceiling launch).gid id ≡ true → Shows world (q.Gid id) (gid_calls launch program id)
+    pub gid_shown : (ceiling launch).gid id ≡ true → Shows world (asking.Gid id) (gid_calls launch program id)
     gid_shown h = by (eqb id launch.creds.gids.effective || list_any (λ group. eqb id group) launch.creds.groups) refl h
       where
         by : (b : Bool) → (eqb id launch.creds.gids.effective || list_any (λ group. eqb id group) launch.creds.groups) ≡ b → (any_gid launch (caps_at launch (power_of launch)) || (b || (not launch.creds.no_new_privs && list_any (grouped_by launch (power_of launch) id) launch.site.rows))) ≡ true
-            → Shows world (q.Gid id) (cond b [] (id_calls launch program TakesGid cap_setgid id (groups launch id)))
-        by true e h = creds_show launch launch.creds launch.creds launch.table launch.table world [] (q.Gid id) s here (had_gid e)
+            → Shows world (asking.Gid id) (cond b [] (id_calls launch program TakesGid cap_setgid id (groups launch id)))
+        by true e h = creds_show launch launch.creds launch.creds launch.table launch.table world [] (asking.Gid id) s here (had_gid e)
         by false e h =
-            id_shown TakesGid 6 id (groups launch id) (q.Gid id) (λ row own creds off. inl (gains.gid_after creds (marks_of row) off ∙ owner_is id row.setgid creds.gids.effective own))
+            id_shown TakesGid 6 id (groups launch id) (asking.Gid id) (λ row own creds off. inl (gains.gid_after creds (marks_of row) off ∙ owner_is id row.setgid creds.gids.effective own))
             (λ creds table passes held. takes_gid launch l o id small creds table passes held) (gid_open launch id h)

@@ -13,9 +13,10 @@ use Rattle.kernel_calls.specs.declared.payload.Payload.TheVariants.{Nothing}
 use Rattle.kernel_model.specs.Runs.{IsDone}
 use Rattle.kernel_model.specs.Step.{step}
 use Rattle.kernel_model.specs.World.{World}
-use Rattle.kernel_laws.specs.Kinds.{Kind, ForSpace}
+use Rattle.question_types.specs.declared.kind.CallKind.{CallKind}
+use Rattle.question_types.specs.declared.kind.CallKind.TheVariants.{ForNamespace}
+use Rattle.filter_rules.specs.declared.namespace_types.NamespaceType.TheVariants.{User}
 use Rattle.kernel_laws.specs.Launched.{Launch, IsLaunched, lets, can_make_user}
-use Rattle.kernel_laws.specs.Questions.{User}
 use Rattle.kernel_ways.specs.Entering.{pid_in, IsEntered}
 use Rattle.kernel_ways.specs.Ways.{IsSolo, place_of}
 use Rattle.kernel_ways.proofs.InUser.{enters, call_by as made_by}
@@ -36,8 +37,8 @@ pub record UserCalled (launch : Launch) (creds : Creds) (table : Table) : Type 0
 
 pub user_called : (launch : Launch) → IsLaunched launch → can_make_user launch ≡ true → (creds : Creds) (table : Table) → UserCalled launch creds table
 user_called launch l user creds table =
-    let both = and_parts (nat_lt 0 launch.site.user_namespaces) (lets launch (ForSpace User)) user in
-    let c = chosen launch l (ForSpace User) both.1 in
+    let both = and_parts (nat_lt 0 launch.site.user_namespaces) (lets launch (ForNamespace User)) user in
+    let c = chosen launch l (ForNamespace User) both.1 in
     let first = enters launch both.0 creds table c.line in
     let pid : first.pid ≡ pid_inside launch = first.pid_is ∙ ap pid_in (sym (rule_is c)) in
     let call = first_by (place_of c.line.line) c.line.args Nothing in
@@ -50,5 +51,5 @@ user_called launch l user creds table =
     }
 
 -- the first call of a kind, made there
-pub inside_is : (launch : Launch) {kind : Kind} (c : ChosenLine launch kind) (payload : Payload) → call_inside launch kind payload ≡ made_by (pid_inside launch) (place_of c.line.line) c.line.args payload
+pub inside_is : (launch : Launch) {kind : CallKind} (c : ChosenLine launch kind) (payload : Payload) → call_inside launch kind payload ≡ made_by (pid_inside launch) (place_of c.line.line) c.line.args payload
 inside_is launch c payload = ap (λ (call : Call). record call { pid = pid_inside launch }) (call_is c payload)

@@ -15,8 +15,9 @@ use Rattle.kern_mounts.proofs.Splits.{split_some}
 use Rattle.kern_mounts.proofs.Unmounting.{append_all}
 use Rattle.kernel_calls.specs.Calls.{IsPath}
 use Rattle.kernel_laws.specs.Launched.{Launch}
-use Rattle.kernel_laws.specs.Questions.{Wish}
-use Rattle.kernel_laws.specs.Reach.{Nowise, Unmounting, reach}
+use Rattle.question_types.specs.declared.wish.Wish.{Wish}
+use Rattle.question_types.specs.declared.power.Power.TheVariants.{None as Nowise, Unmount as Unmounting}
+use Rattle.kernel_laws.specs.Reach.{reach}
 use Rattle.reach_paths.specs.First.{LeadsBy, Shows, IsFirst}
 use Rattle.reach_paths.proofs.Naming.{named_both, rest_short}
 use Rattle.reach_paths.proofs.RowsOfSites.{found_row}

@@ -17,12 +17,21 @@ use Rattle.kernel_calls.specs.declared.call.Call.{Call}
 use Rattle.kernel_calls.specs.declared.payload.Payload.TheVariants.{Nothing, OnePath}
 use Rattle.kernel_calls.specs.declared.rule.Rule.{Rule}
 use Rattle.kernel_laws.specs.Bound.{is_barred, is_mounting, is_owner, is_to_exec, is_user, can_reach, ceiling, if_listed, is_open, power_of}
-use Rattle.kernel_laws.specs.Kinds.{Kind, ForFamily, ForPath, ForSpace, RemovesMounts, TakesUid, TakesGid, one_word}
+use Rattle.question_types.specs.declared.kind.CallKind.{CallKind}
+use Rattle.question_types.specs.declared.kind.CallKind.TheVariants.{ForFamily, ForPath, ForNamespace, RemovesMounts, TakesUid, TakesGid}
+use Rattle.question_types.specs.declared.question.Question.{Question}
+use Rattle.filter_rules.specs.declared.namespace_types.NamespaceType.{NamespaceType}
+use Rattle.filter_rules.specs.declared.namespace_types.NamespaceType.TheVariants.{User}
+use Rattle.question_types.specs.declared.wish.Wish.{Wish}
+use Rattle.question_types.specs.declared.wish.Wish.TheVariants.{Exec as ToExec}
+use Rattle.question_types.specs.declared.power.Power.{Power}
+use Rattle.question_types.specs.declared.power.Power.TheVariants.{None as Nowise, Unmount as Unmounting, Mount as Mounting}
+use Rattle.question_types.specs.declared.question.Question.TheVariants as asking
+use Rattle.kernel_laws.specs.Kinds.{one_word}
 use Rattle.kernel_laws.specs.Launched.{Launch, IsLaunched, lets, can_make_user, launch_of}
 use Rattle.kernel_laws.specs.PlainCalls.{bare_call}
-use Rattle.kernel_laws.specs.Questions as q
-use Rattle.kernel_laws.specs.Questions.{Question, Space, User, Wish, ToExec, flag_of}
-use Rattle.kernel_laws.specs.Reach.{Power, Nowise, Unmounting, Mounting, reaches}
+use Rattle.kernel_laws.specs.Questions.{flag_of}
+use Rattle.kernel_laws.specs.Reach.{reaches}
 use Rattle.kernel_ways.specs.Entering.{pid_in}
 use Rattle.kernel_ways.specs.Uncovering.{covering, umount_calls}
 use Rattle.kernel_ways.specs.Ways.{CallAt, place_of, rule_there}
@@ -97,7 +106,7 @@ module _ (launch : Launch) where
     gains_if (Some number) = gains number
 
     -- ids
-    module _ (kind : Kind) (cap id : ℕ) where
+    module _ (kind : CallKind) (cap id : ℕ) where
       at_power : (o : Option Row) → AreFirst (id_at_power launch program kind cap id o)
       at_power (Some row) = join (gaining launch program cap_sys_admin) (run_calls launch (power_of launch) row) (gains cap_sys_admin) (runs (power_of launch) row)
       at_power None = join (gaining launch program cap) (taking launch kind id) (gains cap) (refl, tt)
@@ -121,11 +130,11 @@ IsInside launch = (pid_inside launch ≡ 1) ⊎ ((pid_inside launch ≡ 2) × Ma
 
 inside_by : (launch : Launch) → IsLaunched launch → can_make_user launch ≡ true → IsInside launch
 inside_by launch l user =
-    let both = and_parts (nat_lt 0 launch.site.user_namespaces) (lets launch (ForSpace User)) user in
-    let c = chosen launch l (ForSpace User) both.1 in
+    let both = and_parts (nat_lt 0 launch.site.user_namespaces) (lets launch (ForNamespace User)) user in
+    let c = chosen launch l (ForNamespace User) both.1 in
     by (place_of c.line.line) (rule_is c) (call_is c Nothing) c.line.at (choice_of c.line)
   where
-    by : {own : Rule} {args : List ℕ} → (nr : CallAt) → own_rule (line_of launch (ForSpace User)) ≡ own → user_call launch ≡ first_by nr args Nothing → rule_there launch nr ≡ Some own → choices.Choice (ForSpace User) own args → IsInside launch
+    by : {own : Rule} {args : List ℕ} → (nr : CallAt) → own_rule (line_of launch (ForNamespace User)) ≡ own → user_call launch ≡ first_by nr args Nothing → rule_there launch nr ≡ Some own → choices.Choice (ForNamespace User) own args → IsInside launch
     by nr rule call at (choices.unshare _) = inl (ap pid_in rule)
     by nr rule call at (choices.clone _) =
         let own = first_by nr (one_word 0 (flag_of User)) Nothing in
@@ -200,15 +209,15 @@ module _ (launch : Launch) (entered : can_make_user launch ≡ true → IsInside
   listed_row wish (Some row) e = for_row wish row e
 
   -- namespaces
-  for_space : (space : Space) → is_open launch (q.Ns space) ≡ true → Made (space_calls launch program space)
+  for_space : (space : NamespaceType) → is_open launch (asking.Namespace space) ≡ true → Made (space_calls launch program space)
   for_space space open' = by (is_user space) (has (ceiling launch).effective cap_sys_admin) open'
     where
-      by : (user admin : Bool) → cond user (can_make_user launch) (lets launch (ForSpace space) && (admin || can_make_user launch)) ≡ true
-          → Made (cond user (user_call launch ∷ []) (cond admin (gaining launch program cap_sys_admin ++ call_by launch (ForSpace space) Nothing ∷ []) (user_call launch ∷ call_inside launch (ForSpace space) Nothing ∷ [])))
+      by : (user admin : Bool) → cond user (can_make_user launch) (lets launch (ForNamespace space) && (admin || can_make_user launch)) ≡ true
+          → Made (cond user (user_call launch ∷ []) (cond admin (gaining launch program cap_sys_admin ++ call_by launch (ForNamespace space) Nothing ∷ []) (user_call launch ∷ call_inside launch (ForNamespace space) Nothing ∷ [])))
       by true admin e = by_first (user_call launch) [] refl no_more
       by false true e =
-          made (gaining launch program cap_sys_admin ++ call_by launch (ForSpace space) Nothing ∷ []) (join (gaining launch program cap_sys_admin) (call_by launch (ForSpace space) Nothing ∷ []) (gains launch program cap_sys_admin) (refl, tt))
-      by false false e = inside (entered (and_parts (lets launch (ForSpace space)) (can_make_user launch) e).1) (call_inside launch (ForSpace space) Nothing) refl
+          made (gaining launch program cap_sys_admin ++ call_by launch (ForNamespace space) Nothing ∷ []) (join (gaining launch program cap_sys_admin) (call_by launch (ForNamespace space) Nothing ∷ []) (gains launch program cap_sys_admin) (refl, tt))
+      by false false e = inside (entered (and_parts (lets launch (ForNamespace space)) (can_make_user launch) e).1) (call_inside launch (ForNamespace space) Nothing) refl
 
   -- the rest is of process 1
   for_plain : (line : CallLine) → AreFirst (plain_calls launch program line)
@@ -228,19 +237,19 @@ module _ (launch : Launch) (entered : can_make_user launch ≡ true → IsInside
 
   are_made : (question : Question) → is_open launch question ≡ true → Made (calls_for launch program question)
   unfolding calls_for
-  are_made (q.ByPath wish place) e = listed_row wish (slice_get launch.site.rows place) e
-  are_made (q.Call place) e = made (option_map_or (plain_calls launch program) (slice_get (every_call launch.calls) place) []) (mapped (plain_calls launch program) for_plain (slice_get (every_call launch.calls) place))
-  are_made (q.Socket place) e = made (option_map_or (socket_calls launch program) (slice_get launch.calls.families place) []) (mapped (socket_calls launch program) for_socket (slice_get launch.calls.families place))
-  are_made (q.Ns space) e = for_space space e
-  are_made q.MapWx e = by_first _ [] refl no_more
-  are_made q.ProtectX e = by_first _ [] refl no_more
-  are_made q.ShmX e = by_first _ [] refl no_more
-  are_made q.Realtime e = by_first _ [] refl no_more
-  are_made q.Personality e = by_first _ [] refl no_more
-  are_made q.SuidBit e = by_first _ [] refl no_more
-  are_made (q.Cap number) e = made (gaining launch program number) (gains launch program number)
-  are_made (q.Uid id) e = made (uid_calls launch program id) (for_uid id)
-  are_made (q.Gid id) e = made (gid_calls launch program id) (for_gid id)
+  are_made (asking.Path wish place) e = listed_row wish (slice_get launch.site.rows place) e
+  are_made (asking.Call place) e = made (option_map_or (plain_calls launch program) (slice_get (every_call launch.calls) place) []) (mapped (plain_calls launch program) for_plain (slice_get (every_call launch.calls) place))
+  are_made (asking.Socket place) e = made (option_map_or (socket_calls launch program) (slice_get launch.calls.families place) []) (mapped (socket_calls launch program) for_socket (slice_get launch.calls.families place))
+  are_made (asking.Namespace space) e = for_space space e
+  are_made asking.MapWx e = by_first _ [] refl no_more
+  are_made asking.ProtectX e = by_first _ [] refl no_more
+  are_made asking.ShmX e = by_first _ [] refl no_more
+  are_made asking.Realtime e = by_first _ [] refl no_more
+  are_made asking.Personality e = by_first _ [] refl no_more
+  are_made asking.SuidBit e = by_first _ [] refl no_more
+  are_made (asking.Cap number) e = made (gaining launch program number) (gains launch program number)
+  are_made (asking.Uid id) e = made (uid_calls launch program id) (for_uid id)
+  are_made (asking.Gid id) e = made (gid_calls launch program id) (for_gid id)
 
 pub choice_is_made : ChoiceIsMade
 choice_is_made world program question launched open' = are_made (launch_of world) (inside_by (launch_of world) launched.launched) program question open'

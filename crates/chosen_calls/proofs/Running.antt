@@ -14,9 +14,9 @@ use Rattle.kernel_calls.specs.declared.call.Call.{Call}
 use Rattle.kernel_calls.specs.declared.payload.Payload.TheVariants.{OnePath}
 use Rattle.kernel_model.specs.Effects.{SetCreds}
 use Rattle.kernel_laws.specs.Bound.{is_barred}
-use Rattle.kernel_laws.specs.Kinds.{ForPath}
+use Rattle.question_types.specs.declared.kind.CallKind.TheVariants.{ForPath}
+use Rattle.question_types.specs.declared.wish.Wish.TheVariants.{Exec as ToExec}
 use Rattle.kernel_laws.specs.Launched.{Launch, IsLaunched}
-use Rattle.kernel_laws.specs.Questions.{ToExec}
 use Rattle.kernel_ways.specs.Exposures.{FindsAt}
 use Rattle.kernel_ways.specs.Offers.{Offers}
 use Rattle.kernel_ways.specs.Ways.{Makes}

@@ -18,12 +18,20 @@ use Rattle.kernel_ways.specs.Entering.{pid_in}
 use Rattle.kernel_calls.specs.declared.rule.Rule.{Rule}
 use Rattle.kernel_calls.specs.declared.rule.Rule.TheVariants.{Plain}
 use Rattle.kernel_laws.specs.Bound.{is_barred, is_owner, is_to_exec, is_mounting, is_user, can_run, ceiling, power_of}
-use Rattle.kernel_laws.specs.Kinds.{Kind, ForPath, ForFamily, ForSpace, MapsWx, ProtectsX, AttachesX, SchedulesRealtime, TakesPersonality, SetsMode, TakesUid, TakesGid, PlainCall, family_payload}
+use Rattle.kernel_laws.specs.Kinds.{family_payload}
 use Rattle.kernel_laws.specs.Launched.{Launch, lets, lets_line}
 use Rattle.kernel_laws.specs.PlainCalls.{bare_call}
-use Rattle.kernel_laws.specs.Questions as question
-use Rattle.kernel_laws.specs.Questions.{Wish, ToExec, Space, Question}
-use Rattle.kernel_laws.specs.Reach.{Power, Nowise, reaches}
+use Rattle.question_types.specs.declared.kind.CallKind.{CallKind}
+use Rattle.question_types.specs.declared.kind.CallKind.TheVariants.{ForPath, ForFamily, ForNamespace, MapsWx, ProtectsX, AttachesX, SchedulesRealtime, TakesPersonality, SetsMode, TakesUid, TakesGid, PlainCall}
+use Rattle.question_types.specs.declared.wish.Wish.{Wish}
+use Rattle.question_types.specs.declared.wish.Wish.TheVariants.{Exec as ToExec}
+use Rattle.filter_rules.specs.declared.namespace_types.NamespaceType.{NamespaceType}
+use Rattle.question_types.specs.declared.question.Question.{Question}
+use Rattle.question_types.specs.declared.power.Power.{Power}
+use Rattle.question_types.specs.declared.power.Power.TheVariants.{None as Nowise}
+use Rattle.question_types.specs.declared.question.Question.TheVariants as asking
+use Rattle.filter_rules.specs.declared.namespace_types.NamespaceType.TheVariants as namespace
+use Rattle.kernel_laws.specs.Reach.{reaches}
 use Rattle.kernel_ways.specs.Taking.{id_call}
 use Rattle.kernel_ways.specs.Ways.{place_of}
 use Rattle.chosen_calls.specs.Exposing.{exposing_calls, exposing_path}
@@ -46,14 +54,14 @@ doing_calls launch power flags wish row = exposing_calls launch power flags wish
 -- ---- in a user namespace of its own, user_namespaces(7)
 -- the call that makes one, of process 1
 abbrev pub user_call : Launch → Call
-user_call launch = call_by launch (ForSpace question.User) Nothing
+user_call launch = call_by launch (ForNamespace namespace.User) Nothing
 
 -- who is in it: process 1 by unshare(2), its first child by clone(2)
 abbrev pub pid_inside : Launch → ℕ
-pid_inside launch = pid_in (own_rule (line_of launch (ForSpace question.User)))
+pid_inside launch = pid_in (own_rule (line_of launch (ForNamespace namespace.User)))
 
 -- the first call of a kind, made there
-abbrev pub call_inside : Launch → Kind → Payload → Call
+abbrev pub call_inside : Launch → CallKind → Payload → Call
 call_inside launch kind payload = record (call_by launch kind payload) { pid = pid_inside launch }
 
 -- a row that execve holds off is exposed, and run there
@@ -79,29 +87,29 @@ abbrev pub runner : Launch → Power → (Row → Bool) → Option Row
 runner launch power gives = if launch.creds.no_new_privs then None else find (λ row. gives row && can_run launch power row) launch.site.rows
 
 -- the first call of the kind takes the id
-abbrev pub taking : Launch → Kind → ℕ → List Call
+abbrev pub taking : Launch → CallKind → ℕ → List Call
 taking launch kind id = id_call (place_of (line_of launch kind)) (own_rule (line_of launch kind)) id ∷ []
 
 -- by a row behind the calls for CAP_SYS_ADMIN, else by the capability, whatever gains it
-abbrev pub id_at_power : Launch → Path → Kind → ℕ → ℕ → Option Row → List Call
+abbrev pub id_at_power : Launch → Path → CallKind → ℕ → ℕ → Option Row → List Call
 id_at_power launch program kind cap id (Some row) = gaining launch program cap_sys_admin ++ run_calls launch (power_of launch) row
 id_at_power launch program kind cap id None = gaining launch program cap ++ taking launch kind id
 
 -- by the capability, if it is gained on the launched table
-abbrev pub id_by_cap : Launch → Path → Kind → ℕ → ℕ → (Row → Bool) → Option CapWay → List Call
+abbrev pub id_by_cap : Launch → Path → CallKind → ℕ → ℕ → (Row → Bool) → Option CapWay → List Call
 id_by_cap launch program kind cap id gives (Some way) = cap_calls launch program Nowise way ++ taking launch kind id
 id_by_cap launch program kind cap id gives None = id_at_power launch program kind cap id (runner launch (power_of launch) gives)
 
 -- by a row of the launched table, else as above
-abbrev pub id_by_row : Launch → Path → Kind → ℕ → ℕ → (Row → Bool) → Option Row → List Call
+abbrev pub id_by_row : Launch → Path → CallKind → ℕ → ℕ → (Row → Bool) → Option Row → List Call
 id_by_row launch program kind cap id gives (Some row) = run_calls launch Nowise row
 id_by_row launch program kind cap id gives None = id_by_cap launch program kind cap id gives (if lets launch kind then at_once launch cap else None)
 
-abbrev pub id_calls : Launch → Path → Kind → ℕ → ℕ → (Row → Bool) → List Call
+abbrev pub id_calls : Launch → Path → CallKind → ℕ → ℕ → (Row → Bool) → List Call
 id_calls launch program kind cap id gives = id_by_row launch program kind cap id gives (runner launch Nowise gives)
 
 -- some call of the kind passes, or some row gives the id
-abbrev pub IsIdOpen : Launch → Kind → (Row → Bool) → Type 0
+abbrev pub IsIdOpen : Launch → CallKind → (Row → Bool) → Type 0
 IsIdOpen launch kind gives = (lets launch kind ≡ true) ⊎ ((row : Row) × (runner launch (power_of launch) gives ≡ Some row))
 
 -- nothing is to be done for what is had at launch
@@ -138,24 +146,24 @@ abbrev pub socket_calls : Launch → Path → CallLine → List Call
 socket_calls launch program line = gaining_if launch program line.cap ++ call_by launch (ForFamily line.number) (socket_payload launch line.number) ∷ []
 
 -- a user namespace by itself; another one by CAP_SYS_ADMIN, where that can be had, else in a user namespace
-abbrev pub space_calls : Launch → Path → Space → List Call
+abbrev pub space_calls : Launch → Path → NamespaceType → List Call
 space_calls launch program space =
     if is_user space then user_call launch ∷ []
-    else if has (ceiling launch).effective cap_sys_admin then gaining launch program cap_sys_admin ++ call_by launch (ForSpace space) Nothing ∷ []
-    else user_call launch ∷ call_inside launch (ForSpace space) Nothing ∷ []
+    else if has (ceiling launch).effective cap_sys_admin then gaining launch program cap_sys_admin ++ call_by launch (ForNamespace space) Nothing ∷ []
+    else user_call launch ∷ call_inside launch (ForNamespace space) Nothing ∷ []
 
 -- the calls that are chosen to show a question
 unfoldable pub calls_for : Launch → Path → Question → List Call
-calls_for launch program (question.ByPath wish place) = option_map_or (row_calls launch program wish) (slice_get launch.site.rows place) []
-calls_for launch program (question.Call place) = option_map_or (plain_calls launch program) (slice_get (every_call launch.calls) place) []
-calls_for launch program (question.Socket place) = option_map_or (socket_calls launch program) (slice_get launch.calls.families place) []
-calls_for launch program (question.Ns space) = space_calls launch program space
-calls_for launch program question.MapWx = call_by launch MapsWx Nothing ∷ []
-calls_for launch program question.ProtectX = call_by launch ProtectsX Nothing ∷ []
-calls_for launch program question.ShmX = call_by launch AttachesX Nothing ∷ []
-calls_for launch program question.Realtime = call_by launch SchedulesRealtime Nothing ∷ []
-calls_for launch program question.Personality = call_by launch TakesPersonality Nothing ∷ []
-calls_for launch program question.SuidBit = call_by launch SetsMode Nothing ∷ []
-calls_for launch program (question.Cap number) = gaining launch program number
-calls_for launch program (question.Uid id) = uid_calls launch program id
-calls_for launch program (question.Gid id) = gid_calls launch program id
+calls_for launch program (asking.Path wish place) = option_map_or (row_calls launch program wish) (slice_get launch.site.rows place) []
+calls_for launch program (asking.Call place) = option_map_or (plain_calls launch program) (slice_get (every_call launch.calls) place) []
+calls_for launch program (asking.Socket place) = option_map_or (socket_calls launch program) (slice_get launch.calls.families place) []
+calls_for launch program (asking.Namespace space) = space_calls launch program space
+calls_for launch program asking.MapWx = call_by launch MapsWx Nothing ∷ []
+calls_for launch program asking.ProtectX = call_by launch ProtectsX Nothing ∷ []
+calls_for launch program asking.ShmX = call_by launch AttachesX Nothing ∷ []
+calls_for launch program asking.Realtime = call_by launch SchedulesRealtime Nothing ∷ []
+calls_for launch program asking.Personality = call_by launch TakesPersonality Nothing ∷ []
+calls_for launch program asking.SuidBit = call_by launch SetsMode Nothing ∷ []
+calls_for launch program (asking.Cap number) = gaining launch program number
+calls_for launch program (asking.Uid id) = uid_calls launch program id
+calls_for launch program (asking.Gid id) = gid_calls launch program id

@@ -9,10 +9,12 @@ use Rattle.kern_mounts.specs.declared.step.MountStep.{MountStep}
 use Rattle.kern_mounts.specs.declared.step.What.{What}
 use Rattle.kern_mounts.specs.declared.step.What.TheVariants.{Host, Empty, Hidden}
 use Rattle.kernel_calls.specs.declared.call.Call.{Call}
-use Rattle.kernel_laws.specs.Kinds.{ChangesMounts, RemovesMounts}
+use Rattle.question_types.specs.declared.kind.CallKind.TheVariants.{ChangesMounts, RemovesMounts}
+use Rattle.question_types.specs.declared.wish.Wish.{Wish}
+use Rattle.question_types.specs.declared.power.Power.{Power}
+use Rattle.question_types.specs.declared.power.Power.TheVariants.{None as Nowise, Unmount as Unmounting, Mount as Mounting}
 use Rattle.kernel_laws.specs.Launched.{Launch, lets}
-use Rattle.kernel_laws.specs.Questions.{Wish}
-use Rattle.kernel_laws.specs.Reach.{Power, Nowise, Unmounting, Mounting, reach}
+use Rattle.kernel_laws.specs.Reach.{reach}
 use Rattle.kernel_ways.specs.Uncovering.{covering, umount_calls, mount_calls}
 use Rattle.kernel_ways.specs.Ways.{place_of}
 use Rattle.chosen_calls.specs.First.{line_of}

@@ -10,10 +10,11 @@ use Rattle.kern_files.specs.MountCall.{ms_remount_bind}
 use Rattle.kernel_calls.specs.declared.call.Call.{Call}
 use Rattle.kernel_calls.specs.declared.payload.Payload.TheVariants.{OnePath}
 use Rattle.kernel_laws.specs.Bound.{is_owner, can_run, power_of}
-use Rattle.kernel_laws.specs.Kinds.{ForPath, SetsCaps, TakesUid}
+use Rattle.question_types.specs.declared.kind.CallKind.TheVariants.{ForPath, SetsCaps, TakesUid}
+use Rattle.question_types.specs.declared.wish.Wish.TheVariants.{Exec as ToExec}
+use Rattle.question_types.specs.declared.power.Power.{Power}
+use Rattle.question_types.specs.declared.power.Power.TheVariants.{None as Nowise}
 use Rattle.kernel_laws.specs.Launched.{Launch, lets}
-use Rattle.kernel_laws.specs.Questions.{ToExec}
-use Rattle.kernel_laws.specs.Reach.{Power, Nowise}
 use Rattle.kernel_ways.specs.Taking.{id_call, sets_call}
 use Rattle.kernel_ways.specs.Ways.{place_of}
 use Rattle.chosen_calls.specs.Exposing.{exposing_calls, exposing_path}

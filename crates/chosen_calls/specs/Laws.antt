@@ -5,7 +5,7 @@ use Rattle.kernel_model.specs.World.{World}
 use Rattle.kernel_laws.specs.Bound.{is_open}
 use Rattle.kernel_laws.specs.Denied.{Shows}
 use Rattle.kernel_laws.specs.Launched.{IsLaunchedWorld, launch_of}
-use Rattle.kernel_laws.specs.Questions.{Question}
+use Rattle.question_types.specs.declared.question.Question.{Question}
 use Rattle.kernel_ways.specs.Laws.{IsFit, IsServedWorld}
 use Rattle.kernel_ways.specs.Offers.{RunsProgram}
 use Rattle.chosen_calls.specs.Chosen.{calls_for}

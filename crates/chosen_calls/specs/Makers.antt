@@ -4,7 +4,8 @@ use Rattle.call_table.specs.Table.{Table}
 use Rattle.kern_files.specs.Bits.{has_all}
 use Rattle.kernel_calls.specs.Doing.{Clone, Does, asked_of}
 use Rattle.kernel_calls.specs.declared.call.Call.{Call}
-use Rattle.kernel_laws.specs.Questions.{User, flag_of}
+use Rattle.filter_rules.specs.declared.namespace_types.NamespaceType.TheVariants.{User}
+use Rattle.kernel_laws.specs.Questions.{flag_of}
 
 -- the call asks for a child in a user namespace of its own: clone(2) with CLONE_NEWUSER, user_namespaces(7)
 pub record MakesUserChild (table : Table) (call : Call) : Type 0 where

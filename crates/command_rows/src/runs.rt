@@ -2,7 +2,7 @@
 use asked_service::VerdictRow;
 use exposure_score::{CustomTest, Facts, ambient_count, writable_paths};
 use host_io::{MemShelf, MemSink, are_files};
-use questions::{Question, Wish};
+use question_types::{Question, Wish};
 use row_tools::said;
 use std::alloc::{AllocError, Global};
 use tighten::StoredWish;

@@ -16,8 +16,7 @@ use Rattle.kernel_laws.specs.Questions as asked
 use Rattle.kernel_model.specs.World.{World}
 use Rattle.kernel_ways.specs.Laws.{IsExact, IsServedWorld, QuestionsAreExact}
 use Rattle.launcher.specs.declared.launched.Launched.{Launched as Service}
-use Rattle.questions.specs.Meanings.{meant}
-use Rattle.questions.specs.declared.question.Question.{Question}
+use Rattle.question_types.specs.declared.question.Question.{Question}
 use Rattle.site_table.specs.Table.{Site}
 use Rattle.started_units.specs.Starting.{StartsAs, first_start, given, start_refusals}
 use Rattle.unit_inputs.specs.Inputs.{Inputs}
@@ -30,23 +29,23 @@ use Rattle.deciding_lines.specs.Tried.{IsDeniedWithout, IsOpenWithout, IsRefusal
 use Rattle.deciding_lines.specs.declared.reason.Reason.{Reason}
 
 -- a verdict by the rule says so
-said_exactly : (world : World) (question : asked.Question) (answer : Bool) → IsExact world question → answer ≡ is_open (launch_of world) question → IsSaid world question answer
+said_exactly : (world : World) (question : Question) (answer : Bool) → IsExact world question → answer ≡ is_open (launch_of world) question → IsSaid world question answer
 said_exactly world question true exact is = exact.opens (sym is)
 said_exactly world question false exact is = exact.denies (sym is)
 
-pub said : QuestionsAreExact → (world : World) → IsServedWorld world → (question : Question) → Contains (asked.questions world.calls world.site) (meant question)
-    → (answer : Bool) → answer ≡ is_open_by world question → IsSaid world (meant question) answer
+pub said : QuestionsAreExact → (world : World) → IsServedWorld world → (question : Question) → Contains (asked.questions world.calls world.site) question
+    → (answer : Bool) → answer ≡ is_open_by world question → IsSaid world question answer
 said exact world served question listed answer is =
-    said_exactly world (meant question) answer (all_at (IsExact world) (asked.questions world.calls world.site) (meant question) (exact world served) listed) is
+    said_exactly world question answer (all_at (IsExact world) (asked.questions world.calls world.site) question (exact world served) listed) is
 
 -- also where it is bounded
-module _ (service : Service) (bounded : Bounded) (same : bounded.service ≡ service) (question : Question) (is_listed : Contains (asked.questions service.world.calls service.world.site) (meant question)) where
-  pub listed_of : Contains (asked.questions bounded.service.world.calls bounded.service.world.site) (meant question)
-  listed_of = subst (λ (own : Service). Contains (asked.questions own.world.calls own.world.site) (meant question)) (sym same) is_listed
+module _ (service : Service) (bounded : Bounded) (same : bounded.service ≡ service) (question : Question) (is_listed : Contains (asked.questions service.world.calls service.world.site) question) where
+  pub listed_of : Contains (asked.questions bounded.service.world.calls bounded.service.world.site) question
+  listed_of = subst (λ (own : Service). Contains (asked.questions own.world.calls own.world.site) question) (sym same) is_listed
 
-  pub said_of : QuestionsAreExact → IsBounded bounded → (answer : Bool) → answer ≡ is_open_by bounded.service.world question → IsSaid service.world (meant question) answer
+  pub said_of : QuestionsAreExact → IsBounded bounded → (answer : Bool) → answer ≡ is_open_by bounded.service.world question → IsSaid service.world question answer
   said_of exact bounds answer is =
-      subst (λ (own : Service). IsSaid own.world (meant question) answer) same (said exact bounded.service.world bounds.served question listed_of answer is)
+      subst (λ (own : Service). IsSaid own.world question answer) same (said exact bounded.service.world bounds.served question listed_of answer is)
 
 -- what starts is served, over the tables
 module _ (inputs : Inputs) (service : Service) (starts : StartsAs inputs (Launched service)) where
@@ -59,7 +58,7 @@ module _ (inputs : Inputs) (service : Service) (starts : StartsAs inputs (Launch
   pub own_site : service.world.site ≡ inputs.site
   own_site = ap (λ (made : Launch). made.site) starts.comes_to.leaves_one_process.leaves.is
 
-  pub listed : (question : asked.Question) → Contains (asked.questions inputs.calls inputs.site) question → Contains (asked.questions service.world.calls service.world.site) question
+  pub listed : (question : Question) → Contains (asked.questions inputs.calls inputs.site) question → Contains (asked.questions service.world.calls service.world.site) question
   listed question is =
       subst (λ (table : calls.Table). Contains (asked.questions table service.world.site) question) (sym own_calls)
       (subst (λ (site : Site). Contains (asked.questions inputs.calls site) question) (sym own_site) is)

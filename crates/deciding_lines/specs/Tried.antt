@@ -3,11 +3,11 @@ use Rattle.std.specs.Prelude.{◌≡◌, ℕ, Bool, true, false, List, Some, Con
 use Rattle.command_answers.specs.declared.stop.Stop.{Stop}
 use Rattle.command_answers.specs.declared.stop.Stop.TheVariants as stop
 use Rattle.kernel_laws.specs.Denied.{IsDenied}
-use Rattle.kernel_laws.specs.Questions.{Question, questions}
+use Rattle.kernel_laws.specs.Questions.{questions}
 use Rattle.kernel_model.specs.World.{World}
 use Rattle.kernel_ways.specs.Laws.{IsShown}
 use Rattle.launcher.specs.declared.launched.Launched.{Launched as Service}
-use Rattle.questions.specs.Meanings.{meant}
+use Rattle.question_types.specs.declared.question.Question.{Question}
 use Rattle.started_units.specs.Starting.{StartsAs, first_start, given}
 use Rattle.unit_inputs.specs.Inputs.{Inputs}
 use Rattle.unit_launch.specs.declared.launching.UnitLaunch.TheVariants.{Launched, Refused}
@@ -23,11 +23,11 @@ pub record Tried : Type 0 where
   pub question : Question
 
 abbrev pub tried_of : Trial → Tried
-tried_of trial = record { name = trial.name.now; inputs = given trial.unit.now trial.calls.now trial.site.now; question = meant trial.question }
+tried_of trial = record { name = trial.name.now; inputs = given trial.unit.now trial.calls.now trial.site.now; question = trial.question }
 
 -- the question is one of those of the tables
 abbrev pub CanBeTried : Trial → Type 0
-CanBeTried trial = Contains (questions trial.calls.now trial.site.now) (meant trial.question)
+CanBeTried trial = Contains (questions trial.calls.now trial.site.now) trial.question
 
 -- the same tables, and the unit without the assignments in force at these places
 abbrev pub inputs_without : Inputs → List Place → Inputs

@@ -2,7 +2,6 @@
 ghost use Rattle.std.specs.Prelude.{◌≡◌, Contains, IfOk, false};
 ghost use Rattle.kernel_laws.specs.Questions.{questions};
 ghost use Rattle.kernel_ways.specs.Laws.{IsServedWorld};
-ghost use Rattle.questions.specs.Meanings.{meant};
 ghost use Rattle.started_units.specs.Starting.{StartsAs};
 ghost use Rattle.deciding_lines.specs.Tried.{CanBeTried, IsRefusal, IsSaid, TellsOpen, inputs_without, tried_of};
 
@@ -12,7 +11,7 @@ use command_answers::Stop;
 use dropin_merge::Resolved;
 use kernel_ways::openness;
 use launcher::Launched;
-use questions::Question;
+use question_types::Question;
 use site_table::SiteTable;
 use started_units::start;
 use std::alloc::{AllocError, Global};
@@ -42,8 +41,8 @@ pub fn is_open_of(
     question: &Question,
 ) -> Result<bool, AllocError>
     requires served { IsServedWorld service.world }
-    requires listed { Contains (questions service.world.calls service.world.site) (meant question.now) }
-    ensures tells { IfOk result (IsSaid service.entry.world (meant question.now)) }
+    requires listed { Contains (questions service.world.calls service.world.site) question.now }
+    ensures tells { IfOk result (IsSaid service.entry.world question.now) }
 {
     // Why it is so.
     openness();

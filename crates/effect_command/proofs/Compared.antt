@@ -7,9 +7,9 @@ use Rattle.call_table.specs.Table as calls
 use Rattle.command_answers.specs.declared.ending.Ending.{Ending}
 use Rattle.command_answers.specs.declared.ending.Ending.TheVariants.{Done}
 use Rattle.kernel_laws.specs.Launched.{launch_of}
-use Rattle.kernel_laws.specs.Questions.{Question, questions}
+use Rattle.kernel_laws.specs.Questions.{questions}
 use Rattle.launcher.specs.declared.launched.Launched.{Launched as Service}
-use Rattle.questions.specs.Meanings.{meant}
+use Rattle.question_types.specs.declared.question.Question.{Question}
 use Rattle.site_table.specs.Table.{Site}
 use Rattle.unit_launch.specs.declared.launching.UnitLaunch.TheVariants.{Launched}
 use Rattle.verdict_changes.specs.ByRule.{ChangesAreTrue, changes_by}

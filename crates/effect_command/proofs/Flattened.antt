@@ -6,12 +6,10 @@ use Rattle.std.proofs.lemmas.List.Folds.{flat_map-map}
 use Rattle.std.proofs.lemmas.List.{map-append}
 use Rattle.judge_command.specs.Asked.{launch_in, world_in}
 use Rattle.judge_command.specs.declared.asking.Asked.{Asked}
-use Rattle.questions.specs.Meanings.{meant}
-use Rattle.questions.specs.declared.question.Question.{Question}
+use Rattle.question_types.specs.declared.question.Question.{Question}
 use Rattle.site_table.specs.declared.row.Row.{Row}
 use Rattle.abs_path.specs.Paths.{Path}
 use Rattle.call_table.specs.Table.{Table}
-use Rattle.kernel_laws.specs.Questions as asked
 use Rattle.site_table.specs.Table.{Site}
 use Rattle.verdict_changes.specs.Found.{change_of, turn_of}
 use Rattle.verdict_changes.specs.declared.asking.VerdictChange.{VerdictChange}
@@ -34,13 +32,13 @@ module _ {X Y Z : Type 0} where
 
 module _ (before after : Asked) (list : List Question) (rows : List Row) where
   abbrev ruled : List Change
-  ruled = flat_map (question_change (launch_in before) (launch_in after) after.bounded.service.program) (map meant list)
+  ruled = flat_map (question_change (launch_in before) (launch_in after) after.bounded.service.program) list
 
   abbrev seen : List Change
   seen = flat_map (row_change (launch_in before) (launch_in after)) rows
 
   same_asked : flat_map (changes_at before after) list ≡ ruled
-  same_asked = sym (flat_map-map (question_change (launch_in before) (launch_in after) after.bounded.service.program) meant list)
+  same_asked = sym (flat_map-map (question_change (launch_in before) (launch_in after) after.bounded.service.program) list)
 
   asked_lines : flat_map (λ question. lines_in after (changes_at before after question)) list ≡ lines_in after ruled
   asked_lines = flattened (change_lines (world_in after).calls (world_in after).site) (changes_at before after) list ∙ ap (lines_in after) same_asked
@@ -57,14 +55,14 @@ module _ (before after : Asked) (list : List Question) (rows : List Row) where
   all_told :
       (flat_map (λ question. lines_in after (changes_at before after question)) list ++ flat_map (λ row. lines_in after (turns_at before after row)) rows)
       ++ counts_line (flat_map (λ question. map kind_of (changes_at before after question)) list ++ flat_map (λ row. map kind_of (turns_at before after row)) rows)
-      ≡ effect_text (world_in after).calls (world_in after).site (changes_by (launch_in before) (launch_in after) after.bounded.service.program (map meant list) rows)
+      ≡ effect_text (world_in after).calls (world_in after).site (changes_by (launch_in before) (launch_in after) after.bounded.service.program list rows)
   all_told =
       ap₂ (λ lines kinds. lines ++ counts_line kinds)
       (ap₂ (λ one other. one ++ other) asked_lines seen_lines ∙ sym (flat_map-append (change_lines (world_in after).calls (world_in after).site) ruled seen))
       (ap₂ (λ one other. one ++ other) asked_kinds seen_kinds ∙ sym (map-append kind_of ruled seen))
 
 -- what is told of what is found is what is told of the change
-pub verdict_told : (after : Asked) (table : Table) (site : Site) (question : asked.Question) (found : VerdictChange) (changes : List Change) → table ≡ (world_in after).calls → site ≡ (world_in after).site → change_of question found ≡ changes
+pub verdict_told : (after : Asked) (table : Table) (site : Site) (question : Question) (found : VerdictChange) (changes : List Change) → table ≡ (world_in after).calls → site ≡ (world_in after).site → change_of question found ≡ changes
     → verdict_lines table site question found ≡ lines_in after changes
 verdict_told after table site question found changes tables sites is =
     by found ∙ ap₂ (λ (t : Table) (s : Site). flat_map (change_lines t s) (change_of question found)) tables sites ∙ ap (lines_in after) is
@@ -74,7 +72,7 @@ verdict_told after table site question found changes tables sites is =
     by verdict.Closed = sym (append-nil _)
     by (verdict.Opened list) = sym (append-nil _)
 
-pub verdict_counted : (question : asked.Question) (found : VerdictChange) (changes : List Change) → change_of question found ≡ changes → verdict_kinds found ≡ map kind_of changes
+pub verdict_counted : (question : Question) (found : VerdictChange) (changes : List Change) → change_of question found ≡ changes → verdict_kinds found ≡ map kind_of changes
 verdict_counted question found changes is = by found ∙ ap (map kind_of) is where
   by : (found : VerdictChange) → verdict_kinds found ≡ map kind_of (change_of question found)
   by verdict.Same = refl
@@ -103,4 +101,4 @@ pub told_is : (before after : Asked) (list : List Question) (rows : List Row) (f
 told_is before after list rows first second last text listed all one two three is =
     is ∙ ap₂ (λ these line. these ++ line) (two ∙ ap (λ these. these ++ flat_map (λ row. lines_in after (turns_at before after row)) rows) one) three
     ∙ all_told before after list rows
-    ∙ ap₂ (λ own these. effect_text (world_in after).calls (world_in after).site (changes_by (launch_in before) (launch_in after) after.bounded.service.program (map meant own) these)) listed all
+    ∙ ap₂ (λ own these. effect_text (world_in after).calls (world_in after).site (changes_by (launch_in before) (launch_in after) after.bounded.service.program own these)) listed all

@@ -2,7 +2,6 @@
 use Rattle.std.specs.Prelude.{ℕ, List, [], ◌∷◌, ◌++◌, codes, flat_map, map}
 use Rattle.abs_path.specs.Paths.{Path}
 use Rattle.call_table.specs.Table as calls
-use Rattle.kernel_laws.specs.Questions as asked
 use Rattle.report_text.specs.Answers.{call_line}
 use Rattle.site_table.specs.Table.{Site}
 use Rattle.verdict_changes.specs.declared.asking.VerdictChange.{VerdictChange}
@@ -11,8 +10,7 @@ use Rattle.verdict_changes.specs.declared.looking.FolderChange.{FolderChange}
 use Rattle.verdict_changes.specs.declared.looking.FolderChange.TheVariants as folder
 use Rattle.judge_command.specs.Asked.{launch_in, world_in}
 use Rattle.judge_command.specs.declared.asking.Asked.{Asked}
-use Rattle.questions.specs.Meanings.{meant}
-use Rattle.questions.specs.declared.question.Question.{Question}
+use Rattle.question_types.specs.declared.question.Question.{Question}
 use Rattle.site_table.specs.declared.row.Row.{Row}
 use Rattle.verdict_changes.specs.ByRule.{question_change, row_change, changes_by}
 use Rattle.verdict_changes.specs.Changes.{Change}
@@ -24,13 +22,13 @@ abbrev pub lines_in : Asked → List Change → List ℕ
 lines_in after changes = flat_map (change_lines (world_in after).calls (world_in after).site) changes
 
 abbrev pub changes_at : Asked → Asked → Question → List Change
-changes_at before after question = question_change (launch_in before) (launch_in after) after.bounded.service.program (meant question)
+changes_at before after question = question_change (launch_in before) (launch_in after) after.bounded.service.program question
 
 abbrev pub turns_at : Asked → Asked → Row → List Change
 turns_at before after row = row_change (launch_in before) (launch_in after) row
 
 -- the lines of what is found of a question, and of a folder
-abbrev pub verdict_lines : calls.Table → Site → asked.Question → VerdictChange → List ℕ
+abbrev pub verdict_lines : calls.Table → Site → Question → VerdictChange → List ℕ
 verdict_lines table site question verdict.Same = []
 verdict_lines table site question verdict.Closed = question_line (codes "closed") table site question
 verdict_lines table site question (verdict.Opened list) = question_line (codes "opened") table site question ++ flat_map (call_line table) list.items
@@ -55,4 +53,4 @@ folder_kinds folder.Shown = kind.Shown ∷ []
 abbrev pub told_text : Asked → Asked → List ℕ
 told_text before after =
     effect_text (world_in after).calls (world_in after).site
-    (changes_by (launch_in before) (launch_in after) after.bounded.service.program (map meant after.questions.items) (world_in after).site.rows)
+    (changes_by (launch_in before) (launch_in after) after.bounded.service.program after.questions.items (world_in after).site.rows)

@@ -1,14 +1,13 @@
 //! The lines of `effect`.
 ghost use Rattle.std.specs.Prelude.{◌≡◌, ◌++◌, ℕ, List, Contains, IfOk, codes};
 ghost use Rattle.kernel_laws.specs.Questions.{questions};
-ghost use Rattle.questions.specs.Meanings.{meant};
 ghost use Rattle.effect_command.specs.Lines.{counts_line, folder_line, question_line, with_line};
 
 use crate::kinds::{Kind, count_of};
 use abs_path::AbsPath;
 use call_table::CallTable;
 use judge::Verdict;
-use questions::Question;
+use question_types::Question;
 use report_text::verdict_line;
 use site_table::SiteTable;
 use std::alloc::{AllocError, Global};
@@ -41,8 +40,8 @@ pub fn question_line(
     calls: &CallTable,
     site: &SiteTable,
 ) -> Result<Vec<u8>, AllocError>
-    requires asked { Contains (questions calls.now site.now) (meant question.now) }
-    ensures { IfOk result (λ line. line.items ≡ question_line word.now calls.now site.now (meant question.now)) }
+    requires asked { Contains (questions calls.now site.now) question.now }
+    ensures { IfOk result (λ line. line.items ≡ question_line word.now calls.now site.now question.now) }
 {
     let reported = verdict_line(alloc, question, Verdict::Denied, calls, site)?;
     behind_word(alloc, word, reported.as_slice())

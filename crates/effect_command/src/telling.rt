@@ -4,7 +4,6 @@ ghost use Rattle.judge_command.specs.Asked.{IsAsked, world_in};
 ghost use Rattle.judge_command.specs.Asked.{IsRowIn};
 ghost use Rattle.judge_command.specs.Lent.{IsServiceOf};
 ghost use Rattle.kernel_laws.specs.Questions.{questions};
-ghost use Rattle.questions.specs.Meanings.{meant};
 ghost use Rattle.report_text.specs.Answers.{call_line};
 ghost use Rattle.effect_command.specs.Lines.{kind_of, question_line};
 ghost use Rattle.effect_command.specs.Told.{changes_at, folder_kinds, folder_lines, lines_in, told_text, turns_at, verdict_kinds, verdict_lines};
@@ -16,7 +15,7 @@ use call_table::CallTable;
 use judge_command::Asked;
 use kernel_calls::Call;
 use open_calls::Service;
-use questions::Question;
+use question_types::Question;
 use report_text::call_line;
 use site_table::{Row, SiteTable};
 use std::alloc::{AllocError, Global};
@@ -55,8 +54,8 @@ fn push_opened(
     calls: &CallTable,
     site: &SiteTable,
 ) -> Result<(), AllocError>
-    requires asked { Contains (questions calls.now site.now) (meant question.now) }
-    ensures { OnOk result (text.new.items ≡ text.old.items ++ (question_line (codes "opened") calls.now site.now (meant question.now) ++ flat_map (call_line calls.now) list.now)) }
+    requires asked { Contains (questions calls.now site.now) question.now }
+    ensures { OnOk result (text.new.items ≡ text.old.items ++ (question_line (codes "opened") calls.now site.now question.now ++ flat_map (call_line calls.now) list.now)) }
 {
     let line = question_line(alloc, "opened", question, calls, site)?;
     text.extend_from_slice(line.as_slice())?;
@@ -73,8 +72,8 @@ fn push_change(
     calls: &CallTable,
     site: &SiteTable,
 ) -> Result<(), AllocError>
-    requires asked { Contains (questions calls.now site.now) (meant question.now) }
-    ensures { OnOk result (text.new.items ≡ text.old.items ++ verdict_lines calls.now site.now (meant question.now) change.now) }
+    requires asked { Contains (questions calls.now site.now) question.now }
+    ensures { OnOk result (text.new.items ≡ text.old.items ++ verdict_lines calls.now site.now question.now change.now) }
 {
     match change {
         VerdictChange::Same => Ok(()),
@@ -148,7 +147,7 @@ fn tell_question(
     requires its_service { IsServiceOf after.now service.now }
     requires same_calls { (world_in before.now).calls ≡ (world_in after.now).calls }
     requires same_site { (world_in before.now).site ≡ (world_in after.now).site }
-    requires listed { Contains (questions (world_in after.now).calls (world_in after.now).site) (meant question.now) }
+    requires listed { Contains (questions (world_in after.now).calls (world_in after.now).site) question.now }
     ensures tells { OnOk result (text.new.items ≡ text.old.items ++ lines_in after.now (changes_at before.now after.now question.now)) }
     ensures counts { OnOk result (kinds.new.items ≡ kinds.old.items ++ map kind_of (changes_at before.now after.now question.now)) }
 {
@@ -181,7 +180,7 @@ fn tell_questions(
     requires its_service { IsServiceOf after.now service.now }
     requires same_calls { (world_in before.now).calls ≡ (world_in after.now).calls }
     requires same_site { (world_in before.now).site ≡ (world_in after.now).site }
-    requires all { map meant list.now ≡ questions (world_in after.now).calls (world_in after.now).site }
+    requires all { list.now ≡ questions (world_in after.now).calls (world_in after.now).site }
     ensures tells { OnOk result (text.new.items ≡ text.old.items ++ flat_map (λ question. lines_in after.now (changes_at before.now after.now question)) list.now) }
     ensures counts { OnOk result (kinds.new.items ≡ kinds.old.items ++ flat_map (λ question. map kind_of (changes_at before.now after.now question)) list.now) }
 {

@@ -2,7 +2,8 @@
 use Rattle.std.specs.Prelude.{Contains}
 use Rattle.call_table.specs.Table as calls
 use Rattle.site_table.specs.Table.{Site}
-use Rattle.kernel_laws.specs.Questions.{Question, IsAsked, questions}
+use Rattle.question_types.specs.declared.question.Question.{Question}
+use Rattle.kernel_laws.specs.Questions.{IsAsked, questions}
 use Rattle.kernel_laws.proofs.AskedQuestions.{all_asked}
 use Rattle.kernel_model.specs.World.{World}
 use Rattle.kernel_ways.specs.Laws.{IsServedWorld, IsExact}

@@ -19,7 +19,8 @@ use ceilings::{Ceiling, launched_table};
 use kern_mounts::{MountStep, MountTable, What};
 use kernel_model::World;
 use launcher::Launched;
-use reach_paths::{Power, is_covered};
+use question_types::Power;
+use reach_paths::is_covered;
 
 // Whether no entry behind this number covers the path that the front and the rest make, or what covers it can be taken away.
 fn is_clear(table: &MountTable, at: usize, front: &AbsPath, rest: &str, uncover: bool) -> bool

@@ -6,14 +6,13 @@ ghost use Rattle.kernel_laws.specs.Denied.{IsDenied};
 ghost use Rattle.kernel_laws.specs.Launched.{IsLaunchedWorld, launch_of};
 ghost use Rattle.kernel_laws.specs.Questions.{questions};
 ghost use Rattle.kernel_ways.specs.Laws.{IsServedWorld, IsShown};
-ghost use Rattle.questions.specs.Meanings.{meant};
 ghost use Rattle.ceilings.specs.Own.{IsCeilingOf};
 
 use crate::answer::Verdict;
 use crate::open::is_open;
 use ceilings::Ceiling;
 use launcher::Launched;
-use questions::Question;
+use question_types::Question;
 
 /// The verdict on a question of the list, for a launched service and its own ceiling. It is denied where no process of any
 /// run of calls, in any order and of however many processes, ever does or has what is asked: over forks, programs that are
@@ -22,11 +21,11 @@ use questions::Question;
 pub fn verdict(launched: &Launched<'_>, ceiling: &Ceiling, question: &Question) -> Verdict
     requires launched { IsLaunchedWorld launched.now.world }
     requires its_own_ceiling { IsCeilingOf (launch_of launched.now.world) ceiling.now }
-    requires asked { Contains (questions launched.now.world.calls launched.now.world.site) (meant question.now) }
-    ensures denied { result ≡ Verdict.Denied → IsDenied launched.now.world (meant question.now) }
-    ensures open_is_shown { IsServedWorld launched.now.world → result ≡ Verdict.Open → IsShown launched.now.world (meant question.now) }
+    requires asked { Contains (questions launched.now.world.calls launched.now.world.site) question.now }
+    ensures denied { result ≡ Verdict.Denied → IsDenied launched.now.world question.now }
+    ensures open_is_shown { IsServedWorld launched.now.world → result ≡ Verdict.Open → IsShown launched.now.world question.now }
     ensures by_the_rule { (result ≡ Verdict.Open)
-        ↔ (is_open (launch_of launched.now.world) (meant question.now) ≡ true) }
+        ↔ (is_open (launch_of launched.now.world) question.now ≡ true) }
 {
     if is_open(&launched.world, ceiling, question) {
         Verdict::Open

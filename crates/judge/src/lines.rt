@@ -6,19 +6,17 @@ ghost use Rattle.std.specs.Str.{bytes_eq};
 ghost use Rattle.call_table.specs.Table.{every_call};
 ghost use Rattle.kernel_calls.specs.Rules.{rule_of};
 ghost use Rattle.kernel_laws.specs.Bound.{can_have_cap, can_have_for, ceiling, open_at, power_of};
-ghost use Rattle.kernel_laws.specs.Kinds.{PlainCall};
+ghost use Rattle.question_types.specs.declared.kind.CallKind.TheVariants.{PlainCall};
+ghost use Rattle.question_types.specs.declared.question.Question.TheVariants.{Call, Namespace as Ns, Socket};
 ghost use Rattle.kernel_laws.specs.Launched.{Launch, can_make_user, launch_of, lets, lets_line};
-ghost use Rattle.kernel_laws.specs.Questions.{Call, Ns, Socket};
-ghost use Rattle.questions.specs.Meanings.{meant_space};
-ghost use Rattle.ceilings.specs.Meanings.{meant_kind};
 ghost use Rattle.ceilings.specs.Own.{IsCeilingOf};
 
 use call_names::is_known;
 use call_table::CallLine;
-use ceilings::{CallKind, Ceiling, can_make_user, plain_line_at};
+use ceilings::{Ceiling, can_make_user, plain_line_at};
 use kernel_model::World;
 use linux_numbers::capabilities::CAP_SYS_ADMIN;
-use questions::NamespaceType;
+use question_types::{CallKind, NamespaceType};
 
 // Whether the capability, if one is asked for, can become effective.
 fn can_have_cap(top: &Ceiling, cap: Option<u8>) -> bool
@@ -50,7 +48,7 @@ fn is_called(world: &World<'_>, at: usize, line: &CallLine) -> bool
 // Whether some call passes that asks for the kind, by the rules that the ceiling keeps.
 pub(crate) fn passes(world: &World<'_>, top: &Ceiling, kind: CallKind) -> bool
     requires { IsCeilingOf (launch_of world.now) top.now }
-    ensures { result ≡ lets (launch_of world.now) (meant_kind kind) }
+    ensures { result ≡ lets (launch_of world.now) kind }
 {
     top.rules.let_through(world, kind)
 }
@@ -91,7 +89,7 @@ pub(crate) fn is_socket_open(world: &World<'_>, top: &Ceiling, at: usize) -> boo
 pub(crate) fn is_namespace_open(world: &World<'_>, top: &Ceiling, kind: NamespaceType) -> bool
     requires { IsCeilingOf (launch_of world.now) top.now }
     ensures { let launch = launch_of world.now in
-        result ≡ open_at launch (power_of launch) (ceiling launch) (Ns (meant_space kind)) }
+        result ≡ open_at launch (power_of launch) (ceiling launch) (Ns kind) }
 {
     match kind {
         NamespaceType::User => makes_user(world, top),

@@ -3,21 +3,20 @@
 ghost use Rattle.std.specs.Prelude.{◌≡◌};
 ghost use Rattle.kernel_laws.specs.Bound.{is_open};
 ghost use Rattle.kernel_laws.specs.Launched.{IsLaunchedWorld, launch_of};
-ghost use Rattle.questions.specs.Meanings.{meant};
 ghost use Rattle.ceilings.specs.Own.{IsCeilingOf};
 
 use crate::ids::{is_gid_open, is_uid_open};
 use crate::lines::{is_call_open, is_namespace_open, is_socket_open, passes};
 use crate::rows::is_path_open;
-use ceilings::{CallKind, Ceiling};
+use ceilings::Ceiling;
 use kernel_model::World;
-use questions::Question;
+use question_types::{CallKind, Question};
 
 // Whether the question is open, by the ceiling of the launched world and the calls that its filters let through.
 pub(crate) fn is_open(world: &World<'_>, ceiling: &Ceiling, question: &Question) -> bool
     requires launched { IsLaunchedWorld world.now }
     requires its_own_ceiling { IsCeilingOf (launch_of world.now) ceiling.now }
-    ensures { result ≡ is_open (launch_of world.now) (meant question.now) }
+    ensures { result ≡ is_open (launch_of world.now) question.now }
 {
     match question {
         Question::Path(wish, at) => is_path_open(world, ceiling, *wish, *at),

@@ -3,16 +3,14 @@
 ghost use Rattle.std.specs.Prelude.{◌≡◌, ◌&&◌, not, option_copied, slice_get};
 ghost use Rattle.kernel_laws.specs.Bound.{can_reach, ceiling, is_barred, is_mounting, is_to_exec, open_at, power_of};
 ghost use Rattle.kernel_laws.specs.Launched.{IsLaunchedWorld, launch_of, can_make_user};
-ghost use Rattle.kernel_laws.specs.Questions.{ByPath};
-ghost use Rattle.reach_paths.specs.Meanings.{meant_power, meant_wish};
+ghost use Rattle.question_types.specs.declared.question.Question.TheVariants.{Path as ByPath};
 ghost use Rattle.ceilings.specs.Leads.{leads_of};
 ghost use Rattle.ceilings.specs.Own.{IsCeilingOf};
 
 use crate::lines::makes_user;
 use ceilings::{Ceiling, RowLeads, is_barred, reach_by};
 use kernel_model::World;
-use questions::Wish;
-use reach_paths::Power;
+use question_types::{Power, Wish};
 use site_table::Row;
 
 // Whether execve refuses the row by its marks on every table that the power makes, and in every user namespace: only mount(2) makes
@@ -20,7 +18,7 @@ use site_table::Row;
 fn is_refused(world: &World<'_>, top: &Ceiling, wish: Wish, row: &Row) -> bool
     requires launched { IsLaunchedWorld world.now }
     requires its_own_ceiling { IsCeilingOf (launch_of world.now) top.now }
-    ensures { result ≡ (((is_to_exec (meant_wish wish) && not (is_mounting (meant_power top.now.power)))
+    ensures { result ≡ (((is_to_exec wish && not (is_mounting top.now.power))
         && is_barred (launch_of world.now) row.now) && not (can_make_user (launch_of world.now))) }
 {
     match (wish, top.power) {
@@ -37,7 +35,7 @@ fn can_reach(world: &World<'_>, top: &Ceiling, wish: Wish, leads: RowLeads, row:
     requires launched { IsLaunchedWorld world.now }
     requires its_own_ceiling { IsCeilingOf (launch_of world.now) top.now }
     requires of_the_row { leads ≡ leads_of (launch_of world.now).table row.now.path }
-    ensures { let launch = launch_of world.now in result ≡ can_reach launch (power_of launch) (meant_wish wish) row.now }
+    ensures { let launch = launch_of world.now in result ≡ can_reach launch (power_of launch) wish row.now }
 {
     top.paths.passes(wish)
         && reach_by(world, leads, top.power, wish, row).is_some()
@@ -56,7 +54,7 @@ pub(crate) fn is_path_open(world: &World<'_>, top: &Ceiling, wish: Wish, at: usi
     requires launched { IsLaunchedWorld world.now }
     requires its_own_ceiling { IsCeilingOf (launch_of world.now) top.now }
     ensures { let launch = launch_of world.now in
-        result ≡ open_at launch (power_of launch) (ceiling launch) (ByPath (meant_wish wish) at) }
+        result ≡ open_at launch (power_of launch) (ceiling launch) (ByPath wish at) }
 {
     match listed_row(world, at) {
         None => false,

@@ -5,7 +5,8 @@ use Rattle.std.specs.List.{AllByRecursion}
 use Rattle.abs_path.specs.Paths.{Path}
 use Rattle.kernel_laws.specs.Bound.{is_open}
 use Rattle.kernel_laws.specs.Launched.{launch_of}
-use Rattle.kernel_laws.specs.Questions.{Question, questions}
+use Rattle.question_types.specs.declared.question.Question.{Question}
+use Rattle.kernel_laws.specs.Questions.{questions}
 use Rattle.kernel_model.specs.World.{World}
 use Rattle.kernel_ways.specs.Laws.{IsExact, IsFit, IsServedWorld, ListedAreFit, QuestionsAreExact}
 use Rattle.kernel_ways.specs.Offers.{RunsProgram}

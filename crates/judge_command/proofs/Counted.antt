@@ -10,8 +10,7 @@ use Rattle.kernel_laws.specs.Launched.{Launch}
 use Rattle.kernel_laws.specs.Questions.{questions}
 use Rattle.judge.specs.declared.answer.Verdict.{Verdict}
 use Rattle.judge.specs.declared.answer.Verdict.TheVariants as verdict
-use Rattle.questions.specs.Meanings.{meant}
-use Rattle.questions.specs.declared.question.Question.{Question}
+use Rattle.question_types.specs.declared.question.Question.{Question}
 use Rattle.judge_command.specs.Answers.{Denied, Open, is_denied}
 use Rattle.judge_command.specs.Report.{count_line}
 use Rattle.report_text.specs.Answers.{summary_line}
@@ -37,18 +36,18 @@ both test (x ∷ xs) = by (test x) (both test xs) where
 
 module _ (launch : Launch) (program : Path) where
   -- those that are denied are those whose questions are not open
-  pub denied_are : (list : List Question) → length (filter (λ question. not (is_open launch (meant question))) list) ≡ length (filter is_denied (map (answer_of launch program) (map meant list)))
+  pub denied_are : (list : List Question) → length (filter (λ question. not (is_open launch question)) list) ≡ length (filter is_denied (map (answer_of launch program) list))
   denied_are [] = refl
-  denied_are (question ∷ list) = by (is_open launch (meant question)) (denied_are list) where
-    by : (b : Bool) → length (filter (λ question. not (is_open launch (meant question))) list) ≡ length (filter is_denied (map (answer_of launch program) (map meant list)))
-        → length (cond (not b) (question ∷ filter (λ question. not (is_open launch (meant question))) list) (filter (λ question. not (is_open launch (meant question))) list))
-        ≡ length (filter is_denied ((if b then Open (meant question) (calls_for launch program (meant question)) else Denied (meant question)) ∷ map (answer_of launch program) (map meant list)))
+  denied_are (question ∷ list) = by (is_open launch question) (denied_are list) where
+    by : (b : Bool) → length (filter (λ question. not (is_open launch question)) list) ≡ length (filter is_denied (map (answer_of launch program) list))
+        → length (cond (not b) (question ∷ filter (λ question. not (is_open launch question)) list) (filter (λ question. not (is_open launch question)) list))
+        ≡ length (filter is_denied ((if b then Open question (calls_for launch program question) else Denied question) ∷ map (answer_of launch program) list))
     by true h = h
     by false h = ap suc h
 
 -- one question more
-once : (asked : Asked) (question : Question) (found : Verdict) → IsVerdict asked question found → length (filter (λ question. not (is_open (launch_in asked) (meant question))) (question ∷ [])) ≡ denied_once found
-once asked question found is = by found (is_open (launch_in asked) (meant question)) is where
+once : (asked : Asked) (question : Question) (found : Verdict) → IsVerdict asked question found → length (filter (λ question. not (is_open (launch_in asked) question)) (question ∷ [])) ≡ denied_once found
+once asked question found is = by found (is_open (launch_in asked) question) is where
   by : (found : Verdict) (b : Bool) → (found ≡ verdict.Open) ↔ (b ≡ true) → length (cond (not b) (question ∷ []) []) ≡ denied_once found
   by verdict.Denied true is = (let same : verdict.Denied ≡ verdict.Open = is.1 refl in cc)
   by verdict.Denied false is = refl
@@ -63,8 +62,8 @@ pub one_more : (asked : Asked) (list : List Question) (i : ℕ) (d question : Qu
     → denied_among asked (take i list) + denied_once found ≡ denied_among asked (take (i + 1) list)
 one_more asked list i d question found lt is verdict' =
     ap (λ n. denied_among asked (take i list) + n) (sym (once asked question found verdict'))
-    ∙ sym (length-append (filter (λ question. not (is_open (launch_in asked) (meant question))) (take i list)) (filter (λ question. not (is_open (launch_in asked) (meant question))) (question ∷ [])))
-    ∙ ap length (sym (filter-append (λ question. not (is_open (launch_in asked) (meant question))) (take i list) (question ∷ [])))
+    ∙ sym (length-append (filter (λ question. not (is_open (launch_in asked) question)) (take i list)) (filter (λ question. not (is_open (launch_in asked) question)) (question ∷ [])))
+    ∙ ap length (sym (filter-append (λ question. not (is_open (launch_in asked) question)) (take i list) (question ∷ [])))
     ∙ ap (λ one. denied_among asked (take i list ++ one ∷ [])) is
     ∙ ap (denied_among asked) (sym (take_more list i d lt))
 
@@ -74,7 +73,6 @@ module _ (asked : Asked) (is : IsAsked asked) where
   all_are =
       length-map (questions (world_in asked).calls (world_in asked).site) (answer_of (launch_in asked) asked.bounded.service.program)
       ∙ ap length (sym is.questions)
-      ∙ length-map asked.questions.items meant
 
   pub those_denied : denied_among asked asked.questions.items ≡ length (filter is_denied (answers_of (world_in asked) asked.bounded.service.program))
   those_denied =
@@ -92,5 +90,5 @@ module _ (asked : Asked) (is : IsAsked asked) where
 
   pub few_are : (denied count : ℕ) → denied ≡ denied_among asked asked.questions.items → count ≡ length asked.questions.items → denied ≤ count
   few_are denied count told all =
-      let those : denied_among asked asked.questions.items ≤ length asked.questions.items = few (λ question. not (is_open (launch_in asked) (meant question))) asked.questions.items in
+      let those : denied_among asked asked.questions.items ≤ length asked.questions.items = few (λ question. not (is_open (launch_in asked) question)) asked.questions.items in
       omega (arith, told, all, those)

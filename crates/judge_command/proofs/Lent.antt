@@ -10,8 +10,7 @@ use Rattle.kernel_ways.specs.Laws.{IsServedWorld}
 use Rattle.kernel_ways.specs.Offers.{RunsProgram}
 use Rattle.chosen_calls.specs.Chosen.{calls_for}
 use Rattle.open_calls.specs.declared.service.Service.{Service}
-use Rattle.questions.specs.Meanings.{meant}
-use Rattle.questions.specs.declared.question.Question.{Question}
+use Rattle.question_types.specs.declared.question.Question.{Question}
 use Rattle.judge_command.specs.Asked.{IsAsked, launch_in, world_in}
 use Rattle.judge_command.specs.Lent.{IsServiceOf}
 use Rattle.judge_command.specs.declared.asking.Asked.{Asked}
@@ -25,12 +24,12 @@ module _ (asked : Asked) (service : Service) (is : IsServiceOf asked service) wh
       let there : RunsProgram (launch_of service.world.now) asked.bounded.service.program = subst (λ (world : World). RunsProgram (launch_of world) asked.bounded.service.program) (sym is.0) own.program in
       subst (λ (path : Path). RunsProgram (launch_of service.world.now) path) (sym is.1) there
 
-  pub lists_it : (question : Question) → Contains (questions (world_in asked).calls (world_in asked).site) (meant question) → Contains (questions service.world.now.calls service.world.now.site) (meant question)
-  lists_it question h = subst (λ (world : World). Contains (questions world.calls world.site) (meant question)) (sym is.0) h
+  pub lists_it : (question : Question) → Contains (questions (world_in asked).calls (world_in asked).site) question → Contains (questions service.world.now.calls service.world.now.site) question
+  lists_it question h = subst (λ (world : World). Contains (questions world.calls world.site) question) (sym is.0) h
 
-  pub opens_it : (question : Question) → is_open (launch_in asked) (meant question) ≡ true → is_open (launch_of service.world.now) (meant question) ≡ true
-  opens_it question h = subst (λ (world : World). is_open (launch_of world) (meant question) ≡ true) (sym is.0) h
+  pub opens_it : (question : Question) → is_open (launch_in asked) question ≡ true → is_open (launch_of service.world.now) question ≡ true
+  opens_it question h = subst (λ (world : World). is_open (launch_of world) question ≡ true) (sym is.0) h
 
   -- the calls that are chosen are those of the service that is asked
-  pub chosen_for_it : (question : Question) → calls_for (launch_of service.world.now) service.program.now (meant question) ≡ calls_for (launch_in asked) asked.bounded.service.program (meant question)
-  chosen_for_it question = ap₂ (λ (world : World) (path : Path). calls_for (launch_of world) path (meant question)) is.0 is.1
+  pub chosen_for_it : (question : Question) → calls_for (launch_of service.world.now) service.program.now question ≡ calls_for (launch_in asked) asked.bounded.service.program question
+  chosen_for_it question = ap₂ (λ (world : World) (path : Path). calls_for (launch_of world) path question) is.0 is.1

@@ -4,8 +4,7 @@ use Rattle.std.specs.Prelude.{◌↔◌, flat_map, map, if◌then◌else◌}
 use Rattle.std.proofs.lemmas.List.Concat.{flat_map-append}
 use Rattle.site_table.specs.declared.row.Row.{Row}
 use Rattle.kernel_laws.specs.Questions.{if_so}
-use Rattle.questions.specs.Meanings.{meant}
-use Rattle.questions.specs.declared.question.Question.{Question}
+use Rattle.question_types.specs.declared.question.Question.{Question}
 use Rattle.std.specs.Prelude.{IfOk, Result, Vec}
 use Rattle.std.specs.declared.alloc.AllocError.{AllocError}
 use Rattle.std.specs.declared.alloc.Global.{Global}
@@ -48,7 +47,7 @@ not_open found true is e = (let same : verdict.Denied ≡ verdict.Open = sym e �
 not_open found false is e = refl
 
 module _ (asked : Asked) where
-  each_answer : (list : List Question) → flat_map (answer_text asked) list ≡ flat_map (answer_lines (world_in asked).calls (world_in asked).site) (map (answer_of (launch_in asked) asked.bounded.service.program) (map meant list))
+  each_answer : (list : List Question) → flat_map (answer_text asked) list ≡ flat_map (answer_lines (world_in asked).calls (world_in asked).site) (map (answer_of (launch_in asked) asked.bounded.service.program) list)
   each_answer [] = refl
   each_answer (question ∷ list) = ap (λ rest. answer_text asked question ++ rest) (each_answer list)
 
@@ -57,21 +56,21 @@ module _ (asked : Asked) where
 
   -- the line of what is found, by the tables of the world
   pub own_line : (question : Question) (found own : Verdict) (table : Table) (site : Site) (line : Result (Vec ℕ Global) AllocError) → table ≡ (world_in asked).calls → site ≡ (world_in asked).site → found ≡ own
-      → IfOk line (λ told. told.items ≡ verdict_line table site (meant question) found) → IfOk line (λ told. told.items ≡ verdict_line (world_in asked).calls (world_in asked).site (meant question) own)
+      → IfOk line (λ told. told.items ≡ verdict_line table site question found) → IfOk line (λ told. told.items ≡ verdict_line (world_in asked).calls (world_in asked).site question own)
   own_line question found own table site line tables sites same is =
-      subst (λ these. IfOk line (λ told. told.items ≡ verdict_line these (world_in asked).site (meant question) own)) tables
-      (subst (λ there. IfOk line (λ told. told.items ≡ verdict_line table there (meant question) own)) sites
-      (subst (λ it. IfOk line (λ told. told.items ≡ verdict_line table site (meant question) it)) same is))
+      subst (λ these. IfOk line (λ told. told.items ≡ verdict_line these (world_in asked).site question own)) tables
+      (subst (λ there. IfOk line (λ told. told.items ≡ verdict_line table there question own)) sites
+      (subst (λ it. IfOk line (λ told. told.items ≡ verdict_line table site question it)) same is))
 
   -- the answer where a question is open
-  pub open_text : (question : Question) → is_open (launch_in asked) (meant question) ≡ true
-      → verdict_line (world_in asked).calls (world_in asked).site (meant question) verdict.Open ++ flat_map (call_line (world_in asked).calls) (calls_for (launch_in asked) asked.bounded.service.program (meant question)) ≡ answer_text asked question
-  open_text question e = sym (ap (λ b. answer_lines (world_in asked).calls (world_in asked).site (if b then Open (meant question) (calls_for (launch_in asked) asked.bounded.service.program (meant question)) else Denied (meant question))) e)
+  pub open_text : (question : Question) → is_open (launch_in asked) question ≡ true
+      → verdict_line (world_in asked).calls (world_in asked).site question verdict.Open ++ flat_map (call_line (world_in asked).calls) (calls_for (launch_in asked) asked.bounded.service.program question) ≡ answer_text asked question
+  open_text question e = sym (ap (λ b. answer_lines (world_in asked).calls (world_in asked).site (if b then Open question (calls_for (launch_in asked) asked.bounded.service.program question) else Denied question)) e)
 
   -- and where it is denied
-  pub denied_text : (question : Question) → is_open (launch_in asked) (meant question) ≡ false
-      → verdict_line (world_in asked).calls (world_in asked).site (meant question) verdict.Denied ≡ answer_text asked question
-  denied_text question e = sym (ap (λ b. answer_lines (world_in asked).calls (world_in asked).site (if b then Open (meant question) (calls_for (launch_in asked) asked.bounded.service.program (meant question)) else Denied (meant question))) e)
+  pub denied_text : (question : Question) → is_open (launch_in asked) question ≡ false
+      → verdict_line (world_in asked).calls (world_in asked).site question verdict.Denied ≡ answer_text asked question
+  denied_text question e = sym (ap (λ b. answer_lines (world_in asked).calls (world_in asked).site (if b then Open question (calls_for (launch_in asked) asked.bounded.service.program question) else Denied question)) e)
 
   -- the line of a folder that is blind
   pub named_text : (row : Row) → is_named asked row ≡ true → blind_line row.path ≡ folder_text asked row

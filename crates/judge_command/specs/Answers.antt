@@ -6,7 +6,8 @@ use Rattle.site_table.specs.Table.{Site}
 use Rattle.kernel_calls.specs.declared.call.Call.{Call}
 use Rattle.kernel_model.specs.World.{World}
 use Rattle.kernel_laws.specs.Denied.{IsDenied, Shows}
-use Rattle.kernel_laws.specs.Questions.{Question, questions}
+use Rattle.question_types.specs.declared.question.Question.{Question}
+use Rattle.kernel_laws.specs.Questions.{questions}
 use Rattle.chosen_calls.specs.Makers.{AreMadeByService}
 
 -- what is answered to a question: that it is denied, or that it is open, with a list of calls

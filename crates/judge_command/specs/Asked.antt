@@ -8,8 +8,7 @@ use Rattle.kernel_laws.specs.Questions.{questions}
 use Rattle.kernel_ways.specs.Offers.{RunsProgram}
 use Rattle.judge.specs.declared.answer.Verdict.{Verdict}
 use Rattle.judge.specs.declared.answer.Verdict.TheVariants as verdict
-use Rattle.questions.specs.Meanings.{meant}
-use Rattle.questions.specs.declared.question.Question.{Question}
+use Rattle.question_types.specs.declared.question.Question.{Question}
 use Rattle.asked_service.specs.Asked.{IsBounded}
 use Rattle.report_text.specs.Answers.{blind_line}
 use Rattle.unit_launch.specs.Told.{told_of}
@@ -28,15 +27,15 @@ launch_in asked = launch_of (world_in asked)
 pub record IsAsked (asked : Asked) : Type 0 where
   pub bounded : IsBounded asked.bounded
   pub program : RunsProgram (launch_in asked) asked.bounded.service.program
-  pub questions : map meant asked.questions.items ≡ questions (world_in asked).calls (world_in asked).site
+  pub questions : asked.questions.items ≡ questions (world_in asked).calls (world_in asked).site
 
 -- the verdict on a question
 abbrev pub IsVerdict : Asked → Question → Verdict → Type 0
-IsVerdict asked question found = (found ≡ verdict.Open) ↔ (is_open (launch_in asked) (meant question) ≡ true)
+IsVerdict asked question found = (found ≡ verdict.Open) ↔ (is_open (launch_in asked) question ≡ true)
 
 -- the answer to one question, and what is printed of it
 abbrev pub answer_in : Asked → Question → Answer
-answer_in asked question = answer_of (launch_in asked) asked.bounded.service.program (meant question)
+answer_in asked question = answer_of (launch_in asked) asked.bounded.service.program question
 
 abbrev pub answer_text : Asked → Question → List ℕ
 answer_text asked question = answer_lines (world_in asked).calls (world_in asked).site (answer_in asked question)
@@ -47,7 +46,7 @@ denied_once verdict.Open = 0
 
 -- how many of some questions are denied
 abbrev pub denied_among : Asked → List Question → ℕ
-denied_among asked list = length (filter (λ question. not (is_open (launch_in asked) (meant question))) list)
+denied_among asked list = length (filter (λ question. not (is_open (launch_in asked) question)) list)
 
 -- a row of the site
 abbrev pub IsRowIn : Asked → Row → Type 0

@@ -7,7 +7,8 @@ use Rattle.kernel_model.specs.World.{World}
 use Rattle.kernel_laws.specs.Blind.{is_blind}
 use Rattle.kernel_laws.specs.Bound.{is_open}
 use Rattle.kernel_laws.specs.Launched.{Launch, launch_of}
-use Rattle.kernel_laws.specs.Questions.{Question, if_so, questions}
+use Rattle.question_types.specs.declared.question.Question.{Question}
+use Rattle.kernel_laws.specs.Questions.{if_so, questions}
 use Rattle.kernel_ways.specs.Laws.{IsServedWorld}
 use Rattle.kernel_ways.specs.Offers.{RunsProgram}
 use Rattle.chosen_calls.specs.Chosen.{calls_for}

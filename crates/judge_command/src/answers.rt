@@ -3,7 +3,6 @@ ghost use Rattle.std.specs.Prelude.{◌≡◌, Contains, OnOk, flat_map, map};
 ghost use Rattle.command_answers.specs.Printing.{HasWriteCause, TakesText};
 ghost use Rattle.judge.specs.declared.answer.Verdict.{Verdict};
 ghost use Rattle.kernel_laws.specs.Questions.{questions};
-ghost use Rattle.questions.specs.Meanings.{meant};
 ghost use Rattle.report_text.specs.Answers.{call_line};
 ghost use Rattle.judge_command.specs.Asked.{IsAsked, IsVerdict, answer_text, denied_among};
 ghost use Rattle.judge_command.specs.Lent.{IsServiceOf};
@@ -16,7 +15,7 @@ use host_io::{Sink, SinkError};
 use judge::{Verdict, verdict};
 use kernel_calls::Call;
 use open_calls::{Service, calls};
-use questions::Question;
+use question_types::Question;
 use report_text::{call_line, verdict_line};
 use std::alloc::Global;
 
@@ -46,7 +45,7 @@ fn print_answer<K: Sink>(
     out: &mut K,
 ) -> Result<(), SinkError>
     requires asked { IsAsked asked.now }
-    requires listed { Contains (questions asked.now.bounded.service.world.calls asked.now.bounded.service.world.site) (meant question.now) }
+    requires listed { Contains (questions asked.now.bounded.service.world.calls asked.now.bounded.service.world.site) question.now }
     requires found { IsVerdict asked.now question.now found }
     requires its_service { IsServiceOf asked.now service.now }
     ensures takes_the_text { TakesText (K.taken out.old) (K.taken out.new) (answer_text asked.now question.now) result }
@@ -77,7 +76,7 @@ pub fn print_answers<K: Sink>(
     out: &mut K,
 ) -> Result<(), SinkError>
     requires asked { IsAsked asked.now }
-    requires all { map meant list.now ≡ questions asked.now.bounded.service.world.calls asked.now.bounded.service.world.site }
+    requires all { list.now ≡ questions asked.now.bounded.service.world.calls asked.now.bounded.service.world.site }
     ensures takes_the_text { TakesText (K.taken out.old) (K.taken out.new) (flat_map (answer_text asked.now) list.now) result }
     ensures counts { OnOk result (denied.new ≡ denied_among asked.now list.now) }
     ensures fault_rose { HasWriteCause (K.faults out.old) (K.faults out.new) result }

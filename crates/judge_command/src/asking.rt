@@ -7,7 +7,8 @@ ghost use Rattle.judge_command.specs.Asked.{IsAsked};
 
 use asked_service::{Bounded, bound};
 use launcher::Launched;
-use questions::{Question, questions};
+use question_types::Question;
+use questions::questions;
 use std::alloc::{AllocError, Global};
 
 /// A launched service, with what bounds its processes, and all that is asked of it.

@@ -4,7 +4,7 @@
 use call_table::{CallLine, CallTable};
 use call_words::name_at;
 use cap_sets::CapSet;
-use questions::{NamespaceType, Question, Wish};
+use question_types::{NamespaceType, Question, Wish};
 use row_tools::said;
 use site_table::SiteTable;
 use std::alloc::{AllocError, Global};

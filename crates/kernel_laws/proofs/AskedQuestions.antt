@@ -10,7 +10,10 @@ use Rattle.site_table.specs.declared.row.Row.{Row}
 use Rattle.site_table.specs.Table.{Site}
 use Rattle.kernel_calls.specs.Rules.{rule_of}
 use Rattle.site_table.specs.Kinds.{is_dir, is_exe}
-use Rattle.kernel_laws.specs.Questions.{Question, ByPath, Call, Cap, Uid, Gid, ToWrite, ToExec, IsAsked, is_plain, if_so, of_row, of_rows, of_calls, of_families, count_from, uids_of, gids_of, other_questions, questions}
+use Rattle.question_types.specs.declared.question.Question.{Question}
+use Rattle.question_types.specs.declared.question.Question.TheVariants.{Path as ByPath, Call, Cap, Uid, Gid}
+use Rattle.question_types.specs.declared.wish.Wish.TheVariants.{Write as ToWrite, Exec as ToExec}
+use Rattle.kernel_laws.specs.Questions.{IsAsked, is_plain, if_so, of_row, of_rows, of_calls, of_families, count_from, uids_of, gids_of, other_questions, questions}
 
 module _ (table : calls.Table) where
   abbrev AllAsked : List Question → Type 0

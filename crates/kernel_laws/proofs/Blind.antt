@@ -19,7 +19,8 @@ use Rattle.kernel_laws.proofs.NewerTables.{tables_stable, folders_are_seen}
 use Rattle.kern_mounts.specs.Mounts.{Mounts}
 use Rattle.kernel_laws.specs.Launched.{launch_of}
 use Rattle.kern_mounts.specs.Split.{Table, Split, split_at}
-use Rattle.kernel_laws.specs.Reach.{Power, Nowise, Unmounting, Mounting}
+use Rattle.question_types.specs.declared.power.Power.{Power}
+use Rattle.question_types.specs.declared.power.Power.TheVariants.{None as Nowise, Unmount as Unmounting, Mount as Mounting}
 use Rattle.kernel_model.specs.Runs.{run}
 use Rattle.kern_mounts.specs.Unmounts.{IsTrimmed}
 use Rattle.kernel_model.specs.World.{mounts_of, table_of}

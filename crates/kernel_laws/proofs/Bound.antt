@@ -8,10 +8,11 @@ use Rattle.cap_sets.proofs.Members.{has_none, has_union, none_within, union_with
 use Rattle.site_table.specs.declared.row.Row.{Row}
 use Rattle.kern_creds.specs.declared.creds.Creds.{Creds}
 use Rattle.kernel_laws.specs.Bounds.{Bounds, IsSettled, Admits, Keeps}
-use Rattle.kernel_laws.specs.Questions.{ToExec}
+use Rattle.question_types.specs.declared.wish.Wish.TheVariants.{Exec as ToExec}
+use Rattle.question_types.specs.declared.power.Power.{Power}
+use Rattle.question_types.specs.declared.power.Power.TheVariants.{None as Nowise, Mount as Mounting}
+use Rattle.question_types.specs.declared.kind.CallKind.TheVariants.{ChangesMounts, RemovesMounts, SetsCaps}
 use Rattle.kern_files.specs.Executing.{marks_of}
-use Rattle.kernel_laws.specs.Reach.{Power, Nowise, Mounting}
-use Rattle.kernel_laws.specs.Kinds.{ChangesMounts, RemovesMounts, SetsCaps}
 use Rattle.kernel_laws.specs.Launched.{Launch, lets, IsLaunched}
 use Rattle.kernel_laws.specs.Ceiling.{CanRun, IsClosed}
 use Rattle.kernel_laws.specs.Bound.{gathered, when, is_owner, can_run, file_gain, gain_at, caps_before, with_root, caps_by, power_by, power_using, any_by, owned_by, grouped_by, bounds_by}

@@ -32,8 +32,11 @@ use Rattle.kern_files.specs.Bits.{has_some, has_all}
 use Rattle.kernel_calls.specs.declared.payload.Payload.{Payload}
 use Rattle.kernel_calls.specs.Doing as d
 use Rattle.kernel_calls.specs.Doing.{Doing, bare, doing_by}
-use Rattle.kernel_laws.specs.Kinds as k
-use Rattle.kernel_laws.specs.Kinds.{Kind, asks, words, one_word, no_words}
+use Rattle.question_types.specs.declared.kind.CallKind.{CallKind}
+use Rattle.question_types.specs.declared.kind.CallKind.TheVariants as k
+use Rattle.filter_rules.specs.declared.namespace_types.NamespaceType.TheVariants as namespace
+use Rattle.question_types.specs.declared.wish.Wish.TheVariants as wish_to
+use Rattle.kernel_laws.specs.Kinds.{asks, words, one_word, no_words}
 use Rattle.kernel_laws.specs.Questions as q
 use Rattle.call_names.specs.Known.{place_of}
 use Rattle.call_names.specs.declared.rule.Argument.{Argument}
@@ -66,22 +69,22 @@ first_is one first e = cc
 below : (n word : ℕ) → eqb (word % 2 ^ 32) n ≡ true → n % 2 ^ 32 ≡ word % 2 ^ 32
 below n word h = let e = eqb-true (word % 2 ^ 32) n h in omega (arith, e)
 
-kind-Socket : (kind : Kind) (args first : List ℕ) → asks kind (d.Socket (low_word args 0)) ≡ true → words kind (rule.Known known.Socket) ≡ Some first → low_word first 0 ≡ low_word args 0
+kind-Socket : (kind : CallKind) (args first : List ℕ) → asks kind (d.Socket (low_word args 0)) ≡ true → words kind (rule.Known known.Socket) ≡ Some first → low_word first 0 ≡ low_word args 0
 kind-Socket (k.ForPath wish) args first h e = no_wish (d.Socket (low_word args 0)) refl wish h
 kind-Socket (k.ForFamily family) args first h e = ap (λ (w : List ℕ). low_word w 0) (sym (first_is (one_word 0 family) first e)) ∙ below family (slice_index args 0) h
 kind-Socket kind args first h e = cc
 
-kind-Map : (kind : Kind) (args first : List ℕ) → asks kind (d.Map (low_word args 2)) ≡ true → words kind (rule.Known known.Map) ≡ Some first → has_bits (low_word args 2) 6 ≡ true
+kind-Map : (kind : CallKind) (args first : List ℕ) → asks kind (d.Map (low_word args 2)) ≡ true → words kind (rule.Known known.Map) ≡ Some first → has_bits (low_word args 2) 6 ≡ true
 kind-Map (k.ForPath wish) args first h e = no_wish (d.Map (low_word args 2)) refl wish h
 kind-Map k.MapsWx args first h e = h
 kind-Map kind args first h e = cc
 
-kind-Protect : (kind : Kind) (args first : List ℕ) → asks kind (d.Protect (low_word args 2)) ≡ true → words kind (rule.Known known.Protect) ≡ Some first → has_bits (low_word args 2) 4 ≡ true
+kind-Protect : (kind : CallKind) (args first : List ℕ) → asks kind (d.Protect (low_word args 2)) ≡ true → words kind (rule.Known known.Protect) ≡ Some first → has_bits (low_word args 2) 4 ≡ true
 kind-Protect (k.ForPath wish) args first h e = no_wish (d.Protect (low_word args 2)) refl wish h
 kind-Protect k.ProtectsX args first h e = h
 kind-Protect kind args first h e = cc
 
-kind-Attach : (kind : Kind) (args first : List ℕ) → asks kind (d.Attach (low_word args 2)) ≡ true → words kind (rule.Known known.Attach) ≡ Some first → has_bits (low_word args 2) 0x8000 ≡ true
+kind-Attach : (kind : CallKind) (args first : List ℕ) → asks kind (d.Attach (low_word args 2)) ≡ true → words kind (rule.Known known.Attach) ≡ Some first → has_bits (low_word args 2) 0x8000 ≡ true
 kind-Attach (k.ForPath wish) args first h e = no_wish (d.Attach (low_word args 2)) refl wish h
 kind-Attach k.AttachesX args first h e = h
 kind-Attach kind args first h e = cc
@@ -89,12 +92,12 @@ kind-Attach kind args first h e = cc
 realtime_is : (policy : ℕ) → (policy == 1 || policy == 2) ≡ true → not (is_ordinary policy) ≡ true
 realtime_is policy h = grind (arith, nat_tests)
 
-kind-Schedule : (kind : Kind) (args first : List ℕ) → asks kind (d.Schedule (low_word args 1)) ≡ true → words kind (rule.Known known.Schedule) ≡ Some first → not (is_ordinary (low_word args 1)) ≡ true
+kind-Schedule : (kind : CallKind) (args first : List ℕ) → asks kind (d.Schedule (low_word args 1)) ≡ true → words kind (rule.Known known.Schedule) ≡ Some first → not (is_ordinary (low_word args 1)) ≡ true
 kind-Schedule (k.ForPath wish) args first h e = no_wish (d.Schedule (low_word args 1)) refl wish h
 kind-Schedule k.SchedulesRealtime args first h e = realtime_is (low_word args 1) h
 kind-Schedule kind args first h e = cc
 
-kind-Personality : (kind : Kind) (args first : List ℕ) → asks kind (d.Personality (low_word args 0)) ≡ true → words kind (rule.Known known.Personality) ≡ Some first → not (keeps_domain (low_word args 0)) ≡ true
+kind-Personality : (kind : CallKind) (args first : List ℕ) → asks kind (d.Personality (low_word args 0)) ≡ true → words kind (rule.Known known.Personality) ≡ Some first → not (keeps_domain (low_word args 0)) ≡ true
 kind-Personality (k.ForPath wish) args first h e = no_wish (d.Personality (low_word args 0)) refl wish h
 kind-Personality k.TakesPersonality args first h e = h
 kind-Personality kind args first h e = cc
@@ -154,19 +157,19 @@ id_bit mode h = by (has mode 11) (has mode 10) refl refl
         let off = not-true (eqb (bit_and mode id_mask) 0) h in
         cc
 
-kind-SetMode : (kind : Kind) (args first : List ℕ) (at : Argument) → asks kind (d.SetMode (low_word args (place_of at))) ≡ true → words kind (rule.Known (known.SetMode at)) ≡ Some first → sets_id_bit (low_word args (place_of at)) ≡ true
+kind-SetMode : (kind : CallKind) (args first : List ℕ) (at : Argument) → asks kind (d.SetMode (low_word args (place_of at))) ≡ true → words kind (rule.Known (known.SetMode at)) ≡ Some first → sets_id_bit (low_word args (place_of at)) ≡ true
 kind-SetMode (k.ForPath wish) args first at h e = no_wish (d.SetMode (low_word args (place_of at))) refl wish h
 kind-SetMode k.SetsMode args first at h e = id_bit (low_word args (place_of at)) h
 kind-SetMode kind args first at h e = cc
 
-flag_low : (space : q.Space) → q.flag_of space % 2 ^ 32 ≡ q.flag_of space
-flag_low q.Cgroup = refl
-flag_low q.Ipc = refl
-flag_low q.Net = refl
-flag_low q.Mnt = refl
-flag_low q.Pid = refl
-flag_low q.User = refl
-flag_low q.Uts = refl
+flag_low : (space : NamespaceType) → q.flag_of space % 2 ^ 32 ≡ q.flag_of space
+flag_low namespace.Cgroup = refl
+flag_low namespace.Ipc = refl
+flag_low namespace.Net = refl
+flag_low namespace.Mnt = refl
+flag_low namespace.Pid = refl
+flag_low namespace.User = refl
+flag_low namespace.Uts = refl
 
 -- a mask that the flag has, flags with the flag have
 more_bits : (flag flags mask : ℕ) → has_all flag flags ≡ true → has_bits flag mask ≡ true → has_bits flags mask ≡ true
@@ -176,47 +179,47 @@ more_bits flag flags mask h g = within-from_IsWithin mask flags (within_through 
 abbrev MoreBits : List ℕ → List ℕ → Type 0
 MoreBits args first = (mask : ℕ) → has_bits (low_word first 0) mask ≡ true → has_bits (low_word args 0) mask ≡ true
 
-space_bits : (space : q.Space) (args first : List ℕ) → has_all (q.flag_of space) (low_word args 0) ≡ true → Some (one_word 0 (q.flag_of space)) ≡ Some first → MoreBits args first
+space_bits : (space : NamespaceType) (args first : List ℕ) → has_all (q.flag_of space) (low_word args 0) ≡ true → Some (one_word 0 (q.flag_of space)) ≡ Some first → MoreBits args first
 space_bits space args first h e mask g =
     let low' : low_word first 0 ≡ q.flag_of space = ap (λ (w : List ℕ). low_word w 0) (sym (first_is (one_word 0 (q.flag_of space)) first e)) ∙ flag_low space in
     more_bits (q.flag_of space) (low_word args 0) mask h (ap (λ n. has_bits n mask) (sym low') ∙ g)
 
-kind-Unshare : (kind : Kind) (args first : List ℕ) → asks kind (d.Unshare (low_word args 0)) ≡ true → words kind (rule.Known known.Unshare) ≡ Some first → MoreBits args first
+kind-Unshare : (kind : CallKind) (args first : List ℕ) → asks kind (d.Unshare (low_word args 0)) ≡ true → words kind (rule.Known known.Unshare) ≡ Some first → MoreBits args first
 kind-Unshare (k.ForPath wish) args first h e = no_wish (d.Unshare (low_word args 0)) refl wish h
-kind-Unshare (k.ForSpace space) args first h e = space_bits space args first h e
+kind-Unshare (k.ForNamespace space) args first h e = space_bits space args first h e
 kind-Unshare kind args first h e = cc
 
-kind-Clone : (kind : Kind) (args first : List ℕ) → asks kind (d.Clone (low_word args 0)) ≡ true → words kind (rule.Known known.Clone) ≡ Some first → MoreBits args first
+kind-Clone : (kind : CallKind) (args first : List ℕ) → asks kind (d.Clone (low_word args 0)) ≡ true → words kind (rule.Known known.Clone) ≡ Some first → MoreBits args first
 kind-Clone (k.ForPath wish) args first h e = no_wish (d.Clone (low_word args 0)) refl wish h
-kind-Clone (k.ForSpace space) args first h e = space_bits space args first h e
+kind-Clone (k.ForNamespace space) args first h e = space_bits space args first h e
 kind-Clone kind args first h e = cc
 
-kind-Enter : (kind : Kind) (first : List ℕ) → words kind (rule.Known known.Enter) ≡ Some first → ⊥
-kind-Enter (k.ForPath q.ToSee) first e = cc
-kind-Enter (k.ForPath q.ToRead) first e = cc
-kind-Enter (k.ForPath q.ToWrite) first e = cc
-kind-Enter (k.ForPath q.ToExec) first e = cc
+kind-Enter : (kind : CallKind) (first : List ℕ) → words kind (rule.Known known.Enter) ≡ Some first → ⊥
+kind-Enter (k.ForPath wish_to.See) first e = cc
+kind-Enter (k.ForPath wish_to.Read) first e = cc
+kind-Enter (k.ForPath wish_to.Write) first e = cc
+kind-Enter (k.ForPath wish_to.Exec) first e = cc
 kind-Enter kind first e = cc
 
-kind-Create : (kind : Kind) (first : List ℕ) → words kind (rule.Known known.Create) ≡ Some first → low_word first 1 ≡ 0
-kind-Create (k.ForPath q.ToSee) first e = cc
-kind-Create (k.ForPath q.ToRead) first e = cc
-kind-Create (k.ForPath q.ToWrite) first e = ap (λ (w : List ℕ). low_word w 1) (sym (first_is no_words first e))
-kind-Create (k.ForPath q.ToExec) first e = cc
+kind-Create : (kind : CallKind) (first : List ℕ) → words kind (rule.Known known.Create) ≡ Some first → low_word first 1 ≡ 0
+kind-Create (k.ForPath wish_to.See) first e = cc
+kind-Create (k.ForPath wish_to.Read) first e = cc
+kind-Create (k.ForPath wish_to.Write) first e = ap (λ (w : List ℕ). low_word w 1) (sym (first_is no_words first e))
+kind-Create (k.ForPath wish_to.Exec) first e = cc
 kind-Create kind first e = cc
 
-kind-Open-1 : (kind : Kind) (first : List ℕ) → words kind (rule.Known (known.Open argument.Second)) ≡ Some first → has_bits (low_word first 1) 0x40 ≡ false
-kind-Open-1 (k.ForPath q.ToSee) first e = cc
-kind-Open-1 (k.ForPath q.ToRead) first e = ap (λ (w : List ℕ). has_bits (low_word w 1) 0x40) (sym (first_is no_words first e))
-kind-Open-1 (k.ForPath q.ToWrite) first e = ap (λ (w : List ℕ). has_bits (low_word w 1) 0x40) (sym (first_is (one_word 1 1) first e))
-kind-Open-1 (k.ForPath q.ToExec) first e = cc
+kind-Open-1 : (kind : CallKind) (first : List ℕ) → words kind (rule.Known (known.Open argument.Second)) ≡ Some first → has_bits (low_word first 1) 0x40 ≡ false
+kind-Open-1 (k.ForPath wish_to.See) first e = cc
+kind-Open-1 (k.ForPath wish_to.Read) first e = ap (λ (w : List ℕ). has_bits (low_word w 1) 0x40) (sym (first_is no_words first e))
+kind-Open-1 (k.ForPath wish_to.Write) first e = ap (λ (w : List ℕ). has_bits (low_word w 1) 0x40) (sym (first_is (one_word 1 1) first e))
+kind-Open-1 (k.ForPath wish_to.Exec) first e = cc
 kind-Open-1 kind first e = cc
 
-kind-Open-2 : (kind : Kind) (first : List ℕ) → words kind (rule.Known (known.Open argument.Third)) ≡ Some first → has_bits (low_word first 2) 0x40 ≡ false
-kind-Open-2 (k.ForPath q.ToSee) first e = cc
-kind-Open-2 (k.ForPath q.ToRead) first e = ap (λ (w : List ℕ). has_bits (low_word w 2) 0x40) (sym (first_is no_words first e))
-kind-Open-2 (k.ForPath q.ToWrite) first e = ap (λ (w : List ℕ). has_bits (low_word w 2) 0x40) (sym (first_is (one_word 2 1) first e))
-kind-Open-2 (k.ForPath q.ToExec) first e = cc
+kind-Open-2 : (kind : CallKind) (first : List ℕ) → words kind (rule.Known (known.Open argument.Third)) ≡ Some first → has_bits (low_word first 2) 0x40 ≡ false
+kind-Open-2 (k.ForPath wish_to.See) first e = cc
+kind-Open-2 (k.ForPath wish_to.Read) first e = ap (λ (w : List ℕ). has_bits (low_word w 2) 0x40) (sym (first_is no_words first e))
+kind-Open-2 (k.ForPath wish_to.Write) first e = ap (λ (w : List ℕ). has_bits (low_word w 2) 0x40) (sym (first_is (one_word 2 1) first e))
+kind-Open-2 (k.ForPath wish_to.Exec) first e = cc
 kind-Open-2 kind first e = cc
 
 -- the names of which the second word is a mode, and the third
@@ -227,7 +230,7 @@ abbrev thirds : List (List ℕ)
 thirds = codes "fchmodat" ∷ codes "mkdirat" ∷ codes "mknodat" ∷ codes "open" ∷ []
 
 -- ---- the filters
-module _ (line : CallLine) (rule' : Rule) (kind : Kind) (payload : Payload) (doing : Doing) (input first : CallData) (is : rule_of line ≡ Some rule') (does : doing_by rule' input.args payload ≡ Some doing)
+module _ (line : CallLine) (rule' : Rule) (kind : CallKind) (payload : Payload) (doing : Doing) (input first : CallData) (is : rule_of line ≡ Some rule') (does : doing_by rule' input.args payload ≡ Some doing)
     (asked : asks kind doing ≡ true) (are : words kind rule' ≡ Some first.args) where
   words_at : (own : Rule) → own ≡ rule' → words kind own ≡ Some first.args
   words_at own e = ap (λ (r : Rule). words kind r) e ∙ are

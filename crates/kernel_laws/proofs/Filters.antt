@@ -24,14 +24,15 @@ use Rattle.kernel_calls.specs.Rules.{rule_of, rule_at}
 use Rattle.kernel_calls.specs.Doing.{Doing, Does, asked_if, asked_by, asked_of, doing_by, bare}
 use Rattle.kernel_calls.specs.declared.payload.Payload.{Payload}
 use Rattle.kernel_calls.specs.declared.payload.Payload.TheVariants as pay
-use Rattle.kernel_laws.specs.Kinds.{Kind, asks, words}
+use Rattle.question_types.specs.declared.kind.CallKind.{CallKind}
+use Rattle.kernel_laws.specs.Kinds.{asks, words}
 use Rattle.kernel_laws.specs.Launched.{Launch, data_at, is_pass, lets_words, lets_rule, lets_line, lets, Chosen, IsLaunched}
 
 -- what a stack above the launch programs lets through, of any kind, some call of that kind passes the launch programs with
 -- its first words
 pub record LetsThrough (launch : Launch) : Type 0 where
   pub kinds : (newer : List (List Insn)) (call : Call) (doing : Doing) → IsCall call → decision_on (launch.stack ++ newer) (data_at launch call.abi call.nr call.args) ≡ decision.Pass
-      → asked_of launch.calls call ≡ Does doing → (kind : Kind) → asks kind doing ≡ true → lets launch kind ≡ true
+      → asked_of launch.calls call ≡ Does doing → (kind : CallKind) → asks kind doing ≡ true → lets launch kind ≡ true
 
 -- a call without a payload asks for this one thing
 pub bare_is : (doing own : Doing) (payload : Payload) → bare own payload ≡ Some doing → own ≡ doing
@@ -154,12 +155,12 @@ among_all p table abi h = list_any-append p table.calls (second_calls table.seco
     either (suc (suc abi)) h None e = let none = sym (ap (λ (s : Option Abi). list_any p (option_map_or (λ found. found.calls) (slice_get (option_to_list s) (suc abi)) [])) e) ∙ h in cc
     either (suc (suc abi)) h (Some second) e = let none = sym (ap (λ (s : Option Abi). list_any p (option_map_or (λ found. found.calls) (slice_get (option_to_list s) (suc abi)) [])) e) ∙ h in cc
 
-lets_chosen : (launch : Launch) (kind : Kind) (rule : Rule) (abi nr : ℕ) → Chosen launch kind rule abi nr → lets_words launch abi nr (words kind rule) ≡ true
+lets_chosen : (launch : Launch) (kind : CallKind) (rule : Rule) (abi nr : ℕ) → Chosen launch kind rule abi nr → lets_words launch abi nr (words kind rule) ≡ true
 lets_chosen launch kind rule abi nr c = ap (lets_words launch abi nr) c.are ∙ ap is_pass c.passes
 
 -- the line of a call that was let through lets its kinds through
 pub line_lets : (launch : Launch) → IsLaunched launch → (newer : List (List Insn)) (call : Call) (doing : Doing) → IsCall call → decision_on (launch.stack ++ newer) (data_at launch call.abi call.nr call.args) ≡ decision.Pass
-    → (kind : Kind) → asks kind doing ≡ true → (a : Asks (calls_in launch.calls call.abi) call doing) (h : HasRule (calls_in launch.calls call.abi) call.nr a.rule) → lets_line launch kind h.line ≡ true
+    → (kind : CallKind) → asks kind doing ≡ true → (a : Asks (calls_in launch.calls call.abi) call doing) (h : HasRule (calls_in launch.calls call.abi) call.nr a.rule) → lets_line launch kind h.line ≡ true
 line_lets launch l newer call doing fit p kind asked a h =
     let own = older launch l newer (data_at launch call.abi call.nr call.args) (data_fits launch call l.arch fit) p in
     let chosen = l.chosen kind call.abi call.nr call.args a.rule call.payload doing fit.nr (record { count = fit.count; each = fit.args }) a.at a.is asked own in

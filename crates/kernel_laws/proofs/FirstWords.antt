@@ -17,66 +17,67 @@ use Rattle.kernel_calls.specs.Rules.{rule_at}
 use Rattle.kernel_calls.specs.Doing as d
 use Rattle.kernel_calls.specs.Doing.{Doing, doing_by}
 use Rattle.kernel_laws.specs.Denied.{path_for}
-use Rattle.kernel_laws.specs.Questions as q
-use Rattle.kernel_laws.specs.Questions.{Wish}
-use Rattle.kernel_laws.specs.Kinds as k
-use Rattle.kernel_laws.specs.Kinds.{Kind, asks, words, AreWords}
+use Rattle.question_types.specs.declared.wish.Wish.{Wish}
+use Rattle.question_types.specs.declared.kind.CallKind.{CallKind}
+use Rattle.question_types.specs.declared.wish.Wish.TheVariants as wish_to
+use Rattle.question_types.specs.declared.kind.CallKind.TheVariants as k
+use Rattle.kernel_laws.specs.Kinds.{asks, words, AreWords}
 use Rattle.call_table.specs.Table.{calls_in}
 use Rattle.kernel_laws.specs.Launched.{Launch, data_at, passes, Chosen}
 
-pub record Has (kind : Kind) (rule' : Rule) : Type 0 where
+pub record Has (kind : CallKind) (rule' : Rule) : Type 0 where
   pub args : List ℕ
   pub are : words kind rule' ≡ Some args
 
 abbrev Given : Doing → Rule → Type 0
-Given doing rule' = (kind : Kind) → asks kind doing ≡ true → Has kind rule'
+Given doing rule' = (kind : CallKind) → asks kind doing ≡ true → Has kind rule'
 
 -- what names no path asks for nothing by path
 abbrev names : Wish → Doing → Bool
 names wish own = is_some (path_for wish own)
 
 abbrev names_path : Doing → Bool
-names_path own = names q.ToSee own || (names q.ToRead own || (names q.ToWrite own || names q.ToExec own))
+names_path own = names wish_to.See own || (names wish_to.Read own || (names wish_to.Write own || names wish_to.Exec own))
 
 pub no_wish : {X : Type 0} (own : Doing) → names_path own ≡ false → (wish : Wish) → asks (k.ForPath wish) own ≡ true → X
-no_wish own off q.ToSee h = let on : names_path own ≡ true = or_left _ _ h in cc
-no_wish own off q.ToRead h = let on : names_path own ≡ true = or_right (names q.ToSee own) _ (or_left _ _ h) in cc
-no_wish own off q.ToWrite h = let on : names_path own ≡ true = or_right (names q.ToSee own) _ (or_right (names q.ToRead own) _ (or_left _ _ h)) in cc
-no_wish own off q.ToExec h = let on : names_path own ≡ true = or_right (names q.ToSee own) _ (or_right (names q.ToRead own) _ (or_right (names q.ToWrite own) _ h)) in cc
+no_wish own off wish_to.See h = let on : names_path own ≡ true = or_left _ _ h in cc
+no_wish own off wish_to.Read h = let on : names_path own ≡ true = or_right (names wish_to.See own) _ (or_left _ _ h) in cc
+no_wish own off wish_to.Write h = let on : names_path own ≡ true = or_right (names wish_to.See own) _ (or_right (names wish_to.Read own) _ (or_left _ _ h)) in cc
+no_wish own off wish_to.Exec h = let on : names_path own ≡ true = or_right (names wish_to.See own) _ (or_right (names wish_to.Read own) _ (or_right (names wish_to.Write own) _ h)) in cc
 
 given-See : (path : Path) → Given (d.See path) (rule.Known known.See)
-given-See path (k.ForPath q.ToSee) h = record { args = _; are = refl }
-given-See path (k.ForPath q.ToRead) h = cc
-given-See path (k.ForPath q.ToWrite) h = cc
-given-See path (k.ForPath q.ToExec) h = cc
+given-See path (k.ForPath wish_to.See) h = record { args = _; are = refl }
+given-See path (k.ForPath wish_to.Read) h = cc
+given-See path (k.ForPath wish_to.Write) h = cc
+given-See path (k.ForPath wish_to.Exec) h = cc
 given-See path kind h = cc
 
 given-Open : (args : List ℕ) (at : Argument) (path : Path) → Given (d.Open (low_word args (place_of at)) path) (rule.Known (known.Open at))
-given-Open args at path (k.ForPath q.ToRead) h = record { args = _; are = refl }
-given-Open args at path (k.ForPath q.ToWrite) h = record { args = _; are = refl }
-given-Open args at path (k.ForPath q.ToSee) h = cc
-given-Open args at path (k.ForPath q.ToExec) h = cc
+given-Open args at path (k.ForPath wish_to.Read) h = record { args = _; are = refl }
+given-Open args at path (k.ForPath wish_to.Write) h = record { args = _; are = refl }
+given-Open args at path (k.ForPath wish_to.See) h = cc
+given-Open args at path (k.ForPath wish_to.Exec) h = cc
 given-Open args at path kind h = cc
 
 given-Create : (path : Path) → Given (d.Create path) (rule.Known known.Create)
-given-Create path (k.ForPath q.ToWrite) h = record { args = _; are = refl }
-given-Create path (k.ForPath q.ToSee) h = cc
-given-Create path (k.ForPath q.ToRead) h = cc
-given-Create path (k.ForPath q.ToExec) h = cc
+given-Create path (k.ForPath wish_to.Write) h = record { args = _; are = refl }
+given-Create path (k.ForPath wish_to.See) h = cc
+given-Create path (k.ForPath wish_to.Read) h = cc
+given-Create path (k.ForPath wish_to.Exec) h = cc
 given-Create path kind h = cc
 
 given-Truncate : (path : Path) → Given (d.Truncate path) (rule.Known known.Truncate)
-given-Truncate path (k.ForPath q.ToWrite) h = record { args = _; are = refl }
-given-Truncate path (k.ForPath q.ToSee) h = cc
-given-Truncate path (k.ForPath q.ToRead) h = cc
-given-Truncate path (k.ForPath q.ToExec) h = cc
+given-Truncate path (k.ForPath wish_to.Write) h = record { args = _; are = refl }
+given-Truncate path (k.ForPath wish_to.See) h = cc
+given-Truncate path (k.ForPath wish_to.Read) h = cc
+given-Truncate path (k.ForPath wish_to.Exec) h = cc
 given-Truncate path kind h = cc
 
 given-Execve : (path : Path) → Given (d.Execve path) (rule.Known known.Execve)
-given-Execve path (k.ForPath q.ToExec) h = record { args = _; are = refl }
-given-Execve path (k.ForPath q.ToSee) h = cc
-given-Execve path (k.ForPath q.ToRead) h = cc
-given-Execve path (k.ForPath q.ToWrite) h = cc
+given-Execve path (k.ForPath wish_to.Exec) h = record { args = _; are = refl }
+given-Execve path (k.ForPath wish_to.See) h = cc
+given-Execve path (k.ForPath wish_to.Read) h = cc
+given-Execve path (k.ForPath wish_to.Write) h = cc
 given-Execve path kind h = cc
 
 given-SetMode : (args : List ℕ) (at : Argument) → Given (d.SetMode (low_word args (place_of at))) (rule.Known (known.SetMode at))
@@ -128,12 +129,12 @@ given-Fork (k.ForPath wish) h = no_wish d.Fork refl wish h
 given-Fork kind h = cc
 
 given-Clone : (args : List ℕ) → Given (d.Clone (low_word args 0)) (rule.Known known.Clone)
-given-Clone args (k.ForSpace space) h = record { args = _; are = refl }
+given-Clone args (k.ForNamespace space) h = record { args = _; are = refl }
 given-Clone args (k.ForPath wish) h = no_wish (d.Clone (low_word args 0)) refl wish h
 given-Clone args kind h = cc
 
 given-Unshare : (args : List ℕ) → Given (d.Unshare (low_word args 0)) (rule.Known known.Unshare)
-given-Unshare args (k.ForSpace space) h = record { args = _; are = refl }
+given-Unshare args (k.ForNamespace space) h = record { args = _; are = refl }
 given-Unshare args (k.ForPath wish) h = no_wish (d.Unshare (low_word args 0)) refl wish h
 given-Unshare args kind h = cc
 
@@ -259,7 +260,7 @@ has_words (rule.Plain number) args payload doing f = cc
 
 -- filters that go by the number alone
 pub chosen_by_number : (launch : Launch) → ((abi nr : ℕ) (args other : List ℕ) → decision_on launch.stack (data_at launch abi nr args) ≡ decision_on launch.stack (data_at launch abi nr other))
-    → (kind : Kind) (abi nr : ℕ) (args : List ℕ) (rule' : Rule) (payload : Payload) (doing : Doing) → nr < 2 ^ 32 → AreWords args
+    → (kind : CallKind) (abi nr : ℕ) (args : List ℕ) (rule' : Rule) (payload : Payload) (doing : Doing) → nr < 2 ^ 32 → AreWords args
     → rule_at (calls_in launch.calls abi) nr ≡ Some rule' → doing_by rule' args payload ≡ Some doing → asks kind doing ≡ true → passes launch abi nr args → Chosen launch kind rule' abi nr
 chosen_by_number launch alike kind abi nr args rule' payload doing few fit at is asked p =
     let w = has_words rule' args payload doing is kind asked in

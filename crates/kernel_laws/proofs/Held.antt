@@ -15,10 +15,11 @@ use Rattle.kernel_laws.specs.Bound.{bounds_by, power_of, ceiling}
 use Rattle.kernel_laws.specs.Bounds.{Bounds, Keeps, KeepsIds, KeepsIn}
 use Rattle.kernel_laws.specs.Ceiling.{CanHave, IsClosed, IsStable, IsHeld, AreHeld}
 use Rattle.kernel_laws.specs.Denied.{Holds, SomeLiving, HasGid}
-use Rattle.kernel_laws.specs.Kinds.{TakesUid, TakesGid}
+use Rattle.question_types.specs.declared.kind.CallKind.TheVariants.{TakesUid, TakesGid}
+use Rattle.question_types.specs.declared.power.Power.{Power}
+use Rattle.question_types.specs.declared.power.Power.TheVariants.{None as Nowise, Unmount as Unmounting, Mount as Mounting}
+use Rattle.question_types.specs.declared.question.Question.TheVariants as asking
 use Rattle.kernel_laws.specs.Launched.{Launch, lets, launch_of, first_of, IsLaunched, IsLaunchedWorld}
-use Rattle.kernel_laws.specs.Questions as q
-use Rattle.kernel_laws.specs.Reach.{Power, Nowise, Unmounting, Mounting}
 use Rattle.kernel_model.specs.Runs.{run}
 use Rattle.kernel_model.specs.Step.{step}
 use Rattle.kernel_model.specs.World.{World, mounts_of, is_newer}
@@ -83,17 +84,17 @@ module _ (launch : Launch) (power : Power) (top : Bounds) (below : Mounts → Ty
       either (inl e) more = ap top.gid (sym (eqb-true group id e)) ∙ all.0
       either (inr e) more = more e
 
-  pub gid_within : (id : ℕ) → Holds (q.Gid id) now → top.gid id ≡ true
+  pub gid_within : (id : ℕ) → Holds (asking.Gid id) now → top.gid id ≡ true
   gid_within id s = let h = some_ids (λ process. HasGid id process.creds) s in by h.gids.effective h.groups s.has
     where
       by : top.gid s.process.creds.gids.effective ≡ true → AllByRecursion (λ id. top.gid id ≡ true) s.process.creds.groups → HasGid id s.process.creds → top.gid id ≡ true
       by own all (inl e) = ap top.gid (sym e) ∙ own
       by own all (inr e) = among id s.process.creds.groups all e
 
-  pub uid_within : (id : ℕ) → Holds (q.Uid id) now → top.uid id ≡ true
+  pub uid_within : (id : ℕ) → Holds (asking.Uid id) now → top.uid id ≡ true
   uid_within id s = ap top.uid (sym s.has) ∙ (some_ids (λ process. process.creds.uids.effective ≡ id) s).uids.effective
 
-  pub cap_within : (number : ℕ) → Holds (q.Cap number) now → has top.effective number ≡ true
+  pub cap_within : (number : ℕ) → Holds (asking.Cap number) now → has top.effective number ≡ true
   cap_within number s =
       let h = some_held (λ process. (has process.creds.effective number ≡ true) × (process.user ≡ 1)) s in
       let first : is_newer s.process ≡ false = ap (λ u. not (eqb u 1)) s.has.1 in

@@ -25,11 +25,12 @@ use Rattle.kernel_calls.specs.Doing.{Doing}
 use Rattle.kernel_model.specs.Effects.{Effect, Refuse, Answer, SetCreds, Push, Child, OwnTable, UserChild, OwnUser, Caller, effect_of, looks, creds_effect, table_effect, first_alone, with_cap_of, with_admin, with_own, socket_effect, socketcall_effect, clone_effect, unshare_effect, ambient_effect, prctl_effect, push_effect, seccomp_effect, newuser, other_spaces, newns}
 use Rattle.kernel_laws.specs.Bounds.{Bounds, KeepsIds}
 use Rattle.kernel_laws.specs.Ceiling.{TableIn, IsStable, IsSafe}
-use Rattle.kernel_laws.specs.Kinds as k
-use Rattle.kernel_laws.specs.Kinds.{Kind, asks}
+use Rattle.kernel_laws.specs.Kinds.{asks}
 use Rattle.kernel_laws.specs.Launched.{Launch, lets}
-use Rattle.kernel_laws.specs.Questions.{User}
-use Rattle.kernel_laws.specs.Reach.{Power}
+use Rattle.question_types.specs.declared.kind.CallKind.{CallKind}
+use Rattle.filter_rules.specs.declared.namespace_types.NamespaceType.TheVariants.{User}
+use Rattle.question_types.specs.declared.power.Power.{Power}
+use Rattle.question_types.specs.declared.kind.CallKind.TheVariants as k
 use Rattle.kernel_laws.proofs.Flags.{user_flag}
 use Rattle.kernel_laws.proofs.Newer.{ids-clear_ambient, ids-no_new_privs, ids-keepcaps, ids-lower, ids-drop_bounding, ids-raise, ids-capset, ids-exec}
 
@@ -68,7 +69,7 @@ module _ (launch : Launch) (power : Power) (top : Bounds) (below : Table → Typ
   safe_exec creds (Err errno) held = tt
   safe_exec creds (Ok program) held = safe_creds _ (ids-exec top creds held program.file program.no_suid)
 
-  module _ (creds : Creds) (flags : ℕ) (user : has_all newuser flags ≡ true → lets launch (k.ForSpace User) ≡ true) where
+  module _ (creds : Creds) (flags : ℕ) (user : has_all newuser flags ≡ true → lets launch (k.ForNamespace User) ≡ true) where
     safe_clone : Safe (clone_effect creds flags)
     safe_clone =
         safe_if (has_some 0x1_0000 flags) (Refuse 22) _ (λ e. tt) λ e. safe_if (has_some newuser flags) (UserChild (has_some newns flags)) _ (λ e. user (user_flag flags e)) λ e.
@@ -132,7 +133,7 @@ module _ (launch : Launch) (power : Power) (top : Bounds) (below : Table → Typ
 
     -- the kinds that a call asks for are let through
     abbrev Through : Doing → Type 0
-    Through doing = (kind : Kind) → asks kind doing ≡ true → lets launch kind ≡ true
+    Through doing = (kind : CallKind) → asks kind doing ≡ true → lets launch kind ≡ true
 
     abbrev pub newer_caller : Creds → List (List Insn) → Caller
     newer_caller creds stack = record { creds = creds; stack = stack; table = table; newer = true; owns = owns }
@@ -154,8 +155,8 @@ module _ (launch : Launch) (power : Power) (top : Bounds) (below : Table → Typ
     safe_newer families creds stack (d.Socketcall operation family) held p = safe_socketcall creds operation _
     safe_newer families creds stack d.Enter held p = tt
     safe_newer families creds stack d.Fork held p = tt
-    safe_newer families creds stack (d.Clone flags) held p = safe_clone creds flags (p (k.ForSpace User))
-    safe_newer families creds stack (d.Unshare flags) held p = safe_unshare creds flags (p (k.ForSpace User))
+    safe_newer families creds stack (d.Clone flags) held p = safe_clone creds flags (p (k.ForNamespace User))
+    safe_newer families creds stack (d.Unshare flags) held p = safe_unshare creds flags (p (k.ForNamespace User))
     safe_newer families creds stack d.Exit held p = tt
     safe_newer families creds stack (d.Mount source target flags) held p = safe_mount creds source target flags
     safe_newer families creds stack (d.Umount path flags) held p = safe_umount creds path flags

@@ -20,7 +20,9 @@ use Rattle.kern_mounts.specs.Backing.{AreBacked}
 use Rattle.kern_mounts.proofs.Backing.{backed_first}
 use Rattle.kern_mounts.proofs.Calls.{changes_backed, path_backed}
 use Rattle.kernel_laws.specs.Blind.{SeesBelow}
-use Rattle.kernel_laws.specs.Questions.{Wish}
+use Rattle.question_types.specs.declared.wish.Wish.{Wish}
+use Rattle.question_types.specs.declared.power.Power.{Power}
+use Rattle.question_types.specs.declared.power.Power.TheVariants.{None as Nowise, Unmount as Unmounting, Mount as Mounting}
 use Rattle.kernel_laws.specs.Launched.{Launch}
 use Rattle.kernel_laws.specs.Ceiling.{IsStable}
 use Rattle.site_table.specs.Table.{row_at}
@@ -28,7 +30,7 @@ use Rattle.kern_mounts.specs.Unmounts.{IsOrdered}
 use Rattle.kern_mounts.specs.Changes.{still, then_locked}
 use Rattle.kern_mounts.proofs.Plain.{plain_again}
 use Rattle.kern_files.proofs.MountsCall.{mount_changes, umount_changes}
-use Rattle.kernel_laws.specs.Reach.{Leads, Power, Nowise, Unmounting, Mounting}
+use Rattle.kernel_laws.specs.Reach.{Leads}
 use Rattle.kernel_laws.specs.Showing.{shown_by, shows_from}
 use Rattle.kernel_laws.specs.NewerTables.{CanHaveNewer, FirstCopies, CallsKeep, RowsAreReached, FoldersAreSeen}
 use Rattle.kernel_laws.proofs.Showing.{widens_by, shown_more, table_shows, part_shows, part_ordered, reach_shown, exposes_shown}

@@ -17,8 +17,10 @@ use Rattle.kern_mounts.proofs.Entries.{entry_leads}
 use Rattle.kern_mounts.specs.Split.{Table}
 use Rattle.kern_mounts.specs.Unmounts.{IsTrimmed}
 use Rattle.kern_files.specs.Looking.{flags_at, flags_by}
-use Rattle.kernel_laws.specs.Questions.{Wish}
-use Rattle.kernel_laws.specs.Reach.{fits, Leads, shows_row, serves, reach_from, Power, Nowise, Unmounting, Mounting, reaches}
+use Rattle.question_types.specs.declared.wish.Wish.{Wish}
+use Rattle.question_types.specs.declared.power.Power.{Power}
+use Rattle.question_types.specs.declared.power.Power.TheVariants.{None as Nowise, Unmount as Unmounting, Mount as Mounting}
+use Rattle.kernel_laws.specs.Reach.{fits, Leads, shows_row, serves, reach_from, reaches}
 use Rattle.kernel_laws.specs.Ceiling.{CanHave}
 use Rattle.kern_mounts.proofs.Paths.{behind}
 use Rattle.kern_mounts.proofs.Splits.{None_have, split_some, split_of}

@@ -12,7 +12,7 @@ use Rattle.kern_mounts.specs.declared.step.What.{What}
 use Rattle.kern_mounts.specs.declared.step.What.TheVariants.{Host, Empty, Hidden}
 use Rattle.kern_mounts.specs.declared.step.MountStep.{MountStep}
 use Rattle.kern_mounts.specs.Split.{Table, split_at}
-use Rattle.kernel_laws.specs.Questions.{Wish}
+use Rattle.question_types.specs.declared.wish.Wish.{Wish}
 use Rattle.kernel_laws.specs.Reach.{fits, Leads, shows_row, serves, reach_from}
 use Rattle.kernel_laws.specs.ReachLaws.{ReachOfTheTable, ReachByUnmounts}
 use Rattle.kern_mounts.proofs.Paths.{behind}

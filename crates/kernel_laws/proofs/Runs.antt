@@ -26,9 +26,11 @@ use Rattle.kernel_model.specs.declared.reply.Reply.{Reply}
 use Rattle.linux_numbers.specs.Errnos.{eagain, enospc}
 use Rattle.kernel_model.specs.Step.{most_processes, most_namespaces, child_in, child_of, moved_in, has_user_left, applied, answered, decided, data_of, step_by, step, decision_of}
 use Rattle.kernel_model.specs.Runs.{run}
-use Rattle.kernel_laws.specs.Reach.{Power}
-use Rattle.kernel_laws.specs.Kinds.{Kind, asks, TakesUid, TakesGid, ForSpace}
-use Rattle.kernel_laws.specs.Questions.{User}
+use Rattle.question_types.specs.declared.power.Power.{Power}
+use Rattle.question_types.specs.declared.kind.CallKind.{CallKind}
+use Rattle.question_types.specs.declared.kind.CallKind.TheVariants.{TakesUid, TakesGid, ForNamespace}
+use Rattle.filter_rules.specs.declared.namespace_types.NamespaceType.TheVariants.{User}
+use Rattle.kernel_laws.specs.Kinds.{asks}
 use Rattle.kernel_laws.specs.Launched.{Launch, data_at, lets, can_make_user}
 use Rattle.kernel_laws.specs.Ceiling.{CanHave, CanHold, IsClosed, IsHeld, AreHeld, IsSafe, IsStable, TableIn}
 use Rattle.kernel_laws.specs.Spared.{Uses, Spares, AllSpare}
@@ -220,7 +222,7 @@ module _ (launch : Launch) (power : Power) (top : Bounds) (below : Table → Typ
     held_user : (world : World) → All world → All (with_user world)
     held_user world held = record { calls = held.calls; site = held.site; numbers = held.numbers; each = held.each }
 
-    pub can_make_one : (world : World) → All world → lets launch (ForSpace User) ≡ true → has_user_left world ≡ true → can_make_user launch ≡ true
+    pub can_make_one : (world : World) → All world → lets launch (ForNamespace User) ≡ true → has_user_left world ≡ true → can_make_user launch ≡ true
     can_make_one world held user left =
         let some : nat_lt 0 world.site.user_namespaces ≡ true = above_some world.users world.site.user_namespaces left in
         and_from _ _ (ap (λ (s : Site). nat_lt 0 s.user_namespaces) (sym held.site) ∙ some) user
@@ -229,7 +231,7 @@ module _ (launch : Launch) (power : Power) (top : Bounds) (below : Table → Typ
         above_some a b e = grind (arith, nat_tests)
 
     -- and the process in it
-    held_entered : (world : World) (process : Process) → All world → Held world.tables world.owners process → lets launch (ForSpace User) ≡ true → has_user_left world ≡ true → Held world.tables world.owners (entered_by process world.users)
+    held_entered : (world : World) (process : Process) → All world → Held world.tables world.owners process → lets launch (ForNamespace User) ≡ true → has_user_left world ≡ true → Held world.tables world.owners (entered_by process world.users)
     held_entered world process held h user left = record {
       creds = let P : Bool → Type 0 = λ b. KeepsIn b top (entered process.creds) in subst P (sym is_new) (ids-entered top process.creds (ids_of (is_newer process) top process.creds h.creds));
       newer = h.newer;
@@ -296,7 +298,7 @@ module _ (launch : Launch) (power : Power) (top : Bounds) (below : Table → Typ
   module _ (filters : LetsThrough launch) where
     -- what a living process asks for, once its stack lets it through
     pub through_of : (world : World) (call : Call) (process : Process) → IsCall call → All world → Held world.tables world.owners process → decision_of world call process ≡ decision.Pass
-        → (doing : Doing) → asked_of world.calls call ≡ Does doing → (kind : Kind) → asks kind doing ≡ true → lets launch kind ≡ true
+        → (doing : Doing) → asked_of world.calls call ≡ Does doing → (kind : CallKind) → asks kind doing ≡ true → lets launch kind ≡ true
     through_of world call process fit held h passed doing is kind asked =
         let own : decision_on (launch.stack ++ h.newer) (data_at launch call.abi call.nr call.args) ≡ decision.Pass =
         ap (λ (c : calls.Table). decision_on (launch.stack ++ h.newer) (record { nr = call.nr; arch = calls.arch_of c call.abi; ip = 0; args = call.args })) (sym held.calls)
@@ -310,7 +312,7 @@ module _ (launch : Launch) (power : Power) (top : Bounds) (below : Table → Typ
       UsesIfLet world call process = is_newer process ≡ false → decision_of world call process ≡ decision.Pass → (doing : Doing) → asked_of world.calls call ≡ Does doing → Uses uids gids process.creds doing
 
       -- what a process asks for is safe, by its user namespace and by that which its mount namespace belongs to
-      safe_of : (world : World) (call : Call) (process : Process) (held : All world) (h : Held world.tables world.owners process) → {doing : Doing} → ((kind : Kind) → asks kind doing ≡ true → lets launch kind ≡ true)
+      safe_of : (world : World) (call : Call) (process : Process) (held : All world) (h : Held world.tables world.owners process) → {doing : Doing} → ((kind : CallKind) → asks kind doing ≡ true → lets launch kind ≡ true)
           → (is_newer process ≡ false → Uses uids gids process.creds doing) → IsSafe launch power top below (is_newer process) (eqb h.owner 1) (effect_of (host_of world) (caller_of world process) doing)
       safe_of world call process held h {doing = doing} through uses =
           let P : Site → Type 0 = λ s. IsSafe launch power top below (is_newer process) (eqb h.owner 1) (effect_of (record { rows = row_at s.rows; families = world.calls.families }) (caller_of world process) doing) in

@@ -21,8 +21,13 @@ use Rattle.kernel_calls.specs.declared.payload.Payload.{Payload}
 use Rattle.kernel_calls.specs.Doing as d
 use Rattle.kernel_calls.specs.Doing.{Doing, doing_by}
 use Rattle.kernel_laws.specs.FirstChoice.{Means, SettingsChoose}
-use Rattle.kernel_laws.specs.Kinds as k
-use Rattle.kernel_laws.specs.Kinds.{Kind, asks, words, one_word, no_words, AreWords}
+use Rattle.question_types.specs.declared.kind.CallKind.{CallKind}
+use Rattle.question_types.specs.declared.kind.CallKind.TheVariants as k
+use Rattle.filter_rules.specs.declared.namespace_types.NamespaceType.{NamespaceType}
+use Rattle.filter_rules.specs.declared.namespace_types.NamespaceType.TheVariants as namespace
+use Rattle.question_types.specs.declared.wish.Wish.TheVariants as wish_to
+use Rattle.question_types.specs.declared.wish.Wish.{Wish}
+use Rattle.kernel_laws.specs.Kinds.{asks, words, one_word, no_words, AreWords}
 use Rattle.call_table.specs.Table.{Abi, Table, native, abi_at, arch_of, calls_in}
 use Rattle.filter_rules.specs.Wanted.{other_action}
 use Rattle.std.specs.Option.{option_to_list}
@@ -63,35 +68,35 @@ word_words at value h = record { count = length_set no_words at value; each = Al
 by_same : (one first : List ℕ) → AreWords one → Some one ≡ Some first → AreWords first
 by_same one first h e = let same : one ≡ first = cc in subst AreWords same h
 
-flag_small : (space : q.Space) → q.flag_of space < 2 ^ 64
-flag_small q.Cgroup = omega arith
-flag_small q.Ipc = omega arith
-flag_small q.Net = omega arith
-flag_small q.Mnt = omega arith
-flag_small q.Pid = omega arith
-flag_small q.User = omega arith
-flag_small q.Uts = omega arith
+flag_small : (space : NamespaceType) → q.flag_of space < 2 ^ 64
+flag_small namespace.Cgroup = omega arith
+flag_small namespace.Ipc = omega arith
+flag_small namespace.Net = omega arith
+flag_small namespace.Mnt = omega arith
+flag_small namespace.Pid = omega arith
+flag_small namespace.User = omega arith
+flag_small namespace.Uts = omega arith
 
 -- the family of a kind, where a word of the call is it
-abbrev family_or : Kind → Rule → ℕ
+abbrev family_or : CallKind → Rule → ℕ
 family_or (k.ForFamily family) (rule.Known known.Socket) = family
 family_or kind rule' = 0
 
-path_fit : (wish : q.Wish) (call : CallRule) (first : List ℕ) → words (k.ForPath wish) (rule.Known call) ≡ Some first → AreWords first
-path_fit q.ToSee known.See first e = by_same no_words first bare_words e
-path_fit q.ToRead (known.Open at) first e = by_same no_words first bare_words e
-path_fit q.ToWrite (known.Open at) first e = by_same (one_word (place_of at) 1) first (word_words (place_of at) 1 (omega arith)) e
-path_fit q.ToWrite known.Create first e = by_same no_words first bare_words e
-path_fit q.ToWrite known.Truncate first e = by_same no_words first bare_words e
-path_fit q.ToExec known.Execve first e = by_same no_words first bare_words e
+path_fit : (wish : Wish) (call : CallRule) (first : List ℕ) → words (k.ForPath wish) (rule.Known call) ≡ Some first → AreWords first
+path_fit wish_to.See known.See first e = by_same no_words first bare_words e
+path_fit wish_to.Read (known.Open at) first e = by_same no_words first bare_words e
+path_fit wish_to.Write (known.Open at) first e = by_same (one_word (place_of at) 1) first (word_words (place_of at) 1 (omega arith)) e
+path_fit wish_to.Write known.Create first e = by_same no_words first bare_words e
+path_fit wish_to.Write known.Truncate first e = by_same no_words first bare_words e
+path_fit wish_to.Exec known.Execve first e = by_same no_words first bare_words e
 path_fit wish call first e = cc
 
-known_fit : (kind : Kind) (call : CallRule) (first : List ℕ) → family_or kind (rule.Known call) < 2 ^ 64 → words kind (rule.Known call) ≡ Some first → AreWords first
+known_fit : (kind : CallKind) (call : CallRule) (first : List ℕ) → family_or kind (rule.Known call) < 2 ^ 64 → words kind (rule.Known call) ≡ Some first → AreWords first
 known_fit (k.ForPath wish) call first h e = path_fit wish call first e
 known_fit (k.ForFamily family) known.Socket first h e = by_same (one_word 0 family) first (word_words 0 family h) e
 known_fit (k.ForFamily family) known.Socketcall first h e = by_same (one_word 0 1) first (word_words 0 1 (omega arith)) e
-known_fit (k.ForSpace space) known.Clone first h e = by_same (one_word 0 (q.flag_of space)) first (word_words 0 (q.flag_of space) (flag_small space)) e
-known_fit (k.ForSpace space) known.Unshare first h e = by_same (one_word 0 (q.flag_of space)) first (word_words 0 (q.flag_of space) (flag_small space)) e
+known_fit (k.ForNamespace space) known.Clone first h e = by_same (one_word 0 (q.flag_of space)) first (word_words 0 (q.flag_of space) (flag_small space)) e
+known_fit (k.ForNamespace space) known.Unshare first h e = by_same (one_word 0 (q.flag_of space)) first (word_words 0 (q.flag_of space) (flag_small space)) e
 known_fit k.MapsWx known.Map first h e = by_same (one_word 2 6) first (word_words 2 6 (omega arith)) e
 known_fit k.ProtectsX known.Protect first h e = by_same (one_word 2 4) first (word_words 2 4 (omega arith)) e
 known_fit k.AttachesX known.Attach first h e = by_same (one_word 2 0x8000) first (word_words 2 0x8000 (omega arith)) e
@@ -108,15 +113,15 @@ known_fit k.TakesGid known.Setresgid first h e = by_same no_words first bare_wor
 known_fit k.TakesGid known.Setgroups first h e = by_same no_words first bare_words e
 known_fit kind call first h e = cc
 
-plain_fit : (kind : Kind) (cap' : Option ℕ) (first : List ℕ) → words kind (rule.Plain cap') ≡ Some first → AreWords first
+plain_fit : (kind : CallKind) (cap' : Option ℕ) (first : List ℕ) → words kind (rule.Plain cap') ≡ Some first → AreWords first
 plain_fit k.PlainCall cap' first e = by_same no_words first bare_words e
-plain_fit (k.ForPath q.ToSee) cap' first e = cc
-plain_fit (k.ForPath q.ToRead) cap' first e = cc
-plain_fit (k.ForPath q.ToWrite) cap' first e = cc
-plain_fit (k.ForPath q.ToExec) cap' first e = cc
+plain_fit (k.ForPath wish_to.See) cap' first e = cc
+plain_fit (k.ForPath wish_to.Read) cap' first e = cc
+plain_fit (k.ForPath wish_to.Write) cap' first e = cc
+plain_fit (k.ForPath wish_to.Exec) cap' first e = cc
 plain_fit kind cap' first e = cc
 
-words_fit : (kind : Kind) (rule' : Rule) (first : List ℕ) → family_or kind rule' < 2 ^ 64 → words kind rule' ≡ Some first → AreWords first
+words_fit : (kind : CallKind) (rule' : Rule) (first : List ℕ) → family_or kind rule' < 2 ^ 64 → words kind rule' ≡ Some first → AreWords first
 words_fit kind (rule.Known call) first h e = known_fit kind call first h e
 words_fit kind (rule.Plain cap') first h e = plain_fit kind cap' first e
 
@@ -127,7 +132,7 @@ low_small args at = below (slice_index args at)
     below word = omega arith
 
 -- a family that a call asks for is a low word
-family_small : (kind : Kind) (args first : List ℕ) (rule' : Rule) (payload : Payload) (doing : Doing) → words kind rule' ≡ Some first → doing_by rule' args payload ≡ Some doing → asks kind doing ≡ true → family_or kind rule' < 2 ^ 64
+family_small : (kind : CallKind) (args first : List ℕ) (rule' : Rule) (payload : Payload) (doing : Doing) → words kind rule' ≡ Some first → doing_by rule' args payload ≡ Some doing → asks kind doing ≡ true → family_or kind rule' < 2 ^ 64
 family_small (k.ForFamily family) args first (rule.Known known.Socket) payload doing e is asked =
     let own = bare_is doing (d.Socket (low_word args 0)) payload is in
     let same : low_word args 0 ≡ family = eqb-true (low_word args 0) family (ap (asks (k.ForFamily family)) own ∙ asked) in

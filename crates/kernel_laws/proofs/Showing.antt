@@ -18,8 +18,11 @@ use Rattle.kern_mounts.specs.Keeping.{lacks, AreAmong}
 use Rattle.kern_mounts.specs.Backing.{Shows, Widens, AreShown}
 use Rattle.kern_mounts.proofs.Keeping.{among_trans}
 use Rattle.kernel_laws.specs.Blind.{is_clear, shows_below, exposes}
-use Rattle.kernel_laws.specs.Questions.{Wish, ToSee, ToRead, ToWrite, ToExec}
-use Rattle.kernel_laws.specs.Reach.{fits, shows_row, serves, reach_from, Power, Nowise, Unmounting, Mounting}
+use Rattle.question_types.specs.declared.wish.Wish.{Wish}
+use Rattle.question_types.specs.declared.wish.Wish.TheVariants.{See as ToSee, Read as ToRead, Write as ToWrite, Exec as ToExec}
+use Rattle.question_types.specs.declared.power.Power.{Power}
+use Rattle.question_types.specs.declared.power.Power.TheVariants.{None as Nowise, Unmount as Unmounting, Mount as Mounting}
+use Rattle.kernel_laws.specs.Reach.{fits, shows_row, serves, reach_from}
 use Rattle.kernel_laws.specs.Showing.{shows_from, shown_by}
 
 -- ---- more flags

@@ -35,10 +35,15 @@ use Rattle.kernel_model.specs.declared.reply.Reply.{Reply}
 use Rattle.kernel_model.specs.declared.reply.Reply.TheVariants as reply
 use Rattle.kernel_laws.proofs.Flags.{user_flag}
 use Rattle.kernel_model.specs.Runs.{IsDone}
-use Rattle.kernel_laws.specs.Questions as q
-use Rattle.kernel_laws.specs.Questions.{Wish, ToSee, ToRead, ToWrite, ToExec, Space, flag_of}
+use Rattle.question_types.specs.declared.wish.Wish.{Wish}
+use Rattle.question_types.specs.declared.wish.Wish.TheVariants.{See as ToSee, Read as ToRead, Write as ToWrite, Exec as ToExec}
+use Rattle.filter_rules.specs.declared.namespace_types.NamespaceType.{NamespaceType}
+use Rattle.question_types.specs.declared.power.Power.{Power}
+use Rattle.question_types.specs.declared.power.Power.TheVariants.{None as Nowise, Unmount as Unmounting, Mount as Mounting}
+use Rattle.filter_rules.specs.declared.namespace_types.NamespaceType.TheVariants as namespace
+use Rattle.kernel_laws.specs.Questions.{flag_of}
 use Rattle.kernel_laws.specs.Denied.{path_for, asks_space}
-use Rattle.kernel_laws.specs.Reach.{fits, Power, Nowise, Unmounting, Mounting}
+use Rattle.kernel_laws.specs.Reach.{fits}
 use Rattle.kernel_laws.specs.Bound.{is_user}
 use Rattle.kernel_laws.specs.Ceiling.{CanHave}
 use Rattle.kernel_laws.proofs.Ran.{ran_program}
@@ -185,41 +190,41 @@ on_flag number mask flags m h =
     let on : has (cut flags mask) number ≡ true = ap (λ s. has s number) same ∙ m in
     (and_parts (has flags number) (has mask number) (sym (has_cut flags mask number) ∙ on)).0
 
-bit_of : Space → ℕ
-bit_of q.Cgroup = 25
-bit_of q.Ipc = 27
-bit_of q.Net = 30
-bit_of q.Mnt = 17
-bit_of q.Pid = 29
-bit_of q.User = 28
-bit_of q.Uts = 26
+bit_of : NamespaceType → ℕ
+bit_of namespace.Cgroup = 25
+bit_of namespace.Ipc = 27
+bit_of namespace.Net = 30
+bit_of namespace.Mnt = 17
+bit_of namespace.Pid = 29
+bit_of namespace.User = 28
+bit_of namespace.Uts = 26
 
-own_bit : (space : Space) → has (flag_of space) (bit_of space) ≡ true
+own_bit : (space : NamespaceType) → has (flag_of space) (bit_of space) ≡ true
 unfolding has bit_of
-own_bit q.Cgroup = refl
-own_bit q.Ipc = refl
-own_bit q.Net = refl
-own_bit q.Mnt = refl
-own_bit q.Pid = refl
-own_bit q.User = refl
-own_bit q.Uts = refl
+own_bit namespace.Cgroup = refl
+own_bit namespace.Ipc = refl
+own_bit namespace.Net = refl
+own_bit namespace.Mnt = refl
+own_bit namespace.Pid = refl
+own_bit namespace.User = refl
+own_bit namespace.Uts = refl
 
 -- a user namespace, or one of the others
-user_or_other : (space : Space) → (has newuser (bit_of space) ≡ true) ⊎ ((has other_spaces (bit_of space) ≡ true) × (is_user space ≡ false))
+user_or_other : (space : NamespaceType) → (has newuser (bit_of space) ≡ true) ⊎ ((has other_spaces (bit_of space) ≡ true) × (is_user space ≡ false))
 unfolding has bit_of
-user_or_other q.Cgroup = inr (refl, refl)
-user_or_other q.Ipc = inr (refl, refl)
-user_or_other q.Net = inr (refl, refl)
-user_or_other q.Mnt = inr (refl, refl)
-user_or_other q.Pid = inr (refl, refl)
-user_or_other q.User = inl refl
-user_or_other q.Uts = inr (refl, refl)
+user_or_other namespace.Cgroup = inr (refl, refl)
+user_or_other namespace.Ipc = inr (refl, refl)
+user_or_other namespace.Net = inr (refl, refl)
+user_or_other namespace.Mnt = inr (refl, refl)
+user_or_other namespace.Pid = inr (refl, refl)
+user_or_other namespace.User = inl refl
+user_or_other namespace.Uts = inr (refl, refl)
 
 -- a user namespace is asked for, and one was left; or another, by CAP_SYS_ADMIN
-abbrev pub MadeSpace : World → Space → Process → Doing → Type 0
-MadeSpace world space process doing = ((asks_space q.User doing ≡ true) × (has_user_left world ≡ true)) ⊎ ((is_user space ≡ false) × (has process.creds.effective 21 ≡ true))
+abbrev pub MadeSpace : World → NamespaceType → Process → Doing → Type 0
+MadeSpace world space process doing = ((asks_space namespace.User doing ≡ true) × (has_user_left world ≡ true)) ⊎ ((is_user space ≡ false) × (has process.creds.effective 21 ≡ true))
 
-module _ (world : World) (pid : ℕ) (process : Process) (space : Space) (flags : ℕ) (doing : Doing) (own none' user : Effect) (asked : has_all (flag_of space) flags ≡ true) (is : has_all newuser flags ≡ true → asks_space q.User doing ≡ true)
+module _ (world : World) (pid : ℕ) (process : Process) (space : NamespaceType) (flags : ℕ) (doing : Doing) (own none' user : Effect) (asked : has_all (flag_of space) flags ≡ true) (is : has_all newuser flags ≡ true → asks_space namespace.User doing ≡ true)
     (left : DoneBy world pid process user → has_user_left world ≡ true) where
   bit : has flags (bit_of space) ≡ true
   bit = on_flag (bit_of space) (flag_of space) flags (own_bit space) asked
@@ -257,7 +262,7 @@ own_left world pid process own h = by (has_user_left world) h
     by true h = refl
     by false h = absurd h
 
-pub space_done : (world : World) (pid : ℕ) (process : Process) (space : Space) (doing : Doing) → asks_space space doing ≡ true
+pub space_done : (world : World) (pid : ℕ) (process : Process) (space : NamespaceType) (doing : Doing) → asks_space space doing ≡ true
     → DoneBy world pid process (effect_of (host_of world) (caller_of world process) doing) → MadeSpace world space process doing
 space_done world pid process space (d.Unshare flags) asked h =
     let one = unless world pid process (has_some 0x81fd_ffff flags) 22 (cond (has_some newuser flags) (f.OwnUser (has_some newns flags)) (cond (has_some other_spaces flags) (with_admin process.creds (cond (has_some newns flags) f.OwnTable (f.Answer 0))) (f.Answer 0))) h in

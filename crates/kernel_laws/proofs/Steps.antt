@@ -31,13 +31,15 @@ use Rattle.linux_numbers.specs.Errnos.{einval}
 use Rattle.kern_files.specs.declared.program.Program.{Program}
 use Rattle.kern_files.specs.Executing.{marks_of, program_answer, executed, exec_answer}
 use Rattle.kern_files.specs.UmountCall.{mnt_detach}
-use Rattle.kernel_laws.specs.Reach.{Power, Nowise, Unmounting, Mounting}
-use Rattle.kernel_laws.specs.Kinds as k
-use Rattle.kernel_laws.specs.Kinds.{Kind, asks}
+use Rattle.question_types.specs.declared.power.Power.{Power}
+use Rattle.question_types.specs.declared.power.Power.TheVariants.{None as Nowise, Unmount as Unmounting, Mount as Mounting}
+use Rattle.question_types.specs.declared.kind.CallKind.{CallKind}
+use Rattle.filter_rules.specs.declared.namespace_types.NamespaceType.TheVariants.{User}
+use Rattle.question_types.specs.declared.kind.CallKind.TheVariants as k
+use Rattle.kernel_laws.specs.Kinds.{asks}
 use Rattle.kernel_laws.specs.Launched.{Launch, lets}
 use Rattle.kernel_laws.specs.Ceiling.{CanHave, CanHold, IsClosed, IsSafe}
 use Rattle.kernel_laws.specs.Spared.{Uses}
-use Rattle.kernel_laws.specs.Questions.{User}
 use Rattle.kernel_laws.proofs.Flags.{user_flag}
 use Rattle.kernel_laws.proofs.Kept.{kept-clear_ambient, kept-no_new_privs, kept-keepcaps, kept-lower, kept-drop_bounding, kept-raise, kept-capset}
 use Rattle.kernel_laws.proofs.KeptIds.{kept-setuid, kept-setresuid, kept-setgid, kept-setresgid, kept-setgroups}
@@ -97,12 +99,12 @@ module _ (launch : Launch) (may_uids may_gids : Bool) (power : Power) (top : Bou
           (record { table = table; path = path; allowed = allowed; found = e; exe = ran.exe; runs = ran.runs; suid = grind arith })
           (not_refused creds (marks_of target) (flags_at table path).no_suid held h r)))
 
-  safe_clone : (creds : Creds) (flags : ℕ) → Keeps top creds → (has_all newuser flags ≡ true → lets launch (k.ForSpace User) ≡ true) → Safe (clone_effect creds flags)
+  safe_clone : (creds : Creds) (flags : ℕ) → Keeps top creds → (has_all newuser flags ≡ true → lets launch (k.ForNamespace User) ≡ true) → Safe (clone_effect creds flags)
   safe_clone creds flags held user =
       safe_if (has_some 0x1_0000 flags) (Refuse 22) _ (λ e. tt) λ e. safe_if (has_some newuser flags) (UserChild (has_some newns flags)) _ (λ e. user (user_flag flags e)) λ e.
       safe_if (has_some other_spaces flags) (with_admin creds (Child (has_some newns flags))) (Child false) (λ e. safe_admin creds (Child (has_some newns flags)) held (λ h. tt)) (λ e. tt)
 
-  safe_unshare : (creds : Creds) (flags : ℕ) → Keeps top creds → (has_all newuser flags ≡ true → lets launch (k.ForSpace User) ≡ true) → Safe (unshare_effect creds flags)
+  safe_unshare : (creds : Creds) (flags : ℕ) → Keeps top creds → (has_all newuser flags ≡ true → lets launch (k.ForNamespace User) ≡ true) → Safe (unshare_effect creds flags)
   safe_unshare creds flags held user =
       safe_if (has_some 0x81fd_ffff flags) (Refuse 22) _ (λ e. tt) λ e. safe_if (has_some newuser flags) (OwnUser (has_some newns flags)) _ (λ e. user (user_flag flags e)) λ e.
       safe_if (has_some other_spaces flags) (with_admin creds (cond (has_some newns flags) OwnTable (Answer 0))) (Answer 0)
@@ -163,7 +165,7 @@ module _ (launch : Launch) (may_uids may_gids : Bool) (power : Power) (top : Bou
 
   -- the kinds that a call asks for are let through
   abbrev pub Through : Doing → Type 0
-  Through doing = (kind : Kind) → asks kind doing ≡ true → lets launch kind ≡ true
+  Through doing = (kind : CallKind) → asks kind doing ≡ true → lets launch kind ≡ true
 
   -- a process of the first user namespace, whose mount namespace belongs to that
   abbrev pub first_caller : Creds → List (List Insn) → Mounts → Caller
@@ -186,8 +188,8 @@ module _ (launch : Launch) (may_uids may_gids : Bool) (power : Power) (top : Bou
   safe_effect families creds stack table (d.Socketcall operation family) held allowed p u = safe_socketcall creds operation _
   safe_effect families creds stack table d.Enter held allowed p u = tt
   safe_effect families creds stack table d.Fork held allowed p u = tt
-  safe_effect families creds stack table (d.Clone flags) held allowed p u = safe_clone creds flags held (p (k.ForSpace User))
-  safe_effect families creds stack table (d.Unshare flags) held allowed p u = safe_unshare creds flags held (p (k.ForSpace User))
+  safe_effect families creds stack table (d.Clone flags) held allowed p u = safe_clone creds flags held (p (k.ForNamespace User))
+  safe_effect families creds stack table (d.Unshare flags) held allowed p u = safe_unshare creds flags held (p (k.ForNamespace User))
   safe_effect families creds stack table d.Exit held allowed p u = tt
   safe_effect families creds stack table (d.Mount source target flags) held allowed p u =
       safe_admin creds (table_effect (mounts_after_mount (row_at launch.site.rows) table source target flags)) held (λ h. safe_mount table source target flags allowed (closed.mount (p k.ChangesMounts refl) h))

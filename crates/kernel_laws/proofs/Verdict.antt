@@ -36,12 +36,19 @@ use Rattle.kern_files.specs.Executing.{marks_of}
 use Rattle.kernel_model.specs.World.{World, mounts_of, table_of, host_of, caller_of, is_newer}
 use Rattle.kernel_model.specs.declared.process.Process.{Process}
 use Rattle.kernel_model.specs.Runs.{moment_at, run}
-use Rattle.kernel_laws.specs.Questions as q
-use Rattle.kernel_laws.specs.Questions.{Wish, ToSee, ToRead, ToWrite, ToExec, Space, Question, is_plain, IsAsked}
+use Rattle.question_types.specs.declared.wish.Wish.{Wish}
+use Rattle.question_types.specs.declared.wish.Wish.TheVariants.{See as ToSee, Read as ToRead, Write as ToWrite, Exec as ToExec}
+use Rattle.filter_rules.specs.declared.namespace_types.NamespaceType.{NamespaceType}
+use Rattle.question_types.specs.declared.question.Question.{Question}
+use Rattle.question_types.specs.declared.power.Power.{Power}
+use Rattle.question_types.specs.declared.kind.CallKind.{CallKind}
+use Rattle.question_types.specs.declared.question.Question.TheVariants as asking
+use Rattle.filter_rules.specs.declared.namespace_types.NamespaceType.TheVariants as namespace
+use Rattle.question_types.specs.declared.kind.CallKind.TheVariants as k
+use Rattle.kernel_laws.specs.Questions.{is_plain, IsAsked}
 use Rattle.kernel_laws.specs.Denied.{path_for, ReachesRow, ReachesCall, Performs, Reaches, Holds, IsDenied, is_family, asks_family, asks_space, asks_map, asks_protect, asks_attach, asks_realtime, asks_personality, asks_mode}
-use Rattle.kernel_laws.specs.Reach.{Power, Leads, reaches}
-use Rattle.kernel_laws.specs.Kinds as k
-use Rattle.kernel_laws.specs.Kinds.{Kind, asks, asks_number}
+use Rattle.kernel_laws.specs.Reach.{Leads, reaches}
+use Rattle.kernel_laws.specs.Kinds.{asks, asks_number}
 use Rattle.kernel_laws.specs.Launched.{Launch, data_at, lets, lets_line, can_make_user, IsLaunched, launch_of}
 use Rattle.kernel_laws.specs.Ceiling.{IsHeld, IsStable, TableIn}
 use Rattle.kernel_laws.specs.Bound.{power_of, ceiling, is_open, can_reach, is_to_exec, is_user, is_mounting, is_barred, can_have_cap, can_have_for, if_listed, is_call_open}
@@ -72,7 +79,7 @@ module _ (launch : Launch) (l : IsLaunched launch) (below : Mounts → Type 0) (
   held_of : (now : World) (call : Call) → All now → (w : WasDone now call) → IsHeld launch power top below now.tables now.owners w.process
   held_of now call held w = held.each (call.pid - 1) w.process w.living.place
 
-  kind_lets : (now : World) (call : Call) → IsCall call → All now → (w : WasDone now call) → (kind : Kind) → asks kind w.doing ≡ true → lets launch kind ≡ true
+  kind_lets : (now : World) (call : Call) → IsCall call → All now → (w : WasDone now call) → (kind : CallKind) → asks kind w.doing ≡ true → lets launch kind ≡ true
   kind_lets now call fit held w kind asked =
       through_of launch power top below (lets_through launch l) now call w.process fit held (held_of now call held w) w.let_through w.doing w.asks kind asked
 
@@ -80,7 +87,7 @@ module _ (launch : Launch) (l : IsLaunched launch) (below : Mounts → Type 0) (
   same_doing : (now : World) (call : Call) (one other : Doing) → asked_of now.calls call ≡ Does one → asked_of now.calls call ≡ Does other → one ≡ other
   same_doing now call one other e g = cc
 
-  kind_of : (now : World) (call : Call) → IsCall call → All now → (such : Doing → Bool) → (p : Performs such (moment_at now call)) → (kind : Kind) → ((doing : Doing) → such doing ≡ true → asks kind doing ≡ true) → lets launch kind ≡ true
+  kind_of : (now : World) (call : Call) → IsCall call → All now → (such : Doing → Bool) → (p : Performs such (moment_at now call)) → (kind : CallKind) → ((doing : Doing) → such doing ≡ true → asks kind doing ≡ true) → lets launch kind ≡ true
   kind_of now call fit held such p kind h =
       let w = was_done now call p.done in
       let same = same_doing now call p.doing w.doing p.is w.asks in
@@ -139,7 +146,7 @@ module _ (launch : Launch) (l : IsLaunched launch) (below : Mounts → Type 0) (
   only_exec ToWrite e = cc
   only_exec ToExec e = refl
 
-  row_open : LeadsToReached → (wish : Wish) (place : ℕ) (now : World) (call : Call) → IsCall call → All now → ReachesRow wish place (moment_at now call) → is_open launch (q.ByPath wish place) ≡ true
+  row_open : LeadsToReached → (wish : Wish) (place : ℕ) (now : World) (call : Call) → IsCall call → All now → ReachesRow wish place (moment_at now call) → is_open launch (asking.Path wish place) ≡ true
   row_open less wish place now call fit held r =
       let w = was_done now call r.done in
       let same = same_doing now call r.doing w.doing r.asks w.asks in
@@ -178,7 +185,7 @@ module _ (launch : Launch) (l : IsLaunched launch) (below : Mounts → Type 0) (
       let cap' = found_all (λ other. line.name ≡ other.name → line.cap ≡ other.cap) (calls.calls_in launch.calls abi) nr called (all_in (λ other. line.name ≡ other.name → line.cap ≡ other.cap) launch.calls abi caps) found in
       one_rule line called name (cap' name)
 
-  plain_open : (place : ℕ) (now : World) (call : Call) → IsAsked launch.calls (q.Call place) → IsCall call → All now → ReachesCall place (moment_at now call) → is_open launch (q.Call place) ≡ true
+  plain_open : (place : ℕ) (now : World) (call : Call) → IsAsked launch.calls (asking.Call place) → IsCall call → All now → ReachesCall place (moment_at now call) → is_open launch (asking.Call place) ≡ true
   plain_open place now call asked fit held r =
       let w = was_done now call r.done in
       let lines : List CallLine = calls.calls_in launch.calls call.abi in
@@ -241,7 +248,7 @@ module _ (launch : Launch) (l : IsLaunched launch) (below : Mounts → Type 0) (
       (λ host caller. ap (λ b. cond b (socket_effect caller.newer caller.creds (numbered family host.families)) (cond (nat_le 2 operation && nat_le operation 20) (f.Answer 0) (f.Refuse einval))) both.0)
   family_is families place doing e = cc
 
-  socket_open : (place : ℕ) (now : World) (call : Call) → IsCall call → All now → Performs (asks_family now.calls.families place) (moment_at now call) → is_open launch (q.Socket place) ≡ true
+  socket_open : (place : ℕ) (now : World) (call : Call) → IsCall call → All now → Performs (asks_family now.calls.families place) (moment_at now call) → is_open launch (asking.Socket place) ≡ true
   socket_open place now call fit held p =
       let w = was_done now call p.done in
       let same = same_doing now call p.doing w.doing p.is w.asks in
@@ -256,22 +263,22 @@ module _ (launch : Launch) (l : IsLaunched launch) (below : Mounts → Type 0) (
       let done : DoneBy now call.pid w.process (socket_effect (is_newer w.process) w.process.creds (Some line)) = subst P (h.comes_to (host_of now) (caller_of now w.process) ∙ ap (socket_effect (is_newer w.process) w.process.creds) here) w.done in
       ap (if_listed (λ line. lets launch (k.ForFamily line.number) && can_have_cap top line.cap)) listed ∙ and_from _ _ passes (can_cap now call held w line.cap 3 done)
 
-  space_open : (space : Space) (now : World) (call : Call) → IsCall call → All now → Performs (asks_space space) (moment_at now call) → is_open launch (q.Ns space) ≡ true
+  space_open : (space : NamespaceType) (now : World) (call : Call) → IsCall call → All now → Performs (asks_space space) (moment_at now call) → is_open launch (asking.Namespace space) ≡ true
   space_open space now call fit held p =
       let w = was_done now call p.done in
       let same = same_doing now call p.doing w.doing p.is w.asks in
       let asked : asks_space space w.doing ≡ true = ap (asks_space space) (sym same) ∙ p.such in
       let made = space_done now call.pid w.process space w.doing asked w.done in
-      by (is_user space) refl (kind_lets now call fit held w (k.ForSpace space) asked) made
+      by (is_user space) refl (kind_lets now call fit held w (k.ForNamespace space) asked) made
     where
-      can_make : (w : WasDone now call) → asks_space q.User w.doing ≡ true → has_user_left now ≡ true → can_make_user launch ≡ true
-      can_make w asked left = can_make_one launch power top below stable now held (kind_lets now call fit held w (k.ForSpace q.User) asked) left
+      can_make : (w : WasDone now call) → asks_space namespace.User w.doing ≡ true → has_user_left now ≡ true → can_make_user launch ≡ true
+      can_make w asked left = can_make_one launch power top below stable now held (kind_lets now call fit held w (k.ForNamespace namespace.User) asked) left
 
-      by : (user : Bool) → is_user space ≡ user → lets launch (k.ForSpace space) ≡ true → MadeSpace now space (was_done now call p.done).process (was_done now call p.done).doing
-          → cond user (can_make_user launch) (lets launch (k.ForSpace space) && (has top.effective 21 || can_make_user launch)) ≡ true
+      by : (user : Bool) → is_user space ≡ user → lets launch (k.ForNamespace space) ≡ true → MadeSpace now space (was_done now call p.done).process (was_done now call p.done).doing
+          → cond user (can_make_user launch) (lets launch (k.ForNamespace space) && (has top.effective 21 || can_make_user launch)) ≡ true
       by user e let' (inl made) = by_made user (can_make (was_done now call p.done) made.0 made.1) let'
         where
-          by_made : (user : Bool) → can_make_user launch ≡ true → lets launch (k.ForSpace space) ≡ true → cond user (can_make_user launch) (lets launch (k.ForSpace space) && (has top.effective 21 || can_make_user launch)) ≡ true
+          by_made : (user : Bool) → can_make_user launch ≡ true → lets launch (k.ForNamespace space) ≡ true → cond user (can_make_user launch) (lets launch (k.ForNamespace space) && (has top.effective 21 || can_make_user launch)) ≡ true
           by_made true on let' = on
           by_made false on let' = and_from _ _ let' (or_right (has top.effective 21) (can_make_user launch) on)
       by true e let' (inr made) = let off = made.0 in cc
@@ -284,34 +291,34 @@ module _ (launch : Launch) (l : IsLaunched launch) (below : Mounts → Type 0) (
   -- ---- states
   -- what is reached by a call from a world that is held, or holds there, is open
   reached_open : LeadsToReached → (question : Question) → IsAsked launch.calls question → (now : World) (call : Call) → IsCall call → All now → Reaches question (moment_at now call) → is_open launch question ≡ true
-  reached_open less (q.ByPath wish place) asked now call fit held r = row_open less wish place now call fit held r
-  reached_open less (q.Call place) asked now call fit held r = plain_open place now call asked fit held r
-  reached_open less (q.Socket place) asked now call fit held r = socket_open place now call fit held r
-  reached_open less (q.Ns space) asked now call fit held r = space_open space now call fit held r
-  reached_open less q.MapWx asked now call fit held r = kind_of now call fit held asks_map r k.MapsWx (λ doing e. e)
-  reached_open less q.ProtectX asked now call fit held r = kind_of now call fit held asks_protect r k.ProtectsX (λ doing e. e)
-  reached_open less q.ShmX asked now call fit held r = kind_of now call fit held asks_attach r k.AttachesX (λ doing e. e)
-  reached_open less q.Realtime asked now call fit held r = kind_of now call fit held asks_realtime r k.SchedulesRealtime (λ doing e. e)
-  reached_open less q.Personality asked now call fit held r = kind_of now call fit held asks_personality r k.TakesPersonality (λ doing e. e)
-  reached_open less q.SuidBit asked now call fit held r = kind_of now call fit held asks_mode r k.SetsMode (λ doing e. e)
-  reached_open less (q.Cap number) asked now call fit held r = absurd r
-  reached_open less (q.Uid id) asked now call fit held r = absurd r
-  reached_open less (q.Gid id) asked now call fit held r = absurd r
+  reached_open less (asking.Path wish place) asked now call fit held r = row_open less wish place now call fit held r
+  reached_open less (asking.Call place) asked now call fit held r = plain_open place now call asked fit held r
+  reached_open less (asking.Socket place) asked now call fit held r = socket_open place now call fit held r
+  reached_open less (asking.Namespace space) asked now call fit held r = space_open space now call fit held r
+  reached_open less asking.MapWx asked now call fit held r = kind_of now call fit held asks_map r k.MapsWx (λ doing e. e)
+  reached_open less asking.ProtectX asked now call fit held r = kind_of now call fit held asks_protect r k.ProtectsX (λ doing e. e)
+  reached_open less asking.ShmX asked now call fit held r = kind_of now call fit held asks_attach r k.AttachesX (λ doing e. e)
+  reached_open less asking.Realtime asked now call fit held r = kind_of now call fit held asks_realtime r k.SchedulesRealtime (λ doing e. e)
+  reached_open less asking.Personality asked now call fit held r = kind_of now call fit held asks_personality r k.TakesPersonality (λ doing e. e)
+  reached_open less asking.SuidBit asked now call fit held r = kind_of now call fit held asks_mode r k.SetsMode (λ doing e. e)
+  reached_open less (asking.Cap number) asked now call fit held r = absurd r
+  reached_open less (asking.Uid id) asked now call fit held r = absurd r
+  reached_open less (asking.Gid id) asked now call fit held r = absurd r
 
   held_open : (question : Question) (now : World) → All now → Holds question now → is_open launch question ≡ true
-  held_open (q.Cap number) now held s = cap_within launch power top below now held number s
-  held_open (q.Uid id) now held s = uid_within launch power top below now held id s
-  held_open (q.Gid id) now held s = gid_within launch power top below now held id s
-  held_open (q.ByPath wish place) now held s = absurd s
-  held_open (q.Call place) now held s = absurd s
-  held_open (q.Socket place) now held s = absurd s
-  held_open (q.Ns space) now held s = absurd s
-  held_open q.MapWx now held s = absurd s
-  held_open q.ProtectX now held s = absurd s
-  held_open q.ShmX now held s = absurd s
-  held_open q.Realtime now held s = absurd s
-  held_open q.Personality now held s = absurd s
-  held_open q.SuidBit now held s = absurd s
+  held_open (asking.Cap number) now held s = cap_within launch power top below now held number s
+  held_open (asking.Uid id) now held s = uid_within launch power top below now held id s
+  held_open (asking.Gid id) now held s = gid_within launch power top below now held id s
+  held_open (asking.Path wish place) now held s = absurd s
+  held_open (asking.Call place) now held s = absurd s
+  held_open (asking.Socket place) now held s = absurd s
+  held_open (asking.Namespace space) now held s = absurd s
+  held_open asking.MapWx now held s = absurd s
+  held_open asking.ProtectX now held s = absurd s
+  held_open asking.ShmX now held s = absurd s
+  held_open asking.Realtime now held s = absurd s
+  held_open asking.Personality now held s = absurd s
+  held_open asking.SuidBit now held s = absurd s
 
   pub closed_denied : LeadsToReached → (world : World) → All world → (question : Question) → IsAsked launch.calls question → is_open launch question ≡ false → IsDenied world question
   closed_denied less world start question asked off = record {

@@ -19,7 +19,8 @@ use Rattle.kernel_model.specs.World.{World}
 use Rattle.kernel_laws.specs.Bound.{power_of}
 use Rattle.kernel_laws.specs.Denied.{IsBlind, Exposes}
 use Rattle.kernel_laws.specs.Launched.{Launch, launch_of, IsLaunchedWorld}
-use Rattle.kernel_laws.specs.Reach.{Power, Nowise, Unmounting, Mounting}
+use Rattle.question_types.specs.declared.power.Power.{Power}
+use Rattle.question_types.specs.declared.power.Power.TheVariants.{None as Nowise, Unmount as Unmounting, Mount as Mounting}
 
 -- no later entry covers the path, or it can be uncovered
 abbrev pub is_clear : Bool → Path → Table → Bool

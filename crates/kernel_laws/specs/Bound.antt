@@ -9,13 +9,20 @@ use Rattle.site_table.specs.declared.row.Row.{Row}
 use Rattle.linux_numbers.specs.Capabilities.{cap_sys_admin, cap_setuid, cap_setgid}
 use Rattle.kernel_laws.specs.Bounds.{Bounds}
 use Rattle.site_table.specs.Kinds.{is_exe}
-use Rattle.kernel_laws.specs.Reach.{Power, Nowise, Unmounting, Mounting, reaches}
+use Rattle.kernel_laws.specs.Reach.{reaches}
 use Rattle.kernel_calls.specs.declared.rule.Rule.{Rule}
 use Rattle.kernel_calls.specs.declared.rule.Rule.TheVariants.{Plain}
 use Rattle.kernel_calls.specs.Rules.{rule_of}
-use Rattle.kernel_laws.specs.Kinds.{ForPath, PlainCall, ForFamily, ForSpace, MapsWx, ProtectsX, AttachesX, SchedulesRealtime, TakesPersonality, SetsMode, ChangesMounts, RemovesMounts, SetsCaps, TakesUid, TakesGid}
+use Rattle.question_types.specs.declared.power.Power.{Power}
+use Rattle.question_types.specs.declared.power.Power.TheVariants.{None as Nowise, Unmount as Unmounting, Mount as Mounting}
+use Rattle.question_types.specs.declared.kind.CallKind.TheVariants.{ForPath, PlainCall, ForFamily, ForNamespace, MapsWx, ProtectsX, AttachesX, SchedulesRealtime, TakesPersonality, SetsMode, ChangesMounts, RemovesMounts, SetsCaps, TakesUid, TakesGid}
+use Rattle.question_types.specs.declared.wish.Wish.{Wish}
+use Rattle.question_types.specs.declared.wish.Wish.TheVariants.{See as ToSee, Read as ToRead, Write as ToWrite, Exec as ToExec}
+use Rattle.filter_rules.specs.declared.namespace_types.NamespaceType.{NamespaceType}
+use Rattle.filter_rules.specs.declared.namespace_types.NamespaceType.TheVariants.{User}
+use Rattle.question_types.specs.declared.question.Question.{Question}
+use Rattle.question_types.specs.declared.question.Question.TheVariants.{Path as ByPath, Call, Socket, Namespace as Ns, MapWx, ProtectX, ShmX, Realtime, Personality, SuidBit, Cap, Uid, Gid}
 use Rattle.kernel_laws.specs.Launched.{Launch, lets, lets_line, can_make_user}
-use Rattle.kernel_laws.specs.Questions.{Wish, ToSee, ToRead, ToWrite, ToExec, Space, User, Question, ByPath, Call, Socket, Ns, MapWx, ProtectX, ShmX, Realtime, Personality, SuidBit, Cap, Uid, Gid}
 
 -- the union over the rows
 abbrev pub gathered : (Row → ℕ) → List Row → ℕ
@@ -148,7 +155,7 @@ is_to_exec ToRead = false
 is_to_exec ToWrite = false
 
 -- user namespaces
-abbrev pub is_user : Space → Bool
+abbrev pub is_user : NamespaceType → Bool
 is_user User = true
 is_user _ = false
 
@@ -174,7 +181,7 @@ open_at launch power top (ByPath wish place) = if_listed (can_reach launch power
 open_at launch power top (Call place) = if_listed (is_call_open launch top) (slice_get (every_call launch.calls) place)
 open_at launch power top (Socket place) = if_listed (λ line. lets launch (ForFamily line.number) && can_have_cap top line.cap) (slice_get launch.calls.families place)
 open_at launch power top (Ns space) =
-    if is_user space then can_make_user launch else lets launch (ForSpace space) && (has top.effective cap_sys_admin || can_make_user launch)
+    if is_user space then can_make_user launch else lets launch (ForNamespace space) && (has top.effective cap_sys_admin || can_make_user launch)
 open_at launch power top MapWx = lets launch MapsWx
 open_at launch power top ProtectX = lets launch ProtectsX
 open_at launch power top ShmX = lets launch AttachesX

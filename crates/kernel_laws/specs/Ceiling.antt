@@ -13,9 +13,10 @@ use Rattle.kern_mounts.specs.Mounts.{Mounts, steps_of, ArePlain}
 use Rattle.kern_mounts.specs.Split.{Table}
 use Rattle.site_table.specs.Kinds.{is_exe}
 use Rattle.kern_mounts.specs.Unmounts.{IsTrimmed}
-use Rattle.kernel_laws.specs.Reach.{Power, Nowise, Unmounting, Mounting}
-use Rattle.kernel_laws.specs.Kinds.{ForSpace, ChangesMounts, RemovesMounts, SetsCaps}
-use Rattle.kernel_laws.specs.Questions.{User}
+use Rattle.question_types.specs.declared.power.Power.{Power}
+use Rattle.question_types.specs.declared.power.Power.TheVariants.{None as Nowise, Unmount as Unmounting, Mount as Mounting}
+use Rattle.question_types.specs.declared.kind.CallKind.TheVariants.{ForNamespace, ChangesMounts, RemovesMounts, SetsCaps}
+use Rattle.filter_rules.specs.declared.namespace_types.NamespaceType.TheVariants.{User}
 use Rattle.kernel_model.specs.Effects.{Effect, Refuse, Answer, SetCreds, SetTable, Push, Child, OwnTable, UserChild, OwnUser, End}
 use Rattle.kern_files.specs.Looking.{flags_at}
 use Rattle.kern_files.specs.Executing.{marks_of}
@@ -99,8 +100,8 @@ pub record AreHeld (launch : Launch) (power : Power) (top : Bounds) (below : Mou
 abbrev pub IsSafe : Launch → Power → Bounds → (Mounts → Type 0) → Bool → Bool → Effect → Type 0
 IsSafe launch power top below newer ours (SetCreds creds) = KeepsIn newer top creds
 IsSafe launch power top below newer ours (SetTable table) = TableIn ours launch power below table
-IsSafe launch power top below newer ours (UserChild own) = lets launch (ForSpace User) ≡ true
-IsSafe launch power top below newer ours (OwnUser own) = lets launch (ForSpace User) ≡ true
+IsSafe launch power top below newer ours (UserChild own) = lets launch (ForNamespace User) ≡ true
+IsSafe launch power top below newer ours (OwnUser own) = lets launch (ForNamespace User) ≡ true
 IsSafe launch power top below newer ours (Refuse error) = Unit {0}
 IsSafe launch power top below newer ours (Answer value) = Unit {0}
 IsSafe launch power top below newer ours (Push program) = Unit {0}

@@ -21,7 +21,12 @@ use Rattle.kernel_calls.specs.Doing.{Doing, Does, asked_of}
 use Rattle.kernel_model.specs.declared.process.Process.{Process}
 use Rattle.kernel_model.specs.World.{World, process_of, living_of, table_of}
 use Rattle.kernel_model.specs.Runs.{Moment, moments, run, IsDone, AllDone}
-use Rattle.kernel_laws.specs.Questions.{Wish, ToSee, ToRead, ToWrite, ToExec, Space, flag_of, Question, ByPath, Call, Socket, Ns, MapWx, ProtectX, ShmX, Realtime, Personality, SuidBit, Cap, Uid, Gid}
+use Rattle.question_types.specs.declared.wish.Wish.{Wish}
+use Rattle.question_types.specs.declared.wish.Wish.TheVariants.{See as ToSee, Read as ToRead, Write as ToWrite, Exec as ToExec}
+use Rattle.filter_rules.specs.declared.namespace_types.NamespaceType.{NamespaceType}
+use Rattle.question_types.specs.declared.question.Question.{Question}
+use Rattle.question_types.specs.declared.question.Question.TheVariants.{Path as ByPath, Call, Socket, Namespace as Ns, MapWx, ProtectX, ShmX, Realtime, Personality, SuidBit, Cap, Uid, Gid}
+use Rattle.kernel_laws.specs.Questions.{flag_of}
 
 -- the path by which a call does what is wished: stat(2) and its like see, open(2) reads and writes by its access mode, creat(2)
 -- and truncate(2) write, execve(2) executes
@@ -57,7 +62,7 @@ pub record ReachesCall (place : ℕ) (moment : Moment) : Type 0 where
   pub same : line.name ≡ called.name
 
 -- clone(2), unshare(2): the flag of the type is set
-abbrev pub asks_space : Space → Doing → Bool
+abbrev pub asks_space : NamespaceType → Doing → Bool
 asks_space space (doing.Unshare flags) = has_all (flag_of space) flags
 asks_space space (doing.Clone flags) = has_all (flag_of space) flags
 asks_space space _ = false

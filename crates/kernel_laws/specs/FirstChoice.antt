@@ -15,14 +15,15 @@ use Rattle.filter_rules.specs.declared.names.FilterName.{FilterName}
 use Rattle.filter_rules.specs.Wanted.{named_action, wanted_action}
 use Rattle.kernel_calls.specs.declared.payload.Payload.{Payload}
 use Rattle.kernel_calls.specs.Doing.{Doing, doing_by}
-use Rattle.kernel_laws.specs.Kinds.{Kind, asks, words, AreWords}
+use Rattle.question_types.specs.declared.kind.CallKind.{CallKind}
+use Rattle.kernel_laws.specs.Kinds.{asks, words, AreWords}
 use Rattle.kernel_laws.specs.Launched.{Launch, passes, Chosen}
 use Rattle.kernel_calls.specs.declared.rule.Rule.{Rule}
 use Rattle.kernel_calls.specs.Rules.{rule_of, rule_at}
 
 -- a filter that lets a call through that asks for a kind of thing lets the words through that ask for it first
 abbrev pub FirstPasses : Type 0
-FirstPasses = (filter : FilterName) (settings : FilterSettings) (table : calls.Table) (line : CallLine) (rule : Rule) (kind : Kind) (payload : Payload) (doing : Doing) (input first : CallData)
+FirstPasses = (filter : FilterName) (settings : FilterSettings) (table : calls.Table) (line : CallLine) (rule : Rule) (kind : CallKind) (payload : Payload) (doing : Doing) (input first : CallData)
     → rule_of line ≡ Some rule → doing_by rule input.args payload ≡ Some doing → asks kind doing ≡ true → words kind rule ≡ Some first.args
     → decision_of (word_of (named_action filter settings table line.name input)) ≡ decision.Pass → decision_of (word_of (named_action filter settings table line.name first)) ≡ decision.Pass
 
@@ -38,5 +39,5 @@ pub record Means (settings : FilterSettings) (table : calls.Table) (code : List 
 abbrev pub SettingsChoose : Type 0
 SettingsChoose = (launch : Launch) (settings : FilterSettings) → ((abi : ℕ) → calls.arch_of launch.calls abi < 2 ^ 32) → IfSome launch.calls.second (λ second. second.arch == launch.calls.arch ≡ false) → AllByRecursion (Means settings launch.calls) launch.stack
     → ((input : CallData) → IsCallData input → ArePlain (answers_of launch.stack input))
-    → (kind : Kind) (abi nr : ℕ) (args : List ℕ) (rule : Rule) (payload : Payload) (doing : Doing) → nr < 2 ^ 32 → AreWords args
+    → (kind : CallKind) (abi nr : ℕ) (args : List ℕ) (rule : Rule) (payload : Payload) (doing : Doing) → nr < 2 ^ 32 → AreWords args
     → rule_at (calls.calls_in launch.calls abi) nr ≡ Some rule → doing_by rule args payload ≡ Some doing → asks kind doing ≡ true → passes launch abi nr args → Chosen launch kind rule abi nr

@@ -9,40 +9,11 @@ use Rattle.kernel_calls.specs.declared.rule.Rule.{Rule}
 use Rattle.kernel_calls.specs.declared.rule.Rule.TheVariants as rule
 use Rattle.kernel_calls.specs.Doing as doing
 use Rattle.kernel_calls.specs.Doing.{Doing}
-use Rattle.kernel_laws.specs.Questions.{Wish, ToSee, ToRead, ToWrite, ToExec, Space, flag_of}
+use Rattle.question_types.specs.declared.wish.Wish.TheVariants.{See as ToSee, Read as ToRead, Write as ToWrite, Exec as ToExec}
+use Rattle.question_types.specs.declared.kind.CallKind.{CallKind}
+use Rattle.question_types.specs.declared.kind.CallKind.TheVariants.{ForPath, PlainCall, ForFamily, ForNamespace, MapsWx, ProtectsX, AttachesX, SchedulesRealtime, TakesPersonality, SetsMode, ChangesMounts, RemovesMounts, SetsCaps, TakesUid, TakesGid}
+use Rattle.kernel_laws.specs.Questions.{flag_of}
 use Rattle.kernel_laws.specs.Denied.{path_for, asks_space, asks_map, asks_protect, asks_attach, asks_realtime, asks_personality, asks_mode}
-
-pub data Kind : Type 0 where
-  -- a row is seen, read, written or executed
-  ForPath : Wish → Kind
-  -- nothing but the call itself
-  PlainCall : Kind
-  -- a socket of the family, socket(2), socketcall(2)
-  ForFamily : ℕ → Kind
-  -- a namespace of the type, clone(2), unshare(2)
-  ForSpace : Space → Kind
-  -- memory to be written and executed, mmap(2)
-  MapsWx : Kind
-  -- memory to be executed, mprotect(2)
-  ProtectsX : Kind
-  -- shared memory to be executed, shmat(2)
-  AttachesX : Kind
-  -- a policy of realtime, sched(7)
-  SchedulesRealtime : Kind
-  -- an execution domain, personality(2)
-  TakesPersonality : Kind
-  -- a mode with a set-id bit, chmod(2)
-  SetsMode : Kind
-  -- another mount table, mount(2)
-  ChangesMounts : Kind
-  -- fewer mounts, umount2(2)
-  RemovesMounts : Kind
-  -- other sets of capabilities, capset(2)
-  SetsCaps : Kind
-  -- another uid, setuid(2), setresuid(2)
-  TakesUid : Kind
-  -- another gid, setgid(2), setresgid(2), setgroups(2)
-  TakesGid : Kind
 
 abbrev pub asks_plain : Doing → Bool
 asks_plain (doing.Plain cap) = true
@@ -77,11 +48,11 @@ asks_gid (doing.Setgroups ids) = true
 asks_gid _ = false
 
 -- the call asks for this kind of thing
-abbrev pub asks : Kind → Doing → Bool
+abbrev pub asks : CallKind → Doing → Bool
 asks (ForPath wish) doing = is_some (path_for wish doing)
 asks PlainCall doing = asks_plain doing
 asks (ForFamily family) doing = asks_number family doing
-asks (ForSpace space) doing = asks_space space doing
+asks (ForNamespace space) doing = asks_space space doing
 asks MapsWx doing = asks_map doing
 asks ProtectsX doing = asks_protect doing
 asks AttachesX doing = asks_attach doing
@@ -105,7 +76,7 @@ one_word at value = set no_words at value
 -- the words with which a call of the rule asks for the kind first; none where the rule does not: O_WRONLY of open(2), PROT_WRITE
 -- and PROT_EXEC of mmap(2), PROT_EXEC of mprotect(2), SHM_EXEC of shmat(2), SCHED_FIFO of sched(7), PER_LINUX32 of
 -- personality(2), S_ISUID of inode(7), SYS_SOCKET of socketcall(2)
-abbrev pub words : Kind → Rule → Option (List ℕ)
+abbrev pub words : CallKind → Rule → Option (List ℕ)
 words (ForPath ToSee) (rule.Known known.See) = Some no_words
 words (ForPath ToRead) (rule.Known (known.Open flags)) = Some no_words
 words (ForPath ToWrite) (rule.Known (known.Open flags)) = Some (one_word (place_of flags) 1)
@@ -115,8 +86,8 @@ words (ForPath ToExec) (rule.Known known.Execve) = Some no_words
 words PlainCall (rule.Plain cap) = Some no_words
 words (ForFamily family) (rule.Known known.Socket) = Some (one_word 0 family)
 words (ForFamily family) (rule.Known known.Socketcall) = Some (one_word 0 1)
-words (ForSpace space) (rule.Known known.Unshare) = Some (one_word 0 (flag_of space))
-words (ForSpace space) (rule.Known known.Clone) = Some (one_word 0 (flag_of space))
+words (ForNamespace space) (rule.Known known.Unshare) = Some (one_word 0 (flag_of space))
+words (ForNamespace space) (rule.Known known.Clone) = Some (one_word 0 (flag_of space))
 words MapsWx (rule.Known known.Map) = Some (one_word 2 6)
 words ProtectsX (rule.Known known.Protect) = Some (one_word 2 4)
 words AttachesX (rule.Known known.Attach) = Some (one_word 2 0x8000)

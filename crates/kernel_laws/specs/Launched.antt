@@ -27,8 +27,10 @@ use Rattle.kernel_calls.specs.Rules.{rule_of, rule_at}
 use Rattle.kernel_calls.specs.Doing.{Doing, doing_by}
 use Rattle.kernel_model.specs.declared.process.Process.{Process}
 use Rattle.kernel_model.specs.World.{World, of_number, process_of, mounts_of, table_of}
-use Rattle.kernel_laws.specs.Kinds.{Kind, asks, words, AreWords, ForSpace}
-use Rattle.kernel_laws.specs.Questions.{User}
+use Rattle.kernel_laws.specs.Kinds.{asks, words, AreWords}
+use Rattle.question_types.specs.declared.kind.CallKind.{CallKind}
+use Rattle.question_types.specs.declared.kind.CallKind.TheVariants.{ForNamespace}
+use Rattle.filter_rules.specs.declared.namespace_types.NamespaceType.TheVariants.{User}
 
 -- the tables that the kernel is told, and what process 1 has: credentials(7), its filters (seccomp(2)), the oldest first, and its
 -- mount table (mount_namespaces(7))
@@ -59,24 +61,24 @@ lets_words launch abi nr None = false
 lets_words launch abi nr (Some args) = is_pass (decision_on launch.stack (data_at launch abi nr args))
 
 -- they let a call of the rule through, if there is one, with the words that ask for the kind first
-abbrev pub lets_rule : Launch → Kind → ℕ → ℕ → Option Rule → Bool
+abbrev pub lets_rule : Launch → CallKind → ℕ → ℕ → Option Rule → Bool
 lets_rule launch kind abi nr None = false
 lets_rule launch kind abi nr (Some rule) = lets_words launch abi nr (words kind rule)
 
 -- the call of this line, by its ABI, can ask for the kind, and the filters let it through with the words that ask first
-abbrev pub lets_line : Launch → Kind → CallLine → Bool
+abbrev pub lets_line : Launch → CallKind → CallLine → Bool
 lets_line launch kind line = lets_rule launch kind line.abi line.number (rule_of line)
 
 -- some call of the table does, in whatever ABI
-unfoldable pub lets : Launch → Kind → Bool
+unfoldable pub lets : Launch → CallKind → Bool
 lets launch kind = list_any (lets_line launch kind) (calls.every_call launch.calls)
 
 -- a user namespace can be made, user_namespaces(7): the host allows one, and some call passes that asks for one
 abbrev pub can_make_user : Launch → Bool
-can_make_user launch = nat_lt 0 launch.site.user_namespaces && lets launch (ForSpace User)
+can_make_user launch = nat_lt 0 launch.site.user_namespaces && lets launch (ForNamespace User)
 
 -- of calls that the filters let through and that ask for one kind, the first choice passes too
-pub record Chosen (launch : Launch) (kind : Kind) (rule : Rule) (abi nr : ℕ) : Type 0 where
+pub record Chosen (launch : Launch) (kind : CallKind) (rule : Rule) (abi nr : ℕ) : Type 0 where
   pub args : List ℕ
   pub are : words kind rule ≡ Some args
   pub passes : passes launch abi nr args
@@ -109,7 +111,7 @@ pub record IsLaunched (launch : Launch) : Type 0 where
   pub honours : AllByRecursion (λ (step : MountStep). step.flags.no_suid ≡ false) launch.table
   -- the programs refuse for good or let through, and look at no more words than the first choices need
   pub plain : (input : CallData) → IsCallData input → ArePlain (answers_of launch.stack input)
-  pub chosen : (kind : Kind) (abi nr : ℕ) (args : List ℕ) (rule : Rule) (payload : Payload) (doing : Doing) → nr < 2 ^ 32 → AreWords args
+  pub chosen : (kind : CallKind) (abi nr : ℕ) (args : List ℕ) (rule : Rule) (payload : Payload) (doing : Doing) → nr < 2 ^ 32 → AreWords args
       → rule_at (calls.calls_in launch.calls abi) nr ≡ Some rule → doing_by rule args payload ≡ Some doing → asks kind doing ≡ true → passes launch abi nr args → Chosen launch kind rule abi nr
 
 -- process 1 of a world

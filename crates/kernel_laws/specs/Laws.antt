@@ -6,7 +6,8 @@ use Rattle.site_table.specs.Table.{Site}
 use Rattle.kernel_laws.specs.Bound.{is_open, power_of}
 use Rattle.kernel_laws.specs.Denied.{IsDenied}
 use Rattle.kernel_laws.specs.Launched.{launch_of, IsLaunchedWorld}
-use Rattle.kernel_laws.specs.Questions.{Question, IsAsked, questions}
+use Rattle.question_types.specs.declared.question.Question.{Question}
+use Rattle.kernel_laws.specs.Questions.{IsAsked, questions}
 use Rattle.kernel_model.specs.World.{World}
 
 -- a question that the ceiling closes is reached by no list of calls, where the tables of newer user namespaces show no more than those

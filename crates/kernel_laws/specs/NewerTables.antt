@@ -9,8 +9,10 @@ use Rattle.kern_mounts.specs.Backing.{AreBacked}
 use Rattle.kern_mounts.specs.Changes.{Changes}
 use Rattle.kernel_laws.specs.Blind.{SeesBelow, blind_at}
 use Rattle.kernel_laws.specs.Ceiling.{CanHave}
-use Rattle.kernel_laws.specs.Questions.{Wish}
-use Rattle.kernel_laws.specs.Reach.{Leads, Power, Nowise, Unmounting, Mounting, reaches}
+use Rattle.question_types.specs.declared.wish.Wish.{Wish}
+use Rattle.question_types.specs.declared.power.Power.{Power}
+use Rattle.question_types.specs.declared.power.Power.TheVariants.{None as Nowise, Unmount as Unmounting, Mount as Mounting}
+use Rattle.kernel_laws.specs.Reach.{Leads, reaches}
 use Rattle.kernel_laws.specs.Showing.{shown_by}
 
 -- the mounts that a namespace of a newer user namespace can have at a power; with mount any

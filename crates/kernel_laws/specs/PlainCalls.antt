@@ -3,7 +3,7 @@ use Rattle.std.specs.Prelude.{ℕ, List}
 use Rattle.kernel_calls.specs.declared.call.Call as call
 use Rattle.kernel_calls.specs.declared.payload.Payload.TheVariants.{Nothing}
 use Rattle.kernel_model.specs.World.{World}
-use Rattle.kernel_laws.specs.Questions.{Question}
+use Rattle.question_types.specs.declared.question.Question.{Question}
 use Rattle.kernel_laws.specs.Kinds.{no_words}
 use Rattle.kernel_laws.specs.Denied.{IsDenied, Shows}
 

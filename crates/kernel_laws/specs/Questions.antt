@@ -6,22 +6,17 @@ use Rattle.call_table.specs.Members.{is_first}
 use Rattle.site_table.specs.declared.row.Row.{Row}
 use Rattle.site_table.specs.Kinds.{is_dir, is_exe}
 use Rattle.site_table.specs.Table.{Site}
+use Rattle.filter_rules.specs.declared.namespace_types.NamespaceType.{NamespaceType}
+use Rattle.filter_rules.specs.declared.namespace_types.NamespaceType.TheVariants.{Cgroup, Ipc, Net, Mnt, Pid, User, Uts}
+use Rattle.question_types.specs.declared.question.Question.{Question}
+use Rattle.question_types.specs.declared.question.Question.TheVariants.{Path as ByPath, Call, Socket, Namespace as Ns, MapWx, ProtectX, ShmX, Realtime, Personality, SuidBit, Cap, Uid, Gid}
+use Rattle.question_types.specs.declared.wish.Wish.TheVariants.{See as ToSee, Read as ToRead, Write as ToWrite, Exec as ToExec}
 use Rattle.kernel_calls.specs.declared.rule.Rule.{Rule}
 use Rattle.kernel_calls.specs.declared.rule.Rule.TheVariants.{Plain}
 use Rattle.kernel_calls.specs.Rules.{rule_of}
 
--- the types of namespaces, namespaces(7)
-pub data Space : Type 0 where
-  Cgroup : Space
-  Ipc : Space
-  Net : Space
-  Mnt : Space
-  Pid : Space
-  User : Space
-  Uts : Space
-
 -- CLONE_NEWCGROUP and its like, clone(2)
-abbrev pub flag_of : Space → ℕ
+abbrev pub flag_of : NamespaceType → ℕ
 flag_of Cgroup = 0x200_0000
 flag_of Ipc = 0x800_0000
 flag_of Net = 0x4000_0000
@@ -29,42 +24,6 @@ flag_of Mnt = 0x2_0000
 flag_of Pid = 0x2000_0000
 flag_of User = 0x1000_0000
 flag_of Uts = 0x400_0000
-
--- what is wanted of a row: that its path is seen, read, written or executed
-pub data Wish : Type 0 where
-  ToSee : Wish
-  ToRead : Wish
-  ToWrite : Wish
-  ToExec : Wish
-
--- can a process of the service have a call done that .. ? Rows, calls and families are named by their place in the tables.
-pub data Question : Type 0 where
-  -- does this with the row
-  ByPath : Wish → ℕ → Question
-  -- is this one
-  Call : ℕ → Question
-  -- makes a socket of the family, socket(2), socketcall(2)
-  Socket : ℕ → Question
-  -- makes a namespace of the type, clone(2), unshare(2)
-  Ns : Space → Question
-  -- maps memory to be written and executed, mmap(2)
-  MapWx : Question
-  -- makes mapped memory executable, mprotect(2)
-  ProtectX : Question
-  -- attaches shared memory to be executed, shmat(2)
-  ShmX : Question
-  -- takes a policy of realtime, sched(7)
-  Realtime : Question
-  -- takes another execution domain, personality(2)
-  Personality : Question
-  -- sets a set-id bit of a file, chmod(2), inode(7)
-  SuidBit : Question
-  -- or can a process have the capability effective, capabilities(7)?
-  Cap : ℕ → Question
-  -- or the effective uid, credentials(7)?
-  Uid : ℕ → Question
-  -- or the gid, effective or among its groups, credentials(7)?
-  Gid : ℕ → Question
 
 -- a call whose name the kernel does not know: all that can be asked of it is whether it is done
 abbrev pub is_plain : Option Rule → Bool

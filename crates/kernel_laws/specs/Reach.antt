@@ -9,7 +9,10 @@ use Rattle.kern_mounts.specs.declared.step.What.{What}
 use Rattle.kern_mounts.specs.declared.step.What.TheVariants.{Host, Empty, Hidden}
 use Rattle.kern_mounts.specs.declared.step.MountStep.{MountStep}
 use Rattle.kern_mounts.specs.Split.{Table, Split, split_at}
-use Rattle.kernel_laws.specs.Questions.{Wish, ToSee, ToRead, ToWrite, ToExec}
+use Rattle.question_types.specs.declared.wish.Wish.{Wish}
+use Rattle.question_types.specs.declared.wish.Wish.TheVariants.{See as ToSee, Read as ToRead, Write as ToWrite, Exec as ToExec}
+use Rattle.question_types.specs.declared.power.Power.{Power}
+use Rattle.question_types.specs.declared.power.Power.TheVariants.{None as Nowise, Unmount as Unmounting, Mount as Mounting}
 
 -- what is wished may be done on a mount with these flags, mount(2)
 abbrev pub fits : Wish → Flags → Bool
@@ -44,12 +47,6 @@ serves uncover row wish entry later = fits wish entry.flags && shows_row uncover
 abbrev pub reach_from : Bool → Path → Wish → Table → ℕ → Option ℕ
 reach_from uncover row wish [] at = None
 reach_from uncover row wish (entry ∷ later) at = if serves uncover row wish entry later then Some at else reach_from uncover row wish later (at + 1)
-
--- how far mount tables can be changed: not at all, by umount2(2) alone, or by mount(2)
-pub data Power : Type 0 where
-  Nowise : Power
-  Unmounting : Power
-  Mounting : Power
 
 -- the place of the entry that leads to the row; with mount every row can be shown, so the first entry's
 abbrev pub reach : Power → Table → Path → Wish → Option ℕ

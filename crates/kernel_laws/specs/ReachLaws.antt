@@ -3,8 +3,9 @@ use Rattle.std.specs.Prelude.{◌≡◌, true}
 use Rattle.abs_path.specs.Paths.{Path}
 use Rattle.kern_mounts.specs.Table.{StartsAtRoot}
 use Rattle.kern_mounts.specs.Split.{Table}
-use Rattle.kernel_laws.specs.Questions.{Wish}
-use Rattle.kernel_laws.specs.Reach.{Leads, Nowise, Unmounting, reaches}
+use Rattle.question_types.specs.declared.wish.Wish.{Wish}
+use Rattle.question_types.specs.declared.power.Power.TheVariants.{None as Nowise, Unmount as Unmounting}
+use Rattle.kernel_laws.specs.Reach.{Leads, reaches}
 use Rattle.kern_mounts.specs.Unmounts.{Unmounts, IsOrdered}
 
 -- with no power: exactly where a path of this very table finds the row

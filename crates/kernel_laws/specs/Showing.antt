@@ -4,7 +4,9 @@ use Rattle.abs_path.specs.Paths.{Path}
 use Rattle.kern_mounts.specs.declared.step.Flags.{Flags}
 use Rattle.kern_mounts.specs.Split.{Table}
 use Rattle.kern_mounts.specs.Keeping.{lacks}
-use Rattle.kernel_laws.specs.Reach.{shows_row, Power, Nowise, Unmounting, Mounting}
+use Rattle.question_types.specs.declared.power.Power.{Power}
+use Rattle.question_types.specs.declared.power.Power.TheVariants.{None as Nowise, Unmount as Unmounting, Mount as Mounting}
+use Rattle.kernel_laws.specs.Reach.{shows_row}
 
 -- an entry of the table, with these flags or fewer, shows the host's path at a path that no later entry covers, or that can
 -- be uncovered

@@ -10,7 +10,8 @@ use Rattle.kernel_calls.specs.Doing.{Doing, Does, asked_of}
 use Rattle.kernel_model.specs.Runs.{moments}
 use Rattle.kernel_model.specs.World.{World, living_of, is_newer}
 use Rattle.kernel_model.specs.declared.process.Process.{Process}
-use Rattle.kernel_laws.specs.Kinds.{asks, TakesUid, TakesGid}
+use Rattle.question_types.specs.declared.kind.CallKind.TheVariants.{TakesUid, TakesGid}
+use Rattle.kernel_laws.specs.Kinds.{asks}
 
 -- a call that takes a uid is made with CAP_SETUID only where this may be used, and one that takes a gid with CAP_SETGID only where
 -- that may

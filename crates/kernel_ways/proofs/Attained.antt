@@ -14,12 +14,14 @@ use Rattle.kern_creds.specs.RootChange.{with_uids, after_switch, after_leaving_r
 use Rattle.kernel_laws.specs.Bound.{is_owner, is_barred, can_run, file_gain, gain_at, gathered, when, caps_before, caps_at, with_root, power_by, power_of}
 use Rattle.kernel_calls.specs.declared.call.Call.{Call}
 use Rattle.kern_files.specs.Executing.{marks_of}
-use Rattle.kernel_laws.specs.Kinds.{SetsCaps, TakesUid, TakesGid, ChangesMounts, RemovesMounts}
+use Rattle.question_types.specs.declared.kind.CallKind.TheVariants.{SetsCaps, TakesUid, TakesGid, ChangesMounts, RemovesMounts}
+use Rattle.question_types.specs.declared.wish.Wish.TheVariants.{Exec as ToExec}
+use Rattle.question_types.specs.declared.power.Power.{Power}
+use Rattle.question_types.specs.declared.power.Power.TheVariants.{None as Nowise, Unmount as Unmounting, Mount as Mounting}
 use Rattle.kernel_laws.specs.Launched.{Launch, IsLaunched, lets}
 use Rattle.site_table.specs.Kinds.{is_exe}
 use Rattle.kern_mounts.specs.Split.{Table}
-use Rattle.kernel_laws.specs.Questions.{ToExec}
-use Rattle.kernel_laws.specs.Reach.{Power, Nowise, Unmounting, Mounting, reaches}
+use Rattle.kernel_laws.specs.Reach.{reaches}
 use Rattle.kernel_ways.specs.Offers.{Offers}
 use Rattle.kernel_ways.specs.Taking.{id_call, sets_call}
 use Rattle.kernel_ways.specs.Ways.{place_of, Way, here, by_creds}

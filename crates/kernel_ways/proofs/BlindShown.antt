@@ -36,9 +36,10 @@ use Rattle.kernel_model.specs.World.{World, table_of, table_or}
 use Rattle.kernel_laws.specs.Blind.{exposes, blind_at, is_blind, IsSmall, IsFolder}
 use Rattle.kernel_laws.specs.Bound.{caps_at, power_of}
 use Rattle.kernel_laws.specs.Denied.{Exposes, IsBlind}
-use Rattle.kernel_laws.specs.Kinds.{ChangesMounts, RemovesMounts}
+use Rattle.question_types.specs.declared.kind.CallKind.TheVariants.{ChangesMounts, RemovesMounts}
+use Rattle.question_types.specs.declared.power.Power.{Power}
+use Rattle.question_types.specs.declared.power.Power.TheVariants.{None as Nowise, Unmount as Unmounting, Mount as Mounting}
 use Rattle.kernel_laws.specs.Launched.{Launch, IsLaunched, launch_of, lets}
-use Rattle.kernel_laws.specs.Reach.{Power, Nowise, Unmounting, Mounting}
 use Rattle.kernel_laws.proofs.Blind.{blind_is_sound, seen_exposes}
 use Rattle.kernel_laws.proofs.Exposed.{below_by_part, exposed_at_once, exposes_by_unmounts, exposes_seen}
 use Rattle.reach_paths.proofs.Mounted.{mounted_twice}

@@ -38,7 +38,7 @@ use Rattle.kernel_model.specs.Runs.{run}
 use Rattle.kernel_model.specs.World.{World, living_of, table_of, table_or}
 use Rattle.kernel_model.specs.declared.process.Process.{Process}
 use Rattle.kernel_laws.specs.Launched.{Launch, passes, launch_of}
-use Rattle.kernel_laws.specs.Questions.{Wish}
+use Rattle.question_types.specs.declared.wish.Wish.{Wish}
 use Rattle.kernel_laws.specs.Reach.{fits}
 use Rattle.reach_paths.proofs.Mounted.{mounted_twice}
 use Rattle.reach_paths.proofs.Naming.{named_both, rest_short}

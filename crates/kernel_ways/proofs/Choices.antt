@@ -5,23 +5,25 @@ use Rattle.call_names.specs.declared.rule.Argument.{Argument}
 use Rattle.call_names.specs.declared.rule.CallRule.TheVariants as known
 use Rattle.kernel_calls.specs.declared.rule.Rule.{Rule}
 use Rattle.kernel_calls.specs.declared.rule.Rule.TheVariants as rule
-use Rattle.kernel_laws.specs.Questions as q
-use Rattle.kernel_laws.specs.Questions.{Space, flag_of}
-use Rattle.kernel_laws.specs.Kinds as k
-use Rattle.kernel_laws.specs.Kinds.{Kind, words, no_words, one_word}
+use Rattle.filter_rules.specs.declared.namespace_types.NamespaceType.{NamespaceType}
+use Rattle.question_types.specs.declared.kind.CallKind.{CallKind}
+use Rattle.question_types.specs.declared.wish.Wish.TheVariants as wish_to
+use Rattle.question_types.specs.declared.kind.CallKind.TheVariants as k
+use Rattle.kernel_laws.specs.Questions.{flag_of}
+use Rattle.kernel_laws.specs.Kinds.{words, no_words, one_word}
 
-pub data Choice : Kind → Rule → List ℕ → Type 0 where
-  sees : Choice (k.ForPath q.ToSee) (rule.Known known.See) no_words
-  reads : (at : Argument) → Choice (k.ForPath q.ToRead) (rule.Known (known.Open at)) no_words
-  opens : (at : Argument) → Choice (k.ForPath q.ToWrite) (rule.Known (known.Open at)) (one_word (place_of at) 1)
-  creates : Choice (k.ForPath q.ToWrite) (rule.Known known.Create) no_words
-  truncates : Choice (k.ForPath q.ToWrite) (rule.Known known.Truncate) no_words
-  execs : Choice (k.ForPath q.ToExec) (rule.Known known.Execve) no_words
+pub data Choice : CallKind → Rule → List ℕ → Type 0 where
+  sees : Choice (k.ForPath wish_to.See) (rule.Known known.See) no_words
+  reads : (at : Argument) → Choice (k.ForPath wish_to.Read) (rule.Known (known.Open at)) no_words
+  opens : (at : Argument) → Choice (k.ForPath wish_to.Write) (rule.Known (known.Open at)) (one_word (place_of at) 1)
+  creates : Choice (k.ForPath wish_to.Write) (rule.Known known.Create) no_words
+  truncates : Choice (k.ForPath wish_to.Write) (rule.Known known.Truncate) no_words
+  execs : Choice (k.ForPath wish_to.Exec) (rule.Known known.Execve) no_words
   plain : (number : Option ℕ) → Choice k.PlainCall (rule.Plain number) no_words
   socket : (family : ℕ) → Choice (k.ForFamily family) (rule.Known known.Socket) (one_word 0 family)
   socketcall : (family : ℕ) → Choice (k.ForFamily family) (rule.Known known.Socketcall) (one_word 0 1)
-  unshare : (space : Space) → Choice (k.ForSpace space) (rule.Known known.Unshare) (one_word 0 (flag_of space))
-  clone : (space : Space) → Choice (k.ForSpace space) (rule.Known known.Clone) (one_word 0 (flag_of space))
+  unshare : (space : NamespaceType) → Choice (k.ForNamespace space) (rule.Known known.Unshare) (one_word 0 (flag_of space))
+  clone : (space : NamespaceType) → Choice (k.ForNamespace space) (rule.Known known.Clone) (one_word 0 (flag_of space))
   maps : Choice k.MapsWx (rule.Known known.Map) (one_word 2 6)
   protects : Choice k.ProtectsX (rule.Known known.Protect) (one_word 2 4)
   attaches : Choice k.AttachesX (rule.Known known.Attach) (one_word 2 0x8000)
@@ -37,21 +39,21 @@ pub data Choice : Kind → Rule → List ℕ → Type 0 where
   setresgid : Choice k.TakesGid (rule.Known known.Setresgid) no_words
   setgroups : Choice k.TakesGid (rule.Known known.Setgroups) no_words
 
-as_asked : {kind : Kind} {own : Rule} {are args : List ℕ} → Choice kind own are → Some are ≡ Some args → Choice kind own args
+as_asked : {kind : CallKind} {own : Rule} {are args : List ℕ} → Choice kind own are → Some are ≡ Some args → Choice kind own args
 as_asked {kind} {own} choice e = subst (Choice kind own) (cc) choice
 
-pub of_words : (kind : Kind) (own : Rule) (args : List ℕ) → words kind own ≡ Some args → Choice kind own args
-of_words (k.ForPath q.ToSee) (rule.Known known.See) args = as_asked sees
-of_words (k.ForPath q.ToRead) (rule.Known (known.Open at)) args = as_asked (reads at)
-of_words (k.ForPath q.ToWrite) (rule.Known (known.Open at)) args = as_asked (opens at)
-of_words (k.ForPath q.ToWrite) (rule.Known known.Create) args = as_asked creates
-of_words (k.ForPath q.ToWrite) (rule.Known known.Truncate) args = as_asked truncates
-of_words (k.ForPath q.ToExec) (rule.Known known.Execve) args = as_asked execs
+pub of_words : (kind : CallKind) (own : Rule) (args : List ℕ) → words kind own ≡ Some args → Choice kind own args
+of_words (k.ForPath wish_to.See) (rule.Known known.See) args = as_asked sees
+of_words (k.ForPath wish_to.Read) (rule.Known (known.Open at)) args = as_asked (reads at)
+of_words (k.ForPath wish_to.Write) (rule.Known (known.Open at)) args = as_asked (opens at)
+of_words (k.ForPath wish_to.Write) (rule.Known known.Create) args = as_asked creates
+of_words (k.ForPath wish_to.Write) (rule.Known known.Truncate) args = as_asked truncates
+of_words (k.ForPath wish_to.Exec) (rule.Known known.Execve) args = as_asked execs
 of_words k.PlainCall (rule.Plain number) args = as_asked (plain number)
 of_words (k.ForFamily family) (rule.Known known.Socket) args = as_asked (socket family)
 of_words (k.ForFamily family) (rule.Known known.Socketcall) args = as_asked (socketcall family)
-of_words (k.ForSpace space) (rule.Known known.Unshare) args = as_asked (unshare space)
-of_words (k.ForSpace space) (rule.Known known.Clone) args = as_asked (clone space)
+of_words (k.ForNamespace space) (rule.Known known.Unshare) args = as_asked (unshare space)
+of_words (k.ForNamespace space) (rule.Known known.Clone) args = as_asked (clone space)
 of_words k.MapsWx (rule.Known known.Map) args = as_asked maps
 of_words k.ProtectsX (rule.Known known.Protect) args = as_asked protects
 of_words k.AttachesX (rule.Known known.Attach) args = as_asked attaches

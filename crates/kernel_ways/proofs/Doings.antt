@@ -25,10 +25,11 @@ use Rattle.kernel_calls.specs.declared.rule.Rule.TheVariants as rule
 use Rattle.kernel_model.specs.Effects as f
 use Rattle.kernel_model.specs.Effects.{Effect, SetCreds, looks, creds_effect, effect_of}
 use Rattle.kernel_laws.specs.Denied.{path_for}
-use Rattle.kernel_laws.specs.Kinds as k
 use Rattle.kernel_laws.specs.Kinds.{AreWords, no_words, one_word}
 use Rattle.kernel_laws.specs.Launched.{Launch, passes}
-use Rattle.kernel_laws.specs.Questions.{Wish, ToSee, ToRead, ToWrite, ToExec}
+use Rattle.question_types.specs.declared.wish.Wish.{Wish}
+use Rattle.question_types.specs.declared.wish.Wish.TheVariants.{See as ToSee, Read as ToRead, Write as ToWrite, Exec as ToExec}
+use Rattle.question_types.specs.declared.kind.CallKind.TheVariants as k
 use Rattle.kernel_laws.specs.Reach.{fits}
 use Rattle.kernel_ways.specs.Ways.{effect_on, Makes, host_at, caller_at, place_of, CallAt, IsCallAt, rule_there, passes_at}
 use Rattle.kernel_ways.proofs.Choices as choices

@@ -25,8 +25,9 @@ use Rattle.kernel_model.specs.declared.process.Process.{Process}
 use Rattle.kernel_model.specs.declared.reply.Reply.{Reply}
 use Rattle.kernel_laws.specs.Denied.{path_for, ReachesRow, Performs, Reaches, asks_family, asks_space, asks_map, asks_protect, asks_attach, asks_realtime, asks_personality, asks_mode}
 use Rattle.kernel_laws.specs.Launched.{Launch, data_at}
-use Rattle.kernel_laws.specs.Questions as q
-use Rattle.kernel_laws.specs.Questions.{Wish, Question}
+use Rattle.question_types.specs.declared.wish.Wish.{Wish}
+use Rattle.question_types.specs.declared.question.Question.{Question}
+use Rattle.question_types.specs.declared.question.Question.TheVariants as asking
 use Rattle.kernel_laws.proofs.Numbered.{lives}
 use Rattle.kernel_ways.specs.Entering.{IsEntered, MakesIn, newer_at, CallsShowInside}
 use Rattle.kernel_ways.specs.Showing.{IsDoable, Answers}
@@ -102,14 +103,14 @@ module _ (launch : Launch) (creds : Creds) (table : Table) (pid : ℕ) (world : 
       found = ap (λ (s : Site). finds (row_at s.rows) (table_of world own.namespace) path) e.site ∙ ap (λ (t : Table). finds (row_at launch.site.rows) t path) own_table ∙ found;
     }
 
-    family_reached : (place : ℕ) → asks_family launch.calls.families place doing ≡ true → IsDone (step world call).0 → Reaches (q.Socket place) (moment_at world call)
+    family_reached : (place : ℕ) → asks_family launch.calls.families place doing ≡ true → IsDone (step world call).0 → Reaches (asking.Socket place) (moment_at world call)
     family_reached place such done =
         let P : calls.Table → Type 0 = λ t. asks_family t.families place doing ≡ true in
         performs (asks_family world.calls.families place) (subst P (sym e.calls) such) done
 
     pub inside_reached : (question : Question) → Answers launch table question call doing → IsDone (step world call).0 → Reaches question (moment_at world call)
-    inside_reached (q.ByPath wish place) a done = reaches_row wish place a.1 a.3 a.0 a.2 a.4 done
-    inside_reached (q.Call place) a done = record {
+    inside_reached (asking.Path wish place) a done = reaches_row wish place a.1 a.3 a.0 a.2 a.4 done
+    inside_reached (asking.Call place) a done = record {
       done = done;
       line = a.0;
       listed = ap (λ (c : calls.Table). slice_get (calls.every_call c) place) e.calls ∙ a.1;
@@ -117,17 +118,17 @@ module _ (launch : Launch) (creds : Creds) (table : Table) (pid : ℕ) (world : 
       found = ap (λ (c : calls.Table). numbered call.nr (calls.calls_in c call.abi)) e.calls ∙ a.3;
       same = a.4;
     }
-    inside_reached (q.Socket place) a done = family_reached place a done
-    inside_reached (q.Ns space) a done = performs (asks_space space) a done
-    inside_reached q.MapWx a done = performs asks_map a done
-    inside_reached q.ProtectX a done = performs asks_protect a done
-    inside_reached q.ShmX a done = performs asks_attach a done
-    inside_reached q.Realtime a done = performs asks_realtime a done
-    inside_reached q.Personality a done = performs asks_personality a done
-    inside_reached q.SuidBit a done = performs asks_mode a done
-    inside_reached (q.Cap number) a done = absurd a
-    inside_reached (q.Uid id) a done = absurd a
-    inside_reached (q.Gid id) a done = absurd a
+    inside_reached (asking.Socket place) a done = family_reached place a done
+    inside_reached (asking.Namespace space) a done = performs (asks_space space) a done
+    inside_reached asking.MapWx a done = performs asks_map a done
+    inside_reached asking.ProtectX a done = performs asks_protect a done
+    inside_reached asking.ShmX a done = performs asks_attach a done
+    inside_reached asking.Realtime a done = performs asks_realtime a done
+    inside_reached asking.Personality a done = performs asks_personality a done
+    inside_reached asking.SuidBit a done = performs asks_mode a done
+    inside_reached (asking.Cap number) a done = absurd a
+    inside_reached (asking.Uid id) a done = absurd a
+    inside_reached (asking.Gid id) a done = absurd a
 
 -- ---- two calls behind a way
 run_one : (world : World) (xs : List Call) (call : Call) → run world (xs ++ call ∷ []) ≡ (step (run world xs) call).1

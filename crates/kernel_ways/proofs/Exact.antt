@@ -6,11 +6,13 @@ use Rattle.cap_sets.specs.Sets.{has}
 use Rattle.std.specs.List.{AllByRecursion}
 use Rattle.kernel_laws.specs.Bound.{any_uid, any_gid, caps_at, power_by, power_of, ceiling, is_open}
 use Rattle.kernel_laws.specs.Denied.{IsDenied, LastIs, Reaches}
-use Rattle.kernel_laws.specs.Kinds.{ChangesMounts, RemovesMounts}
+use Rattle.question_types.specs.declared.kind.CallKind.TheVariants.{ChangesMounts, RemovesMounts}
+use Rattle.question_types.specs.declared.question.Question.{Question}
+use Rattle.question_types.specs.declared.power.Power.{Power}
+use Rattle.question_types.specs.declared.power.Power.TheVariants.{None as Nowise}
+use Rattle.question_types.specs.declared.question.Question.TheVariants as asking
 use Rattle.kernel_laws.specs.Launched.{Launch, lets, launch_of}
-use Rattle.kernel_laws.specs.Questions as q
-use Rattle.kernel_laws.specs.Questions.{Question, IsAsked, questions}
-use Rattle.kernel_laws.specs.Reach.{Power, Nowise}
+use Rattle.kernel_laws.specs.Questions.{IsAsked, questions}
 use Rattle.kernel_model.specs.Runs.{Moment, moments}
 use Rattle.kernel_model.specs.World.{World}
 use Rattle.kernel_laws.proofs.AskedQuestions.{all_asked}
@@ -74,8 +76,8 @@ module _ (world : World) (s : IsServedWorld world) where
   more : admin Nowise ≡ true → admin (power_of launch) ≡ true
   more e =
       let g = at_nowise launch s.launched.launched s.offers 21 e in
-      let held' : IsShown world (q.Cap 21) = shown.cap_shown world launch s.launched.launched s.offers (shown.solo_of world s) 21 launch.table g in
-      is_true (admin (power_of launch)) (λ f. shown_not_denied world (q.Cap 21) held' (denial_is_sound world (q.Cap 21) s.launched tt f))
+      let held' : IsShown world (asking.Cap 21) = shown.cap_shown world launch s.launched.launched s.offers (shown.solo_of world s) 21 launch.table g in
+      is_true (admin (power_of launch)) (λ f. shown_not_denied world (asking.Cap 21) held' (denial_is_sound world (asking.Cap 21) s.launched tt f))
 
   once : (b : Bool) → admin Nowise ≡ b → power_of launch ≡ power_by (admin (power_of launch)) (lets launch ChangesMounts) (lets launch RemovesMounts)
   once true f = ap (λ b. power_by b (lets launch ChangesMounts) (lets launch RemovesMounts)) (f ∙ sym (more f))
@@ -85,11 +87,11 @@ module _ (world : World) (s : IsServedWorld world) where
 
   pub bounds_are_exact : BoundsAreExact world
   bounds_are_exact = record {
-    held = λ number e. open_is_shown world (q.Cap number) s tt e;
-    withheld = λ number e. denial_is_sound world (q.Cap number) s.launched tt e;
+    held = λ number e. open_is_shown world (asking.Cap number) s tt e;
+    withheld = λ number e. denial_is_sound world (asking.Cap number) s.launched tt e;
     power = once (admin Nowise) refl;
-    any_uid = λ e id small. open_is_shown world (q.Uid id) s small (or_left (any_uid launch (ceiling launch).effective) _ e);
-    any_gid = λ e id small. open_is_shown world (q.Gid id) s small (or_left (any_gid launch (ceiling launch).effective) _ e);
+    any_uid = λ e id small. open_is_shown world (asking.Uid id) s small (or_left (any_uid launch (ceiling launch).effective) _ e);
+    any_gid = λ e id small. open_is_shown world (asking.Gid id) s small (or_left (any_gid launch (ceiling launch).effective) _ e);
   }
 
 pub ceiling_is_exact : CeilingIsExact

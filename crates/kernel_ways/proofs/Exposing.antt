@@ -21,10 +21,13 @@ use Rattle.kern_files.specs.MountCall.{ms_bind, ms_remount_bind, has_other_kind,
 use Rattle.kernel_calls.specs.Calls.{IsPath}
 use Rattle.kernel_calls.specs.declared.call.Call.{Call}
 use Rattle.kernel_laws.specs.Bound.{power_by, power_of, caps_at}
-use Rattle.kernel_laws.specs.Kinds.{ChangesMounts, RemovesMounts, TakesUid, TakesGid}
+use Rattle.question_types.specs.declared.kind.CallKind.TheVariants.{ChangesMounts, RemovesMounts, TakesUid, TakesGid}
+use Rattle.question_types.specs.declared.wish.Wish.{Wish}
+use Rattle.question_types.specs.declared.wish.Wish.TheVariants.{See as ToSee, Read as ToRead, Write as ToWrite, Exec as ToExec}
+use Rattle.question_types.specs.declared.power.Power.{Power}
+use Rattle.question_types.specs.declared.power.Power.TheVariants.{None as Nowise, Unmount as Unmounting, Mount as Mounting}
 use Rattle.kernel_laws.specs.Launched.{Launch, IsLaunched, lets}
-use Rattle.kernel_laws.specs.Questions.{Wish, ToSee, ToRead, ToWrite, ToExec}
-use Rattle.kernel_laws.specs.Reach.{fits, Power, Nowise, Unmounting, Mounting, reaches}
+use Rattle.kernel_laws.specs.Reach.{fits, reaches}
 use Rattle.reach_paths.specs.Finding.{FindsRow}
 use Rattle.reach_paths.specs.Mounting.{IsBelowProc}
 use Rattle.reach_paths.proofs.Found.{exactly}

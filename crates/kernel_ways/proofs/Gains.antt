@@ -20,11 +20,11 @@ use Rattle.kernel_calls.specs.declared.payload.Payload.TheVariants as pay
 use Rattle.kernel_model.specs.Effects.{SetCreds}
 use Rattle.kern_files.specs.Looking.{flags_at}
 use Rattle.kern_files.specs.Executing.{marks_of}
-use Rattle.kernel_laws.specs.Kinds.{ForPath}
+use Rattle.question_types.specs.declared.kind.CallKind.TheVariants.{ForPath}
+use Rattle.question_types.specs.declared.wish.Wish.TheVariants.{Exec as ToExec}
 use Rattle.kernel_laws.specs.Launched.{Launch, IsLaunched}
 use Rattle.site_table.specs.Kinds.{is_exe}
 use Rattle.kern_mounts.specs.Split.{Table}
-use Rattle.kernel_laws.specs.Questions.{ToExec}
 use Rattle.reach_paths.specs.Finding.{FindsRow}
 use Rattle.kernel_laws.proofs.KeptExec.{above_if}
 use Rattle.kernel_ways.specs.Offers.{Offers}

@@ -14,10 +14,11 @@ use Rattle.kernel_laws.specs.Bound.{is_owner, can_run, owned_by, grouped_by, any
 use Rattle.kernel_calls.specs.declared.call.Call.{Call}
 use Rattle.kernel_laws.specs.Denied.{HasGid}
 use Rattle.kern_files.specs.Executing.{marks_of}
-use Rattle.kernel_laws.specs.Kinds.{TakesUid, TakesGid}
+use Rattle.question_types.specs.declared.kind.CallKind.TheVariants.{TakesUid, TakesGid}
+use Rattle.question_types.specs.declared.power.Power.{Power}
+use Rattle.question_types.specs.declared.power.Power.TheVariants.{None as Nowise, Unmount as Unmounting, Mount as Mounting}
 use Rattle.kernel_laws.specs.Launched.{Launch, IsLaunched, lets}
 use Rattle.kern_mounts.specs.Split.{Table}
-use Rattle.kernel_laws.specs.Reach.{Power, Nowise, Unmounting, Mounting}
 use Rattle.kernel_laws.proofs.Bound.{any_listed}
 use Rattle.kernel_ways.specs.Offers.{Offers}
 use Rattle.kernel_ways.specs.Taking.{id_call}

@@ -36,11 +36,13 @@ use Rattle.kernel_model.specs.declared.reply.Reply.{Reply}
 use Rattle.kernel_model.specs.declared.reply.Reply.TheVariants as reply
 use Rattle.kernel_laws.specs.Bound.{is_user}
 use Rattle.kernel_laws.specs.Denied.{asks_space}
-use Rattle.kernel_laws.specs.Kinds as k
+use Rattle.filter_rules.specs.declared.namespace_types.NamespaceType.{NamespaceType}
+use Rattle.question_types.specs.declared.wish.Wish.TheVariants.{Exec as ToExec}
+use Rattle.question_types.specs.declared.kind.CallKind.TheVariants as k
+use Rattle.filter_rules.specs.declared.namespace_types.NamespaceType.TheVariants as namespace
 use Rattle.kernel_laws.specs.Kinds.{AreWords, no_words, one_word}
 use Rattle.kernel_laws.specs.Launched.{Launch}
-use Rattle.kernel_laws.specs.Questions as q
-use Rattle.kernel_laws.specs.Questions.{Space, flag_of, ToExec}
+use Rattle.kernel_laws.specs.Questions.{flag_of}
 use Rattle.kernel_laws.specs.Reach.{fits}
 use Rattle.kernel_ways.specs.Entering.{pid_in, IsEntered, MakesIn, newer_at}
 use Rattle.kernel_ways.specs.Showing.{IsDoable}
@@ -53,17 +55,17 @@ use Rattle.kernel_ways.proofs.Solo.{steps, mounts_are}
 admin_inside : has all 21 ≡ true
 admin_inside = has_all 21
 
-flag_words : (space : Space) → AreWords (flag_of space ∷ 0 ∷ 0 ∷ 0 ∷ 0 ∷ 0 ∷ [])
+flag_words : (space : NamespaceType) → AreWords (flag_of space ∷ 0 ∷ 0 ∷ 0 ∷ 0 ∷ 0 ∷ [])
 flag_words space = six (flag_of space) 0 0 0 (by space) (omega arith) (omega arith) (omega arith)
   where
-    by : (space : Space) → flag_of space < 2 ^ 32
-    by q.Cgroup = omega arith
-    by q.Ipc = omega arith
-    by q.Net = omega arith
-    by q.Mnt = omega arith
-    by q.Pid = omega arith
-    by q.User = omega arith
-    by q.Uts = omega arith
+    by : (space : NamespaceType) → flag_of space < 2 ^ 32
+    by namespace.Cgroup = omega arith
+    by namespace.Ipc = omega arith
+    by namespace.Net = omega arith
+    by namespace.Mnt = omega arith
+    by namespace.Pid = omega arith
+    by namespace.User = omega arith
+    by namespace.Uts = omega arith
 
 -- ---- entering
 module _ (launch : Launch) (some : nat_lt 0 launch.site.user_namespaces ≡ true) (creds : Creds) (table : Table) where
@@ -72,7 +74,7 @@ module _ (launch : Launch) (some : nat_lt 0 launch.site.user_namespaces ≡ true
     pub doing : Doing
     pub effect : Effect
     pub makes : Makes launch creds table doing call effect
-    pub such : asks_space q.User doing ≡ true
+    pub such : asks_space namespace.User doing ≡ true
     pub pid : ℕ
     pub small : pid < 2 ^ 32
     pub pid_is : pid ≡ pid_in own
@@ -81,13 +83,13 @@ module _ (launch : Launch) (some : nat_lt 0 launch.site.user_namespaces ≡ true
   abbrev After : ℕ → Reply × World → Type 0
   After pid out = IsDone out.0 × IsEntered launch (entered creds) table pid out.1
 
-  by_unshare : (call : Call) → Makes launch creds table (d.Unshare (flag_of q.User)) call (f.OwnUser false) → (after : World) → IsSolo launch creds table after → After 1 (step after call)
+  by_unshare : (call : Call) → Makes launch creds table (d.Unshare (flag_of namespace.User)) call (f.OwnUser false) → (after : World) → IsSolo launch creds table after → After 1 (step after call)
   by_unshare call m after s =
       let own = solo_world launch creds s.namespace s.tables s.owners in
       let P : World → Type 0 = λ w. After 1 (step w call) in
       let Q : Reply × World → Type 0 = λ out. After 1 out in
       let R : Bool → Type 0 = λ b. After 1 (cond {A = Reply × World} b (moved_in own (with_user own) 1 (entered_by (solo_process launch creds s.namespace) 0) false) (reply.Refused 28, own)) in
-      subst P (sym s.is) (subst Q (sym (steps launch creds table s.namespace s.tables s.owners s.numbered s.own s.home s.few (d.Unshare (flag_of q.User)) call (f.OwnUser false) m))
+      subst P (sym s.is) (subst Q (sym (steps launch creds table s.namespace s.tables s.owners s.numbered s.own s.home s.few (d.Unshare (flag_of namespace.User)) call (f.OwnUser false) m))
       (subst R (sym some) (
         tt,
         record {
@@ -98,19 +100,19 @@ module _ (launch : Launch) (some : nat_lt 0 launch.site.user_namespaces ≡ true
           has = refl;
           stack = refl;
           newer = refl;
-          own = mounts_are launch creds table s.namespace s.tables s.owners s.numbered s.own s.home s.few (d.Unshare (flag_of q.User)) call (f.OwnUser false) m;
+          own = mounts_are launch creds table s.namespace s.tables s.owners s.numbered s.own s.home s.few (d.Unshare (flag_of namespace.User)) call (f.OwnUser false) m;
           few = s.few;
           fewer = refl;
         },
       )))
 
-  by_clone : (call : Call) → Makes launch creds table (d.Clone (flag_of q.User)) call (f.UserChild false) → (after : World) → IsSolo launch creds table after → After 2 (step after call)
+  by_clone : (call : Call) → Makes launch creds table (d.Clone (flag_of namespace.User)) call (f.UserChild false) → (after : World) → IsSolo launch creds table after → After 2 (step after call)
   by_clone call m after s =
       let own = solo_world launch creds s.namespace s.tables s.owners in
       let P : World → Type 0 = λ w. After 2 (step w call) in
       let Q : Reply × World → Type 0 = λ out. After 2 out in
       let R : Bool → Type 0 = λ b. After 2 (cond {A = Reply × World} b (child_in own (with_user own) (entered_by (solo_process launch creds s.namespace) 0) false) (reply.Refused 28, own)) in
-      subst P (sym s.is) (subst Q (sym (steps launch creds table s.namespace s.tables s.owners s.numbered s.own s.home s.few (d.Clone (flag_of q.User)) call (f.UserChild false) m))
+      subst P (sym s.is) (subst Q (sym (steps launch creds table s.namespace s.tables s.owners s.numbered s.own s.home s.few (d.Clone (flag_of namespace.User)) call (f.UserChild false) m))
       (subst R (sym some) (
         tt,
         record {
@@ -121,21 +123,21 @@ module _ (launch : Launch) (some : nat_lt 0 launch.site.user_namespaces ≡ true
           has = refl;
           stack = refl;
           newer = refl;
-          own = mounts_are launch creds table s.namespace s.tables s.owners s.numbered s.own s.home s.few (d.Clone (flag_of q.User)) call (f.UserChild false) m;
+          own = mounts_are launch creds table s.namespace s.tables s.owners s.numbered s.own s.home s.few (d.Clone (flag_of namespace.User)) call (f.UserChild false) m;
           few = s.few;
           fewer = refl;
         },
       )))
 
-  enters_by : {own : Rule} {args : List ℕ} → (nr : CallAt) → IsCallAt nr → rule_there launch nr ≡ Some own → passes_at launch nr args → choices.Choice (k.ForSpace q.User) own args → Enters own (first_by nr args pay.Nothing)
+  enters_by : {own : Rule} {args : List ℕ} → (nr : CallAt) → IsCallAt nr → rule_there launch nr ≡ Some own → passes_at launch nr args → choices.Choice (k.ForNamespace namespace.User) own args → Enters own (first_by nr args pay.Nothing)
   enters_by nr n at t (choices.unshare _) =
-      let m = make launch creds table nr (rule.Known known.Unshare) (one_word 0 (flag_of q.User)) pay.Nothing (d.Unshare (flag_of q.User)) (f.OwnUser false) n (flag_words q.User) tt at refl t refl in
-      record { doing = d.Unshare (flag_of q.User); effect = f.OwnUser false; makes = m; such = refl; pid = 1; small = omega arith; pid_is = refl; inside = by_unshare (first_by nr (one_word 0 (flag_of q.User)) pay.Nothing) m }
+      let m = make launch creds table nr (rule.Known known.Unshare) (one_word 0 (flag_of namespace.User)) pay.Nothing (d.Unshare (flag_of namespace.User)) (f.OwnUser false) n (flag_words namespace.User) tt at refl t refl in
+      record { doing = d.Unshare (flag_of namespace.User); effect = f.OwnUser false; makes = m; such = refl; pid = 1; small = omega arith; pid_is = refl; inside = by_unshare (first_by nr (one_word 0 (flag_of namespace.User)) pay.Nothing) m }
   enters_by nr n at t (choices.clone _) =
-      let m = make launch creds table nr (rule.Known known.Clone) (one_word 0 (flag_of q.User)) pay.Nothing (d.Clone (flag_of q.User)) (f.UserChild false) n (flag_words q.User) tt at refl t refl in
-      record { doing = d.Clone (flag_of q.User); effect = f.UserChild false; makes = m; such = refl; pid = 2; small = omega arith; pid_is = refl; inside = by_clone (first_by nr (one_word 0 (flag_of q.User)) pay.Nothing) m }
+      let m = make launch creds table nr (rule.Known known.Clone) (one_word 0 (flag_of namespace.User)) pay.Nothing (d.Clone (flag_of namespace.User)) (f.UserChild false) n (flag_words namespace.User) tt at refl t refl in
+      record { doing = d.Clone (flag_of namespace.User); effect = f.UserChild false; makes = m; such = refl; pid = 2; small = omega arith; pid_is = refl; inside = by_clone (first_by nr (one_word 0 (flag_of namespace.User)) pay.Nothing) m }
 
-  pub enters : (line : Line launch (k.ForSpace q.User)) → Enters line.own (first_by (place_of line.line) line.args pay.Nothing)
+  pub enters : (line : Line launch (k.ForNamespace namespace.User)) → Enters line.own (first_by (place_of line.line) line.args pay.Nothing)
   enters line = enters_by (place_of line.line) line.number line.at line.through (choice_of line)
 
 -- ---- one call inside
@@ -164,34 +166,34 @@ module _ (launch : Launch) (creds : Creds) (table : Table) (pid : ℕ) (small : 
   admits : (effect : Effect) → cond (has all 21) effect (f.Refuse eperm) ≡ effect
   admits effect = ap (λ b. cond b effect (f.Refuse eperm)) admin_inside
 
-  in_space : (space : Space) (nr : CallAt) (own : Rule) (doing : Doing) (effect : Effect) → IsCallAt nr → rule_there launch nr ≡ Some own → passes_at launch nr (one_word 0 (flag_of space)) → doing_by own (one_word 0 (flag_of space)) pay.Nothing ≡ Some doing
+  in_space : (space : NamespaceType) (nr : CallAt) (own : Rule) (doing : Doing) (effect : Effect) → IsCallAt nr → rule_there launch nr ≡ Some own → passes_at launch nr (one_word 0 (flag_of space)) → doing_by own (one_word 0 (flag_of space)) pay.Nothing ≡ Some doing
       → ((owns : Bool) → effect_of (host_at launch) (newer_at launch (entered creds) table owns) doing ≡ effect) → IsDoable effect → asks_space space doing ≡ true → Inside (asks_space space) (call_by pid nr (one_word 0 (flag_of space)) pay.Nothing)
   in_space space nr own doing effect n at t is e h such = record { doing = doing; effect = effect; makes = make_in nr own (one_word 0 (flag_of space)) pay.Nothing doing effect n (flag_words space) tt at is t e; doable = h; such = such }
 
-  unshare_in : (space : Space) → is_user space ≡ false → (nr : CallAt) → IsCallAt nr → rule_there launch nr ≡ Some (rule.Known known.Unshare) → passes_at launch nr (one_word 0 (flag_of space)) → Inside (asks_space space) (call_by pid nr (one_word 0 (flag_of space)) pay.Nothing)
-  unshare_in q.Cgroup u nr n at t = in_space q.Cgroup nr (rule.Known known.Unshare) (d.Unshare (flag_of q.Cgroup)) (f.Answer 0) n at t refl (λ owns. admits (f.Answer 0)) tt refl
-  unshare_in q.Ipc u nr n at t = in_space q.Ipc nr (rule.Known known.Unshare) (d.Unshare (flag_of q.Ipc)) (f.Answer 0) n at t refl (λ owns. admits (f.Answer 0)) tt refl
-  unshare_in q.Net u nr n at t = in_space q.Net nr (rule.Known known.Unshare) (d.Unshare (flag_of q.Net)) (f.Answer 0) n at t refl (λ owns. admits (f.Answer 0)) tt refl
-  unshare_in q.Mnt u nr n at t = in_space q.Mnt nr (rule.Known known.Unshare) (d.Unshare (flag_of q.Mnt)) f.OwnTable n at t refl (λ owns. admits f.OwnTable) tt refl
-  unshare_in q.Pid u nr n at t = in_space q.Pid nr (rule.Known known.Unshare) (d.Unshare (flag_of q.Pid)) (f.Answer 0) n at t refl (λ owns. admits (f.Answer 0)) tt refl
-  unshare_in q.User u nr n at t = cc
-  unshare_in q.Uts u nr n at t = in_space q.Uts nr (rule.Known known.Unshare) (d.Unshare (flag_of q.Uts)) (f.Answer 0) n at t refl (λ owns. admits (f.Answer 0)) tt refl
+  unshare_in : (space : NamespaceType) → is_user space ≡ false → (nr : CallAt) → IsCallAt nr → rule_there launch nr ≡ Some (rule.Known known.Unshare) → passes_at launch nr (one_word 0 (flag_of space)) → Inside (asks_space space) (call_by pid nr (one_word 0 (flag_of space)) pay.Nothing)
+  unshare_in namespace.Cgroup u nr n at t = in_space namespace.Cgroup nr (rule.Known known.Unshare) (d.Unshare (flag_of namespace.Cgroup)) (f.Answer 0) n at t refl (λ owns. admits (f.Answer 0)) tt refl
+  unshare_in namespace.Ipc u nr n at t = in_space namespace.Ipc nr (rule.Known known.Unshare) (d.Unshare (flag_of namespace.Ipc)) (f.Answer 0) n at t refl (λ owns. admits (f.Answer 0)) tt refl
+  unshare_in namespace.Net u nr n at t = in_space namespace.Net nr (rule.Known known.Unshare) (d.Unshare (flag_of namespace.Net)) (f.Answer 0) n at t refl (λ owns. admits (f.Answer 0)) tt refl
+  unshare_in namespace.Mnt u nr n at t = in_space namespace.Mnt nr (rule.Known known.Unshare) (d.Unshare (flag_of namespace.Mnt)) f.OwnTable n at t refl (λ owns. admits f.OwnTable) tt refl
+  unshare_in namespace.Pid u nr n at t = in_space namespace.Pid nr (rule.Known known.Unshare) (d.Unshare (flag_of namespace.Pid)) (f.Answer 0) n at t refl (λ owns. admits (f.Answer 0)) tt refl
+  unshare_in namespace.User u nr n at t = cc
+  unshare_in namespace.Uts u nr n at t = in_space namespace.Uts nr (rule.Known known.Unshare) (d.Unshare (flag_of namespace.Uts)) (f.Answer 0) n at t refl (λ owns. admits (f.Answer 0)) tt refl
 
-  clone_in : (space : Space) → is_user space ≡ false → (nr : CallAt) → IsCallAt nr → rule_there launch nr ≡ Some (rule.Known known.Clone) → passes_at launch nr (one_word 0 (flag_of space)) → Inside (asks_space space) (call_by pid nr (one_word 0 (flag_of space)) pay.Nothing)
-  clone_in q.Cgroup u nr n at t = in_space q.Cgroup nr (rule.Known known.Clone) (d.Clone (flag_of q.Cgroup)) (f.Child false) n at t refl (λ owns. admits (f.Child false)) tt refl
-  clone_in q.Ipc u nr n at t = in_space q.Ipc nr (rule.Known known.Clone) (d.Clone (flag_of q.Ipc)) (f.Child false) n at t refl (λ owns. admits (f.Child false)) tt refl
-  clone_in q.Net u nr n at t = in_space q.Net nr (rule.Known known.Clone) (d.Clone (flag_of q.Net)) (f.Child false) n at t refl (λ owns. admits (f.Child false)) tt refl
-  clone_in q.Mnt u nr n at t = in_space q.Mnt nr (rule.Known known.Clone) (d.Clone (flag_of q.Mnt)) (f.Child true) n at t refl (λ owns. admits (f.Child true)) tt refl
-  clone_in q.Pid u nr n at t = in_space q.Pid nr (rule.Known known.Clone) (d.Clone (flag_of q.Pid)) (f.Child false) n at t refl (λ owns. admits (f.Child false)) tt refl
-  clone_in q.User u nr n at t = cc
-  clone_in q.Uts u nr n at t = in_space q.Uts nr (rule.Known known.Clone) (d.Clone (flag_of q.Uts)) (f.Child false) n at t refl (λ owns. admits (f.Child false)) tt refl
+  clone_in : (space : NamespaceType) → is_user space ≡ false → (nr : CallAt) → IsCallAt nr → rule_there launch nr ≡ Some (rule.Known known.Clone) → passes_at launch nr (one_word 0 (flag_of space)) → Inside (asks_space space) (call_by pid nr (one_word 0 (flag_of space)) pay.Nothing)
+  clone_in namespace.Cgroup u nr n at t = in_space namespace.Cgroup nr (rule.Known known.Clone) (d.Clone (flag_of namespace.Cgroup)) (f.Child false) n at t refl (λ owns. admits (f.Child false)) tt refl
+  clone_in namespace.Ipc u nr n at t = in_space namespace.Ipc nr (rule.Known known.Clone) (d.Clone (flag_of namespace.Ipc)) (f.Child false) n at t refl (λ owns. admits (f.Child false)) tt refl
+  clone_in namespace.Net u nr n at t = in_space namespace.Net nr (rule.Known known.Clone) (d.Clone (flag_of namespace.Net)) (f.Child false) n at t refl (λ owns. admits (f.Child false)) tt refl
+  clone_in namespace.Mnt u nr n at t = in_space namespace.Mnt nr (rule.Known known.Clone) (d.Clone (flag_of namespace.Mnt)) (f.Child true) n at t refl (λ owns. admits (f.Child true)) tt refl
+  clone_in namespace.Pid u nr n at t = in_space namespace.Pid nr (rule.Known known.Clone) (d.Clone (flag_of namespace.Pid)) (f.Child false) n at t refl (λ owns. admits (f.Child false)) tt refl
+  clone_in namespace.User u nr n at t = cc
+  clone_in namespace.Uts u nr n at t = in_space namespace.Uts nr (rule.Known known.Clone) (d.Clone (flag_of namespace.Uts)) (f.Child false) n at t refl (λ owns. admits (f.Child false)) tt refl
 
-  space_in : {own : Rule} {args : List ℕ} → (space : Space) → is_user space ≡ false → (nr : CallAt) → IsCallAt nr → rule_there launch nr ≡ Some own → passes_at launch nr args → choices.Choice (k.ForSpace space) own args → Inside (asks_space space) (call_by pid nr args pay.Nothing)
+  space_in : {own : Rule} {args : List ℕ} → (space : NamespaceType) → is_user space ≡ false → (nr : CallAt) → IsCallAt nr → rule_there launch nr ≡ Some own → passes_at launch nr args → choices.Choice (k.ForNamespace space) own args → Inside (asks_space space) (call_by pid nr args pay.Nothing)
   space_in space u nr n at t (choices.unshare _) = unshare_in space u nr n at t
   space_in space u nr n at t (choices.clone _) = clone_in space u nr n at t
 
   -- any other namespace
-  pub own_space : (space : Space) → is_user space ≡ false → (line : Line launch (k.ForSpace space)) → Inside (asks_space space) (call_by pid (place_of line.line) line.args pay.Nothing)
+  pub own_space : (space : NamespaceType) → is_user space ≡ false → (line : Line launch (k.ForNamespace space)) → Inside (asks_space space) (call_by pid (place_of line.line) line.args pay.Nothing)
   own_space space u line = space_in space u (place_of line.line) line.number line.at line.through (choice_of line)
 
   -- a program whose set is not within the bounding set of the launch

@@ -21,14 +21,15 @@ use Rattle.call_names.specs.Known.{known_call}
 use Rattle.kernel_calls.specs.Rules.{rule_of, rule_at, rule_by}
 use Rattle.kernel_calls.specs.Doing.{Doing, doing_by, asked_by, asked_if}
 use Rattle.kernel_model.specs.Effects.{Effect, effect_of}
-use Rattle.kernel_laws.specs.Kinds.{Kind, words, no_words, AreWords}
+use Rattle.question_types.specs.declared.kind.CallKind.{CallKind}
+use Rattle.kernel_laws.specs.Kinds.{words, no_words, AreWords}
 use Rattle.kernel_laws.specs.Launched.{Launch, IsLaunched, data_at, passes, is_pass, lets_words, lets_rule, lets_line, lets}
 use Rattle.kern_mounts.specs.Split.{Table}
 use Rattle.kernel_laws.proofs.Filters.{at_position, slice_all}
 use Rattle.kernel_ways.specs.Ways.{effect_on, Makes, host_at, caller_at, CallAt, IsCallAt, rule_there, passes_at, place_of}
 use Rattle.kernel_ways.proofs.Choices.{Choice, of_words}
 
-pub record Line (launch : Launch) (kind : Kind) : Type 0 where
+pub record Line (launch : Launch) (kind : CallKind) : Type 0 where
   pub line : CallLine
   pub number : IsCallAt (place_of line)
   pub own : Rule
@@ -38,7 +39,7 @@ pub record Line (launch : Launch) (kind : Kind) : Type 0 where
   pub are : words kind own ≡ Some args
   pub through : passes_at launch (place_of line) args
 
-pub choice_of : {launch : Launch} {kind : Kind} → (line : Line launch kind) → Choice kind line.own line.args
+pub choice_of : {launch : Launch} {kind : CallKind} → (line : Line launch kind) → Choice kind line.own line.args
 choice_of {launch} {kind} line = of_words kind line.own line.args line.are
 
 -- numbers of lines have 32 bits
@@ -102,7 +103,7 @@ same_rule launch l place at line other listed there name =
     let caps = slice_all (λ one. All (λ other. one.name ≡ other.name → one.cap ≡ other.cap) (calls.every_call launch.calls)) (calls.every_call launch.calls) place line l.one_cap listed in
     one_rule line other name (slice_all (λ other. line.name ≡ other.name → line.cap ≡ other.cap) (calls.every_call launch.calls) at other caps there name)
 
-pub line_at : (launch : Launch) → IsLaunched launch → (kind : Kind) (at : ℕ) (line : CallLine) → slice_get (calls.every_call launch.calls) at ≡ Some line → lets_line launch kind line ≡ true → (x : Line launch kind) × (x.line ≡ line)
+pub line_at : (launch : Launch) → IsLaunched launch → (kind : CallKind) (at : ℕ) (line : CallLine) → slice_get (calls.every_call launch.calls) at ≡ Some line → lets_line launch kind line ≡ true → (x : Line launch kind) × (x.line ≡ line)
 line_at launch l kind at line listed e = by (rule_of line) refl e
   where
     by_words : (own : Rule) → rule_of line ≡ Some own → (w : Option (List ℕ)) → words kind own ≡ w → lets_words launch line.abi line.number w ≡ true → (x : Line launch kind) × (x.line ≡ line)
@@ -117,7 +118,7 @@ line_at launch l kind at line listed e = by (rule_of line) refl e
     by None is e = cc
     by (Some own) is e = by_words own is (words kind own) refl e
 
-pub some_line : (launch : Launch) → IsLaunched launch → (kind : Kind) → lets launch kind ≡ true → Line launch kind
+pub some_line : (launch : Launch) → IsLaunched launch → (kind : CallKind) → lets launch kind ≡ true → Line launch kind
 unfolding lets
 some_line launch l kind e =
     let a = any_at (lets_line launch kind) (calls.every_call launch.calls) e in

@@ -19,11 +19,14 @@ use Rattle.kernel_model.specs.Effects as f
 use Rattle.kernel_model.specs.Effects.{Effect, effect_of, with_cap_of, socket_effect}
 use Rattle.kernel_laws.specs.Bound.{is_user}
 use Rattle.kernel_laws.specs.Denied.{asks_space}
+use Rattle.question_types.specs.declared.kind.CallKind.{CallKind}
+use Rattle.filter_rules.specs.declared.namespace_types.NamespaceType.{NamespaceType}
+use Rattle.question_types.specs.declared.kind.CallKind.TheVariants as kinds
+use Rattle.filter_rules.specs.declared.namespace_types.NamespaceType.TheVariants as namespace
 use Rattle.kernel_laws.specs.Kinds as k
-use Rattle.kernel_laws.specs.Kinds.{Kind, AreWords, asks_plain, family_payload, no_words, one_word}
+use Rattle.kernel_laws.specs.Kinds.{AreWords, asks_plain, family_payload, no_words, one_word}
 use Rattle.kernel_laws.specs.Launched.{Launch, passes}
-use Rattle.kernel_laws.specs.Questions as q
-use Rattle.kernel_laws.specs.Questions.{Space, flag_of}
+use Rattle.kernel_laws.specs.Questions.{flag_of}
 use Rattle.kernel_ways.specs.Ways.{effect_on, host_at, caller_at, CallAt, IsCallAt, rule_there, passes_at, place_of}
 use Rattle.kernel_ways.proofs.Choices as choices
 use Rattle.kernel_ways.proofs.Doings.{Performed}
@@ -40,13 +43,13 @@ cap_lets creds None effect h = refl
 cap_lets creds (Some number) effect h = ap (λ b. cond b effect (f.Refuse eperm)) h
 
 -- a call asks for it by its words alone, and every process may
-abbrev pub is_free : Kind → Bool
-is_free k.MapsWx = true
-is_free k.ProtectsX = true
-is_free k.AttachesX = true
-is_free k.SchedulesRealtime = true
-is_free k.TakesPersonality = true
-is_free k.SetsMode = true
+abbrev pub is_free : CallKind → Bool
+is_free kinds.MapsWx = true
+is_free kinds.ProtectsX = true
+is_free kinds.AttachesX = true
+is_free kinds.SchedulesRealtime = true
+is_free kinds.TakesPersonality = true
+is_free kinds.SetsMode = true
 is_free kind = false
 
 module _ (launch : Launch) (creds : Creds) (table : Table) where
@@ -61,17 +64,17 @@ module _ (launch : Launch) (creds : Creds) (table : Table) where
     such = such;
   }
 
-  free_by : {kind : Kind} {own : Rule} {args : List ℕ} → (nr : CallAt) → IsCallAt nr → rule_there launch nr ≡ Some own → passes_at launch nr args → is_free kind ≡ true → choices.Choice kind own args → Performed launch creds table (k.asks kind) (first_by nr args pay.Nothing)
-  free_by nr n at t h choices.maps = bare_call (k.asks k.MapsWx) nr (rule.Known known.Map) (one_word 2 6) (d.Map 6) (f.Answer 0) n (six 0 0 6 0 (omega arith) (omega arith) (omega arith) (omega arith)) at t refl refl tt refl
-  free_by nr n at t h choices.protects = bare_call (k.asks k.ProtectsX) nr (rule.Known known.Protect) (one_word 2 4) (d.Protect 4) (f.Answer 0) n (six 0 0 4 0 (omega arith) (omega arith) (omega arith) (omega arith)) at t refl refl tt refl
-  free_by nr n at t h choices.attaches = bare_call (k.asks k.AttachesX) nr (rule.Known known.Attach) (one_word 2 0x8000) (d.Attach 0x8000) (f.Answer 0) n (six 0 0 0x8000 0 (omega arith) (omega arith) (omega arith) (omega arith)) at t refl refl tt refl
-  free_by nr n at t h choices.schedules = bare_call (k.asks k.SchedulesRealtime) nr (rule.Known known.Schedule) (one_word 1 1) (d.Schedule 1) (f.Answer 0) n (six 0 1 0 0 (omega arith) (omega arith) (omega arith) (omega arith)) at t refl refl tt refl
-  free_by nr n at t h choices.personality = bare_call (k.asks k.TakesPersonality) nr (rule.Known known.Personality) (one_word 0 8) (d.Personality 8) (f.Answer 0) n (six 8 0 0 0 (omega arith) (omega arith) (omega arith) (omega arith)) at t refl refl tt refl
-  free_by nr n at t h (choices.mode argument.Second) = bare_call (k.asks k.SetsMode) nr (rule.Known (known.SetMode argument.Second)) (one_word 1 0x800) (d.SetMode 0x800) (f.Answer 0) n (six 0 0x800 0 0 (omega arith) (omega arith) (omega arith) (omega arith)) at t refl refl tt refl
-  free_by nr n at t h (choices.mode argument.Third) = bare_call (k.asks k.SetsMode) nr (rule.Known (known.SetMode argument.Third)) (one_word 2 0x800) (d.SetMode 0x800) (f.Answer 0) n (six 0 0 0x800 0 (omega arith) (omega arith) (omega arith) (omega arith)) at t refl refl tt refl
+  free_by : {kind : CallKind} {own : Rule} {args : List ℕ} → (nr : CallAt) → IsCallAt nr → rule_there launch nr ≡ Some own → passes_at launch nr args → is_free kind ≡ true → choices.Choice kind own args → Performed launch creds table (k.asks kind) (first_by nr args pay.Nothing)
+  free_by nr n at t h choices.maps = bare_call (k.asks kinds.MapsWx) nr (rule.Known known.Map) (one_word 2 6) (d.Map 6) (f.Answer 0) n (six 0 0 6 0 (omega arith) (omega arith) (omega arith) (omega arith)) at t refl refl tt refl
+  free_by nr n at t h choices.protects = bare_call (k.asks kinds.ProtectsX) nr (rule.Known known.Protect) (one_word 2 4) (d.Protect 4) (f.Answer 0) n (six 0 0 4 0 (omega arith) (omega arith) (omega arith) (omega arith)) at t refl refl tt refl
+  free_by nr n at t h choices.attaches = bare_call (k.asks kinds.AttachesX) nr (rule.Known known.Attach) (one_word 2 0x8000) (d.Attach 0x8000) (f.Answer 0) n (six 0 0 0x8000 0 (omega arith) (omega arith) (omega arith) (omega arith)) at t refl refl tt refl
+  free_by nr n at t h choices.schedules = bare_call (k.asks kinds.SchedulesRealtime) nr (rule.Known known.Schedule) (one_word 1 1) (d.Schedule 1) (f.Answer 0) n (six 0 1 0 0 (omega arith) (omega arith) (omega arith) (omega arith)) at t refl refl tt refl
+  free_by nr n at t h choices.personality = bare_call (k.asks kinds.TakesPersonality) nr (rule.Known known.Personality) (one_word 0 8) (d.Personality 8) (f.Answer 0) n (six 8 0 0 0 (omega arith) (omega arith) (omega arith) (omega arith)) at t refl refl tt refl
+  free_by nr n at t h (choices.mode argument.Second) = bare_call (k.asks kinds.SetsMode) nr (rule.Known (known.SetMode argument.Second)) (one_word 1 0x800) (d.SetMode 0x800) (f.Answer 0) n (six 0 0x800 0 0 (omega arith) (omega arith) (omega arith) (omega arith)) at t refl refl tt refl
+  free_by nr n at t h (choices.mode argument.Third) = bare_call (k.asks kinds.SetsMode) nr (rule.Known (known.SetMode argument.Third)) (one_word 2 0x800) (d.SetMode 0x800) (f.Answer 0) n (six 0 0 0x800 0 (omega arith) (omega arith) (omega arith) (omega arith)) at t refl refl tt refl
   free_by nr n at t h choice = cc
 
-  pub free : (kind : Kind) → is_free kind ≡ true → (line : Line launch kind) → Performed launch creds table (k.asks kind) (first_by (place_of line.line) line.args pay.Nothing)
+  pub free : (kind : CallKind) → is_free kind ≡ true → (line : Line launch kind) → Performed launch creds table (k.asks kind) (first_by (place_of line.line) line.args pay.Nothing)
   free kind h line = free_by (place_of line.line) line.number line.at line.through h (choice_of line)
 
   -- a plain call, with its capability
@@ -79,13 +82,13 @@ module _ (launch : Launch) (creds : Creds) (table : Table) where
   can_for (Some (rule.Plain number)) = CapAtHand creds number
   can_for _ = Unit {0}
 
-  rule_by : {own : Rule} {args : List ℕ} → (line : CallLine) → rule_of line ≡ Some own → choices.Choice k.PlainCall own args → (number : Option ℕ) × (rule_of line ≡ Some (rule.Plain number))
+  rule_by : {own : Rule} {args : List ℕ} → (line : CallLine) → rule_of line ≡ Some own → choices.Choice kinds.PlainCall own args → (number : Option ℕ) × (rule_of line ≡ Some (rule.Plain number))
   rule_by line is (choices.plain number) = (number, is)
 
-  pub plain_rule : (line : Line launch k.PlainCall) → (number : Option ℕ) × (rule_of line.line ≡ Some (rule.Plain number))
+  pub plain_rule : (line : Line launch kinds.PlainCall) → (number : Option ℕ) × (rule_of line.line ≡ Some (rule.Plain number))
   plain_rule line = rule_by line.line line.is (choice_of line)
 
-  plain_by : {own : Rule} {args : List ℕ} → (line : CallLine) → IsCallAt (place_of line) → rule_of line ≡ Some own → rule_there launch (place_of line) ≡ Some own → passes_at launch (place_of line) args → choices.Choice k.PlainCall own args → can_for (rule_of line) → Performed launch creds table asks_plain (first_by (place_of line) args pay.Nothing)
+  plain_by : {own : Rule} {args : List ℕ} → (line : CallLine) → IsCallAt (place_of line) → rule_of line ≡ Some own → rule_there launch (place_of line) ≡ Some own → passes_at launch (place_of line) args → choices.Choice kinds.PlainCall own args → can_for (rule_of line) → Performed launch creds table asks_plain (first_by (place_of line) args pay.Nothing)
   plain_by line n is at t (choices.plain number) can =
       let has' : CapAtHand creds number = subst can_for is can in
       record {
@@ -96,14 +99,14 @@ module _ (launch : Launch) (creds : Creds) (table : Table) where
         such = refl;
       }
 
-  pub plain : (line : Line launch k.PlainCall) → can_for (rule_of line.line) → Performed launch creds table asks_plain (first_by (place_of line.line) line.args pay.Nothing)
+  pub plain : (line : Line launch kinds.PlainCall) → can_for (rule_of line.line) → Performed launch creds table asks_plain (first_by (place_of line.line) line.args pay.Nothing)
   plain line can = plain_by line.line line.number line.is line.at line.through (choice_of line) can
 
   -- a socket of a family
   low : (n : ℕ) → n < 2 ^ 32 → n % 2 ^ 32 ≡ n
   low n h = omega (arith, h)
 
-  socket_by : {own : Rule} {args : List ℕ} → (nr : CallAt) → IsCallAt nr → rule_there launch nr ≡ Some own → passes_at launch nr args → (family : CallLine) → family.number < 2 ^ 32 → choices.Choice (k.ForFamily family.number) own args
+  socket_by : {own : Rule} {args : List ℕ} → (nr : CallAt) → IsCallAt nr → rule_there launch nr ≡ Some own → passes_at launch nr args → (family : CallLine) → family.number < 2 ^ 32 → choices.Choice (kinds.ForFamily family.number) own args
       → numbered family.number launch.calls.families ≡ Some family → CapAtHand creds family.cap → (p : Doing → Bool) → p (d.Socket family.number) ≡ true → p (d.Socketcall 1 family.number) ≡ true → Performed launch creds table p (first_by nr args (family_payload own family.number))
   socket_by nr n at t family small (choices.socket _) found can p such through =
       let word : family.number % 2 ^ 32 ≡ family.number = low family.number small in
@@ -120,7 +123,7 @@ module _ (launch : Launch) (creds : Creds) (table : Table) where
     such = through;
   }
 
-  pub socket : (family : CallLine) → family.number < 2 ^ 32 → (line : Line launch (k.ForFamily family.number)) → numbered family.number launch.calls.families ≡ Some family → CapAtHand creds family.cap → (p : Doing → Bool)
+  pub socket : (family : CallLine) → family.number < 2 ^ 32 → (line : Line launch (kinds.ForFamily family.number)) → numbered family.number launch.calls.families ≡ Some family → CapAtHand creds family.cap → (p : Doing → Bool)
       → p (d.Socket family.number) ≡ true → p (d.Socketcall 1 family.number) ≡ true → Performed launch creds table p (first_by (place_of line.line) line.args (family_payload line.own family.number))
   socket family small line found can p such through = socket_by (place_of line.line) line.number line.at line.through family small (choice_of line) found can p such through
 
@@ -129,47 +132,47 @@ module _ (launch : Launch) (creds : Creds) (table : Table) where
     admits : (effect : Effect) → cond (has creds.effective 21) effect (f.Refuse eperm) ≡ effect
     admits effect = ap (λ b. cond b effect (f.Refuse eperm)) admin
 
-    flag_words : (space : Space) → AreWords (flag_of space ∷ 0 ∷ 0 ∷ 0 ∷ 0 ∷ 0 ∷ [])
+    flag_words : (space : NamespaceType) → AreWords (flag_of space ∷ 0 ∷ 0 ∷ 0 ∷ 0 ∷ 0 ∷ [])
     flag_words space = six (flag_of space) 0 0 0 (by space) (omega arith) (omega arith) (omega arith)
       where
-        by : (space : Space) → flag_of space < 2 ^ 32
-        by q.Cgroup = omega arith
-        by q.Ipc = omega arith
-        by q.Net = omega arith
-        by q.Mnt = omega arith
-        by q.Pid = omega arith
-        by q.User = omega arith
-        by q.Uts = omega arith
+        by : (space : NamespaceType) → flag_of space < 2 ^ 32
+        by namespace.Cgroup = omega arith
+        by namespace.Ipc = omega arith
+        by namespace.Net = omega arith
+        by namespace.Mnt = omega arith
+        by namespace.Pid = omega arith
+        by namespace.User = omega arith
+        by namespace.Uts = omega arith
 
-    unshared : (space : Space) (effect : Effect) (nr : CallAt) → IsCallAt nr → rule_there launch nr ≡ Some (rule.Known known.Unshare) → passes_at launch nr (one_word 0 (flag_of space)) → d.doing_by (rule.Known known.Unshare) (one_word 0 (flag_of space)) pay.Nothing ≡ Some (d.Unshare (flag_of space))
+    unshared : (space : NamespaceType) (effect : Effect) (nr : CallAt) → IsCallAt nr → rule_there launch nr ≡ Some (rule.Known known.Unshare) → passes_at launch nr (one_word 0 (flag_of space)) → d.doing_by (rule.Known known.Unshare) (one_word 0 (flag_of space)) pay.Nothing ≡ Some (d.Unshare (flag_of space))
         → effect_on (host_at launch) (caller_at launch creds table) table (d.Unshare (flag_of space)) ≡ effect → IsDoable effect → asks_space space (d.Unshare (flag_of space)) ≡ true → Performed launch creds table (asks_space space) (first_by nr (one_word 0 (flag_of space)) pay.Nothing)
     unshared space effect nr n at t is e h such = bare_call (asks_space space) nr (rule.Known known.Unshare) (one_word 0 (flag_of space)) (d.Unshare (flag_of space)) effect n (flag_words space) at t is e h such
 
-    cloned : (space : Space) (effect : Effect) (nr : CallAt) → IsCallAt nr → rule_there launch nr ≡ Some (rule.Known known.Clone) → passes_at launch nr (one_word 0 (flag_of space)) → d.doing_by (rule.Known known.Clone) (one_word 0 (flag_of space)) pay.Nothing ≡ Some (d.Clone (flag_of space))
+    cloned : (space : NamespaceType) (effect : Effect) (nr : CallAt) → IsCallAt nr → rule_there launch nr ≡ Some (rule.Known known.Clone) → passes_at launch nr (one_word 0 (flag_of space)) → d.doing_by (rule.Known known.Clone) (one_word 0 (flag_of space)) pay.Nothing ≡ Some (d.Clone (flag_of space))
         → effect_on (host_at launch) (caller_at launch creds table) table (d.Clone (flag_of space)) ≡ effect → IsDoable effect → asks_space space (d.Clone (flag_of space)) ≡ true → Performed launch creds table (asks_space space) (first_by nr (one_word 0 (flag_of space)) pay.Nothing)
     cloned space effect nr n at t is e h such = bare_call (asks_space space) nr (rule.Known known.Clone) (one_word 0 (flag_of space)) (d.Clone (flag_of space)) effect n (flag_words space) at t is e h such
 
-    unshare_by : (space : Space) → is_user space ≡ false → (nr : CallAt) → IsCallAt nr → rule_there launch nr ≡ Some (rule.Known known.Unshare) → passes_at launch nr (one_word 0 (flag_of space)) → Performed launch creds table (asks_space space) (first_by nr (one_word 0 (flag_of space)) pay.Nothing)
-    unshare_by q.Cgroup u nr n at t = unshared q.Cgroup (f.Answer 0) nr n at t refl (admits (f.Answer 0)) tt refl
-    unshare_by q.Ipc u nr n at t = unshared q.Ipc (f.Answer 0) nr n at t refl (admits (f.Answer 0)) tt refl
-    unshare_by q.Net u nr n at t = unshared q.Net (f.Answer 0) nr n at t refl (admits (f.Answer 0)) tt refl
-    unshare_by q.Mnt u nr n at t = unshared q.Mnt f.OwnTable nr n at t refl (admits f.OwnTable) tt refl
-    unshare_by q.Pid u nr n at t = unshared q.Pid (f.Answer 0) nr n at t refl (admits (f.Answer 0)) tt refl
-    unshare_by q.User u nr n at t = cc
-    unshare_by q.Uts u nr n at t = unshared q.Uts (f.Answer 0) nr n at t refl (admits (f.Answer 0)) tt refl
+    unshare_by : (space : NamespaceType) → is_user space ≡ false → (nr : CallAt) → IsCallAt nr → rule_there launch nr ≡ Some (rule.Known known.Unshare) → passes_at launch nr (one_word 0 (flag_of space)) → Performed launch creds table (asks_space space) (first_by nr (one_word 0 (flag_of space)) pay.Nothing)
+    unshare_by namespace.Cgroup u nr n at t = unshared namespace.Cgroup (f.Answer 0) nr n at t refl (admits (f.Answer 0)) tt refl
+    unshare_by namespace.Ipc u nr n at t = unshared namespace.Ipc (f.Answer 0) nr n at t refl (admits (f.Answer 0)) tt refl
+    unshare_by namespace.Net u nr n at t = unshared namespace.Net (f.Answer 0) nr n at t refl (admits (f.Answer 0)) tt refl
+    unshare_by namespace.Mnt u nr n at t = unshared namespace.Mnt f.OwnTable nr n at t refl (admits f.OwnTable) tt refl
+    unshare_by namespace.Pid u nr n at t = unshared namespace.Pid (f.Answer 0) nr n at t refl (admits (f.Answer 0)) tt refl
+    unshare_by namespace.User u nr n at t = cc
+    unshare_by namespace.Uts u nr n at t = unshared namespace.Uts (f.Answer 0) nr n at t refl (admits (f.Answer 0)) tt refl
 
-    clone_by : (space : Space) → is_user space ≡ false → (nr : CallAt) → IsCallAt nr → rule_there launch nr ≡ Some (rule.Known known.Clone) → passes_at launch nr (one_word 0 (flag_of space)) → Performed launch creds table (asks_space space) (first_by nr (one_word 0 (flag_of space)) pay.Nothing)
-    clone_by q.Cgroup u nr n at t = cloned q.Cgroup (f.Child false) nr n at t refl (admits (f.Child false)) tt refl
-    clone_by q.Ipc u nr n at t = cloned q.Ipc (f.Child false) nr n at t refl (admits (f.Child false)) tt refl
-    clone_by q.Net u nr n at t = cloned q.Net (f.Child false) nr n at t refl (admits (f.Child false)) tt refl
-    clone_by q.Mnt u nr n at t = cloned q.Mnt (f.Child true) nr n at t refl (admits (f.Child true)) tt refl
-    clone_by q.Pid u nr n at t = cloned q.Pid (f.Child false) nr n at t refl (admits (f.Child false)) tt refl
-    clone_by q.User u nr n at t = cc
-    clone_by q.Uts u nr n at t = cloned q.Uts (f.Child false) nr n at t refl (admits (f.Child false)) tt refl
+    clone_by : (space : NamespaceType) → is_user space ≡ false → (nr : CallAt) → IsCallAt nr → rule_there launch nr ≡ Some (rule.Known known.Clone) → passes_at launch nr (one_word 0 (flag_of space)) → Performed launch creds table (asks_space space) (first_by nr (one_word 0 (flag_of space)) pay.Nothing)
+    clone_by namespace.Cgroup u nr n at t = cloned namespace.Cgroup (f.Child false) nr n at t refl (admits (f.Child false)) tt refl
+    clone_by namespace.Ipc u nr n at t = cloned namespace.Ipc (f.Child false) nr n at t refl (admits (f.Child false)) tt refl
+    clone_by namespace.Net u nr n at t = cloned namespace.Net (f.Child false) nr n at t refl (admits (f.Child false)) tt refl
+    clone_by namespace.Mnt u nr n at t = cloned namespace.Mnt (f.Child true) nr n at t refl (admits (f.Child true)) tt refl
+    clone_by namespace.Pid u nr n at t = cloned namespace.Pid (f.Child false) nr n at t refl (admits (f.Child false)) tt refl
+    clone_by namespace.User u nr n at t = cc
+    clone_by namespace.Uts u nr n at t = cloned namespace.Uts (f.Child false) nr n at t refl (admits (f.Child false)) tt refl
 
-    space_by : {own : Rule} {args : List ℕ} → (space : Space) → is_user space ≡ false → (nr : CallAt) → IsCallAt nr → rule_there launch nr ≡ Some own → passes_at launch nr args → choices.Choice (k.ForSpace space) own args → Performed launch creds table (asks_space space) (first_by nr args pay.Nothing)
+    space_by : {own : Rule} {args : List ℕ} → (space : NamespaceType) → is_user space ≡ false → (nr : CallAt) → IsCallAt nr → rule_there launch nr ≡ Some own → passes_at launch nr args → choices.Choice (kinds.ForNamespace space) own args → Performed launch creds table (asks_space space) (first_by nr args pay.Nothing)
     space_by space u nr n at t (choices.unshare _) = unshare_by space u nr n at t
     space_by space u nr n at t (choices.clone _) = clone_by space u nr n at t
 
-    pub own_space : (space : Space) → is_user space ≡ false → (line : Line launch (k.ForSpace space)) → Performed launch creds table (asks_space space) (first_by (place_of line.line) line.args pay.Nothing)
+    pub own_space : (space : NamespaceType) → is_user space ≡ false → (line : Line launch (kinds.ForNamespace space)) → Performed launch creds table (asks_space space) (first_by (place_of line.line) line.args pay.Nothing)
     own_space space u line = space_by space u (place_of line.line) line.number line.at line.through (choice_of line)

@@ -18,7 +18,7 @@ use Rattle.kernel_calls.specs.Doing as d
 use Rattle.kernel_calls.specs.Doing.{Doing}
 use Rattle.kernel_model.specs.Effects as f
 use Rattle.kernel_model.specs.Effects.{Effect, SetCreds, SetTable, effect_of, creds_effect, table_effect}
-use Rattle.kernel_laws.specs.Kinds as k
+use Rattle.question_types.specs.declared.kind.CallKind.TheVariants as k
 use Rattle.kernel_laws.specs.Kinds.{AreWords, no_words, asks}
 use Rattle.kernel_laws.specs.Launched.{Launch, passes}
 use Rattle.kern_files.specs.MountCall.{after_mount}

@@ -49,10 +49,12 @@ use Rattle.kernel_model.specs.World.{World, start_world, of_number}
 use Rattle.kernel_model.specs.declared.process.Process.{Process}
 use Rattle.kernel_model.specs.declared.reply.Reply.{Reply}
 use Rattle.kernel_laws.specs.FirstChoice.{Means}
-use Rattle.kernel_laws.specs.Kinds.{ForPath, no_words}
+use Rattle.kernel_laws.specs.Kinds.{no_words}
 use Rattle.kernel_laws.specs.Launched.{Launch, IsLaunched, IsLaunchedWorld, launch_of, data_at, lets, passes}
-use Rattle.kernel_laws.specs.Questions.{ToExec}
-use Rattle.kernel_laws.specs.Reach.{fits, Nowise}
+use Rattle.question_types.specs.declared.kind.CallKind.TheVariants.{ForPath}
+use Rattle.question_types.specs.declared.wish.Wish.TheVariants.{Exec as ToExec}
+use Rattle.question_types.specs.declared.power.Power.TheVariants.{None as Nowise}
+use Rattle.kernel_laws.specs.Reach.{fits}
 use Rattle.kernel_laws.proofs.Filters.{has_rule, found_number, lets_through}
 use Rattle.kernel_laws.proofs.Reach.{leads}
 use Rattle.kernel_laws.proofs.ReachLaws.{reach_of_the_table}

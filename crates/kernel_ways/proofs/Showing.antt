@@ -12,8 +12,8 @@ use Rattle.kernel_model.specs.Step.{step}
 use Rattle.kernel_model.specs.World.{World}
 use Rattle.kernel_laws.specs.Denied.{Performs, Reaches, Holds, HasGid, asks_family, asks_space, asks_map, asks_protect, asks_attach, asks_realtime, asks_personality, asks_mode}
 use Rattle.kernel_laws.specs.Launched.{Launch}
-use Rattle.kernel_laws.specs.Questions as q
-use Rattle.kernel_laws.specs.Questions.{Question}
+use Rattle.question_types.specs.declared.question.Question.{Question}
+use Rattle.question_types.specs.declared.question.Question.TheVariants as asking
 use Rattle.kernel_ways.specs.Showing.{Answers, HaveAsked, CallsShow, CredsShow, WaysAreDone, ServedIsSolo}
 use Rattle.kernel_ways.specs.Ways.{IsSolo, Makes}
 use Rattle.kernel_ways.proofs.Starts.{starts_solo, holds, reaches_row, performs, reaches_call}
@@ -21,30 +21,30 @@ use Rattle.kernel_ways.proofs.Solo.{way_runs, shows_last, shows_held}
 
 module _ (launch : Launch) (creds : Creds) (table : Table) (world : World) (solo : IsSolo launch creds table world) where
   -- the families stay those of the launch
-  family_reached : (place : ℕ) (doing : Doing) (call : Call) (effect : Effect) → Makes launch creds table doing call effect → asks_family launch.calls.families place doing ≡ true → IsDone (step world call).0 → Reaches (q.Socket place) (moment_at world call)
+  family_reached : (place : ℕ) (doing : Doing) (call : Call) (effect : Effect) → Makes launch creds table doing call effect → asks_family launch.calls.families place doing ≡ true → IsDone (step world call).0 → Reaches (asking.Socket place) (moment_at world call)
   family_reached place doing call effect m such done =
       let P : calls.Table → Type 0 = λ t. Performs (asks_family t.families place) (moment_at world call) in
       subst P (sym (ap (λ (w : World). w.calls) solo.is)) (performs launch creds table world solo (asks_family launch.calls.families place) doing call effect m such done)
 
   pub reached : (question : Question) (doing : Doing) (call : Call) (effect : Effect) → Makes launch creds table doing call effect → Answers launch table question call doing → IsDone (step world call).0 → Reaches question (moment_at world call)
-  reached (q.ByPath wish place) doing call effect m a done = reaches_row launch creds table world solo wish place a.1 a.3 doing call effect m a.0 a.2 a.4 done
-  reached (q.Call place) doing call effect m a done = reaches_call launch creds table world solo place a.0 a.1 a.2 call a.3 a.4 done
-  reached (q.Socket place) doing call effect m a done = family_reached place doing call effect m a done
-  reached (q.Ns space) doing call effect m a done = performs launch creds table world solo (asks_space space) doing call effect m a done
-  reached q.MapWx doing call effect m a done = performs launch creds table world solo asks_map doing call effect m a done
-  reached q.ProtectX doing call effect m a done = performs launch creds table world solo asks_protect doing call effect m a done
-  reached q.ShmX doing call effect m a done = performs launch creds table world solo asks_attach doing call effect m a done
-  reached q.Realtime doing call effect m a done = performs launch creds table world solo asks_realtime doing call effect m a done
-  reached q.Personality doing call effect m a done = performs launch creds table world solo asks_personality doing call effect m a done
-  reached q.SuidBit doing call effect m a done = performs launch creds table world solo asks_mode doing call effect m a done
-  reached (q.Cap number) doing call effect m a done = absurd a
-  reached (q.Uid id) doing call effect m a done = absurd a
-  reached (q.Gid id) doing call effect m a done = absurd a
+  reached (asking.Path wish place) doing call effect m a done = reaches_row launch creds table world solo wish place a.1 a.3 doing call effect m a.0 a.2 a.4 done
+  reached (asking.Call place) doing call effect m a done = reaches_call launch creds table world solo place a.0 a.1 a.2 call a.3 a.4 done
+  reached (asking.Socket place) doing call effect m a done = family_reached place doing call effect m a done
+  reached (asking.Namespace space) doing call effect m a done = performs launch creds table world solo (asks_space space) doing call effect m a done
+  reached asking.MapWx doing call effect m a done = performs launch creds table world solo asks_map doing call effect m a done
+  reached asking.ProtectX doing call effect m a done = performs launch creds table world solo asks_protect doing call effect m a done
+  reached asking.ShmX doing call effect m a done = performs launch creds table world solo asks_attach doing call effect m a done
+  reached asking.Realtime doing call effect m a done = performs launch creds table world solo asks_realtime doing call effect m a done
+  reached asking.Personality doing call effect m a done = performs launch creds table world solo asks_personality doing call effect m a done
+  reached asking.SuidBit doing call effect m a done = performs launch creds table world solo asks_mode doing call effect m a done
+  reached (asking.Cap number) doing call effect m a done = absurd a
+  reached (asking.Uid id) doing call effect m a done = absurd a
+  reached (asking.Gid id) doing call effect m a done = absurd a
 
   pub held : (question : Question) → HaveAsked question creds → Holds question world
-  held (q.Cap number) h = holds launch creds table world solo (λ process. (has process.creds.effective number ≡ true) × (process.user ≡ 1)) (h, refl)
-  held (q.Uid id) h = holds launch creds table world solo (λ process. process.creds.uids.effective ≡ id) h
-  held (q.Gid id) h = holds launch creds table world solo (λ process. HasGid id process.creds) h
+  held (asking.Cap number) h = holds launch creds table world solo (λ process. (has process.creds.effective number ≡ true) × (process.user ≡ 1)) (h, refl)
+  held (asking.Uid id) h = holds launch creds table world solo (λ process. process.creds.uids.effective ≡ id) h
+  held (asking.Gid id) h = holds launch creds table world solo (λ process. HasGid id process.creds) h
   held question h = absurd h
 
 pub calls_show : CallsShow

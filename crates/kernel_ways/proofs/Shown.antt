@@ -24,15 +24,22 @@ use Rattle.kernel_model.specs.Effects.{SetCreds}
 use Rattle.kern_files.specs.Looking.{flags_at}
 use Rattle.kern_files.specs.Executing.{marks_of}
 use Rattle.kernel_laws.specs.Kinds as k
-use Rattle.kernel_laws.specs.Kinds.{Kind}
+use Rattle.question_types.specs.declared.kind.CallKind.{CallKind}
+use Rattle.question_types.specs.declared.wish.Wish.{Wish}
+use Rattle.question_types.specs.declared.wish.Wish.TheVariants.{See as ToSee, Read as ToRead, Write as ToWrite, Exec as ToExec}
+use Rattle.filter_rules.specs.declared.namespace_types.NamespaceType.{NamespaceType}
+use Rattle.question_types.specs.declared.question.Question.{Question}
+use Rattle.question_types.specs.declared.power.Power.{Power}
+use Rattle.question_types.specs.declared.power.Power.TheVariants.{None as Nowise, Unmount as Unmounting, Mount as Mounting}
+use Rattle.question_types.specs.declared.kind.CallKind.TheVariants as kinds
+use Rattle.filter_rules.specs.declared.namespace_types.NamespaceType.TheVariants as namespace
+use Rattle.question_types.specs.declared.question.Question.TheVariants as asking
 use Rattle.kernel_laws.specs.Launched.{Launch, IsLaunched, launch_of, lets, lets_line, can_make_user}
 use Rattle.site_table.specs.Kinds.{is_dir, is_exe}
 use Rattle.kern_mounts.specs.Split.{Table}
-use Rattle.kernel_laws.specs.Questions as q
-use Rattle.kernel_laws.specs.Questions.{Wish, ToSee, ToRead, ToWrite, ToExec, Space, Question}
 use Rattle.reach_paths.specs.Finding.{FindsRow}
 use Rattle.kern_mounts.specs.Launch.{proc}
-use Rattle.kernel_laws.specs.Reach.{fits, Power, Nowise, Unmounting, Mounting, reaches}
+use Rattle.kernel_laws.specs.Reach.{fits, reaches}
 use Rattle.kernel_calls.specs.Rules.{rule_of}
 use Rattle.kernel_model.specs.World.{World}
 use Rattle.kernel_laws.proofs.Filters.{at_position}
@@ -71,12 +78,12 @@ at_place P (y ∷ xs) (suc at) x all e = at_place P xs at x all.1 e
 module _ (world : World) (launch : Launch) (l : IsLaunched launch) (o : Offers launch) (s : IsSolo launch launch.creds launch.table world) where
   -- ---- rows
   by_path : (wish : Wish) (place : ℕ) (target : Row) → slice_get launch.site.rows place ≡ Some target → {calls : List Call} → (creds : Creds) (now : Table) → Way launch launch.creds launch.table calls creds now
-      → (path : Path) → finds (row_at launch.site.rows) now path ≡ row target → {call : Call} → PathCall launch creds now wish path call → IsShown world (q.ByPath wish place)
+      → (path : Path) → finds (row_at launch.site.rows) now path ≡ row target → {call : Call} → PathCall launch creds now wish path call → IsShown world (asking.Path wish place)
   by_path wish place target listed {calls = calls} creds now way path found {call = call} c =
-      (calls ++ call ∷ [], calls_show launch launch.creds creds launch.table now world calls (q.ByPath wish place) c.doing call c.effect s way c.makes c.doable (path, target, c.wanted, listed, found))
+      (calls ++ call ∷ [], calls_show launch launch.creds creds launch.table now world calls (asking.Path wish place) c.doing call c.effect s way c.makes c.doable (path, target, c.wanted, listed, found))
 
   exec_call : (creds : Creds) (now : Table) (path : Path) → IsPath path → (target : Row) → finds (row_at launch.site.rows) now path ≡ row target → is_exe target.kind ≡ true → fits ToExec (flags_at now path) ≡ true
-      → is_refused creds (marks_of target) (flags_at now path).no_suid ≡ false → (line : Line launch (k.ForPath ToExec)) → PathCall launch creds now ToExec path (first_by (place_of line.line) line.args (pay.OnePath path))
+      → is_refused creds (marks_of target) (flags_at now path).no_suid ≡ false → (line : Line launch (kinds.ForPath ToExec)) → PathCall launch creds now ToExec path (first_by (place_of line.line) line.args (pay.OnePath path))
   exec_call creds now path fit target found exe runs admitted line =
       let x = exec_path launch creds now path fit target found exe runs admitted line in
       record { doing = d.Execve path; effect = SetCreds (exec_done creds (marks_of target) (flags_at now path).no_suid); makes = x; doable = tt; wanted = refl }
@@ -107,58 +114,58 @@ module _ (world : World) (launch : Launch) (l : IsLaunched launch) (o : Offers l
         let x = exposed launch l o p.creds target own_known wish (power_of launch) p.at_hand e in
         record { calls = p.calls ++ x.calls; creds = p.creds; now = x.now; way = way_join p.way x.way; basis = p.basis; found = x.found; suid = x.suid }
 
-    shown_see : lets launch (k.ForPath ToSee) ≡ true → Led ToSee → IsShown world (q.ByPath ToSee place)
+    shown_see : lets launch (kinds.ForPath ToSee) ≡ true → Led ToSee → IsShown world (asking.Path ToSee place)
     shown_see passes x =
-        by_path ToSee place target listed x.creds x.now x.way x.found.path x.found.is_found (see_path launch x.creds x.now x.found.path x.found.can_be_named target x.found.is_found (some_line launch l (k.ForPath ToSee) passes))
+        by_path ToSee place target listed x.creds x.now x.way x.found.path x.found.is_found (see_path launch x.creds x.now x.found.path x.found.can_be_named target x.found.is_found (some_line launch l (kinds.ForPath ToSee) passes))
 
-    shown_read : lets launch (k.ForPath ToRead) ≡ true → Led ToRead → IsShown world (q.ByPath ToRead place)
+    shown_read : lets launch (kinds.ForPath ToRead) ≡ true → Led ToRead → IsShown world (asking.Path ToRead place)
     shown_read passes x =
-        by_path ToRead place target listed x.creds x.now x.way x.found.path x.found.is_found (read_path launch x.creds x.now x.found.path x.found.can_be_named target x.found.is_found (some_line launch l (k.ForPath ToRead) passes))
+        by_path ToRead place target listed x.creds x.now x.way x.found.path x.found.is_found (read_path launch x.creds x.now x.found.path x.found.can_be_named target x.found.is_found (some_line launch l (kinds.ForPath ToRead) passes))
 
-    shown_write : lets launch (k.ForPath ToWrite) ≡ true → is_dir target.kind ≡ false → Led ToWrite → IsShown world (q.ByPath ToWrite place)
+    shown_write : lets launch (kinds.ForPath ToWrite) ≡ true → is_dir target.kind ≡ false → Led ToWrite → IsShown world (asking.Path ToWrite place)
     shown_write passes file x =
-        by_path ToWrite place target listed x.creds x.now x.way x.found.path x.found.is_found (write_path launch x.creds x.now x.found.path x.found.can_be_named target x.found.is_found file x.found.is_allowed (some_line launch l (k.ForPath ToWrite) passes))
+        by_path ToWrite place target listed x.creds x.now x.way x.found.path x.found.is_found (write_path launch x.creds x.now x.found.path x.found.can_be_named target x.found.is_found file x.found.is_allowed (some_line launch l (kinds.ForPath ToWrite) passes))
 
-    shown_exec : lets launch (k.ForPath ToExec) ≡ true → is_exe target.kind ≡ true → is_barred launch target ≡ false → Led ToExec → IsShown world (q.ByPath ToExec place)
+    shown_exec : lets launch (kinds.ForPath ToExec) ≡ true → is_exe target.kind ≡ true → is_barred launch target ≡ false → Led ToExec → IsShown world (asking.Path ToExec place)
     shown_exec passes exe free x =
         let admitted : is_refused x.creds (marks_of target) (flags_at x.now x.found.path).no_suid ≡ false =
         ap (λ b. is_refused x.creds (marks_of target) b) x.suid ∙ ap (λ s. target.effective && not (within target.caps s)) x.basis.bounding ∙ free in
-        by_path ToExec place target listed x.creds x.now x.way x.found.path x.found.is_found (exec_call x.creds x.now x.found.path x.found.can_be_named target x.found.is_found exe x.found.is_allowed admitted (some_line launch l (k.ForPath ToExec) passes))
+        by_path ToExec place target listed x.creds x.now x.way x.found.path x.found.is_found (exec_call x.creds x.now x.found.path x.found.can_be_named target x.found.is_found exe x.found.is_allowed admitted (some_line launch l (kinds.ForPath ToExec) passes))
 
     -- a barred row is run where marks are not looked at
-    shown_unmarked : lets launch (k.ForPath ToExec) ≡ true → is_exe target.kind ≡ true → power_of launch ≡ Mounting → IsShown world (q.ByPath ToExec place)
+    shown_unmarked : lets launch (kinds.ForPath ToExec) ≡ true → is_exe target.kind ≡ true → power_of launch ≡ Mounting → IsShown world (asking.Path ToExec place)
     shown_unmarked passes exe e =
         let g = admin_gained launch l o Mounting e (λ x. cc) in
-        let pass = mounts_pass (has (caps_at launch Nowise) 21) (lets launch k.ChangesMounts) (lets launch k.RemovesMounts) e in
-        let two = way_mounts launch o g.creds g.holds (some_line launch l k.ChangesMounts pass.1) unmarked (omega arith) refl refl in
+        let pass = mounts_pass (has (caps_at launch Nowise) 21) (lets launch kinds.ChangesMounts) (lets launch kinds.RemovesMounts) e in
+        let two = way_mounts launch o g.creds g.holds (some_line launch l kinds.ChangesMounts pass.1) unmarked (omega arith) refl refl in
         let below = two.each_row target own_known in
         let path = proc ++ target.path in
         let allowed : fits ToExec (flags_at two.now path) ≡ true = ap (fits ToExec) below.flags_are in
         let admitted : is_refused g.creds (marks_of target) (flags_at two.now path).no_suid ≡ false = ap (λ f. is_refused g.creds (marks_of target) f.no_suid) below.flags_are in
-        by_path ToExec place target listed g.creds two.now (way_join g.way two.way) path below.is_found (exec_call g.creds two.now path below.can_be_named target below.is_found exe allowed admitted (some_line launch l (k.ForPath ToExec) passes))
+        by_path ToExec place target listed g.creds two.now (way_join g.way two.way) path below.is_found (exec_call g.creds two.now path below.can_be_named target below.is_found exe allowed admitted (some_line launch l (kinds.ForPath ToExec) passes))
 
     -- or in a user namespace of its own, where the bounding set is full
-    shown_inside : lets launch (k.ForPath ToExec) ≡ true → is_exe target.kind ≡ true → can_make_user launch ≡ true → Led ToExec → IsShown world (q.ByPath ToExec place)
+    shown_inside : lets launch (kinds.ForPath ToExec) ≡ true → is_exe target.kind ≡ true → can_make_user launch ≡ true → Led ToExec → IsShown world (asking.Path ToExec place)
     shown_inside passes exe user x =
-        let both = and_parts (nat_lt 0 launch.site.user_namespaces) (lets launch (k.ForSpace q.User)) user in
-        let first = enters launch both.0 x.creds x.now (some_line launch l (k.ForSpace q.User) both.1) in
-        let m = exec_inside launch x.creds x.now first.pid first.small x.found.path x.found.can_be_named target x.found.is_found exe x.found.is_allowed (known_caps target listed) (some_line launch l (k.ForPath ToExec) passes) in
-        (_, calls_show_inside launch launch.creds x.creds launch.table x.now world x.calls (q.ByPath ToExec place) first.pid _ _ (d.Execve x.found.path) _ s x.way first.makes.fit first.inside m tt (x.found.path, target, refl, listed, x.found.is_found))
+        let both = and_parts (nat_lt 0 launch.site.user_namespaces) (lets launch (kinds.ForNamespace namespace.User)) user in
+        let first = enters launch both.0 x.creds x.now (some_line launch l (kinds.ForNamespace namespace.User) both.1) in
+        let m = exec_inside launch x.creds x.now first.pid first.small x.found.path x.found.can_be_named target x.found.is_found exe x.found.is_allowed (known_caps target listed) (some_line launch l (kinds.ForPath ToExec) passes) in
+        (_, calls_show_inside launch launch.creds x.creds launch.table x.now world x.calls (asking.Path ToExec place) first.pid _ _ (d.Execve x.found.path) _ s x.way first.makes.fit first.inside m tt (x.found.path, target, refl, listed, x.found.is_found))
 
     can_parts : (wish : Wish) → can_reach launch (power_of launch) wish target ≡ true
-        → (lets launch (k.ForPath wish) ≡ true) × (reaches (power_of launch) launch.table target.path wish ≡ true) × ((((is_to_exec wish && not (is_mounting (power_of launch))) && is_barred launch target) && not (can_make_user launch)) ≡ false)
+        → (lets launch (kinds.ForPath wish) ≡ true) × (reaches (power_of launch) launch.table target.path wish ≡ true) × ((((is_to_exec wish && not (is_mounting (power_of launch))) && is_barred launch target) && not (can_make_user launch)) ≡ false)
     can_parts wish e =
-        let both = and_parts (lets launch (k.ForPath wish) && reaches (power_of launch) launch.table target.path wish) (not (((is_to_exec wish && not (is_mounting (power_of launch))) && is_barred launch target) && not (can_make_user launch))) e in
-        let inner = and_parts (lets launch (k.ForPath wish)) (reaches (power_of launch) launch.table target.path wish) both.0 in
+        let both = and_parts (lets launch (kinds.ForPath wish) && reaches (power_of launch) launch.table target.path wish) (not (((is_to_exec wish && not (is_mounting (power_of launch))) && is_barred launch target) && not (can_make_user launch))) e in
+        let inner = and_parts (lets launch (kinds.ForPath wish)) (reaches (power_of launch) launch.table target.path wish) both.0 in
         (inner.0, inner.1, not-true (((is_to_exec wish && not (is_mounting (power_of launch))) && is_barred launch target) && not (can_make_user launch)) both.1)
 
-    pub shown_row : (wish : Wish) → IsFit launch.site (q.ByPath wish place) → can_reach launch (power_of launch) wish target ≡ true → IsShown world (q.ByPath wish place)
+    pub shown_row : (wish : Wish) → IsFit launch.site (asking.Path wish place) → can_reach launch (power_of launch) wish target ≡ true → IsShown world (asking.Path wish place)
     shown_row ToSee fit e = let p = can_parts ToSee e in shown_see p.0 (led ToSee p.1)
     shown_row ToRead fit e = let p = can_parts ToRead e in shown_read p.0 (led ToRead p.1)
     shown_row ToWrite fit e = let p = can_parts ToWrite e in shown_write p.0 (fit target listed) (led ToWrite p.1)
     shown_row ToExec fit e = let p = can_parts ToExec e in by p.0 p.1 (is_barred launch target) refl (power_of launch) refl (can_make_user launch) refl p.2
       where
-        by : lets launch (k.ForPath ToExec) ≡ true → reaches (power_of launch) launch.table target.path ToExec ≡ true → (b : Bool) → is_barred launch target ≡ b → (power : Power) → power_of launch ≡ power → (make : Bool) → can_make_user launch ≡ make → ((not (is_mounting power) && b) && not make) ≡ false → IsShown world (q.ByPath ToExec place)
+        by : lets launch (kinds.ForPath ToExec) ≡ true → reaches (power_of launch) launch.table target.path ToExec ≡ true → (b : Bool) → is_barred launch target ≡ b → (power : Power) → power_of launch ≡ power → (make : Bool) → can_make_user launch ≡ make → ((not (is_mounting power) && b) && not make) ≡ false → IsShown world (asking.Path ToExec place)
         by passes r false f power g make u e = shown_exec passes (fit target listed) f (led ToExec r)
         by passes r true f Mounting g make u e = shown_unmarked passes (fit target listed) g
         by passes r true f Unmounting g true u e = shown_inside passes (fit target listed) u (led ToExec r)
@@ -182,39 +189,39 @@ module _ (world : World) (launch : Launch) (l : IsLaunched launch) (o : Offers l
   by_performed question p {calls = calls} creds now way {call = call} x a = (calls ++ call ∷ [], calls_show launch launch.creds creds launch.table now world calls question x.doing call x.effect s way x.makes x.doable a)
 
   -- what every process may ask for
-  shown_free : (question : Question) (kind : Kind) → is_free kind ≡ true → ((call : Call) (x : Performed launch launch.creds launch.table (k.asks kind) call) → Answers launch launch.table question call x.doing) → lets launch kind ≡ true → IsShown world question
+  shown_free : (question : Question) (kind : CallKind) → is_free kind ≡ true → ((call : Call) (x : Performed launch launch.creds launch.table (k.asks kind) call) → Answers launch launch.table question call x.doing) → lets launch kind ≡ true → IsShown world question
   shown_free question kind h answers e = let x = performing.free launch launch.creds launch.table kind h (some_line launch l kind e) in by_performed question (k.asks kind) launch.creds launch.table here x (answers _ x)
 
   -- a user namespace itself
-  shown_user : can_make_user launch ≡ true → IsShown world (q.Ns q.User)
+  shown_user : can_make_user launch ≡ true → IsShown world (asking.Namespace namespace.User)
   shown_user user =
-      let both = and_parts (nat_lt 0 launch.site.user_namespaces) (lets launch (k.ForSpace q.User)) user in
-      let line = some_line launch l (k.ForSpace q.User) both.1 in
+      let both = and_parts (nat_lt 0 launch.site.user_namespaces) (lets launch (kinds.ForNamespace namespace.User)) user in
+      let line = some_line launch l (kinds.ForNamespace namespace.User) both.1 in
       let first = enters launch both.0 launch.creds launch.table line in
       let call = first_by (place_of line.line) line.args pay.Nothing in
       let done = (first.inside world s).0 in
-      (call ∷ [], record { fit = (first.makes.fit, tt); done = (done, tt); last = inl (performs launch launch.creds launch.table world s (asks_space q.User) first.doing call first.effect first.makes first.such done) })
+      (call ∷ [], record { fit = (first.makes.fit, tt); done = (done, tt); last = inl (performs launch launch.creds launch.table world s (asks_space namespace.User) first.doing call first.effect first.makes first.such done) })
 
   -- another one, in a user namespace of its own
-  shown_within : (space : Space) → is_user space ≡ false → lets launch (k.ForSpace space) ≡ true → can_make_user launch ≡ true → IsShown world (q.Ns space)
+  shown_within : (space : NamespaceType) → is_user space ≡ false → lets launch (kinds.ForNamespace space) ≡ true → can_make_user launch ≡ true → IsShown world (asking.Namespace space)
   shown_within space u e user =
-      let both = and_parts (nat_lt 0 launch.site.user_namespaces) (lets launch (k.ForSpace q.User)) user in
-      let first = enters launch both.0 launch.creds launch.table (some_line launch l (k.ForSpace q.User) both.1) in
-      let x = own_space launch launch.creds launch.table first.pid first.small space u (some_line launch l (k.ForSpace space) e) in
-      (_, calls_show_inside launch launch.creds launch.creds launch.table launch.table world [] (q.Ns space) first.pid _ _ x.doing x.effect s here first.makes.fit first.inside x.makes x.doable x.such)
+      let both = and_parts (nat_lt 0 launch.site.user_namespaces) (lets launch (kinds.ForNamespace namespace.User)) user in
+      let first = enters launch both.0 launch.creds launch.table (some_line launch l (kinds.ForNamespace namespace.User) both.1) in
+      let x = own_space launch launch.creds launch.table first.pid first.small space u (some_line launch l (kinds.ForNamespace space) e) in
+      (_, calls_show_inside launch launch.creds launch.creds launch.table launch.table world [] (asking.Namespace space) first.pid _ _ x.doing x.effect s here first.makes.fit first.inside x.makes x.doable x.such)
 
-  shown_space : (space : Space) → is_user space ≡ false → lets launch (k.ForSpace space) ≡ true → has (ceiling launch).effective 21 ≡ true → IsShown world (q.Ns space)
+  shown_space : (space : NamespaceType) → is_user space ≡ false → lets launch (kinds.ForNamespace space) ≡ true → has (ceiling launch).effective 21 ≡ true → IsShown world (asking.Namespace space)
   shown_space space u e h =
       let w = having (Some 21) h in
-      let x = performing.own_space launch w.creds w.now w.can space u (some_line launch l (k.ForSpace space) e) in
-      by_performed (q.Ns space) (asks_space space) w.creds w.now w.way x x.such
+      let x = performing.own_space launch w.creds w.now w.can space u (some_line launch l (kinds.ForNamespace space) e) in
+      by_performed (asking.Namespace space) (asks_space space) w.creds w.now w.way x x.such
 
-  shown_call : (place : ℕ) (line : CallLine) → slice_get (every_call launch.calls) place ≡ Some line → list_any (λ other. bytes_eq line.name other.name && lets_line launch k.PlainCall other) (every_call launch.calls) ≡ true → can_have_for (ceiling launch) (rule_of line) ≡ true → IsShown world (q.Call place)
+  shown_call : (place : ℕ) (line : CallLine) → slice_get (every_call launch.calls) place ≡ Some line → list_any (λ other. bytes_eq line.name other.name && lets_line launch kinds.PlainCall other) (every_call launch.calls) ≡ true → can_have_for (ceiling launch) (rule_of line) ≡ true → IsShown world (asking.Call place)
   shown_call place line listed e h =
-      let other = any_at (λ other. bytes_eq line.name other.name && lets_line launch k.PlainCall other) (every_call launch.calls) e in
-      let such = and_parts (bytes_eq line.name other.1.name) (lets_line launch k.PlainCall other.1) other.3 in
+      let other = any_at (λ other. bytes_eq line.name other.name && lets_line launch kinds.PlainCall other) (every_call launch.calls) e in
+      let such = and_parts (bytes_eq line.name other.1.name) (lets_line launch kinds.PlainCall other.1) other.3 in
       let name : line.name ≡ other.1.name = (bytes_eq-Decides line.name other.1.name).0 such.0 in
-      let own = line_at launch l k.PlainCall other.0 other.1 other.2 such.1 in
+      let own = line_at launch l kinds.PlainCall other.0 other.1 other.2 such.1 in
       let there = of_abi launch l other.0 other.1 other.2 in
       let lines = calls_in launch.calls other.1.abi in
       let found : numbered other.1.number lines ≡ Some other.1 = at_position lines other.1.number there.at other.1 (l.calls_once other.1.abi there.at other.1 there.listed) there.listed in
@@ -224,62 +231,62 @@ module _ (world : World) (launch : Launch) (l : IsLaunched launch) (o : Offers l
       let can = subst (performing.can_for launch w.creds w.now) (sym r.1) w.can in
       let x = performing.plain launch w.creds w.now own.0 can in
       let called : numbered own.0.line.number (calls_in launch.calls own.0.line.abi) ≡ Some other.1 = ap (λ (c : CallLine). numbered c.number (calls_in launch.calls c.abi)) own.1 ∙ found in
-      by_performed (q.Call place) k.asks_plain w.creds w.now w.way x (line, listed, other.1, called, name)
+      by_performed (asking.Call place) k.asks_plain w.creds w.now w.way x (line, listed, other.1, called, name)
 
-  shown_socket : (place : ℕ) (line : CallLine) → slice_get launch.calls.families place ≡ Some line → lets launch (k.ForFamily line.number) ≡ true → can_have_cap (ceiling launch) line.cap ≡ true → IsShown world (q.Socket place)
+  shown_socket : (place : ℕ) (line : CallLine) → slice_get launch.calls.families place ≡ Some line → lets launch (kinds.ForFamily line.number) ≡ true → can_have_cap (ceiling launch) line.cap ≡ true → IsShown world (asking.Socket place)
   shown_socket place line listed e h =
       let w = having line.cap h in
       let found : numbered line.number launch.calls.families ≡ Some line = at_position launch.calls.families line.number place line (l.families_once place line listed) listed in
       let p : Doing → Bool = asks_family launch.calls.families place in
       let such : p (d.Socket line.number) ≡ true = ap (λ (c : Option CallLine). is_family c line.number) listed ∙ eq-eqb line.number line.number refl in
-      let x = performing.socket launch w.creds w.now line (low_number launch.calls.families o.calls.families.in_range place line listed) (some_line launch l (k.ForFamily line.number) e) found w.can p such such in
-      by_performed (q.Socket place) p w.creds w.now w.way x x.such
+      let x = performing.socket launch w.creds w.now line (low_number launch.calls.families o.calls.families.in_range place line listed) (some_line launch l (kinds.ForFamily line.number) e) found w.can p such such in
+      by_performed (asking.Socket place) p w.creds w.now w.way x x.such
 
   -- ---- each question
   listed_is : {X : Type 0} (p : X → Bool) (c : Option X) → if_listed p c ≡ true → (x : X) × (c ≡ Some x) × (p x ≡ true)
   listed_is p None e = cc
   listed_is p (Some x) e = (x, refl, e)
 
-  pub cap_shown : (number : ℕ) (end : Table) → Gained launch l o false launch.creds launch.table end number → IsShown world (q.Cap number)
-  cap_shown number end g = (g.calls, creds_show launch launch.creds g.creds launch.table end world g.calls (q.Cap number) s g.way g.holds)
+  pub cap_shown : (number : ℕ) (end : Table) → Gained launch l o false launch.creds launch.table end number → IsShown world (asking.Cap number)
+  cap_shown number end g = (g.calls, creds_show launch launch.creds g.creds launch.table end world g.calls (asking.Cap number) s g.way g.holds)
 
-  other : (space : Space) → is_user space ≡ false → (lets launch (k.ForSpace space) && (has (ceiling launch).effective 21 || can_make_user launch)) ≡ true → IsShown world (q.Ns space)
+  other : (space : NamespaceType) → is_user space ≡ false → (lets launch (kinds.ForNamespace space) && (has (ceiling launch).effective 21 || can_make_user launch)) ≡ true → IsShown world (asking.Namespace space)
   other space u e =
-      let both = and_parts (lets launch (k.ForSpace space)) (has (ceiling launch).effective 21 || can_make_user launch) e in
+      let both = and_parts (lets launch (kinds.ForNamespace space)) (has (ceiling launch).effective 21 || can_make_user launch) e in
       elim (or_cases (has (ceiling launch).effective 21) (can_make_user launch) both.1) [
         | inl admin ↦ shown_space space u both.0 admin
         | inr user ↦ shown_within space u both.0 user
       ]
 
-  shown_ns : (space : Space) → is_open launch (q.Ns space) ≡ true → IsShown world (q.Ns space)
-  shown_ns q.User e = shown_user e
-  shown_ns q.Cgroup e = other q.Cgroup refl e
-  shown_ns q.Ipc e = other q.Ipc refl e
-  shown_ns q.Net e = other q.Net refl e
-  shown_ns q.Mnt e = other q.Mnt refl e
-  shown_ns q.Pid e = other q.Pid refl e
-  shown_ns q.Uts e = other q.Uts refl e
+  shown_ns : (space : NamespaceType) → is_open launch (asking.Namespace space) ≡ true → IsShown world (asking.Namespace space)
+  shown_ns namespace.User e = shown_user e
+  shown_ns namespace.Cgroup e = other namespace.Cgroup refl e
+  shown_ns namespace.Ipc e = other namespace.Ipc refl e
+  shown_ns namespace.Net e = other namespace.Net refl e
+  shown_ns namespace.Mnt e = other namespace.Mnt refl e
+  shown_ns namespace.Pid e = other namespace.Pid refl e
+  shown_ns namespace.Uts e = other namespace.Uts refl e
 
   pub shown : (question : Question) → IsFit launch.site question → is_open launch question ≡ true → IsShown world question
-  shown (q.ByPath wish place) fit e = let x = listed_is (can_reach launch (power_of launch) wish) (slice_get launch.site.rows place) e in shown_row place x.0 x.1 wish fit x.2
-  shown (q.Call place) fit e =
+  shown (asking.Path wish place) fit e = let x = listed_is (can_reach launch (power_of launch) wish) (slice_get launch.site.rows place) e in shown_row place x.0 x.1 wish fit x.2
+  shown (asking.Call place) fit e =
       let x = listed_is (is_call_open launch (ceiling launch)) (slice_get (every_call launch.calls) place) e in
-      let both = and_parts (list_any (λ other. bytes_eq x.0.name other.name && lets_line launch k.PlainCall other) (every_call launch.calls)) (can_have_for (ceiling launch) (rule_of x.0)) x.2 in
+      let both = and_parts (list_any (λ other. bytes_eq x.0.name other.name && lets_line launch kinds.PlainCall other) (every_call launch.calls)) (can_have_for (ceiling launch) (rule_of x.0)) x.2 in
       shown_call place x.0 x.1 both.0 both.1
-  shown (q.Socket place) fit e =
-      let x = listed_is (λ line. lets launch (k.ForFamily line.number) && can_have_cap (ceiling launch) line.cap) (slice_get launch.calls.families place) e in
-      let both = and_parts (lets launch (k.ForFamily x.0.number)) (can_have_cap (ceiling launch) x.0.cap) x.2 in
+  shown (asking.Socket place) fit e =
+      let x = listed_is (λ line. lets launch (kinds.ForFamily line.number) && can_have_cap (ceiling launch) line.cap) (slice_get launch.calls.families place) e in
+      let both = and_parts (lets launch (kinds.ForFamily x.0.number)) (can_have_cap (ceiling launch) x.0.cap) x.2 in
       shown_socket place x.0 x.1 both.0 both.1
-  shown (q.Ns space) fit e = shown_ns space e
-  shown q.MapWx fit e = shown_free q.MapWx k.MapsWx refl (λ call x. x.such) e
-  shown q.ProtectX fit e = shown_free q.ProtectX k.ProtectsX refl (λ call x. x.such) e
-  shown q.ShmX fit e = shown_free q.ShmX k.AttachesX refl (λ call x. x.such) e
-  shown q.Realtime fit e = shown_free q.Realtime k.SchedulesRealtime refl (λ call x. x.such) e
-  shown q.Personality fit e = shown_free q.Personality k.TakesPersonality refl (λ call x. x.such) e
-  shown q.SuidBit fit e = shown_free q.SuidBit k.SetsMode refl (λ call x. x.such) e
-  shown (q.Cap number) fit e = let x = attained launch l o number e in cap_shown number x.0 x.1
-  shown (q.Uid id) fit e = let t = uid_taken launch l o id fit e in (t.calls, creds_show launch launch.creds t.creds launch.table t.now world t.calls (q.Uid id) s t.way t.has)
-  shown (q.Gid id) fit e = let t = gid_taken launch l o id fit e in (t.calls, creds_show launch launch.creds t.creds launch.table t.now world t.calls (q.Gid id) s t.way t.has)
+  shown (asking.Namespace space) fit e = shown_ns space e
+  shown asking.MapWx fit e = shown_free asking.MapWx kinds.MapsWx refl (λ call x. x.such) e
+  shown asking.ProtectX fit e = shown_free asking.ProtectX kinds.ProtectsX refl (λ call x. x.such) e
+  shown asking.ShmX fit e = shown_free asking.ShmX kinds.AttachesX refl (λ call x. x.such) e
+  shown asking.Realtime fit e = shown_free asking.Realtime kinds.SchedulesRealtime refl (λ call x. x.such) e
+  shown asking.Personality fit e = shown_free asking.Personality kinds.TakesPersonality refl (λ call x. x.such) e
+  shown asking.SuidBit fit e = shown_free asking.SuidBit kinds.SetsMode refl (λ call x. x.such) e
+  shown (asking.Cap number) fit e = let x = attained launch l o number e in cap_shown number x.0 x.1
+  shown (asking.Uid id) fit e = let t = uid_taken launch l o id fit e in (t.calls, creds_show launch launch.creds t.creds launch.table t.now world t.calls (asking.Uid id) s t.way t.has)
+  shown (asking.Gid id) fit e = let t = gid_taken launch l o id fit e in (t.calls, creds_show launch launch.creds t.creds launch.table t.now world t.calls (asking.Gid id) s t.way t.has)
 
 pub solo_of : (world : World) → IsServedWorld world → IsSolo (launch_of world) (launch_of world).creds (launch_of world).table world
 solo_of world s = starts_solo world s.launched s.few

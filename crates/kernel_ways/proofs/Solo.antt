@@ -23,7 +23,7 @@ use Rattle.kern_files.proofs.MountsCall.{mount_entries, umount_answer_entries}
 use Rattle.kern_files.specs.Executing.{exec_answer}
 use Rattle.kern_files.specs.Looking.{flags_at, see_answer, write_answer, open_answer}
 use Rattle.kern_mounts.specs.Split.{Table}
-use Rattle.kernel_laws.specs.Questions.{Question}
+use Rattle.question_types.specs.declared.question.Question.{Question}
 use Rattle.kernel_model.specs.Runs.{Moment, moment_at, moments, run, IsDone, AllDone}
 use Rattle.kernel_model.specs.World.{World, of_number, if_alive, table_or, mounts_of, owner_or, owner_of}
 use Rattle.kernel_model.specs.declared.process.Process.{Process}

@@ -6,9 +6,9 @@ use Rattle.kernel_calls.specs.declared.call.Call.{Call}
 use Rattle.kernel_calls.specs.Calls.{AreCalls}
 use Rattle.kernel_laws.specs.Bound.{caps_by, any_by, power_using, bounds_by}
 use Rattle.kernel_laws.specs.Ceiling.{AreHeld, IsStable}
-use Rattle.kernel_laws.specs.Reach.{Power}
+use Rattle.question_types.specs.declared.power.Power.{Power}
+use Rattle.question_types.specs.declared.kind.CallKind.TheVariants.{TakesUid, TakesGid}
 use Rattle.kern_mounts.specs.Mounts.{Mounts}
-use Rattle.kernel_laws.specs.Kinds.{TakesUid, TakesGid}
 use Rattle.kernel_laws.specs.Launched.{Launch, lets, launch_of, IsLaunchedWorld}
 use Rattle.kernel_laws.specs.Spared.{AllSpare}
 use Rattle.kernel_model.specs.Runs.{run}

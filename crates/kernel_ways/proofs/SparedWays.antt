@@ -12,11 +12,13 @@ use Rattle.kernel_laws.specs.Bound.{caps_at, caps_by, caps_before, with_root, wh
 use Rattle.kernel_calls.specs.declared.call.Call.{Call}
 use Rattle.kernel_calls.specs.Doing.{Doing, Does, asked_of}
 use Rattle.kernel_model.specs.Effects.{Effect}
-use Rattle.kernel_laws.specs.Kinds.{asks, TakesUid, TakesGid, ChangesMounts, RemovesMounts}
+use Rattle.kernel_laws.specs.Kinds.{asks}
 use Rattle.kernel_laws.specs.Launched.{Launch, IsLaunched, lets, data_at, launch_of}
 use Rattle.kern_mounts.specs.Split.{Table}
-use Rattle.kernel_laws.specs.Questions as q
-use Rattle.kernel_laws.specs.Reach.{Power, Nowise, Unmounting, Mounting}
+use Rattle.question_types.specs.declared.kind.CallKind.TheVariants.{TakesUid, TakesGid, ChangesMounts, RemovesMounts}
+use Rattle.question_types.specs.declared.power.Power.{Power}
+use Rattle.question_types.specs.declared.power.Power.TheVariants.{None as Nowise, Unmount as Unmounting, Mount as Mounting}
+use Rattle.question_types.specs.declared.question.Question.TheVariants as asking
 use Rattle.kernel_model.specs.World.{World}
 use Rattle.kernel_laws.proofs.Filters.{lets_through}
 use Rattle.kernel_ways.specs.Offers.{Offers}
@@ -123,9 +125,9 @@ ids_are_reached world s =
       uids = λ id h.
           let power = power_using launch false in
           let t = uid_without launch l s.offers true true power (powered_spared launch l s.offers power refl) id h in
-          (t.calls, creds_show launch launch.creds t.creds launch.table t.now world t.calls (q.Uid id) solo t.way t.has, way_spares launch l false (lets launch TakesGid) t.way (inr (t.no_uid refl)) (inl refl) world solo);
+          (t.calls, creds_show launch launch.creds t.creds launch.table t.now world t.calls (asking.Uid id) solo t.way t.has, way_spares launch l false (lets launch TakesGid) t.way (inr (t.no_uid refl)) (inl refl) world solo);
       gids = λ id h.
           let power = power_of launch in
           let t = gid_without launch l s.offers false true power (powered launch l s.offers power refl) id h in
-          (t.calls, creds_show launch launch.creds t.creds launch.table t.now world t.calls (q.Gid id) solo t.way t.has, way_spares launch l (lets launch TakesUid) false t.way (inl refl) (inr (t.no_gid refl)) world solo);
+          (t.calls, creds_show launch launch.creds t.creds launch.table t.now world t.calls (asking.Gid id) solo t.way t.has, way_spares launch l (lets launch TakesUid) false t.way (inl refl) (inr (t.no_gid refl)) world solo);
     }

@@ -18,7 +18,7 @@ use Rattle.kernel_laws.specs.Launched.{Launch, IsLaunchedWorld, launch_of, first
 use Rattle.kern_mounts.specs.Mounts.{Mounts, plain, steps_of}
 use Rattle.kern_mounts.proofs.Plain.{steps_plain, plain_again}
 use Rattle.kern_mounts.specs.Split.{Table}
-use Rattle.kernel_laws.specs.Questions.{Wish}
+use Rattle.question_types.specs.declared.wish.Wish.{Wish}
 use Rattle.kernel_model.specs.Runs.{moment_at, IsDone}
 use Rattle.kernel_model.specs.World.{World, process_of, mounts_of, table_of, table_or}
 use Rattle.kernel_model.specs.declared.process.Process.{Process}

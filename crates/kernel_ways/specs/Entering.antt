@@ -17,7 +17,7 @@ use Rattle.kernel_model.specs.World.{World, living_of, mounts_of, is_newer}
 use Rattle.kernel_model.specs.declared.process.Process.{Process}
 use Rattle.kernel_laws.specs.Denied.{Shows}
 use Rattle.kernel_laws.specs.Launched.{Launch, passes}
-use Rattle.kernel_laws.specs.Questions.{Question}
+use Rattle.question_types.specs.declared.question.Question.{Question}
 use Rattle.kernel_ways.specs.Showing.{IsDoable, Answers}
 use Rattle.kernel_ways.specs.Ways.{Way, IsSolo, host_at}
 

@@ -23,7 +23,7 @@ use Rattle.kernel_model.specs.World.{World, living_of, table_of}
 use Rattle.kernel_model.specs.declared.process.Process.{Process}
 use Rattle.kernel_laws.specs.Kinds.{no_words}
 use Rattle.kernel_laws.specs.Launched.{Launch, passes, launch_of, IsLaunched}
-use Rattle.kernel_laws.specs.Questions.{Wish}
+use Rattle.question_types.specs.declared.wish.Wish.{Wish}
 use Rattle.kernel_laws.specs.Reach.{fits}
 use Rattle.reach_paths.specs.First.{Shows}
 use Rattle.reach_paths.specs.Mounting.{IsBelowProc}

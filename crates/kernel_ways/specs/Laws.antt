@@ -13,9 +13,12 @@ use Rattle.kernel_model.specs.Step.{most_namespaces}
 use Rattle.kernel_model.specs.World.{World}
 use Rattle.kernel_laws.specs.Bound.{is_open, any_uid, any_gid, ceiling, power_by, power_of}
 use Rattle.kernel_laws.specs.Denied.{IsDenied, Shows}
-use Rattle.kernel_laws.specs.Kinds.{ChangesMounts, RemovesMounts}
+use Rattle.question_types.specs.declared.kind.CallKind.TheVariants.{ChangesMounts, RemovesMounts}
+use Rattle.question_types.specs.declared.question.Question.{Question}
+use Rattle.question_types.specs.declared.question.Question.TheVariants.{Path as ByPath, Cap, Uid, Gid}
+use Rattle.question_types.specs.declared.wish.Wish.TheVariants.{Write as ToWrite, Exec as ToExec}
 use Rattle.kernel_laws.specs.Launched.{lets, launch_of, IsLaunchedWorld}
-use Rattle.kernel_laws.specs.Questions.{Question, ByPath, ToWrite, ToExec, Cap, Uid, Gid, IsAsked, questions}
+use Rattle.kernel_laws.specs.Questions.{IsAsked, questions}
 use Rattle.kernel_ways.specs.Offers.{Offers}
 
 -- the question is put to what it is about: no directory is written, what is executed is an executable file, and the id -1, which

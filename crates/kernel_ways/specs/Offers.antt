@@ -13,9 +13,10 @@ use Rattle.kern_files.specs.Executing.{marks_of}
 use Rattle.kernel_calls.specs.declared.rule.Rule.{Rule}
 use Rattle.kernel_calls.specs.declared.rule.Rule.TheVariants.{Known}
 use Rattle.kernel_calls.specs.Rules.{rule_at}
-use Rattle.kernel_laws.specs.Kinds.{ForPath, AreWords}
+use Rattle.kernel_laws.specs.Kinds.{AreWords}
 use Rattle.kernel_laws.specs.Launched.{Launch, passes, lets}
-use Rattle.kernel_laws.specs.Questions.{ToExec}
+use Rattle.question_types.specs.declared.kind.CallKind.TheVariants.{ForPath}
+use Rattle.question_types.specs.declared.wish.Wish.TheVariants.{Exec as ToExec}
 use Rattle.reach_paths.specs.Finding.{dirs_of, FindsRow}
 use Rattle.kernel_ways.specs.Ways.{CallAt, IsCallAt, rule_there, passes_at}
 

@@ -19,7 +19,8 @@ use Rattle.kernel_model.specs.Runs.{moments, run, AllDone}
 use Rattle.kernel_model.specs.World.{World}
 use Rattle.kernel_laws.specs.Denied.{path_for, asks_family, asks_space, asks_map, asks_protect, asks_attach, asks_realtime, asks_personality, asks_mode, HasGid, Shows}
 use Rattle.kernel_laws.specs.Launched.{Launch, launch_of}
-use Rattle.kernel_laws.specs.Questions.{Question, ByPath, Call, Socket, Ns, MapWx, ProtectX, ShmX, Realtime, Personality, SuidBit, Cap, Uid, Gid}
+use Rattle.question_types.specs.declared.question.Question.{Question}
+use Rattle.question_types.specs.declared.question.Question.TheVariants.{Path as ByPath, Call, Socket, Namespace as Ns, MapWx, ProtectX, ShmX, Realtime, Personality, SuidBit, Cap, Uid, Gid}
 use Rattle.kernel_ways.specs.Laws.{IsServedWorld}
 use Rattle.kernel_ways.specs.Ways.{Way, IsSolo, Makes}
 

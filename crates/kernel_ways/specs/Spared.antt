@@ -8,9 +8,9 @@ use Rattle.kernel_model.specs.World.{World}
 pub use Rattle.kernel_laws.specs.Bound.{caps_by, power_using}
 use Rattle.kernel_laws.specs.Bound.{owned_by, grouped_by}
 use Rattle.kernel_laws.specs.Denied.{Holds, Shows}
-use Rattle.kernel_laws.specs.Kinds.{TakesUid, TakesGid}
+use Rattle.question_types.specs.declared.kind.CallKind.TheVariants.{TakesUid, TakesGid}
+use Rattle.question_types.specs.declared.question.Question.TheVariants.{Uid, Gid}
 use Rattle.kernel_laws.specs.Launched.{Launch, lets, launch_of}
-use Rattle.kernel_laws.specs.Questions.{Uid, Gid}
 use Rattle.kernel_laws.specs.Spared.{AllSpare}
 use Rattle.kernel_ways.specs.Laws.{IsServedWorld}
 

@@ -7,12 +7,12 @@ use Rattle.linux_numbers.specs.Capabilities.{cap_sys_admin}
 use Rattle.filter_rules.specs.declared.namespace_types.NamespaceType.{NamespaceType}
 use Rattle.filter_rules.specs.declared.namespace_types.NamespaceType.TheVariants as own
 use Rattle.kernel_laws.specs.Bound.{ceiling, is_open, is_user}
-use Rattle.kernel_laws.specs.Kinds.{ForSpace}
+use Rattle.question_types.specs.declared.kind.CallKind.TheVariants.{ForNamespace}
+use Rattle.filter_rules.specs.declared.namespace_types.NamespaceType.TheVariants.{User}
+use Rattle.question_types.specs.declared.question.Question.TheVariants.{Namespace as Ns}
 use Rattle.kernel_laws.specs.Launched.{Launch, can_make_user, lets}
-use Rattle.kernel_laws.specs.Questions.{Space, User, Ns}
-use Rattle.questions.specs.Meanings.{meant_space}
 
-pub not_user : (kind : NamespaceType) → (kind ≡ own.User → ⊥) → is_user (meant_space kind) ≡ false
+pub not_user : (kind : NamespaceType) → (kind ≡ own.User → ⊥) → is_user kind ≡ false
 not_user own.Cgroup n = refl
 not_user own.Ipc n = refl
 not_user own.Net n = refl
@@ -21,10 +21,10 @@ not_user own.Pid n = refl
 not_user own.User n = absurd (n refl)
 not_user own.Uts n = refl
 
-pub made_inside : (launch : Launch) (space : Space) → is_user space ≡ false → has (ceiling launch).effective cap_sys_admin ≡ false → is_open launch (Ns space) ≡ true → (lets launch (ForSpace space) ≡ true) × (lets launch (ForSpace User) ≡ true)
+pub made_inside : (launch : Launch) (space : NamespaceType) → is_user space ≡ false → has (ceiling launch).effective cap_sys_admin ≡ false → is_open launch (Ns space) ≡ true → (lets launch (ForNamespace space) ≡ true) × (lets launch (ForNamespace User) ≡ true)
 made_inside launch space other off h =
-    let open' : (lets launch (ForSpace space) && (has (ceiling launch).effective cap_sys_admin || can_make_user launch)) ≡ true =
-    sym (ap (λ b. cond b (can_make_user launch) (lets launch (ForSpace space) && (has (ceiling launch).effective cap_sys_admin || can_make_user launch))) other) ∙ h in
-    let both = and_parts (lets launch (ForSpace space)) (has (ceiling launch).effective cap_sys_admin || can_make_user launch) open' in
+    let open' : (lets launch (ForNamespace space) && (has (ceiling launch).effective cap_sys_admin || can_make_user launch)) ≡ true =
+    sym (ap (λ b. cond b (can_make_user launch) (lets launch (ForNamespace space) && (has (ceiling launch).effective cap_sys_admin || can_make_user launch))) other) ∙ h in
+    let both = and_parts (lets launch (ForNamespace space)) (has (ceiling launch).effective cap_sys_admin || can_make_user launch) open' in
     let user : can_make_user launch ≡ true = sym (ap (λ b. b || can_make_user launch) off) ∙ both.1 in
-    (both.0, (and_parts (nat_lt 0 launch.site.user_namespaces) (lets launch (ForSpace User)) user).1)
+    (both.0, (and_parts (nat_lt 0 launch.site.user_namespaces) (lets launch (ForNamespace User)) user).1)

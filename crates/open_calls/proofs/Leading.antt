@@ -7,8 +7,10 @@ use Rattle.kern_mounts.specs.Split.{Table}
 use Rattle.site_table.specs.declared.row.Row.{Row}
 use Rattle.site_table.specs.Table.{row_at}
 use Rattle.kernel_laws.specs.Launched.{launch_of}
-use Rattle.kernel_laws.specs.Questions.{Wish}
-use Rattle.kernel_laws.specs.Reach.{Power, Nowise, Unmounting, Mounting, reach, reaches}
+use Rattle.question_types.specs.declared.wish.Wish.{Wish}
+use Rattle.question_types.specs.declared.power.Power.{Power}
+use Rattle.question_types.specs.declared.power.Power.TheVariants.{None as Nowise, Unmount as Unmounting, Mount as Mounting}
+use Rattle.kernel_laws.specs.Reach.{reach, reaches}
 use Rattle.kernel_model.specs.World.{World}
 use Rattle.kernel_ways.specs.Laws.{IsServedWorld}
 use Rattle.reach_paths.proofs.RowsOfSites.{found_row}

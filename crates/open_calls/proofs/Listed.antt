@@ -12,8 +12,10 @@ use Rattle.kernel_calls.specs.declared.call.Call.{Call}
 use Rattle.kernel_laws.specs.Bound.{can_have_for, can_reach, ceiling, if_listed, is_call_open, is_open, power_of}
 use Rattle.kernel_calls.specs.Rules.{rule_of}
 use Rattle.kernel_laws.specs.Launched.{Launch}
-use Rattle.kernel_laws.specs.Questions as question
-use Rattle.kernel_laws.specs.Questions.{Wish, Question, questions}
+use Rattle.question_types.specs.declared.wish.Wish.{Wish}
+use Rattle.question_types.specs.declared.question.Question.{Question}
+use Rattle.question_types.specs.declared.question.Question.TheVariants as asking
+use Rattle.kernel_laws.specs.Questions.{questions}
 use Rattle.kernel_model.specs.World.{World}
 use Rattle.kernel_ways.specs.Laws.{IsFit, IsServedWorld}
 use Rattle.kernel_ways.proofs.FitQuestions.{listed_are_fit}
@@ -21,18 +23,18 @@ use Rattle.questions.proofs.Among.{has_contained, all_had}
 use Rattle.chosen_calls.specs.Chosen.{calls_for, is_called, row_calls}
 
 module _ (launch : Launch) (program : Path) (place : ℕ) where
-  pub row_is : (wish : Wish) (row : Row) → slice_get launch.site.rows place ≡ Some row → row_calls launch program wish row ≡ calls_for launch program (question.ByPath wish place)
+  pub row_is : (wish : Wish) (row : Row) → slice_get launch.site.rows place ≡ Some row → row_calls launch program wish row ≡ calls_for launch program (asking.Path wish place)
   unfolding calls_for
   row_is wish row e = sym (ap (λ o. option_map_or (row_calls launch program wish) o []) e)
 
   -- what is open is listed
-  pub open_row : (wish : Wish) (row : Row) → slice_get launch.site.rows place ≡ Some row → is_open launch (question.ByPath wish place) ≡ true → can_reach launch (power_of launch) wish row ≡ true
+  pub open_row : (wish : Wish) (row : Row) → slice_get launch.site.rows place ≡ Some row → is_open launch (asking.Path wish place) ≡ true → can_reach launch (power_of launch) wish row ≡ true
   open_row wish row e h = sym (ap (if_listed (can_reach launch (power_of launch) wish)) e) ∙ h
 
-  pub open_call : (line : CallLine) → slice_get (every_call launch.calls) place ≡ Some line → is_open launch (question.Call place) ≡ true → list_any (is_called launch line.name) (every_call launch.calls) ≡ true
+  pub open_call : (line : CallLine) → slice_get (every_call launch.calls) place ≡ Some line → is_open launch (asking.Call place) ≡ true → list_any (is_called launch line.name) (every_call launch.calls) ≡ true
   open_call line e h = (and_parts (list_any (is_called launch line.name) (every_call launch.calls)) (can_have_for (ceiling launch) (rule_of line)) (sym (ap (if_listed (is_call_open launch (ceiling launch))) e) ∙ h)).0
 
-  pub no_row : (wish : Wish) → slice_get launch.site.rows place ≡ None → is_open launch (question.ByPath wish place) ≡ true → ⊥
+  pub no_row : (wish : Wish) → slice_get launch.site.rows place ≡ None → is_open launch (asking.Path wish place) ≡ true → ⊥
   no_row wish e h = let never = sym (ap (if_listed (can_reach launch (power_of launch) wish)) e) ∙ h in cc
 
 -- one call behind others

@@ -4,9 +4,11 @@ use Rattle.std.specs.Prelude.{find, ◌&&◌, ◌||◌, not}
 use Rattle.std.specs.List.{list_any}
 use Rattle.site_table.specs.declared.row.Row.{Row}
 use Rattle.kernel_laws.specs.Bound.{any_gid, any_uid, can_run, caps_at, ceiling, grouped_by, is_open, owned_by, power_of}
-use Rattle.kernel_laws.specs.Kinds.{Kind, TakesUid, TakesGid}
+use Rattle.question_types.specs.declared.kind.CallKind.{CallKind}
+use Rattle.question_types.specs.declared.kind.CallKind.TheVariants.{TakesUid, TakesGid}
+use Rattle.question_types.specs.declared.power.Power.{Power}
+use Rattle.question_types.specs.declared.power.Power.TheVariants.{None as Nowise}
 use Rattle.kernel_laws.specs.Launched.{Launch, lets}
-use Rattle.kernel_laws.specs.Reach.{Power, Nowise}
 use Rattle.kernel_ways.specs.Offers.{Offers}
 use Rattle.chosen_calls.specs.Chosen.{IsIdOpen, runner}
 use Rattle.chosen_calls.specs.Gaining.{CapWay, CapCanBeMade, IsRunner, at_once}
@@ -24,7 +26,7 @@ module _ (launch : Launch) (o : Offers launch) where
       by true off e = cc
       by false off e = (found_runner launch o off power gives row e).0
 
-  pub serves : (kind : Kind) (number : ℕ) (way : CapWay) → cond {A = Option CapWay} (lets launch kind) (at_once launch number) None ≡ Some way → CapCanBeMade launch Nowise way
+  pub serves : (kind : CallKind) (number : ℕ) (way : CapWay) → cond {A = Option CapWay} (lets launch kind) (at_once launch number) None ≡ Some way → CapCanBeMade launch Nowise way
   serves kind number way e = by (lets launch kind) e
     where
       by : (b : Bool) → cond {A = Option CapWay} b (at_once launch number) None ≡ Some way → CapCanBeMade launch Nowise way

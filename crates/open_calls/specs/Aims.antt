@@ -5,11 +5,10 @@ use Rattle.chosen_calls.specs.Exposing.{lead}
 use Rattle.kernel_laws.specs.Launched.{launch_of}
 use Rattle.kernel_laws.specs.Reach.{reaches}
 use Rattle.kernel_model.specs.World.{World}
-use Rattle.reach_paths.specs.Meanings.{meant_power, meant_wish}
 use Rattle.open_calls.specs.declared.exposing.Aim.{Aim}
 
 -- the row is of the site, and the power has the entry of this number lead to it, which shows it so far
 pub record IsAim (world : World) (aim : Aim) : Type 0 where
   pub known : row_at world.site.rows aim.row.now.path ≡ Some aim.row.now
-  pub reached : reaches (meant_power aim.power) (launch_of world).table aim.row.now.path (meant_wish aim.wish) ≡ true
-  pub number : aim.at ≡ lead (meant_power aim.power) (launch_of world).table aim.row.now.path (meant_wish aim.wish)
+  pub reached : reaches aim.power (launch_of world).table aim.row.now.path aim.wish ≡ true
+  pub number : aim.at ≡ lead aim.power (launch_of world).table aim.row.now.path aim.wish

@@ -5,9 +5,10 @@ use Rattle.chosen_calls.specs.First.{args_of, line_of, own_rule}
 use Rattle.chosen_calls.specs.Gaining.{gain}
 use Rattle.kernel_calls.specs.declared.call.Call.{Call}
 use Rattle.kernel_calls.specs.declared.payload.Payload.{Payload}
-use Rattle.kernel_laws.specs.Kinds.{Kind, ForPath, ChangesMounts, RemovesMounts, SetsCaps, TakesUid, TakesGid}
+use Rattle.question_types.specs.declared.kind.CallKind.{CallKind}
+use Rattle.question_types.specs.declared.kind.CallKind.TheVariants.{ForPath, ChangesMounts, RemovesMounts, SetsCaps, TakesUid, TakesGid}
+use Rattle.question_types.specs.declared.wish.Wish.TheVariants.{See as ToSee, Read as ToRead, Write as ToWrite, Exec as ToExec}
 use Rattle.kernel_laws.specs.Launched.{Launch}
-use Rattle.kernel_laws.specs.Questions.{ToSee, ToRead, ToWrite, ToExec}
 use Rattle.kernel_ways.specs.Ways.{CallAt}
 use Rattle.open_calls.specs.Meanings.{meant_gain}
 use Rattle.open_calls.specs.declared.first.FirstCall.{FirstCall}
@@ -17,10 +18,10 @@ use Rattle.open_calls.specs.declared.ways.GainWay.{GainWay}
 use Rattle.open_calls.specs.declared.gains.Gained.TheVariants.{Unasked, Found}
 
 -- the call of a line, with the words that ask for the kind and with its rule
-abbrev pub first_as : Kind → CallLine → FirstCall
+abbrev pub first_as : CallKind → CallLine → FirstCall
 first_as kind line = record { abi = line.abi; nr = line.number; args = args_of kind line; rule = own_rule line }
 
-abbrev pub first_of : Launch → Kind → FirstCall
+abbrev pub first_of : Launch → CallKind → FirstCall
 first_of launch kind = first_as kind (line_of launch kind)
 
 -- where it stands
@@ -32,7 +33,7 @@ abbrev pub call_as : FirstCall → List ℕ → Payload → Call
 call_as first args payload = record { pid = 1; abi = first.abi; nr = first.nr; args = args; payload = payload }
 
 -- what is kept is the first call of its kind
-abbrev pub IsFirst : Launch → Kind → Option FirstCall → Type 0
+abbrev pub IsFirst : Launch → CallKind → Option FirstCall → Type 0
 IsFirst launch kind kept = IfSome kept (λ first. first ≡ first_of launch kind)
 
 pub record AreFirsts (launch : Launch) (firsts : Firsts) : Type 0 where

@@ -3,9 +3,11 @@ use Rattle.std.specs.Prelude.{ℕ, Bool, ◌==◌, ◌||◌}
 use Rattle.std.specs.List.{list_any}
 use Rattle.chosen_calls.specs.Gaining as way
 use Rattle.kernel_laws.specs.Bound.{is_owner}
-use Rattle.kernel_laws.specs.Kinds.{Kind, TakesUid, TakesGid}
+use Rattle.question_types.specs.declared.kind.CallKind.{CallKind}
+use Rattle.question_types.specs.declared.kind.CallKind.TheVariants.{TakesUid, TakesGid}
+use Rattle.question_types.specs.declared.question.Question.{Question}
+use Rattle.question_types.specs.declared.question.Question.TheVariants.{Uid, Gid}
 use Rattle.kernel_laws.specs.Launched.{Launch}
-use Rattle.kernel_laws.specs.Questions.{Question, Uid, Gid}
 use Rattle.linux_numbers.specs.Capabilities.{cap_setuid, cap_setgid}
 use Rattle.site_table.specs.declared.row.Row.{Row}
 use Rattle.open_calls.specs.declared.ids.IdKind.{IdKind}
@@ -31,7 +33,7 @@ meant_gain (AtOnce cap) = way.AtOnce (meant_cap cap)
 meant_gain (Behind admin cap) = way.Behind (meant_cap admin) (meant_cap cap)
 
 -- the calls that take such an id, setuid(2), setgid(2)
-abbrev pub meant_kind : IdKind → Kind
+abbrev pub meant_kind : IdKind → CallKind
 meant_kind User = TakesUid
 meant_kind Group = TakesGid
 

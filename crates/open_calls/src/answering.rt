@@ -11,22 +11,20 @@ ghost use Rattle.kernel_calls.specs.Rules.{rule_of};
 ghost use Rattle.kernel_laws.specs.Bound.{is_open};
 ghost use Rattle.kernel_laws.specs.Denied.{Shows};
 ghost use Rattle.kernel_laws.specs.Launched.{launch_of, lets};
-ghost use Rattle.kernel_laws.specs.Questions.{Call as CallQuestion, Ns, Socket, questions};
+ghost use Rattle.kernel_laws.specs.Questions.{questions};
 ghost use Rattle.kernel_ways.specs.Laws.{IsServedWorld};
 ghost use Rattle.kernel_ways.specs.Offers.{RunsProgram};
-ghost use Rattle.questions.specs.Meanings.{meant};
-ghost use Rattle.ceilings.specs.Meanings.{meant_kind};
-ghost use Rattle.questions.specs.Meanings.{meant_space};
+ghost use Rattle.question_types.specs.declared.question.Question.TheVariants.{Call as CallQuestion, Namespace as Ns, Socket};
 
 use crate::first::call_of;
 use crate::ids::IdKind;
 use crate::service::{Made, Service};
 use call_table::CallLine;
-use ceilings::{CallKind, plain_line_at, rule_of};
+use ceilings::{plain_line_at, rule_of};
 use kernel_calls::{Call, Payload, Rule};
 use kernel_model::World;
 use linux_numbers::capabilities::CAP_SYS_ADMIN;
-use questions::{NamespaceType, Question};
+use question_types::{CallKind, NamespaceType, Question};
 use std::alloc::AllocError;
 
 // The call of this number.
@@ -112,8 +110,8 @@ impl Service<'_> {
 
     // Adds the first call of a kind, which carries nothing.
     fn push_first(&self, calls: &mut Vec<Call>, kind: CallKind) -> Made<()>
-        requires some_passes { lets (launch_of self.now.world.now) (meant_kind kind) ≡ true }
-        ensures { OnOk result (calls.new.items ≡ calls.old.items ++ call_by (launch_of self.now.world.now) (meant_kind kind) Nothing ∷ []) }
+        requires some_passes { lets (launch_of self.now.world.now) kind ≡ true }
+        ensures { OnOk result (calls.new.items ≡ calls.old.items ++ call_by (launch_of self.now.world.now) kind Nothing ∷ []) }
     {
         calls.push(self.call_by(kind, Payload::Nothing))?;
         Ok(())
@@ -123,8 +121,8 @@ impl Service<'_> {
     // else in a user namespace.
     fn push_space(&self, calls: &mut Vec<Call>, kind: NamespaceType) -> Made<()>
         requires served { IsServedWorld self.now.world.now }
-        requires reachable { is_open (launch_of self.now.world.now) (Ns (meant_space kind)) ≡ true }
-        ensures { OnOk result (calls.new.items ≡ calls.old.items ++ space_calls (launch_of self.now.world.now) self.now.program.now (meant_space kind)) }
+        requires reachable { is_open (launch_of self.now.world.now) (Ns kind) ≡ true }
+        ensures { OnOk result (calls.new.items ≡ calls.old.items ++ space_calls (launch_of self.now.world.now) self.now.program.now kind) }
     {
         match kind {
             NamespaceType::User => {
@@ -147,8 +145,8 @@ impl Service<'_> {
     #[tactic(auto, unfolding(chosen_calls::specs::Chosen::calls_for))]
     fn push_calls(&self, calls: &mut Vec<Call>, question: &Question) -> Made<()>
         requires served { IsServedWorld self.now.world.now }
-        requires reachable { is_open (launch_of self.now.world.now) (meant question.now) ≡ true }
-        ensures { OnOk result (calls.new.items ≡ calls.old.items ++ calls_for (launch_of self.now.world.now) self.now.program.now (meant question.now)) }
+        requires reachable { is_open (launch_of self.now.world.now) question.now ≡ true }
+        ensures { OnOk result (calls.new.items ≡ calls.old.items ++ calls_for (launch_of self.now.world.now) self.now.program.now question.now) }
     {
         match question {
             Question::Path(wish, at) => self.push_path(calls, *wish, *at),
@@ -177,10 +175,10 @@ impl Service<'_> {
 pub fn calls(service: &Service<'_>, question: &Question) -> Result<Vec<Call>, AllocError>
     requires served { IsServedWorld service.now.world.now }
     requires program { RunsProgram (launch_of service.now.world.now) service.now.program.now }
-    requires asked { Contains (questions service.now.world.now.calls service.now.world.now.site) (meant question.now) }
-    requires reachable { is_open (launch_of service.now.world.now) (meant question.now) ≡ true }
-    ensures the_choice { IfOk result (λ list. list.items ≡ calls_for (launch_of service.now.world.now) service.now.program.now (meant question.now)) }
-    ensures shown { IfOk result (λ list. Shows service.now.world.now (meant question.now) list.items) }
+    requires asked { Contains (questions service.now.world.now.calls service.now.world.now.site) question.now }
+    requires reachable { is_open (launch_of service.now.world.now) question.now ≡ true }
+    ensures the_choice { IfOk result (λ list. list.items ≡ calls_for (launch_of service.now.world.now) service.now.program.now question.now) }
+    ensures shown { IfOk result (λ list. Shows service.now.world.now question.now list.items) }
     ensures made_by_the_service { IfOk result (λ list. AreMadeByService service.now.world.now.calls list.items) }
 {
     let mut calls = Vec::new(service.alloc);

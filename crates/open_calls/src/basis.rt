@@ -5,9 +5,9 @@ ghost use Rattle.kernel_laws.specs.Launched.{launch_of};
 ghost use Rattle.ceilings.specs.Own.{IsCeilingOf};
 ghost use Rattle.open_calls.specs.Bases.{IsBasis};
 
-use ceilings::{CallKind, Ceiling};
+use ceilings::Ceiling;
 use kernel_model::World;
-use reach_paths::Power;
+use question_types::{CallKind, Power};
 
 /// What is known of a launched service before any way is found.
 #[derive(Clone, Copy)]

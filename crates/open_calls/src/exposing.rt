@@ -9,14 +9,17 @@ ghost use Rattle.site_table.specs.Table.{row_at};
 ghost use Rattle.chosen_calls.specs.Chosen.{doing_calls, inside_calls};
 ghost use Rattle.chosen_calls.specs.Exposing.{IsLead, PassesFor, exposing_calls, exposing_path, lead, shown_at};
 ghost use Rattle.chosen_calls.specs.First.{line_of};
-ghost use Rattle.kernel_laws.specs.Kinds.{ChangesMounts, ForPath, ForSpace, RemovesMounts};
+ghost use Rattle.question_types.specs.declared.kind.CallKind.TheVariants.{ChangesMounts, ForPath, ForNamespace, RemovesMounts};
+ghost use Rattle.question_types.specs.declared.wish.Wish.TheVariants.{Exec as ToExec};
+ghost use Rattle.filter_rules.specs.declared.namespace_types.NamespaceType.TheVariants.{User};
+ghost use Rattle.question_types.specs.declared.wish.Wish.{Wish as PathWish};
+ghost use Rattle.question_types.specs.declared.power.Power.{Power as MountPower};
+ghost use Rattle.question_types.specs.declared.power.Power.TheVariants.{Unmount as Unmounting};
 ghost use Rattle.kernel_laws.specs.Launched.{IsLaunchedWorld, launch_of, lets};
-ghost use Rattle.kernel_laws.specs.Questions.{ToExec, User, Wish as PathWish};
-ghost use Rattle.kernel_laws.specs.Reach.{Power as MountPower, Unmounting, reach, reaches};
+ghost use Rattle.kernel_laws.specs.Reach.{reach, reaches};
 ghost use Rattle.kernel_ways.specs.Laws.{IsServedWorld};
 ghost use Rattle.kernel_ways.specs.Uncovering.{covering, mount_call, mount_calls, umount_call, umount_calls};
 ghost use Rattle.kernel_ways.specs.Ways.{place_of};
-ghost use Rattle.reach_paths.specs.Meanings.{meant_power, meant_wish};
 ghost use Rattle.kern_mounts.specs.Mounts.{steps_of};
 ghost use Rattle.open_calls.specs.Aims.{IsAim};
 ghost use Rattle.open_calls.specs.Firsts.{place_in};
@@ -24,12 +27,12 @@ ghost use Rattle.open_calls.specs.Firsts.{place_in};
 use crate::first::FirstCall;
 use crate::service::{Made, Service};
 use abs_path::{AbsPath, PathError};
-use ceilings::{CallKind, launched_table};
+use ceilings::launched_table;
 use kern_mounts::{MountTable, What};
 use kernel_calls::{Call, Payload};
 use kernel_model::World;
-use questions::Wish;
-use reach_paths::{Power, reach};
+use question_types::{CallKind, Power, Wish};
+use reach_paths::reach;
 use site_table::Row;
 use std::alloc::{AllocError, Global};
 
@@ -107,7 +110,7 @@ pub(crate) fn number_of(found: Option<usize>) -> usize
 /// The entry of the launched table that leads to the row by this power, if one does.
 pub(crate) fn reach_row(world: &World<'_>, power: Power, wish: Wish, row: &Row) -> Option<usize>
     requires launched { IsLaunchedWorld world.now }
-    ensures { result ≡ reach (meant_power power) (launch_of world.now).table row.now.path (meant_wish wish) }
+    ensures { result ≡ reach power (launch_of world.now).table row.now.path wish }
 {
     reach(launched_table(world), &row.path, wish, power)
 }
@@ -115,7 +118,7 @@ pub(crate) fn reach_row(world: &World<'_>, power: Power, wish: Wish, row: &Row) 
 /// Its number, where one does.
 pub(crate) fn lead(world: &World<'_>, power: Power, wish: Wish, row: &Row) -> usize
     requires launched { IsLaunchedWorld world.now }
-    ensures first { result ≡ lead (meant_power power) (launch_of world.now).table row.now.path (meant_wish wish) }
+    ensures first { result ≡ lead power (launch_of world.now).table row.now.path wish }
 {
     number_of(reach_row(world, power, wish, row))
 }
@@ -162,7 +165,7 @@ impl Service<'_> {
     pub(crate) fn exposing_path(&self, aim: &Aim<'_>) -> Made<AbsPath>
         requires served { IsServedWorld self.now.world.now }
         requires aimed { IsAim self.now.world.now aim.now }
-        ensures { IfOk result (λ path. path ≡ exposing_path (launch_of self.now.world.now) (meant_power aim.now.power) (meant_wish aim.now.wish) aim.now.row.now.path) }
+        ensures { IfOk result (λ path. path ≡ exposing_path (launch_of self.now.world.now) aim.now.power aim.now.wish aim.now.row.now.path) }
     {
         match aim.power {
             Power::Mount => below_proc(self.alloc, &aim.row.path),
@@ -181,10 +184,10 @@ impl Service<'_> {
     fn push_unmounts(&self, calls: &mut Vec<Call>, wish: Wish, row: &Row, at: usize) -> Made<()>
         requires served { IsServedWorld self.now.world.now }
         requires known { row_at self.now.world.now.site.rows row.now.path ≡ Some row.now }
-        requires reached { reaches Unmounting (launch_of self.now.world.now).table row.now.path (meant_wish wish) ≡ true }
+        requires reached { reaches Unmounting (launch_of self.now.world.now).table row.now.path wish ≡ true }
         requires passes { lets (launch_of self.now.world.now) RemovesMounts ≡ true }
-        requires number { at ≡ lead Unmounting (launch_of self.now.world.now).table row.now.path (meant_wish wish) }
-        ensures { OnOk result (calls.new.items ≡ calls.old.items ++ exposing_calls (launch_of self.now.world.now) Unmounting 0 (meant_wish wish) row.now.path) }
+        requires number { at ≡ lead Unmounting (launch_of self.now.world.now).table row.now.path wish }
+        ensures { OnOk result (calls.new.items ≡ calls.old.items ++ exposing_calls (launch_of self.now.world.now) Unmounting 0 wish row.now.path) }
     {
         let first = self.first(CallKind::RemovesMounts);
         let table = launched_table(self.world);
@@ -207,8 +210,8 @@ impl Service<'_> {
     fn push_exposing(&self, calls: &mut Vec<Call>, flags: u64, aim: &Aim<'_>) -> Made<()>
         requires served { IsServedWorld self.now.world.now }
         requires aimed { IsAim self.now.world.now aim.now }
-        requires passes { PassesFor (launch_of self.now.world.now) (meant_power aim.now.power) }
-        ensures { OnOk result (calls.new.items ≡ calls.old.items ++ exposing_calls (launch_of self.now.world.now) (meant_power aim.now.power) flags (meant_wish aim.now.wish) aim.now.row.now.path) }
+        requires passes { PassesFor (launch_of self.now.world.now) aim.now.power }
+        ensures { OnOk result (calls.new.items ≡ calls.old.items ++ exposing_calls (launch_of self.now.world.now) aim.now.power flags aim.now.wish aim.now.row.now.path) }
     {
         match aim.power {
             Power::None => Ok(()),
@@ -221,11 +224,11 @@ impl Service<'_> {
     pub(crate) fn push_inside(&self, calls: &mut Vec<Call>, aim: &Aim<'_>) -> Made<()>
         requires served { IsServedWorld self.now.world.now }
         requires aimed { IsAim self.now.world.now aim.now }
-        requires passes { PassesFor (launch_of self.now.world.now) (meant_power aim.now.power) }
-        requires to_execute { meant_wish aim.now.wish ≡ ToExec }
+        requires passes { PassesFor (launch_of self.now.world.now) aim.now.power }
+        requires to_execute { aim.now.wish ≡ ToExec }
         requires some_passes { lets (launch_of self.now.world.now) (ForPath ToExec) ≡ true }
-        requires user_passes { lets (launch_of self.now.world.now) (ForSpace User) ≡ true }
-        ensures { OnOk result (calls.new.items ≡ calls.old.items ++ inside_calls (launch_of self.now.world.now) (meant_power aim.now.power) aim.now.row.now) }
+        requires user_passes { lets (launch_of self.now.world.now) (ForNamespace User) ≡ true }
+        ensures { OnOk result (calls.new.items ≡ calls.old.items ++ inside_calls (launch_of self.now.world.now) aim.now.power aim.now.row.now) }
     {
         self.push_exposing(calls, REMOUNT, aim)?;
         let path = self.exposing_path(aim)?;
@@ -239,9 +242,9 @@ impl Service<'_> {
     pub(crate) fn push_doing(&self, calls: &mut Vec<Call>, flags: u64, aim: &Aim<'_>) -> Made<()>
         requires served { IsServedWorld self.now.world.now }
         requires aimed { IsAim self.now.world.now aim.now }
-        requires passes { PassesFor (launch_of self.now.world.now) (meant_power aim.now.power) }
-        requires some_passes { lets (launch_of self.now.world.now) (ForPath (meant_wish aim.now.wish)) ≡ true }
-        ensures { OnOk result (calls.new.items ≡ calls.old.items ++ doing_calls (launch_of self.now.world.now) (meant_power aim.now.power) flags (meant_wish aim.now.wish) aim.now.row.now) }
+        requires passes { PassesFor (launch_of self.now.world.now) aim.now.power }
+        requires some_passes { lets (launch_of self.now.world.now) (ForPath aim.now.wish) ≡ true }
+        ensures { OnOk result (calls.new.items ≡ calls.old.items ++ doing_calls (launch_of self.now.world.now) aim.now.power flags aim.now.wish aim.now.row.now) }
     {
         self.push_exposing(calls, flags, aim)?;
         let path = self.exposing_path(aim)?;

@@ -6,16 +6,16 @@ ghost use Rattle.call_table.specs.Table.{calls_in};
 ghost use Rattle.chosen_calls.specs.First.{args_of, first_line, lets_name, line_of, own_rule, line_in};
 ghost use Rattle.kernel_laws.specs.Launched.{launch_of, lets};
 ghost use Rattle.kernel_ways.specs.Taking.{id_payload, id_words};
-ghost use Rattle.ceilings.specs.Meanings.{meant_kind};
 ghost use Rattle.open_calls.specs.Firsts.{call_as, first_of};
 
 use crate::names::names_of;
 use crate::service::Made;
 use call_names::CallRule;
 use call_table::CallLine;
-use ceilings::{CallKind, lets_line, passing_line, rule_of, words};
+use ceilings::{lets_line, passing_line, rule_of, words};
 use kernel_calls::{Call, IdList, Payload, Rule};
 use kernel_model::World;
+use question_types::CallKind;
 use std::alloc::Global;
 
 // The line of this ABI with this name.
@@ -28,7 +28,7 @@ fn line_named<'a>(world: &'a World<'_>, abi: u8, name: &str) -> Option<&'a CallL
 
 // Whether the ABI has a call of the name that asks for the kind, and the filters let it through.
 fn lets_name(world: &World<'_>, kind: CallKind, abi: u8, name: &str) -> bool
-    ensures { result ≡ lets_name (launch_of world.now) (meant_kind kind) abi name.now }
+    ensures { result ≡ lets_name (launch_of world.now) kind abi name.now }
 {
     match line_named(world, abi, name) {
         None => false,
@@ -43,7 +43,7 @@ fn first_name(
     abi: u8,
     names: &'static [&'static str],
 ) -> Option<&'static str>
-    ensures { option_copied result ≡ option_map (λ name. name.now) (find (λ name. lets_name (launch_of world.now) (meant_kind kind) abi name.now) names.now) }
+    ensures { option_copied result ≡ option_map (λ name. name.now) (find (λ name. lets_name (launch_of world.now) kind abi name.now) names.now) }
 {
     names
         .iter()
@@ -53,7 +53,7 @@ fn first_name(
 
 // The line of that name.
 fn line_in<'a>(world: &'a World<'_>, kind: CallKind, abi: u8) -> Option<&'a CallLine>
-    ensures { option_copied result ≡ line_in (launch_of world.now) (meant_kind kind) abi }
+    ensures { option_copied result ≡ line_in (launch_of world.now) kind abi }
 {
     let name = first_name(world, kind, abi, names_of(kind))?;
     line_named(world, abi, name)
@@ -61,7 +61,7 @@ fn line_in<'a>(world: &'a World<'_>, kind: CallKind, abi: u8) -> Option<&'a Call
 
 // The line of the call that is made, if there is one: by the native ABI, else by the other.
 fn first_line<'a>(world: &'a World<'_>, kind: CallKind) -> Option<&'a CallLine>
-    ensures { option_copied result ≡ first_line (launch_of world.now) (meant_kind kind) }
+    ensures { option_copied result ≡ first_line (launch_of world.now) kind }
 {
     if let Some(line) = line_in(world, kind, 0) {
         return Some(line);
@@ -75,8 +75,8 @@ fn first_line<'a>(world: &'a World<'_>, kind: CallKind) -> Option<&'a CallLine>
 // The line of the call that is made for a kind of which some call passes.
 #[tactic(auto, unfolding(chosen_calls::specs::First::line_of))]
 fn line_of<'a>(world: &'a World<'_>, kind: CallKind) -> &'a CallLine
-    requires some_passes { lets (launch_of world.now) (meant_kind kind) ≡ true }
-    ensures { result.now ≡ line_of (launch_of world.now) (meant_kind kind) }
+    requires some_passes { lets (launch_of world.now) kind ≡ true }
+    ensures { result.now ≡ line_of (launch_of world.now) kind }
 {
     match first_line(world, kind) {
         Some(line) => line,
@@ -93,7 +93,7 @@ fn own_rule(line: &CallLine) -> Rule
 
 // The words with which the call of a line asks for the kind.
 fn args_of(kind: CallKind, line: &CallLine) -> [u64; 6]
-    ensures { result ≡ args_of (meant_kind kind) line.now }
+    ensures { result ≡ args_of kind line.now }
 {
     let args = rule_of(line).and_then(|rule| words(kind, rule));
     args.unwrap_or([0; 6])
@@ -142,8 +142,8 @@ impl FirstCall {
 
 /// The first call of a kind of which some call passes.
 pub(crate) fn first_call(world: &World<'_>, kind: CallKind) -> FirstCall
-    requires some_passes { lets (launch_of world.now) (meant_kind kind) ≡ true }
-    ensures { result ≡ first_of (launch_of world.now) (meant_kind kind) }
+    requires some_passes { lets (launch_of world.now) kind ≡ true }
+    ensures { result ≡ first_of (launch_of world.now) kind }
 {
     let line = line_of(world, kind);
     FirstCall {

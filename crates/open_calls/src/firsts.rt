@@ -3,12 +3,11 @@
 ghost use Rattle.std.specs.Prelude.{◌≡◌, true, IfOk};
 ghost use Rattle.chosen_calls.specs.Chosen.{call_inside, pid_inside, user_call, socket_payload};
 ghost use Rattle.chosen_calls.specs.First.{call_by, line_of, own_rule};
-ghost use Rattle.kernel_laws.specs.Kinds.{ForSpace, ForFamily};
+ghost use Rattle.question_types.specs.declared.kind.CallKind.TheVariants.{ForNamespace, ForFamily};
+ghost use Rattle.filter_rules.specs.declared.namespace_types.NamespaceType.TheVariants.{User};
 ghost use Rattle.kernel_laws.specs.Launched.{Launch, launch_of, lets};
-ghost use Rattle.kernel_laws.specs.Questions.{User};
 ghost use Rattle.kernel_ways.specs.Taking.{id_call};
 ghost use Rattle.kernel_ways.specs.Ways.{place_of};
-ghost use Rattle.ceilings.specs.Meanings.{meant_kind};
 ghost use Rattle.ceilings.specs.Own.{IsCeilingOf};
 ghost use Rattle.open_calls.specs.Bases.{IsBasis};
 ghost use Rattle.open_calls.specs.Firsts.{AreFirsts, IsFirst, first_of};
@@ -17,10 +16,10 @@ use crate::basis::Basis;
 use crate::first::{FirstCall, first_call, id_payload, id_words};
 use crate::service::{Made, Service};
 use call_names::CallRule;
-use ceilings::{CallKind, Ceiling};
+use ceilings::Ceiling;
 use kernel_calls::{Call, Payload, Rule};
 use kernel_model::World;
-use questions::{NamespaceType, Wish};
+use question_types::{CallKind, NamespaceType, Wish};
 
 /// The first calls of some kinds; None where none passes.
 #[derive(Clone, Copy)]
@@ -42,8 +41,8 @@ pub(crate) struct Firsts {
 
 // The first call of a kind, if some passes.
 fn first_if(world: &World<'_>, kind: CallKind, passes: bool) -> Option<FirstCall>
-    requires known { passes ≡ lets (launch_of world.now) (meant_kind kind) }
-    ensures { IsFirst (launch_of world.now) (meant_kind kind) result }
+    requires known { passes ≡ lets (launch_of world.now) kind }
+    ensures { IsFirst (launch_of world.now) kind result }
 {
     if passes {
         Some(first_call(world, kind))
@@ -83,7 +82,7 @@ impl Firsts {
 
     // That of the kind, if it is kept.
     fn kept(&self, kind: CallKind) -> Option<FirstCall>
-        ensures { (launch : Launch) → AreFirsts launch self.now → IsFirst launch (meant_kind kind) result }
+        ensures { (launch : Launch) → AreFirsts launch self.now → IsFirst launch kind result }
     {
         match kind {
             CallKind::ForPath(Wish::See) => self.see,
@@ -103,8 +102,8 @@ impl Firsts {
 impl Service<'_> {
     /// The first call of a kind.
     pub(crate) fn first(&self, kind: CallKind) -> FirstCall
-        requires some_passes { lets (launch_of self.now.world.now) (meant_kind kind) ≡ true }
-        ensures { result ≡ first_of (launch_of self.now.world.now) (meant_kind kind) }
+        requires some_passes { lets (launch_of self.now.world.now) kind ≡ true }
+        ensures { result ≡ first_of (launch_of self.now.world.now) kind }
     {
         match self.firsts.kept(kind) {
             Some(first) => first,
@@ -114,8 +113,8 @@ impl Service<'_> {
 
     /// The first call of a kind, by process 1, with the words that ask for it.
     pub(crate) fn call_by(&self, kind: CallKind, payload: Payload) -> Call
-        requires some_passes { lets (launch_of self.now.world.now) (meant_kind kind) ≡ true }
-        ensures { result ≡ call_by (launch_of self.now.world.now) (meant_kind kind) payload }
+        requires some_passes { lets (launch_of self.now.world.now) kind ≡ true }
+        ensures { result ≡ call_by (launch_of self.now.world.now) kind payload }
     {
         let first = self.first(kind);
         first.with(first.args, payload)
@@ -134,7 +133,7 @@ impl Service<'_> {
 
     /// The call that makes a user namespace, user_namespaces(7).
     pub(crate) fn user_call(&self) -> Call
-        requires some_passes { lets (launch_of self.now.world.now) (ForSpace User) ≡ true }
+        requires some_passes { lets (launch_of self.now.world.now) (ForNamespace User) ≡ true }
         ensures { result ≡ user_call (launch_of self.now.world.now) }
     {
         let kind = CallKind::ForNamespace(NamespaceType::User);
@@ -143,7 +142,7 @@ impl Service<'_> {
 
     // Who is in it: by unshare(2) process 1, else its first child.
     fn pid_inside(&self) -> u32
-        requires some_passes { lets (launch_of self.now.world.now) (ForSpace User) ≡ true }
+        requires some_passes { lets (launch_of self.now.world.now) (ForNamespace User) ≡ true }
         ensures { result ≡ pid_inside (launch_of self.now.world.now) }
     {
         match self.first(CallKind::ForNamespace(NamespaceType::User)).rule {
@@ -154,9 +153,9 @@ impl Service<'_> {
 
     /// The first call of a kind, by the process that is in the user namespace.
     pub(crate) fn call_inside(&self, kind: CallKind, payload: Payload) -> Call
-        requires some_passes { lets (launch_of self.now.world.now) (meant_kind kind) ≡ true }
-        requires user_passes { lets (launch_of self.now.world.now) (ForSpace User) ≡ true }
-        ensures { result ≡ call_inside (launch_of self.now.world.now) (meant_kind kind) payload }
+        requires some_passes { lets (launch_of self.now.world.now) kind ≡ true }
+        requires user_passes { lets (launch_of self.now.world.now) (ForNamespace User) ≡ true }
+        ensures { result ≡ call_inside (launch_of self.now.world.now) kind payload }
     {
         let mut call = self.call_by(kind, payload);
         call.pid = self.pid_inside();
@@ -165,8 +164,8 @@ impl Service<'_> {
 
     /// The first call of the kind, by process 1, with words or a payload that take the id.
     pub(crate) fn id_call(&self, kind: CallKind, id: u32) -> Made<Call>
-        requires some_passes { lets (launch_of self.now.world.now) (meant_kind kind) ≡ true }
-        ensures { IfOk result (λ call. let line = line_of (launch_of self.now.world.now) (meant_kind kind) in
+        requires some_passes { lets (launch_of self.now.world.now) kind ≡ true }
+        ensures { IfOk result (λ call. let line = line_of (launch_of self.now.world.now) kind in
             call ≡ id_call (place_of line) (own_rule line) id) }
     {
         let first = self.first(kind);

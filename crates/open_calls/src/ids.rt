@@ -7,17 +7,15 @@ ghost use Rattle.chosen_calls.specs.Gaining.{at_once};
 ghost use Rattle.kernel_laws.specs.Bound.{can_run, is_open, power_of};
 ghost use Rattle.kernel_laws.specs.Launched.{IsLaunchedWorld, launch_of, lets};
 ghost use Rattle.kernel_ways.specs.Laws.{IsServedWorld};
-ghost use Rattle.reach_paths.specs.Meanings.{meant_power};
-ghost use Rattle.ceilings.specs.Meanings.{meant_kind as call_kind};
 ghost use Rattle.open_calls.specs.Meanings.{asked, gives, is_had, meant_cap, meant_kind, meant_number};
 
 use crate::service::{Made, Service};
 use crate::ways::CapWay;
-use ceilings::{CallKind, can_run, launched_process};
+use ceilings::{can_run, launched_process};
 use kernel_calls::Call;
 use kernel_model::World;
 use linux_numbers::capabilities::{CAP_SETGID, CAP_SETUID, CAP_SYS_ADMIN};
-use reach_paths::Power;
+use question_types::{CallKind, Power};
 use site_table::Row;
 
 /// Whose ids, credentials(7).
@@ -32,7 +30,7 @@ pub(crate) enum IdKind {
 impl IdKind {
     // The calls that take such an id.
     fn kind(self) -> CallKind
-        ensures { call_kind result ≡ meant_kind self }
+        ensures { result ≡ meant_kind self }
     {
         match self {
             IdKind::User => CallKind::TakesUid,
@@ -84,7 +82,7 @@ fn is_among(id: u32, ids: &[u32]) -> bool
 fn giver<'a>(world: &'a World<'_>, power: Power, kind: IdKind, id: u32) -> Option<&'a Row>
     requires { IsLaunchedWorld world.now }
     ensures { let launch = launch_of world.now in
-        option_copied result ≡ find (λ row. gives kind id row && can_run launch (meant_power power) row) launch.site.rows }
+        option_copied result ≡ find (λ row. gives kind id row && can_run launch power row) launch.site.rows }
 {
     let rows = world.site_table().rows();
     rows.iter()
@@ -94,7 +92,7 @@ fn giver<'a>(world: &'a World<'_>, power: Power, kind: IdKind, id: u32) -> Optio
 // The same, without no_new_privs.
 fn runner<'a>(world: &'a World<'_>, power: Power, kind: IdKind, id: u32) -> Option<&'a Row>
     requires { IsLaunchedWorld world.now }
-    ensures { option_copied result ≡ runner (launch_of world.now) (meant_power power) (gives kind id) }
+    ensures { option_copied result ≡ runner (launch_of world.now) power (gives kind id) }
 {
     if launched_process(world).creds.no_new_privs() {
         None

@@ -2,14 +2,13 @@
 
 ghost use Rattle.std.specs.Prelude.{◌≡◌, map};
 ghost use Rattle.chosen_calls.specs.First.{names_of};
-ghost use Rattle.ceilings.specs.Meanings.{meant_kind};
 
-use ceilings::CallKind;
-use questions::Wish;
+use question_types::{CallKind, Wish};
+
 
 // Those that do what is wished of a path.
 fn path_names(wish: Wish) -> &'static [&'static str]
-    ensures { map (λ name. name.now) result.now ≡ names_of (meant_kind (CallKind.ForPath wish)) }
+    ensures { map (λ name. name.now) result.now ≡ names_of (CallKind.ForPath wish) }
 {
     match wish {
         Wish::See => &[
@@ -29,7 +28,7 @@ fn path_names(wish: Wish) -> &'static [&'static str]
 
 /// The names of the calls of a kind, in the order in which they are tried; none of plain calls.
 pub(crate) fn names_of(kind: CallKind) -> &'static [&'static str]
-    ensures { map (λ name. name.now) result.now ≡ names_of (meant_kind kind) }
+    ensures { map (λ name. name.now) result.now ≡ names_of kind }
 {
     match kind {
         CallKind::ForPath(wish) => path_names(wish),

@@ -6,10 +6,11 @@ ghost use Rattle.kern_files.specs.MountCall.{ms_remount_bind};
 ghost use Rattle.chosen_calls.specs.Chosen.{calls_for, is_held_off, row_calls, row_inside, unmarked};
 ghost use Rattle.kernel_laws.specs.Bound.{can_reach, is_mounting, is_open, power_of};
 ghost use Rattle.kernel_laws.specs.Launched.{IsLaunchedWorld, launch_of, can_make_user};
-ghost use Rattle.kernel_laws.specs.Questions.{ByPath, ToExec};
-ghost use Rattle.kernel_laws.specs.Reach.{Nowise, reach};
+ghost use Rattle.question_types.specs.declared.question.Question.TheVariants.{Path as ByPath};
+ghost use Rattle.question_types.specs.declared.wish.Wish.TheVariants.{Exec as ToExec};
+ghost use Rattle.question_types.specs.declared.power.Power.TheVariants.{None as Nowise};
+ghost use Rattle.kernel_laws.specs.Reach.{reach};
 ghost use Rattle.kernel_ways.specs.Laws.{IsServedWorld};
-ghost use Rattle.reach_paths.specs.Meanings.{meant_power, meant_wish};
 ghost use Rattle.ceilings.specs.Leads.{leads_of};
 
 use crate::exposing::{Aim, REMOUNT, REMOUNT_UNMARKED, lead, number_of};
@@ -18,8 +19,7 @@ use ceilings::{RowLeads, is_barred, reach_by};
 use kernel_calls::Call;
 use kernel_model::World;
 use linux_numbers::capabilities::CAP_SYS_ADMIN;
-use questions::Wish;
-use reach_paths::Power;
+use question_types::{Power, Wish};
 use site_table::Row;
 
 // The row of this number.
@@ -32,7 +32,7 @@ fn listed_row<'a>(world: &'a World<'_>, at: usize) -> Option<&'a Row>
 // Whether the row is to be executed, and execve refuses it wherever its marks are looked at.
 fn is_held_off(world: &World<'_>, wish: Wish, row: &Row) -> bool
     requires { IsLaunchedWorld world.now }
-    ensures { result ≡ is_held_off (launch_of world.now) (meant_wish wish) row.now }
+    ensures { result ≡ is_held_off (launch_of world.now) wish row.now }
 {
     match wish {
         Wish::Exec => is_barred(world, row),
@@ -42,7 +42,7 @@ fn is_held_off(world: &World<'_>, wish: Wish, row: &Row) -> bool
 
 // Whether the power makes mounts.
 fn can_mount(power: Power) -> bool
-    ensures { result ≡ is_mounting (meant_power power) }
+    ensures { result ≡ is_mounting power }
 {
     match power {
         Power::Mount => true,
@@ -61,8 +61,8 @@ impl Service<'_> {
     /// Adds the calls for the row of this number.
     pub(crate) fn push_path(&self, calls: &mut Vec<Call>, wish: Wish, at: usize) -> Made<()>
         requires served { IsServedWorld self.now.world.now }
-        requires reachable { is_open (launch_of self.now.world.now) (ByPath (meant_wish wish) at) ≡ true }
-        ensures { OnOk result (calls.new.items ≡ calls.old.items ++ calls_for (launch_of self.now.world.now) self.now.program.now (ByPath (meant_wish wish) at)) }
+        requires reachable { is_open (launch_of self.now.world.now) (ByPath wish at) ≡ true }
+        ensures { OnOk result (calls.new.items ≡ calls.old.items ++ calls_for (launch_of self.now.world.now) self.now.program.now (ByPath wish at)) }
     {
         match listed_row(self.world, at) {
             Some(row) => self.push_row(calls, wish, self.top.leads_to(at), row),
@@ -112,9 +112,9 @@ impl Service<'_> {
     fn push_row(&self, calls: &mut Vec<Call>, wish: Wish, leads: RowLeads, row: &Row) -> Made<()>
         requires served { IsServedWorld self.now.world.now }
         requires known { row_at self.now.world.now.site.rows row.now.path ≡ Some row.now }
-        requires reachable { can_reach (launch_of self.now.world.now) (power_of (launch_of self.now.world.now)) (meant_wish wish) row.now ≡ true }
+        requires reachable { can_reach (launch_of self.now.world.now) (power_of (launch_of self.now.world.now)) wish row.now ≡ true }
         requires of_the_row { leads ≡ leads_of (launch_of self.now.world.now).table row.now.path }
-        ensures { OnOk result (calls.new.items ≡ calls.old.items ++ row_calls (launch_of self.now.world.now) self.now.program.now (meant_wish wish) row.now) }
+        ensures { OnOk result (calls.new.items ≡ calls.old.items ++ row_calls (launch_of self.now.world.now) self.now.program.now wish row.now) }
     {
         let held_off = is_held_off(self.world, wish, row);
         let near = reach_by(self.world, leads, Power::None, wish, row);

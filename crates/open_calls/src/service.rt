@@ -6,7 +6,6 @@ ghost use Rattle.cap_sets.specs.Sets.{has};
 ghost use Rattle.linux_numbers.specs.Capabilities.{cap_sys_admin};
 ghost use Rattle.kernel_laws.specs.Bound.{ceiling, power_of};
 ghost use Rattle.kernel_laws.specs.Launched.{IsLaunchedWorld, launch_of};
-ghost use Rattle.reach_paths.specs.Meanings.{meant_power};
 ghost use Rattle.ceilings.specs.Own.{IsCeilingOf};
 ghost use Rattle.open_calls.specs.Bases.{IsBasis};
 ghost use Rattle.open_calls.specs.Firsts.{AreFirsts, AreGained};
@@ -19,7 +18,7 @@ use ceilings::Ceiling;
 use kernel_model::World;
 use launcher::Launched;
 use linux_numbers::capabilities::CAP_SYS_ADMIN;
-use reach_paths::Power;
+use question_types::Power;
 use std::alloc::{AllocError, Global};
 
 /// A launched service, for which calls are made. The ways that gain capabilities and the first calls of the kinds that are asked for
@@ -46,7 +45,7 @@ pub struct Service<'a> {
     pub(crate) gains: Vec<Gained<'a>>,
     ghost its_ceiling: { IsCeilingOf (launch_of world.now) top.now },
     ghost its_basis: { IsBasis (launch_of world.now) basis },
-    ghost its_own: { meant_power power ≡ power_of (launch_of world.now) },
+    ghost its_own: { power ≡ power_of (launch_of world.now) },
     ghost its_top: { admin ≡ has (ceiling (launch_of world.now)).effective cap_sys_admin },
     ghost its_firsts: { AreFirsts (launch_of world.now) firsts } by { Prim.hlevel props },
     ghost its_gains: { AreGained (launch_of world.now) gains.items },

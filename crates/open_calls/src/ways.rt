@@ -4,7 +4,6 @@ ghost use Rattle.std.specs.Prelude.{◌≡◌, ◌&&◌, find, option_copied, op
 ghost use Rattle.chosen_calls.specs.Gaining.{at_once, at_power, behind_way, by_launch, by_rows, capset_way, gain, gives_at_once, gives_by_capset, takes_root};
 ghost use Rattle.kernel_laws.specs.Bound.{can_run};
 ghost use Rattle.kernel_laws.specs.Launched.{IsLaunchedWorld, launch_of};
-ghost use Rattle.reach_paths.specs.Meanings.{meant_power};
 ghost use Rattle.open_calls.specs.Bases.{IsBasis};
 ghost use Rattle.open_calls.specs.Meanings.{meant_file, meant_cap, meant_gain};
 
@@ -12,7 +11,7 @@ use crate::basis::Basis;
 use ceilings::{can_run, launched_process};
 use kernel_model::World;
 use linux_numbers::capabilities::{CAP_SETUID, CAP_SYS_ADMIN};
-use reach_paths::Power;
+use question_types::Power;
 use site_table::Row;
 
 /// How a capability becomes effective by a file.
@@ -66,7 +65,7 @@ fn gives_by_capset(world: &World<'_>, cap: u8, row: &Row) -> bool
 fn runner<'a>(world: &'a World<'_>, power: Power, cap: u8) -> Option<&'a Row>
     requires { IsLaunchedWorld world.now }
     ensures { let launch = launch_of world.now in
-        option_copied result ≡ find (λ row. gives_at_once launch cap row && can_run launch (meant_power power) row) launch.site.rows }
+        option_copied result ≡ find (λ row. gives_at_once launch cap row && can_run launch power row) launch.site.rows }
 {
     let rows = world.site_table().rows();
     rows.iter().find(|row| gives_at_once(world, cap, row) && can_run(world, power, row))
@@ -76,7 +75,7 @@ fn runner<'a>(world: &'a World<'_>, power: Power, cap: u8) -> Option<&'a Row>
 fn setter<'a>(world: &'a World<'_>, power: Power, cap: u8) -> Option<&'a Row>
     requires { IsLaunchedWorld world.now }
     ensures { let launch = launch_of world.now in
-        option_copied result ≡ find (λ row. gives_by_capset launch cap row && can_run launch (meant_power power) row) launch.site.rows }
+        option_copied result ≡ find (λ row. gives_by_capset launch cap row && can_run launch power row) launch.site.rows }
 {
     let rows = world.site_table().rows();
     rows.iter().find(|row| gives_by_capset(world, cap, row) && can_run(world, power, row))
@@ -87,7 +86,7 @@ fn by_capset<'a>(world: &'a World<'_>, basis: Basis, power: Power, cap: u8) -> O
     requires launched { IsLaunchedWorld world.now }
     requires its_own { IsBasis (launch_of world.now) basis }
     ensures { let launch = launch_of world.now in
-        option_map meant_file result ≡ capset_way launch (meant_power power) cap }
+        option_map meant_file result ≡ capset_way launch power cap }
 {
     if !basis.sets_caps {
         return None;
@@ -100,7 +99,7 @@ fn by_capset<'a>(world: &'a World<'_>, basis: Basis, power: Power, cap: u8) -> O
 fn by_rows<'a>(world: &'a World<'_>, basis: Basis, power: Power, cap: u8) -> Option<FileWay<'a>>
     requires launched { IsLaunchedWorld world.now }
     requires its_own { IsBasis (launch_of world.now) basis }
-    ensures { option_map meant_file result ≡ by_rows (launch_of world.now) (meant_power power) cap }
+    ensures { option_map meant_file result ≡ by_rows (launch_of world.now) power cap }
 {
     if launched_process(world).creds.no_new_privs() {
         return None;

@@ -6,17 +6,16 @@ use Rattle.std.specs.declared.alloc.Global.{Global}
 use Rattle.std.specs.List.{All}
 use Rattle.std.specs.Str.{bytes_eq}
 use Rattle.std.proofs.lemmas.List.{get_or-map, length-map, map-append, take_more}
-use Rattle.std.proofs.lemmas.Simd.{map-map}
+use Rattle.std.proofs.lemmas.List.Elements.{Contains-get_or}
 use Rattle.std.proofs.lemmas.Slice.Eq.{bytes_eq-Decides}
 use Rattle.std.proofs.lemmas.Option.{slice_get_cases}
 use Rattle.call_table.specs.Table as calls
 use Rattle.site_table.specs.Table.{Site}
 use Rattle.kernel_laws.specs.Questions as asked
-use Rattle.questions.specs.Meanings.{meant}
 use Rattle.report_text.specs.Wording.{question_words}
-use Rattle.questions.specs.declared.question.Question.{Question}
-use Rattle.questions.specs.declared.question.Question.TheVariants.{Path}
-use Rattle.reach_paths.specs.declared.wish.Wish.TheVariants.{See}
+use Rattle.question_types.specs.declared.question.Question.{Question}
+use Rattle.question_types.specs.declared.question.Question.TheVariants.{Path}
+use Rattle.question_types.specs.declared.wish.Wish.TheVariants.{See}
 use Rattle.question_text.specs.Printed.{ArePrinted, HaveOneReading, IsPrintedSo, Reads}
 use Rattle.question_text.specs.declared.printed.PrintedQuestion.{PrintedQuestion}
 
@@ -38,25 +37,22 @@ module _ {X Z : Type 0} (f : X → Z) where
 
 -- ---- all of them
 
-pub all_printed : (table : calls.Table) (site : Site) (list : List Question) (printed : List PrintedQuestion) → map meant list ≡ asked.questions table site → map (λ one. one.question) printed ≡ list
-    → map (λ one. one.text.items) printed ≡ map (λ question. question_words table site (meant question)) list → HaveOneReading table site → ArePrinted table site printed
+pub all_printed : (table : calls.Table) (site : Site) (list : List Question) (printed : List PrintedQuestion) → list ≡ asked.questions table site → map (λ one. one.question) printed ≡ list
+    → map (λ one. one.text.items) printed ≡ map (λ question. question_words table site question) list → HaveOneReading table site → ArePrinted table site printed
 all_printed table site list printed all are texts one_reading = record {
-  all = sym (map-map meant (λ (one : PrintedQuestion). one.question) printed) ∙ ap (map meant) are ∙ all;
-  texts = texts ∙ sym (map-map (question_words table site) meant list) ∙ ap (map (question_words table site)) all;
+  all = are ∙ all;
+  texts = texts ∙ ap (map (question_words table site)) all;
   one_reading = one_reading;
 }
 
-pub all_printed_of : (table : calls.Table) (site : Site) (list lent : List Question) (result : Result (Vec PrintedQuestion Global) AllocError) → map meant list ≡ asked.questions table site → lent ≡ list
-    → IfOk result (λ printed. map (λ one. one.question) printed.items ≡ lent) → IfOk result (λ printed. map (λ one. one.text.items) printed.items ≡ map (λ question. question_words table site (meant question)) lent) → HaveOneReading table site
+pub all_printed_of : (table : calls.Table) (site : Site) (list lent : List Question) (result : Result (Vec PrintedQuestion Global) AllocError) → list ≡ asked.questions table site → lent ≡ list
+    → IfOk result (λ printed. map (λ one. one.question) printed.items ≡ lent) → IfOk result (λ printed. map (λ one. one.text.items) printed.items ≡ map (λ question. question_words table site question) lent) → HaveOneReading table site
     → IfOk result (λ printed. ArePrinted table site printed.items)
-all_printed_of table site list lent (Ok printed) all lends are texts one_reading = all_printed table site lent printed.items (ap (map meant) lends ∙ all) are texts one_reading
+all_printed_of table site list lent (Ok printed) all lends are texts one_reading = all_printed table site lent printed.items (lends ∙ all) are texts one_reading
 all_printed_of table site list lent (Err error) all lends are texts one_reading = tt
 
-pub each_listed : (table : calls.Table) (site : Site) (list lent : List Question) → map meant list ≡ asked.questions table site → lent ≡ list → All (λ question. Contains (asked.questions table site) (meant question)) lent
-each_listed table site list lent all lends = λ k d lt.
-    let short : k < length list = rw (sym (ap (λ (own : List Question). length own) lends)) lt in
-    subst (λ (these : List asked.Question). Contains these (meant (get_or lent k d))) all
-    (k, (rw (length-map list meant) short), get_or-map meant list k d (meant (get_or lent k d)) short ∙ ap (λ (own : List Question). meant (get_or own k d)) (sym lends))
+pub each_listed : (table : calls.Table) (site : Site) (list lent : List Question) → list ≡ asked.questions table site → lent ≡ list → All (λ question. Contains (asked.questions table site) question) lent
+each_listed table site list lent all lends = λ k d lt. subst (λ (these : List Question). Contains these (get_or lent k d)) (lends ∙ all) (Contains-get_or lent k d lt)
 
 -- ---- one of them
 
@@ -65,10 +61,10 @@ same_text own lent text lends is = sym lends ∙ (bytes_eq-Decides lent text).0 
 
 -- the text at a place is that of the question there
 text_at : (table : calls.Table) (site : Site) (printed : List PrintedQuestion) (one : PrintedQuestion) (k : ℕ) → ArePrinted table site printed → k < length printed → get_or printed k one ≡ one →
-    one.text.items ≡ question_words table site (meant one.question)
+    one.text.items ≡ question_words table site one.question
 text_at table site printed one k are lt is =
     let texts = λ (one : PrintedQuestion). one.text.items in
-    let means = λ (one : PrintedQuestion). meant one.question in
+    let means = λ (one : PrintedQuestion). one.question in
     let there : k < length (map means printed) = rw (length-map printed means) lt in
     ap texts (sym is) ∙ sym (get_or-map texts printed k one [] lt)
     ∙ ap (λ (all : List (List ℕ)). get_or all k []) (are.texts ∙ ap (map (question_words table site)) (sym are.all))
@@ -76,26 +72,26 @@ text_at table site printed one k are lt is =
     ∙ ap (question_words table site) (get_or-map means printed k one (means one) lt ∙ ap means is)
 
 listed_at : (table : calls.Table) (site : Site) (printed : List PrintedQuestion) (one : PrintedQuestion) (k : ℕ) → ArePrinted table site printed → k < length printed → get_or printed k one ≡ one →
-    Contains (asked.questions table site) (meant one.question)
+    Contains (asked.questions table site) one.question
 listed_at table site printed one k are lt is =
-    let means = λ (one : PrintedQuestion). meant one.question in
-    subst (λ (all : List asked.Question). Contains all (meant one.question)) are.all
+    let means = λ (one : PrintedQuestion). one.question in
+    subst (λ (all : List Question). Contains all one.question) are.all
     (k, (rw (length-map printed means) lt), get_or-map means printed k one (means one) lt ∙ ap means is)
 
 -- the question at a place whose text this is
 pub found_reads : (table : calls.Table) (site : Site) (printed : List PrintedQuestion) (text : List ℕ) (one : PrintedQuestion) (k : ℕ) → ArePrinted table site printed → k < length printed → get_or printed k one ≡ one →
     one.text.items ≡ text → Reads table site text (Some one.question)
 found_reads table site printed text one k are lt is same =
-    let here : IsPrintedSo table site text (meant one.question) =
+    let here : IsPrintedSo table site text one.question =
     record { listed = listed_at table site printed one k are lt is; printed = sym (text_at table site printed one k are lt is) ∙ same } in
-    (here, λ other there. are.one_reading text other (meant one.question) there here)
+    (here, λ other there. are.one_reading text other one.question there here)
 
 -- no text at any place is this
 pub none_reads : (table : calls.Table) (site : Site) (printed : List PrintedQuestion) (text : List ℕ) → ArePrinted table site printed →
-    ((k : ℕ) (one : PrintedQuestion) → k < length printed → (get_or printed k one).text.items ≡ text → ⊥) → (question : asked.Question) → IsPrintedSo table site text question → ⊥
+    ((k : ℕ) (one : PrintedQuestion) → k < length printed → (get_or printed k one).text.items ≡ text → ⊥) → (question : Question) → IsPrintedSo table site text question → ⊥
 none_reads table site printed text are none question is =
-    let means = λ (one : PrintedQuestion). meant one.question in
-    let among : Contains (map means printed) question = subst (λ (all : List asked.Question). Contains all question) (sym are.all) is.listed in
+    let means = λ (one : PrintedQuestion). one.question in
+    let among : Contains (map means printed) question = subst (λ (all : List Question). Contains all question) (sym are.all) is.listed in
     elim (slice_get_cases printed among.0).1 [
       | inl there ↦ (let one : PrintedQuestion = there.0 in
           none among.0 one there.1

@@ -10,7 +10,11 @@ use Rattle.abs_path.proofs.Reading.{text_parts}
 use Rattle.call_table.specs.declared.listed.CallLine.{CallLine}
 use Rattle.call_table.specs.Lookups.{AreOnce, place_named}
 use Rattle.call_table.specs.Table as calls
-use Rattle.kernel_laws.specs.Questions.{ToSee, ToRead, ToWrite, ToExec, Space, Cgroup, Ipc, Net, Mnt, Pid, User, Uts, Question, ByPath, Call, Socket, Ns, MapWx, ProtectX, ShmX, Realtime, Personality, SuidBit, Cap, Uid, Gid}
+use Rattle.question_types.specs.declared.wish.Wish.TheVariants.{See as ToSee, Read as ToRead, Write as ToWrite, Exec as ToExec}
+use Rattle.filter_rules.specs.declared.namespace_types.NamespaceType.{NamespaceType}
+use Rattle.filter_rules.specs.declared.namespace_types.NamespaceType.TheVariants.{Cgroup, Ipc, Net, Mnt, Pid, User, Uts}
+use Rattle.question_types.specs.declared.question.Question.{Question}
+use Rattle.question_types.specs.declared.question.Question.TheVariants.{Path as ByPath, Call, Socket, Namespace as Ns, MapWx, ProtectX, ShmX, Realtime, Personality, SuidBit, Cap, Uid, Gid}
 use Rattle.questions.specs.Listed.{IsAskedOf}
 use Rattle.questions.proofs.Among.{all_had, has_contained}
 use Rattle.questions.proofs.Members.{what_is_asked}
@@ -45,7 +49,7 @@ row_read rows word = option_and_then (λ text. place_of_text rows (tail_of (part
 abbrev name_read : List CallLine → List ℕ → Option ℕ
 name_read lines word = option_and_then (λ name. place_named name lines) (word_read word)
 
-abbrev space_read : List ℕ → Option Space
+abbrev space_read : List ℕ → Option NamespaceType
 space_read word =
     cond (bytes_eq word (codes "cgroup")) (Some Cgroup) (cond (bytes_eq word (codes "ipc")) (Some Ipc) (cond (bytes_eq word (codes "net")) (Some Net)
     (cond (bytes_eq word (codes "mnt")) (Some Mnt) (cond (bytes_eq word (codes "pid")) (Some Pid) (cond (bytes_eq word (codes "user")) (Some User)

@@ -2,14 +2,14 @@
 ghost use Rattle.std.specs.Prelude.{◌≡◌, ◌∷◌, ◌++◌, [], ℕ, List, Contains, IfOk, codes, map};
 ghost use Rattle.std.specs.List.{All};
 ghost use Rattle.kernel_laws.specs.Questions.{questions};
-ghost use Rattle.questions.specs.Meanings.{meant};
 ghost use Rattle.report_text.specs.Wording.{question_words};
 ghost use Rattle.question_text.specs.Printed.{ArePrinted, IsPrinted};
 
 use crate::laws::one_reading;
 use call_table::CallTable;
 use judge::Verdict;
-use questions::{Question, questions};
+use question_types::Question;
+use questions::questions;
 use report_text::verdict_line;
 use site_table::SiteTable;
 use std::alloc::{AllocError, Global};
@@ -36,7 +36,7 @@ fn print_question(
     calls: &CallTable,
     site: &SiteTable,
 ) -> Result<PrintedQuestion, AllocError>
-    requires asked { Contains (questions calls.now site.now) (meant question.now) }
+    requires asked { Contains (questions calls.now site.now) question.now }
     ensures { IfOk result (IsPrinted calls.now site.now question.now) }
 {
     let line = verdict_line(alloc, question, Verdict::Denied, calls, site)?;
@@ -54,9 +54,9 @@ fn print_list(
     calls: &CallTable,
     site: &SiteTable,
 ) -> Result<Vec<PrintedQuestion>, AllocError>
-    requires asked { All (λ question. Contains (questions calls.now site.now) (meant question)) list.now }
+    requires asked { All (λ question. Contains (questions calls.now site.now) question) list.now }
     ensures in_order { IfOk result (λ printed. map (λ one. one.question) printed.items ≡ list.now) }
-    ensures texts { IfOk result (λ printed. map (λ one. one.text.items) printed.items ≡ map (λ question. question_words calls.now site.now (meant question)) list.now) }
+    ensures texts { IfOk result (λ printed. map (λ one. one.text.items) printed.items ≡ map (λ question. question_words calls.now site.now question) list.now) }
 {
     let mut printed = Vec::new(alloc);
     for question in list {

@@ -6,7 +6,7 @@ ghost use Rattle.question_text.specs.Printed.{ArePrinted, Reads};
 
 use crate::printed::{PrintedQuestion, print_questions};
 use call_table::CallTable;
-use questions::Question;
+use question_types::Question;
 use site_table::SiteTable;
 use std::alloc::{AllocError, Global};
 

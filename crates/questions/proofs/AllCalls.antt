@@ -7,7 +7,8 @@ use Rattle.call_table.specs.Members.{is_first}
 use Rattle.call_table.specs.Table.{Table, calls_in, every_call, second_calls}
 use Rattle.call_table.specs.declared.listed.CallLine.{CallLine}
 use Rattle.kernel_calls.specs.Rules.{rule_of}
-use Rattle.kernel_laws.specs.Questions.{Call, if_so, is_plain, of_calls}
+use Rattle.question_types.specs.declared.question.Question.TheVariants.{Call}
+use Rattle.kernel_laws.specs.Questions.{if_so, is_plain, of_calls}
 
 module _ (table : Table) where
   pub count_all : length table.calls + length (calls_in table 1) ≡ length (every_call table)

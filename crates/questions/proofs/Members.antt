@@ -15,7 +15,13 @@ use Rattle.site_table.specs.declared.accounts.Group.{Group}
 use Rattle.site_table.specs.Kinds.{is_dir, is_exe}
 use Rattle.site_table.specs.Table.{Site}
 use Rattle.kernel_calls.specs.Rules.{rule_of}
-use Rattle.kernel_laws.specs.Questions.{Wish, ToSee, ToRead, ToWrite, ToExec, Space, Cgroup, Ipc, Net, Mnt, Pid, User as UserSpace, Uts, Question, ByPath, Call, Socket, Ns, MapWx, ProtectX, ShmX, Realtime, Personality, SuidBit, Cap, Uid, Gid, is_plain, if_so, of_row, of_rows, of_calls, of_families, count_from, some_ids, joined, uids_of, gids_of, other_questions, questions}
+use Rattle.question_types.specs.declared.wish.Wish.{Wish}
+use Rattle.question_types.specs.declared.wish.Wish.TheVariants.{See as ToSee, Read as ToRead, Write as ToWrite, Exec as ToExec}
+use Rattle.filter_rules.specs.declared.namespace_types.NamespaceType.{NamespaceType}
+use Rattle.filter_rules.specs.declared.namespace_types.NamespaceType.TheVariants.{Cgroup, Ipc, Net, Mnt, Pid, User as UserSpace, Uts}
+use Rattle.question_types.specs.declared.question.Question.{Question}
+use Rattle.question_types.specs.declared.question.Question.TheVariants.{Path as ByPath, Call, Socket, Namespace as Ns, MapWx, ProtectX, ShmX, Realtime, Personality, SuidBit, Cap, Uid, Gid}
+use Rattle.kernel_laws.specs.Questions.{is_plain, if_so, of_row, of_rows, of_calls, of_families, count_from, some_ids, joined, uids_of, gids_of, other_questions, questions}
 use Rattle.questions.specs.Listed.{is_asked_of, IsUidOf, of_root, of_dynamic_user, of_user, of_owner, IsGidOf, of_root_group, of_dynamic_group, of_group, of_group_of_user, of_further_group, of_group_of_row, IsAskedOf, ListsWhatIsAsked}
 use Rattle.questions.proofs.Among.{Has, has_contained, contains_had, has_append, has_left, has_right, all_had, Some_one, some_any, any_some, has_mapped, mapped_has}
 use Rattle.questions.proofs.Ascending.{has_ascending, ascending_has}
@@ -368,7 +374,7 @@ module _ (table : calls.Table) (site : Site) where
   from_other : (q : Question) → Has other_questions q → Has (questions table site) q
   from_other q h = from_four q (has_right three other_questions q h)
 
-  spaces : (space : Space) → Has other_questions (Ns space)
+  spaces : (space : NamespaceType) → Has other_questions (Ns space)
   spaces Cgroup = inl refl
   spaces Ipc = inr (inl refl)
   spaces Net = inr (inr (inl refl))

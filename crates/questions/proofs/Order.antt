@@ -10,7 +10,10 @@ use Rattle.site_table.specs.declared.row.Row.{Row}
 use Rattle.site_table.specs.Kinds.{is_dir, is_exe}
 use Rattle.site_table.specs.Table.{Site}
 use Rattle.kernel_calls.specs.Rules.{rule_of}
-use Rattle.kernel_laws.specs.Questions.{ToSee, ToRead, ToWrite, ToExec, Question, ByPath, Call, Socket, Cap, Uid, Gid, is_plain, if_so, of_rows, of_calls, of_families, count_from, some_ids, joined, uids_of, gids_of, other_questions, questions}
+use Rattle.question_types.specs.declared.wish.Wish.TheVariants.{See as ToSee, Read as ToRead, Write as ToWrite, Exec as ToExec}
+use Rattle.question_types.specs.declared.question.Question.{Question}
+use Rattle.question_types.specs.declared.question.Question.TheVariants.{Path as ByPath, Call, Socket, Cap, Uid, Gid}
+use Rattle.kernel_laws.specs.Questions.{is_plain, if_so, of_rows, of_calls, of_families, count_from, some_ids, joined, uids_of, gids_of, other_questions, questions}
 use Rattle.questions.specs.Listed.{kind_of, place_of, IsBefore, StandInOrder}
 use Rattle.questions.proofs.Ascending.{Rises, ascending_rises}
 

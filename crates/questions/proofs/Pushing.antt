@@ -1,9 +1,9 @@
 -- A loop that adds to a list what is asked of one thing after another: what stands in it and what is left make the whole.
 use Rattle.std.proofs.Common.{◌≡◌, ◌<◌, ℕ, zero, suc, List, [], ◌∷◌, ◌++◌, ◌+◌, ◌-◌, length, drop, map, refl, ap, ◌∙◌, sym, append_assoc, arith}
 use Rattle.call_table.specs.declared.listed.CallLine.{CallLine}
-use Rattle.kernel_laws.specs.Questions.{Question, Socket, Cap, of_families, count_from}
-use Rattle.questions.specs.declared.question.Question as own
-use Rattle.questions.specs.Meanings.{meant}
+use Rattle.kernel_laws.specs.Questions.{of_families, count_from}
+use Rattle.question_types.specs.declared.question.Question.{Question}
+use Rattle.question_types.specs.declared.question.Question.TheVariants.{Socket, Cap}
 
 -- one piece more
 pub piece_more : {X : Type 0} (old new piece rest next whole : List X) → old ++ rest ≡ whole → new ≡ old ++ piece → rest ≡ piece ++ next → new ++ next ≡ whole
@@ -24,18 +24,6 @@ families_left (line ∷ lines) (suc at) h = let m = some_left lines at (omega ar
 
 pub caps_left : (at : ℕ) → at < 41 → map Cap (count_from at (41 - at)) ≡ Cap at ∷ map Cap (count_from (at + 1) (41 - (at + 1)))
 caps_left at h = let n : 41 - at ≡ suc (41 - (at + 1)) = omega arith in ap (λ k. map Cap (count_from at k)) n
-
--- one question more, and what it means
-pub meant_more : (old new : List own.Question) (q : own.Question) → new ≡ old ++ q ∷ [] → map meant new ≡ map meant old ++ meant q ∷ []
-meant_more old new q e = ap (λ l. map meant l) e ∙ mapped old
-  where
-    mapped : (list : List own.Question) → map meant (list ++ q ∷ []) ≡ map meant list ++ meant q ∷ []
-    mapped [] = refl
-    mapped (first ∷ list) = ap (λ l. meant first ∷ l) (mapped list)
-
-pub meant_all : (list more : List own.Question) → map meant (list ++ more) ≡ map meant list ++ map meant more
-meant_all [] more = refl
-meant_all (first ∷ list) more = ap (λ l. meant first ∷ l) (meant_all list more)
 
 -- seven parts, one after the other
 pub seven_parts : (none rows calls families others caps uids gids a b c d e f g : List Question) → none ≡ [] → rows ≡ none ++ a → calls ≡ rows ++ b → families ≡ calls ++ c → others ≡ families ++ d

@@ -14,8 +14,12 @@ use Rattle.site_table.specs.Table.{Site}
 use Rattle.filter_rules.specs.declared.namespace_types.NamespaceType.{NamespaceType}
 use Rattle.filter_rules.specs.NamespaceTypes as filter
 use Rattle.kernel_calls.specs.Rules.{rule_of}
-use Rattle.kernel_laws.specs.Questions.{Wish, ToSee, ToRead, ToWrite, ToExec, Space, Cgroup, Ipc, Net, Mnt, Pid, User as UserSpace, Uts, flag_of, Question, ByPath, Call, Socket, Ns, MapWx, ProtectX, ShmX, Realtime, Personality, SuidBit, Cap, Uid, Gid, is_plain, ascending, questions}
-use Rattle.questions.specs.Meanings.{meant_space}
+use Rattle.kernel_laws.specs.Questions.{flag_of, is_plain, ascending, questions}
+use Rattle.question_types.specs.declared.wish.Wish.{Wish}
+use Rattle.question_types.specs.declared.wish.Wish.TheVariants.{See as ToSee, Read as ToRead, Write as ToWrite, Exec as ToExec}
+use Rattle.filter_rules.specs.declared.namespace_types.NamespaceType.TheVariants.{Cgroup, Ipc, Net, Mnt, Pid, User as UserSpace, Uts}
+use Rattle.question_types.specs.declared.question.Question.{Question}
+use Rattle.question_types.specs.declared.question.Question.TheVariants.{Path as ByPath, Call, Socket, Namespace as Ns, MapWx, ProtectX, ShmX, Realtime, Personality, SuidBit, Cap, Uid, Gid}
 
 -- what is asked of a row of this kind: anything may be seen and read, what is no directory written, an executable executed
 abbrev pub is_asked_of : Wish → RowKind → Bool
@@ -80,7 +84,7 @@ wish_order ToWrite = 2
 wish_order ToExec = 3
 
 -- the types of namespaces in the order of their names, systemd.exec(5), RestrictNamespaces=
-abbrev pub space_order : Space → ℕ
+abbrev pub space_order : NamespaceType → ℕ
 space_order Cgroup = 0
 space_order Ipc = 1
 space_order Net = 2
@@ -118,4 +122,4 @@ IdsAscendOnce = (given : List ℕ) → IsInOrder (ascending given) given
 
 -- clone(2), CLONE_NEW*
 abbrev pub FlagsAreTheTypes : Type 0
-FlagsAreTheTypes = (kind : NamespaceType) → flag_of (meant_space kind) ≡ filter.flag_of kind
+FlagsAreTheTypes = (kind : NamespaceType) → flag_of kind ≡ filter.flag_of kind

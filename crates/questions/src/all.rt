@@ -1,20 +1,21 @@
 //! The list of all questions.
 
 ghost use Rattle.std.specs.Prelude.{◌≡◌, ◌++◌, map, IfOk, OnOk};
-ghost use Rattle.kernel_laws.specs.Questions.{Cap as of_cap, Uid as of_uid, Gid as of_gid, count_from, questions};
-ghost use Rattle.questions.specs.Meanings.{meant};
+ghost use Rattle.kernel_laws.specs.Questions.{count_from, questions};
+ghost use Rattle.question_types.specs.declared.question.Question.TheVariants.{Cap as of_cap, Uid as of_uid, Gid as of_gid};
 
 use crate::ids::{gids, uids};
-use crate::question::{Question, other_questions};
+use crate::question::other_questions;
 use crate::tables::{push_calls, push_families, push_rows};
 use call_table::CallTable;
 use linux_numbers::capabilities::CAP_LAST_CAP;
+use question_types::Question;
 use site_table::SiteTable;
 use std::alloc::{AllocError, Global};
 
 // Adds a question of each capability.
 fn push_caps(list: &mut Vec<Question>) -> Result<(), AllocError>
-    ensures { OnOk result (map meant list.new.items ≡ map meant list.old.items ++ map of_cap (count_from 0 41)) }
+    ensures { OnOk result (list.new.items ≡ list.old.items ++ map of_cap (count_from 0 41)) }
 {
     for cap in 0..CAP_LAST_CAP + 1 {
         list.push(Question::Cap(cap))?;
@@ -24,7 +25,7 @@ fn push_caps(list: &mut Vec<Question>) -> Result<(), AllocError>
 
 // Adds a question of each uid.
 fn push_uids(list: &mut Vec<Question>, uids: &[u32]) -> Result<(), AllocError>
-    ensures { OnOk result (map meant list.new.items ≡ map meant list.old.items ++ map of_uid uids.now) }
+    ensures { OnOk result (list.new.items ≡ list.old.items ++ map of_uid uids.now) }
 {
     for uid in uids {
         list.push(Question::Uid(*uid))?;
@@ -34,7 +35,7 @@ fn push_uids(list: &mut Vec<Question>, uids: &[u32]) -> Result<(), AllocError>
 
 // Adds a question of each gid.
 fn push_gids(list: &mut Vec<Question>, gids: &[u32]) -> Result<(), AllocError>
-    ensures { OnOk result (map meant list.new.items ≡ map meant list.old.items ++ map of_gid gids.now) }
+    ensures { OnOk result (list.new.items ≡ list.old.items ++ map of_gid gids.now) }
 {
     for gid in gids {
         list.push(Question::Gid(*gid))?;
@@ -53,7 +54,7 @@ pub fn questions(
     calls: &CallTable,
     site: &SiteTable,
 ) -> Result<Vec<Question>, AllocError>
-    ensures in_their_order { IfOk result (λ list. map meant list.items ≡ questions calls.now site.now) }
+    ensures in_their_order { IfOk result (λ list. list.items ≡ questions calls.now site.now) }
 {
     let mut list = Vec::new(alloc);
     push_rows(&mut list, site.rows())?;

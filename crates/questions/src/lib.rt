@@ -12,6 +12,3 @@ mod question;
 mod tables;
 
 pub use all::questions;
-pub use filter_rules::NamespaceType;
-pub use question::Question;
-pub use reach_paths::Wish;

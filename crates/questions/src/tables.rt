@@ -5,19 +5,18 @@ ghost use Rattle.std.specs.Option.{option_map_or};
 ghost use Rattle.call_table.specs.Members.{is_first};
 ghost use Rattle.call_table.specs.Table.{every_call};
 ghost use Rattle.kernel_calls.specs.Rules.{rule_of};
-ghost use Rattle.kernel_laws.specs.Questions.{Call, if_so, is_plain, of_row, of_rows, of_calls, of_families};
-ghost use Rattle.questions.specs.Meanings.{meant};
+ghost use Rattle.kernel_laws.specs.Questions.{if_so, is_plain, of_row, of_rows, of_calls, of_families};
+ghost use Rattle.question_types.specs.declared.question.Question.TheVariants.{Call};
 
-use crate::question::Question;
 use call_names::is_known;
 use call_table::{CallLine, CallTable};
-use reach_paths::Wish;
+use question_types::{Question, Wish};
 use site_table::{Row, RowKind};
 use std::alloc::AllocError;
 
 // Adds what is asked of a row: to see and read it, to write what is no directory, to execute what can be executed.
 fn push_row(list: &mut Vec<Question>, at: usize, row: &Row) -> Result<(), AllocError>
-    ensures { OnOk result (map meant list.new.items ≡ map meant list.old.items ++ of_row at row.now) }
+    ensures { OnOk result (list.new.items ≡ list.old.items ++ of_row at row.now) }
 {
     list.push(Question::Path(Wish::See, at))?;
     list.push(Question::Path(Wish::Read, at))?;
@@ -34,7 +33,7 @@ fn push_row(list: &mut Vec<Question>, at: usize, row: &Row) -> Result<(), AllocE
 
 // Adds what is asked of the rows.
 pub(crate) fn push_rows(list: &mut Vec<Question>, rows: &[Row]) -> Result<(), AllocError>
-    ensures { OnOk result (map meant list.new.items ≡ map meant list.old.items ++ of_rows 0 rows.now) }
+    ensures { OnOk result (list.new.items ≡ list.old.items ++ of_rows 0 rows.now) }
 {
     for (at, row) in rows.iter().enumerate() {
         push_row(list, at, row)?;
@@ -81,7 +80,7 @@ fn is_asked(table: &CallTable, at: usize) -> bool
 // Adds what is asked of the call of this number: to make it.
 fn push_call(list: &mut Vec<Question>, table: &CallTable, at: usize) -> Result<(), AllocError>
     ensures { let every = every_call table.now in
-        OnOk result (map meant list.new.items ≡ map meant list.old.items ++ if_so (option_map_or (λ line. is_plain (rule_of line) && is_first every line.name at) (slice_get every at) false) (Call at)) }
+        OnOk result (list.new.items ≡ list.old.items ++ if_so (option_map_or (λ line. is_plain (rule_of line) && is_first every line.name at) (slice_get every at) false) (Call at)) }
 {
     if is_asked(table, at) {
         list.push(Question::Call(at))?;
@@ -91,7 +90,7 @@ fn push_call(list: &mut Vec<Question>, table: &CallTable, at: usize) -> Result<(
 
 // Adds what is asked of the calls.
 pub(crate) fn push_calls(list: &mut Vec<Question>, table: &CallTable) -> Result<(), AllocError>
-    ensures { OnOk result (map meant list.new.items ≡ map meant list.old.items ++ of_calls (every_call table.now) 0 (every_call table.now)) }
+    ensures { OnOk result (list.new.items ≡ list.old.items ++ of_calls (every_call table.now) 0 (every_call table.now)) }
 {
     for at in 0..count_calls(table) {
         push_call(list, table, at)?;
@@ -104,7 +103,7 @@ pub(crate) fn push_families(
     list: &mut Vec<Question>,
     families: &[CallLine],
 ) -> Result<(), AllocError>
-    ensures { OnOk result (map meant list.new.items ≡ map meant list.old.items ++ of_families 0 families.now) }
+    ensures { OnOk result (list.new.items ≡ list.old.items ++ of_families 0 families.now) }
 {
     for at in 0..families.len() {
         list.push(Question::Socket(at))?;

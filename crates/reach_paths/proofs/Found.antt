@@ -20,8 +20,11 @@ use Rattle.kern_mounts.proofs.Unmounting.{append_all, trimmed_part, unmounts_tri
 use Rattle.kern_files.specs.Looking.{flags_by}
 use Rattle.kern_files.specs.MountCall.{ms_bind, ms_remount_bind, flags_of}
 use Rattle.kernel_calls.specs.Calls.{IsPath}
-use Rattle.kernel_laws.specs.Questions.{Wish, ToSee, ToRead, ToWrite, ToExec}
-use Rattle.kernel_laws.specs.Reach.{fits, Leads, Power, Nowise, Unmounting, Mounting, reach, reaches}
+use Rattle.question_types.specs.declared.wish.Wish.{Wish}
+use Rattle.question_types.specs.declared.wish.Wish.TheVariants.{See as ToSee, Read as ToRead, Write as ToWrite, Exec as ToExec}
+use Rattle.question_types.specs.declared.power.Power.{Power}
+use Rattle.question_types.specs.declared.power.Power.TheVariants.{None as Nowise, Unmount as Unmounting, Mount as Mounting}
+use Rattle.kernel_laws.specs.Reach.{fits, Leads, reach, reaches}
 use Rattle.kernel_laws.proofs.Reach.{leads}
 use Rattle.kernel_laws.proofs.ReachLaws.{reach_of_the_table, reach_by_unmounts}
 use Rattle.reach_paths.specs.Finding.{dirs_of, FindsRow, still, then_one, CanBeFound}

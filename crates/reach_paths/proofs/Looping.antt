@@ -10,7 +10,7 @@ use Rattle.kern_mounts.specs.declared.step.What.TheVariants.{Host}
 use Rattle.abs_path.proofs.Reading.{parts_behind}
 use Rattle.kern_mounts.specs.declared.step.MountStep.{MountStep}
 use Rattle.kern_mounts.specs.Split.{Table}
-use Rattle.kernel_laws.specs.Questions.{Wish}
+use Rattle.question_types.specs.declared.wish.Wish.{Wish}
 use Rattle.kernel_laws.specs.Reach.{fits, shows_row, serves, reach_from}
 
 pub from_here : (table : Table) (at : ℕ) (entry : MountStep) → slice_get table at ≡ Some entry → drop at table ≡ entry ∷ drop (at + 1) table

@@ -10,8 +10,10 @@ use Rattle.kern_mounts.specs.Entry.{leads_to}
 use Rattle.kern_mounts.specs.declared.step.MountStep.{MountStep}
 use Rattle.kern_mounts.specs.Split.{Table}
 use Rattle.kern_mounts.proofs.Splits.{split_some}
-use Rattle.kernel_laws.specs.Questions.{Wish}
-use Rattle.kernel_laws.specs.Reach.{shows_row, serves, reach_from, reach, Power, Nowise, Unmounting, Mounting}
+use Rattle.question_types.specs.declared.wish.Wish.{Wish}
+use Rattle.question_types.specs.declared.power.Power.{Power}
+use Rattle.question_types.specs.declared.power.Power.TheVariants.{None as Nowise, Unmount as Unmounting, Mount as Mounting}
+use Rattle.kernel_laws.specs.Reach.{shows_row, serves, reach_from, reach}
 use Rattle.kernel_laws.proofs.Reach.{none_any}
 use Rattle.kernel_laws.proofs.ReachLaws.{Served, served_of, served_leads}
 use Rattle.reach_paths.specs.First.{LeadsBy, Shows, IsFirst, IsFirstByPower}

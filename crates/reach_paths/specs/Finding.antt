@@ -10,8 +10,10 @@ use Rattle.kern_mounts.specs.Unmounts.{Unmounts}
 use Rattle.kern_files.specs.Looking.{flags_at}
 use Rattle.kern_files.specs.MountCall.{after_mount}
 use Rattle.kernel_calls.specs.Calls.{IsPath}
-use Rattle.kernel_laws.specs.Questions.{Wish}
-use Rattle.kernel_laws.specs.Reach.{fits, Power, Nowise, Unmounting, Mounting}
+use Rattle.question_types.specs.declared.wish.Wish.{Wish}
+use Rattle.question_types.specs.declared.power.Power.{Power}
+use Rattle.question_types.specs.declared.power.Power.TheVariants.{None as Nowise, Unmount as Unmounting, Mount as Mounting}
+use Rattle.kernel_laws.specs.Reach.{fits}
 
 -- whether the site has a row at a path, and then whether it is a directory
 abbrev pub dirs_of : Site → Path → Option Bool

@@ -4,8 +4,10 @@ use Rattle.abs_path.specs.Paths.{Path}
 use Rattle.kern_mounts.specs.declared.step.What.TheVariants.{Host}
 use Rattle.kern_mounts.specs.declared.step.MountStep.{MountStep}
 use Rattle.kern_mounts.specs.Split.{Table}
-use Rattle.kernel_laws.specs.Questions.{Wish}
-use Rattle.kernel_laws.specs.Reach.{fits, Leads, Power, Nowise, Unmounting, Mounting}
+use Rattle.question_types.specs.declared.wish.Wish.{Wish}
+use Rattle.question_types.specs.declared.power.Power.{Power}
+use Rattle.question_types.specs.declared.power.Power.TheVariants.{None as Nowise, Unmount as Unmounting, Mount as Mounting}
+use Rattle.kernel_laws.specs.Reach.{fits, Leads}
 
 -- a path of this very table belongs to the entry of this number and finds the row, with flags that allow the wish
 pub record LeadsBy (table : Table) (target : Path) (wish : Wish) (at : ℕ) : Type 0 where

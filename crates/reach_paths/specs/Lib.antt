@@ -1,4 +1,3 @@
-pub mod Meanings
 pub mod Finding
 pub mod First
 pub mod Mounting

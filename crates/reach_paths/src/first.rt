@@ -8,15 +8,14 @@ ghost use Rattle.kern_mounts.specs.Mounts.{steps_of};
 ghost use Rattle.kern_mounts.specs.Launch.{CanBeMounted};
 ghost use Rattle.kern_mounts.specs.declared.step.MountStep.{MountStep};
 ghost use Rattle.kernel_laws.specs.Reach.{shows_row, reach_from, reach};
-ghost use Rattle.reach_paths.specs.Meanings.{meant_wish, meant_power};
 ghost use Rattle.reach_paths.specs.Finding.{dirs_of, CanBeFound};
 ghost use Rattle.reach_paths.specs.First.{IsFirstByPower};
 
 use crate::covers::is_covered;
-use crate::power::Power;
-use crate::wish::{Wish, allows};
+use crate::wish::allows;
 use abs_path::AbsPath;
 use kern_mounts::{MountTable, What};
+use question_types::{Power, Wish};
 
 // Whether the entry of this number shows the row, at a path that no later entry covers or that can be uncovered.
 fn shows(table: &MountTable, at: usize, row: &AbsPath, uncover: bool) -> bool
@@ -37,7 +36,7 @@ fn shows(table: &MountTable, at: usize, row: &AbsPath, uncover: bool) -> bool
 
 // The number of the first entry that shows the row, with flags that allow the wish.
 fn first_that_serves(table: &MountTable, row: &AbsPath, wish: Wish, uncover: bool) -> Option<usize>
-    ensures { result ≡ reach_from uncover row.now (meant_wish wish) (steps_of table.now) 0 }
+    ensures { result ≡ reach_from uncover row.now wish (steps_of table.now) 0 }
 {
     for at in 0..table.len() {
         if allows(table.entry(at).flags, wish) && shows(table, at, row, uncover) {
@@ -54,14 +53,14 @@ fn first_that_serves(table: &MountTable, row: &AbsPath, wish: Wish, uncover: boo
 /// On a table that a launch can mount, in a site that has the row, None comes exactly where no path finds the row so, on no
 /// table that the power makes of this one. It takes no memory.
 pub fn reach(table: &MountTable, row: &AbsPath, wish: Wish, power: Power) -> Option<usize>
-    ensures by_the_rule { result ≡ reach (meant_power power) (steps_of table.now) row.now (meant_wish wish) }
-    ensures first_that_leads_there { IsFirstByPower (meant_power power) (steps_of table.now) row.now (meant_wish wish) result }
+    ensures by_the_rule { result ≡ reach power (steps_of table.now) row.now wish }
+    ensures first_that_leads_there { IsFirstByPower power (steps_of table.now) row.now wish result }
 
     // On a table that a launch can mount, in a site that has the row.
     ensures exactly_where_it_can_be_found { (site : Site) (target : Row)
         → IsSite site → CanBeMounted (dirs_of site) (steps_of table.now) → row_at site.rows row.now ≡ Some target
         → (IsSome result
-        ↔ CanBeFound (meant_power power) (row_at site.rows) (steps_of table.now) (meant_wish wish) target) }
+        ↔ CanBeFound power (row_at site.rows) (steps_of table.now) wish target) }
 {
     match power {
         Power::None => first_that_serves(table, row, wish, false),

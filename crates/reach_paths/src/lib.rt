@@ -8,10 +8,7 @@
 mod covers;
 mod first;
 pub mod laws;
-mod power;
 mod wish;
 
 pub use covers::is_covered;
 pub use first::reach;
-pub use power::Power;
-pub use wish::Wish;

@@ -9,7 +9,12 @@ use Rattle.call_table.specs.Table as calls
 use Rattle.site_table.specs.declared.row.Row.{Row}
 use Rattle.site_table.specs.Table.{Site}
 use Rattle.text_forms.specs.Escaped.{escaped_word}
-use Rattle.kernel_laws.specs.Questions.{Wish, ToSee, ToRead, ToWrite, ToExec, Space, Cgroup, Ipc, Net, Mnt, Pid, User, Uts, Question, ByPath, Call, Socket, Ns, MapWx, ProtectX, ShmX, Realtime, Personality, SuidBit, Cap, Uid, Gid}
+use Rattle.question_types.specs.declared.wish.Wish.{Wish}
+use Rattle.question_types.specs.declared.wish.Wish.TheVariants.{See as ToSee, Read as ToRead, Write as ToWrite, Exec as ToExec}
+use Rattle.filter_rules.specs.declared.namespace_types.NamespaceType.{NamespaceType}
+use Rattle.filter_rules.specs.declared.namespace_types.NamespaceType.TheVariants.{Cgroup, Ipc, Net, Mnt, Pid, User, Uts}
+use Rattle.question_types.specs.declared.question.Question.{Question}
+use Rattle.question_types.specs.declared.question.Question.TheVariants.{Path as ByPath, Call, Socket, Namespace as Ns, MapWx, ProtectX, ShmX, Realtime, Personality, SuidBit, Cap, Uid, Gid}
 
 abbrev pub wish_word : Wish → List ℕ
 wish_word ToSee = codes "see"
@@ -18,7 +23,7 @@ wish_word ToWrite = codes "write"
 wish_word ToExec = codes "exec"
 
 -- the types of namespaces, systemd.exec(5), RestrictNamespaces=
-abbrev pub space_word : Space → List ℕ
+abbrev pub space_word : NamespaceType → List ℕ
 space_word Cgroup = codes "cgroup"
 space_word Ipc = codes "ipc"
 space_word Net = codes "net"

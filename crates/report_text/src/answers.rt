@@ -1,7 +1,6 @@
 //! The lines of answers to questions, those of blind folders, and the count of all questions.
 ghost use Rattle.std.specs.Prelude.{◌≡◌, Contains, IfOk};
 ghost use Rattle.kernel_laws.specs.Questions.{questions};
-ghost use Rattle.questions.specs.Meanings.{meant};
 ghost use Rattle.report_text.specs.Answers.{blind_line, call_line, summary_line, verdict_line, verdict_word};
 
 use crate::wording::push_question;
@@ -9,7 +8,7 @@ use abs_path::AbsPath;
 use call_table::CallTable;
 use judge::Verdict;
 use kernel_calls::Call;
-use questions::Question;
+use question_types::Question;
 use questions::laws::members;
 use script_text::print_call;
 use site_table::SiteTable;
@@ -36,8 +35,8 @@ pub fn verdict_line(
     calls: &CallTable,
     site: &SiteTable,
 ) -> Result<Vec<u8>, AllocError>
-    requires asked { Contains (questions calls.now site.now) (meant question.now) }
-    ensures tells_the_verdict { IfOk result (λ line. line.items ≡ verdict_line calls.now site.now (meant question.now) verdict) }
+    requires asked { Contains (questions calls.now site.now) question.now }
+    ensures tells_the_verdict { IfOk result (λ line. line.items ≡ verdict_line calls.now site.now question.now verdict) }
 {
     // There is a thing that each question of the list is asked of.
     members();

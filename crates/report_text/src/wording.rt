@@ -4,19 +4,17 @@ ghost use Rattle.std.specs.Fmt.{decimal};
 ghost use Rattle.call_table.specs.Table.{every_call};
 ghost use Rattle.text_forms.specs.Escaped.{escaped_word};
 ghost use Rattle.questions.specs.Listed.{IsAskedOf};
-ghost use Rattle.questions.specs.Meanings.{meant};
-ghost use Rattle.reach_paths.specs.Meanings.{meant_wish};
 ghost use Rattle.report_text.specs.Wording.{name_at, path_at, question_words, wish_word};
 
 use call_table::{CallLine, CallTable};
 use cap_sets::CapSet;
-use questions::{Question, Wish};
+use question_types::{Question, Wish};
 use site_table::{Row, SiteTable};
 use std::alloc::AllocError;
 use text_forms::{push_u64, push_word};
 
 fn wish_word(wish: Wish) -> &'static str
-    ensures { result.now ≡ wish_word (meant_wish wish) }
+    ensures { result.now ≡ wish_word wish }
 {
     match wish {
         Wish::See => "see",
@@ -95,8 +93,8 @@ pub(crate) fn push_question(
     calls: &CallTable,
     site: &SiteTable,
 ) -> Result<(), AllocError>
-    requires { IsAskedOf calls.now site.now (meant question.now) }
-    ensures { OnOk result (out.new.items ≡ out.old.items ++ question_words calls.now site.now (meant question.now)) }
+    requires { IsAskedOf calls.now site.now question.now }
+    ensures { OnOk result (out.new.items ≡ out.old.items ++ question_words calls.now site.now question.now) }
 {
     match question {
         Question::Path(wish, at) => push_path(out, wish_word(*wish), path_at(site.rows(), *at)),

@@ -12,16 +12,15 @@ use Rattle.judge_command.proofs.Counted.{all_are, both}
 use Rattle.kernel_laws.specs.Bound.{is_open}
 use Rattle.kernel_laws.specs.Launched.{launch_of}
 use Rattle.kernel_model.specs.World.{World}
-use Rattle.questions.specs.Meanings.{meant}
-use Rattle.questions.specs.declared.question.Question.{Question}
+use Rattle.question_types.specs.declared.question.Question.{Question}
 
 -- those that are open by the rule are those whose answers are not denied
-open_are : (world : World) (program : Path) (list : List Question) → count_open (rows_of world list) ≡ length (filter (λ answer. not (is_denied answer)) (map (answer_of (launch_of world) program) (map meant list)))
+open_are : (world : World) (program : Path) (list : List Question) → count_open (rows_of world list) ≡ length (filter (λ answer. not (is_denied answer)) (map (answer_of (launch_of world) program) list))
 open_are world program [] = refl
-open_are world program (question ∷ list) = by (is_open (launch_of world) (meant question)) (open_are world program list) where
-  by : (b : Bool) → count_open (rows_of world list) ≡ length (filter (λ answer. not (is_denied answer)) (map (answer_of (launch_of world) program) (map meant list)))
+open_are world program (question ∷ list) = by (is_open (launch_of world) question) (open_are world program list) where
+  by : (b : Bool) → count_open (rows_of world list) ≡ length (filter (λ answer. not (is_denied answer)) (map (answer_of (launch_of world) program) list))
       → length (cond b (record { question = question; is_open = b } ∷ filter (λ row. row.is_open) (rows_of world list)) (filter (λ row. row.is_open) (rows_of world list)))
-      ≡ length (filter (λ answer. not (is_denied answer)) ((if b then Open (meant question) (calls_for (launch_of world) program (meant question)) else Denied (meant question)) ∷ map (answer_of (launch_of world) program) (map meant list)))
+      ≡ length (filter (λ answer. not (is_denied answer)) ((if b then Open question (calls_for (launch_of world) program question) else Denied question) ∷ map (answer_of (launch_of world) program) list))
   by true h = ap suc h
   by false h = h
 

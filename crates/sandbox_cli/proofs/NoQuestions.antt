@@ -2,7 +2,7 @@
 use Rattle.std.proofs.Common.{◌≡◌, List, [], subst, sym}
 use Rattle.std.proofs.lemmas.List.Elements.{All-nil}
 use Rattle.asked_service.specs.declared.rows.VerdictRow.{VerdictRow}
-use Rattle.questions.specs.declared.question.Question.{Question}
+use Rattle.question_types.specs.declared.question.Question.{Question}
 use Rattle.tighten.specs.Open.{AreOpenIn, IsOpenIn}
 
 -- nothing has to be open for it

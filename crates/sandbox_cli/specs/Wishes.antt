@@ -2,19 +2,19 @@
 use Rattle.std.specs.Prelude.{◌≡◌, ◌&&◌, ℕ, Bool, true, false, codes, List, [], ◌∷◌}
 use Rattle.std.specs.List.{list_any}
 use Rattle.asked_service.specs.declared.rows.VerdictRow.{VerdictRow}
-use Rattle.kernel_laws.specs.Questions as asked
-use Rattle.questions.specs.Meanings.{meant}
-use Rattle.questions.specs.declared.question.Question.{Question}
+use Rattle.question_types.specs.declared.question.Question.TheVariants as asking
+use Rattle.question_types.specs.declared.wish.Wish.TheVariants as wish_to
+use Rattle.question_types.specs.declared.question.Question.{Question}
 use denote.Ref.{Bor}
 
 -- asks to execute a file
-abbrev pub asks_to_execute : asked.Question → Bool
-asks_to_execute (asked.ByPath asked.ToExec at) = true
+abbrev pub asks_to_execute : Question → Bool
+asks_to_execute (asking.Path wish_to.Exec at) = true
 asks_to_execute _ = false
 
 -- some file can be executed by the verdicts
 abbrev pub can_execute : List VerdictRow → Bool
-can_execute rows = list_any (λ row. row.is_open && asks_to_execute (meant row.question)) rows
+can_execute rows = list_any (λ row. row.is_open && asks_to_execute row.question) rows
 
 module _ {W : Type 0} (id_of : W → List ℕ) (must_open : W → List Question) (may_answer : W → Bor (List VerdictRow) → Bool → Type 0) where
   -- a wish of this identifier, with no question of its own, whose answer for any verdicts is what is said of them

@@ -1,15 +1,14 @@
 //! Whether some file can be executed, by the verdicts on a service.
 
 ghost use Rattle.std.specs.Prelude.{◌≡◌, ◌&&◌};
-ghost use Rattle.questions.specs.Meanings.{meant};
 ghost use Rattle.sandbox_cli.specs.Wishes.{asks_to_execute, can_execute};
 
 use asked_service::VerdictRow;
-use questions::{Question, Wish};
+use question_types::{Question, Wish};
 
 // Whether a question asks to execute a file.
 fn asks_to_execute(question: &Question) -> bool
-    ensures { result ≡ asks_to_execute (meant question.now) }
+    ensures { result ≡ asks_to_execute question.now }
 {
     match question {
         Question::Path(Wish::Exec, _) => true,

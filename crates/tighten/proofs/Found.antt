@@ -7,7 +7,7 @@ use Rattle.std.proofs.lemmas.List.Elements.{All-push}
 use Rattle.std.proofs.lemmas.Option.{get_or_from_slice_get, slice_get-get_or, slice_get_within}
 use Rattle.asked_service.specs.Rows.{IsSo}
 use Rattle.kernel_model.specs.World.{World}
-use Rattle.questions.specs.declared.question.Question.{Question}
+use Rattle.question_types.specs.declared.question.Question.{Question}
 use Rattle.tighten.specs.Tried.{IsFirst, IsKept, IsShut}
 
 module _ {X : Type 0} (Good Bad : X → Type 0) (list : List X) where

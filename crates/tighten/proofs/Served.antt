@@ -21,8 +21,7 @@ use Rattle.launched_units.specs.Launching.{IsLaunchedUnit, IsNotLaunched}
 use Rattle.launched_units.specs.declared.refusal.UnitRefusal.{UnitRefusal}
 use Rattle.launched_units.specs.declared.refusal.UnitRefusal.TheVariants as refusal
 use Rattle.launcher.specs.declared.launched.Launched.{Launched as Service}
-use Rattle.questions.specs.Meanings.{meant}
-use Rattle.questions.specs.declared.question.Question.{Question}
+use Rattle.question_types.specs.declared.question.Question.{Question}
 use Rattle.site_table.specs.Table.{Site}
 use Rattle.tighten.specs.Items.{has, in_order, tightened}
 use Rattle.tighten.specs.Searching.{IsHeld, IsMost, IsOver, IsServing, Lacks, Pleasing, Tells}
@@ -53,17 +52,17 @@ module _ (tried : Tried) where
     site = same_site unit tried.table tried.site bounded.service launched;
   }
 
-  pub all_asked : (bounded : Bounded) (list : List Question) → IsOver tried bounded → map meant list ≡ questions tried.table tried.site → map meant list ≡ questions bounded.service.world.calls bounded.service.world.site
+  pub all_asked : (bounded : Bounded) (list : List Question) → IsOver tried bounded → list ≡ questions tried.table tried.site → list ≡ questions bounded.service.world.calls bounded.service.world.site
   all_asked bounded list over all = all ∙ ap (λ (table : calls.Table). questions table tried.site) (sym over.calls) ∙ ap (questions bounded.service.world.calls) (sym over.site)
 
-  pub all_listed : (bounded : Bounded) (keep : List Question) → IsOver tried bounded → All (λ question. Contains (questions tried.table tried.site) (meant question)) keep
-      → All (λ question. Contains (questions bounded.service.world.calls bounded.service.world.site) (meant question)) keep
+  pub all_listed : (bounded : Bounded) (keep : List Question) → IsOver tried bounded → All (λ question. Contains (questions tried.table tried.site) question) keep
+      → All (λ question. Contains (questions bounded.service.world.calls bounded.service.world.site) question) keep
   all_listed bounded keep over listed =
-      subst (λ (site : Site). All (λ question. Contains (questions bounded.service.world.calls site) (meant question)) keep) (sym over.site)
-      (subst (λ (table : calls.Table). All (λ question. Contains (questions table tried.site) (meant question)) keep) (sym over.calls) listed)
+      subst (λ (site : Site). All (λ question. Contains (questions bounded.service.world.calls site) question) keep) (sym over.site)
+      (subst (λ (table : calls.Table). All (λ question. Contains (questions table tried.site) question) keep) (sym over.calls) listed)
 
   -- nobody has a wish
-  pub pleases_wishless : QuestionsAreExact → (bounded : Bounded) (list : List Question) → IsOver tried bounded → map meant list ≡ questions tried.table tried.site → All (IsKept bounded.service.world) tried.keep → length tried.wishes.wishes ≡ 0
+  pub pleases_wishless : QuestionsAreExact → (bounded : Bounded) (list : List Question) → IsOver tried bounded → list ≡ questions tried.table tried.site → All (IsKept bounded.service.world) tried.keep → length tried.wishes.wishes ≡ 0
       → Pleases tried bounded.service.world
   pleases_wishless exact bounded list over all kept none = record {
     kept = kept;
@@ -140,7 +139,7 @@ both (row ∷ rows) = by row.is_open (both rows) where
   by true rest = omega (arith, rest)
   by false rest = omega (arith, rest)
 
-module _ (tried : Tried) (exact : QuestionsAreExact) (list : List Question) (all : map meant list ≡ questions tried.table tried.site) where
+module _ (tried : Tried) (exact : QuestionsAreExact) (list : List Question) (all : list ≡ questions tried.table tried.site) where
   -- the counts of a launched unit
   counts : (unit : Resolved) (bounded : Bounded) → IsLaunchedUnit unit tried.table tried.site bounded.service → IsBounded bounded → (denied open' : ℕ)
       → open' ≡ count_open (rows_of bounded.service.world list) → denied ≡ length list - open' → AreCounts unit tried.table tried.site denied open'

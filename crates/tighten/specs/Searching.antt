@@ -6,7 +6,6 @@ use Rattle.asked_service.specs.declared.bounding.Bounded.{Bounded}
 use Rattle.kernel_laws.specs.Questions.{questions}
 use Rattle.kernel_model.specs.World.{World}
 use Rattle.launched_units.specs.Launching.{IsLaunchedUnit}
-use Rattle.questions.specs.Meanings.{meant}
 use Rattle.tighten.specs.Items.{has, tightened}
 use Rattle.tighten.specs.Tried.{Displeases, IsFirst, IsKept, IsShut, Pleases, Refuses, Stops, Tried, tried_with}
 use Rattle.tighten.specs.Wishes.{Wishes}
@@ -21,8 +20,8 @@ tried_of trial wishes = tried_with trial.unit.now trial.calls.now trial.site.now
 
 -- it has all questions of its tables, and what is to be kept are some of them
 pub record CanBeTried (trial : Trial) : Type 0 where
-  pub all : map meant trial.questions.now ≡ questions trial.calls.now trial.site.now
-  pub listed : All (λ question. Contains (questions trial.calls.now trial.site.now) (meant question)) trial.keep.now
+  pub all : trial.questions.now ≡ questions trial.calls.now trial.site.now
+  pub listed : All (λ question. Contains (questions trial.calls.now trial.site.now) question) trial.keep.now
 
 -- a service of these tables, with what bounds it
 pub record IsOver (tried : Tried) (bounded : Bounded) : Type 0 where

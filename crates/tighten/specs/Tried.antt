@@ -9,8 +9,7 @@ use Rattle.launched_units.specs.Launching.{IsLaunchedUnit, IsNotLaunched}
 use Rattle.launched_units.specs.declared.refusal.UnitRefusal.{UnitRefusal}
 use Rattle.launched_units.specs.declared.refusal.UnitRefusal.TheVariants as refusal
 use Rattle.launcher.specs.declared.launched.Launched.{Launched as Service}
-use Rattle.questions.specs.Meanings.{meant}
-use Rattle.questions.specs.declared.question.Question.{Question}
+use Rattle.question_types.specs.declared.question.Question.{Question}
 use Rattle.site_table.specs.Table.{Site}
 use Rattle.asked_service.specs.Rows.{AreRows}
 use Rattle.asked_service.specs.declared.rows.VerdictRow.{VerdictRow}
@@ -31,7 +30,7 @@ tried_with unit table site keep wishes = record { unit = unit; table = table; si
 
 -- no list of calls reaches the question
 abbrev pub IsShut : World → Question → Type 0
-IsShut world question = IsDenied world (meant question)
+IsShut world question = IsDenied world question
 
 abbrev pub IsKept : World → Question → Type 0
 IsKept world question = IsShut world question → ⊥

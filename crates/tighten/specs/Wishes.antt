@@ -1,6 +1,6 @@
 -- Wishes that are handed in, whatever they are: each has questions of its own, and there are answers that it may give at verdicts.
 use Rattle.std.specs.Prelude.{◌≡◌, Bool, List}
-use Rattle.questions.specs.declared.question.Question.{Question}
+use Rattle.question_types.specs.declared.question.Question.{Question}
 use Rattle.asked_service.specs.declared.rows.VerdictRow.{VerdictRow}
 use denote.Ref.{Bor}
 

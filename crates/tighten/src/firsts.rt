@@ -4,18 +4,17 @@ ghost use Rattle.std.specs.Prelude.{◌≡◌, Contains, false, length};
 ghost use Rattle.std.specs.List.{All};
 ghost use Rattle.asked_service.specs.Asked.{IsBounded};
 ghost use Rattle.kernel_laws.specs.Questions.{questions};
-ghost use Rattle.questions.specs.Meanings.{meant};
 ghost use Rattle.tighten.specs.Tried.{Finds, IsGranted, IsKept, IsShut};
 ghost use Rattle.tighten.specs.Wishes.{wishes_by};
 
 use crate::wishes::{StoredWish, Test};
 use asked_service::{Bounded, VerdictRow};
-use questions::Question;
+use question_types::Question;
 
 /// The first of these questions that is denied, counted from 1.
 pub fn first_denied(bounded: &Bounded<'_>, keep: &[Question]) -> Option<u64>
     requires bounded { IsBounded bounded.now }
-    requires listed { All (λ question. Contains (questions bounded.now.service.world.calls bounded.now.service.world.site) (meant question)) keep.now }
+    requires listed { All (λ question. Contains (questions bounded.now.service.world.calls bounded.now.service.world.site) question) keep.now }
     ensures { Finds (IsKept bounded.now.service.world) (IsShut bounded.now.service.world) keep.now result }
 {
     let mut before: u64 = 0;

@@ -3,7 +3,6 @@
 ghost use Rattle.std.specs.Prelude.{[], Contains, IfOk};
 ghost use Rattle.std.specs.List.{All};
 ghost use Rattle.kernel_laws.specs.Questions.{questions};
-ghost use Rattle.questions.specs.Meanings.{meant};
 ghost use Rattle.tighten.specs.Searching.{CanBeTried, IsServing, tried_of};
 ghost use Rattle.tighten.specs.Tight.{IsTight, Tightens};
 ghost use Rattle.tighten.specs.Tried.{tried_with};
@@ -19,7 +18,8 @@ use call_table::CallTable;
 use dropin_merge::Resolved;
 use kernel_ways::openness;
 use launched_units::launch_whole;
-use questions::{Question, questions};
+use question_types::Question;
+use questions::questions;
 use site_table::SiteTable;
 use std::alloc::{AllocError, Global};
 
@@ -88,7 +88,7 @@ pub fn tighten(
     keep: &[Question],
     wishes: &[StoredWish],
 ) -> Result<Tight, TightenError>
-    requires listed { All (λ question. Contains (questions calls.now site.now) (meant question)) keep.now }
+    requires listed { All (λ question. Contains (questions calls.now site.now) question) keep.now }
     ensures tightens { Tightens (tried_with unit.now calls.now site.now keep.now (wishes_by (λ wish. wish.must_open) (λ wish. Test.post wish.test) wishes.now)) result }
 {
     let list = questions(alloc, calls, site)?;

@@ -16,7 +16,7 @@ use call_table::CallTable;
 use dropin_merge::Resolved;
 use kernel_ways::openness;
 use launched_units::{UnitRefusal, launch_whole};
-use questions::Question;
+use question_types::Question;
 use site_table::SiteTable;
 use std::alloc::{AllocError, Global};
 

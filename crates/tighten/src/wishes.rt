@@ -5,7 +5,7 @@ ghost use Rattle.tighten.specs.Open.{AreOpenIn};
 
 use asked_service::VerdictRow;
 use item_list::ItemList;
-use questions::Question;
+use question_types::Question;
 
 /// What a wish says of the verdicts on all questions.
 pub type Test = Box<dyn Fn(&[VerdictRow]) -> bool>;

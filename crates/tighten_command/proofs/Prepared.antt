@@ -2,7 +2,6 @@
 use Rattle.std.proofs.Common.{◌≡◌, ◌∙◌, ℕ, List, Option, Some, None, Result, Ok, Err, refl, sym, ap, subst, inl, inr}
 use Rattle.std.specs.List.{All}
 use Rattle.kernel_laws.specs.Questions.{questions}
-use Rattle.questions.specs.Meanings.{meant}
 use Rattle.std.specs.Prelude.{◌⊎◌, Contains, IfSome, IsErrOf, IsSome, IsTrue}
 use Rattle.host_io.specs.Files.{Files}
 use Rattle.call_table.specs.Table.{Table}
@@ -15,7 +14,7 @@ use Rattle.command_answers.specs.declared.stop.Stop.{Stop}
 use Rattle.command_answers.specs.declared.stop.Stop.TheVariants as stop
 use Rattle.command_answers.proofs.Refusing.{quiet}
 use Rattle.dropin_merge.specs.declared.resolved.Resolved.{Resolved}
-use Rattle.questions.specs.declared.question.Question.{Question}
+use Rattle.question_types.specs.declared.question.Question.{Question}
 use Rattle.site_table.specs.Table.{Site}
 use Rattle.tighten.specs.Tried.{Tried, tried_with}
 use Rattle.tighten.specs.Wishes.{Wishes}
@@ -150,12 +149,12 @@ module _ (unit path : List ℕ) (wishes : Wishes) where
         (subst (λ these. IsTold (TellsTight unit (tried_with these lent_table lent_site keep wishes)) result) one is))))
 
 -- what is lent is of the list that is lent
-pub lent_listed : (table own : Table) (site lent_site : Site) (keep lent : List Question) → table ≡ own → site ≡ lent_site → lent ≡ keep → All (λ question. Contains (questions table site) (meant question)) keep
-    → All (λ question. Contains (questions own lent_site) (meant question)) lent
+pub lent_listed : (table own : Table) (site lent_site : Site) (keep lent : List Question) → table ≡ own → site ≡ lent_site → lent ≡ keep → All (λ question. Contains (questions table site) question) keep
+    → All (λ question. Contains (questions own lent_site) question) lent
 lent_listed table own site lent_site keep lent one two three listed =
-    subst (λ (these : Site). All (λ question. Contains (questions own these) (meant question)) lent) two
-    (subst (λ (these : Table). All (λ question. Contains (questions these site) (meant question)) lent) one
-    (subst (λ (these : List Question). All (λ question. Contains (questions table site) (meant question)) these) (sym three) listed))
+    subst (λ (these : Site). All (λ question. Contains (questions own these) question) lent) two
+    (subst (λ (these : Table). All (λ question. Contains (questions these site) question) lent) one
+    (subst (λ (these : List Question). All (λ question. Contains (questions table site) question) these) (sym three) listed))
 
 pub named : {X : Type 0} (found : Option X) (name : X) → found ≡ Some name → IsSome found
 named None name is = cc

@@ -12,8 +12,7 @@ use Rattle.kernel_laws.specs.Questions as asked
 use Rattle.line_text.specs.Lines.{Line, is_text, text_of}
 use Rattle.line_text.specs.Views.{line_view}
 use Rattle.line_text.specs.declared.lines.Line.{Line as ReadLine}
-use Rattle.questions.specs.Meanings.{meant}
-use Rattle.questions.specs.declared.question.Question.{Question}
+use Rattle.question_types.specs.declared.question.Question.{Question}
 use Rattle.question_text.specs.Printed.{ArePrinted, IsPrintedSo}
 use Rattle.question_text.specs.declared.printed.PrintedQuestion.{PrintedQuestion}
 use Rattle.report_text.specs.Wording.{question_words}
@@ -52,30 +51,30 @@ module _ (table : calls.Table) (site : Site) where
   lent_printed printed lent lends are = subst (ArePrinted table site) (sym lends) are
 
   pub none_of : (lines : List Line) (keep : List Question) → keep ≡ [] → AreOf table site (take 0 lines) keep
-  none_of lines keep is = subst (AreOf table site []) (sym is) (record { printed = refl; listed = All-nil (λ (question : Question). Contains (asked.questions table site) (meant question)) })
+  none_of lines keep is = subst (AreOf table site []) (sym is) (record { printed = refl; listed = All-nil (λ (question : Question). Contains (asked.questions table site) question) })
 
   -- one line more
-  one_more : (lines : List Line) (keep : List Question) (line : Line) (question : Question) → AreOf table site lines keep → IsPrintedSo table site line.text (meant question) → AreOf table site (lines ++ line ∷ []) (keep ++ question ∷ [])
+  one_more : (lines : List Line) (keep : List Question) (line : Line) (question : Question) → AreOf table site lines keep → IsPrintedSo table site line.text question → AreOf table site (lines ++ line ∷ []) (keep ++ question ∷ [])
   one_more lines keep line question are is = record {
     printed =
-        let words = λ (question : Question). question_words table site (meant question) in
+        let words = λ (question : Question). question_words table site question in
         let text = λ (line : Line). line.text in
         map-append words keep (question ∷ []) ∙ ap (λ front. front ++ words question ∷ []) are.printed ∙ ap (λ own. map text lines ++ own ∷ []) is.printed ∙ sym (map-append text lines (line ∷ []));
-    listed = All-push (λ question. Contains (asked.questions table site) (meant question)) keep question are.listed is.listed;
+    listed = All-push (λ question. Contains (asked.questions table site) question) keep question are.listed is.listed;
   }
 
   -- the line at a place
   pub one_more_at : (lines : List ReadLine) (keep more : List Question) (at : ℕ) (text : List ℕ) (question : Question) → at < length lines → text ≡ (get_or lines at no_line).text.now
-      → AreOf table site (take at (map line_view lines)) keep → IsPrintedSo table site text (meant question) → more ≡ keep ++ question ∷ [] → AreOf table site (take (at + 1) (map line_view lines)) more
+      → AreOf table site (take at (map line_view lines)) keep → IsPrintedSo table site text question → more ≡ keep ++ question ∷ [] → AreOf table site (take (at + 1) (map line_view lines)) more
   one_more_at lines keep more at text question lt lends are printed adds =
       let there : at < length (map line_view lines) = rw (length-map lines line_view) lt in
       let read : get_or (map line_view lines) at (line_view no_line) ≡ line_view (get_or lines at no_line) = get_or-map line_view lines at no_line (line_view no_line) lt in
       subst (AreOf table site (take (at + 1) (map line_view lines))) (sym adds)
       (subst (λ (these : List Line). AreOf table site these (keep ++ question ∷ [])) (sym (take_more (map line_view lines) at (line_view no_line) there ∙ ap (λ (own : Line). take at (map line_view lines) ++ own ∷ []) read))
-      (one_more (take at (map line_view lines)) keep (line_view (get_or lines at no_line)) question are (subst (λ (own : List ℕ). IsPrintedSo table site own (meant question)) lends printed)))
+      (one_more (take at (map line_view lines)) keep (line_view (get_or lines at no_line)) question are (subst (λ (own : List ℕ). IsPrintedSo table site own question) lends printed)))
 
   pub other_at : (lines : List ReadLine) (keep : List Question) (at : ℕ) (text : List ℕ) → at < length lines → at ≤ 512 → text ≡ (get_or lines at no_line).text.now
-      → AreOf table site (take at (map line_view lines)) keep → ((question : asked.Question) → IsPrintedSo table site text question → ⊥) → IsFirstOther table site (map line_view lines) (get_or lines at no_line).number
+      → AreOf table site (take at (map line_view lines)) keep → ((question : Question) → IsPrintedSo table site text question → ⊥) → IsFirstOther table site (map line_view lines) (get_or lines at no_line).number
   other_at lines keep at text lt few lends are none = record {
     place = at;
     few = few;
@@ -90,7 +89,7 @@ module _ (table : calls.Table) (site : Site) where
   }
 
   pub too_many_at : (lines : List ReadLine) (keep : List Question) (at : ℕ) (text : List ℕ) (question : Question) → at < length lines → at ≡ 512 → text ≡ (get_or lines at no_line).text.now
-      → AreOf table site (take at (map line_view lines)) keep → IsPrintedSo table site text (meant question) → AreTooMany table site (map line_view lines)
+      → AreOf table site (take at (map line_view lines)) keep → IsPrintedSo table site text question → AreTooMany table site (map line_view lines)
   too_many_at lines keep at text question lt is_last lends are printed = record {
     more = rw (length-map lines line_view) (omega (arith, lt, is_last));
     keep = keep ++ question ∷ [];
@@ -108,5 +107,5 @@ pub one_longer : (keep more : List Question) (question : Question) (at : ℕ) �
 one_longer keep more question at adds counted = ap (λ (own : List Question). length own) adds ∙ length-append keep (question ∷ []) ∙ omega (arith, counted)
 
 -- what is read is of the list
-pub listed_keep : (table : calls.Table) (site : Site) (bytes : List ℕ) (keep : List Question) → ReadsKeep table site bytes (Ok keep) → All (λ question. Contains (asked.questions table site) (meant question)) keep
+pub listed_keep : (table : calls.Table) (site : Site) (bytes : List ℕ) (keep : List Question) → ReadsKeep table site bytes (Ok keep) → All (λ question. Contains (asked.questions table site) question) keep
 listed_keep table site bytes _ (text_lines _ is (questions keep are few)) = are.listed

@@ -4,7 +4,7 @@ use Rattle.std.specs.Fmt.{decimal}
 use Rattle.host_io.specs.Files.{Files}
 use Rattle.call_table.specs.Table as calls
 use Rattle.command_answers.specs.Refusals.{refused_line}
-use Rattle.questions.specs.declared.question.Question.{Question}
+use Rattle.question_types.specs.declared.question.Question.{Question}
 use Rattle.site_table.specs.Table.{Site}
 use Rattle.unit_inputs.specs.FileRefusals.{bytes_in}
 use Rattle.tighten_command.specs.Keeping.{ReadsKeep}

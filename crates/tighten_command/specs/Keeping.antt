@@ -5,8 +5,7 @@ use Rattle.call_table.specs.Table as calls
 use Rattle.site_table.specs.Table.{Site}
 use Rattle.kernel_laws.specs.Questions as asked
 use Rattle.line_text.specs.Lines.{Line, is_text, lines_of}
-use Rattle.questions.specs.Meanings.{meant}
-use Rattle.questions.specs.declared.question.Question.{Question}
+use Rattle.question_types.specs.declared.question.Question.{Question}
 use Rattle.question_text.specs.Printed.{IsPrintedSo}
 use Rattle.report_text.specs.Wording.{question_words}
 use Rattle.tighten_command.specs.declared.keeping.KeepError.{KeepError}
@@ -14,8 +13,8 @@ use Rattle.tighten_command.specs.declared.keeping.KeepError.TheVariants as error
 
 -- each line is what is printed of a question of the list: these, in their order
 pub record AreOf (table : calls.Table) (site : Site) (lines : List Line) (keep : List Question) : Type 0 where
-  pub printed : map (λ question. question_words table site (meant question)) keep ≡ map (λ line. line.text) lines
-  pub listed : All (λ question. Contains (asked.questions table site) (meant question)) keep
+  pub printed : map (λ question. question_words table site question) keep ≡ map (λ line. line.text) lines
+  pub listed : All (λ question. Contains (asked.questions table site) question) keep
 
 -- a line that is what is printed of no question stands behind at most 512 that are, and has this number
 pub record IsFirstOther (table : calls.Table) (site : Site) (lines : List Line) (number : ℕ) : Type 0 where
@@ -25,7 +24,7 @@ pub record IsFirstOther (table : calls.Table) (site : Site) (lines : List Line) 
   pub before : AreOf table site (take place lines) keep
   pub line : Line
   pub stands : slice_get lines place ≡ Some line
-  pub is_other : (question : asked.Question) → IsPrintedSo table site line.text question → ⊥
+  pub is_other : (question : Question) → IsPrintedSo table site line.text question → ⊥
   pub numbered : number ≡ line.number
 
 -- there are more than 512, before any line that is none

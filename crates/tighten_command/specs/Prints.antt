@@ -5,7 +5,7 @@ use Rattle.command_answers.specs.Laws.{Laws}
 use Rattle.command_answers.specs.Stops.{first_refusal}
 use Rattle.command_answers.specs.declared.ending.Ending.{Ending}
 use Rattle.command_answers.specs.declared.ending.Ending.TheVariants.{Done, LaunchRefused, Refused}
-use Rattle.questions.specs.declared.question.Question.{Question}
+use Rattle.question_types.specs.declared.question.Question.{Question}
 use Rattle.tighten.specs.Tried.{tried_with}
 use Rattle.tighten.specs.Wishes.{Wishes}
 use Rattle.unit_inputs.specs.Inputs.{Inputs, input_refusals, inputs_of}

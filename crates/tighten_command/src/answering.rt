@@ -2,7 +2,6 @@
 ghost use Rattle.std.specs.Prelude.{◌≡◌, ◌≤◌, Contains, IsErrOf};
 ghost use Rattle.std.specs.List.{All};
 ghost use Rattle.kernel_laws.specs.Questions.{questions};
-ghost use Rattle.questions.specs.Meanings.{meant};
 ghost use Rattle.tighten.specs.Tried.{tried_with};
 ghost use Rattle.tighten.specs.Wishes.{wishes_by};
 ghost use Rattle.tighten_command.specs.Telling.{IsTold, TellsError, TellsTight};
@@ -17,7 +16,7 @@ use call_table::CallTable;
 use command_answers::{Ending, Stop, refuse};
 use dropin_merge::Resolved;
 use plan_command::plan_line;
-use questions::Question;
+use question_types::Question;
 use site_table::SiteTable;
 use std::alloc::Global;
 use tighten::{StoredWish, Tight, TightenError, tighten};
@@ -69,7 +68,7 @@ pub fn answer(
     keep: &[Question],
     wishes: &[StoredWish],
 ) -> Result<Hardening, Stop>
-    requires listed { All (λ question. Contains (questions calls.now site.now) (meant question)) keep.now }
+    requires listed { All (λ question. Contains (questions calls.now site.now) question) keep.now }
     ensures answers { IsTold (TellsTight name.now (tried_with unit.now calls.now site.now keep.now (wishes_by (λ wish. wish.must_open) (λ wish. ⟦<Box<dyn Fn(&[VerdictRow]) -> bool> as Fn(&[VerdictRow]) -> bool>⟧.post wish.test) wishes.now))) result }
     ensures reads_nothing { IsErrOf result Stop.ReadFault → ⊥ }
 {

@@ -5,7 +5,6 @@ ghost use Rattle.host_io.specs.Calls.{Went};
 ghost use Rattle.command_answers.specs.Asking.{course, input_file};
 ghost use Rattle.command_answers.specs.Stops.{HasReadCause};
 ghost use Rattle.kernel_laws.specs.Questions.{questions};
-ghost use Rattle.questions.specs.Meanings.{meant};
 ghost use Rattle.tighten_command.specs.KeepFiles.{IsKeepIn, IsKeepOf, keep_cause, keep_line};
 ghost use Rattle.tighten_command.specs.Said.{IsSaid};
 
@@ -47,7 +46,7 @@ fn keep_of_bytes(
     site: &SiteTable,
 ) -> Result<Questions, Stop>
     ensures says { IsSaid (λ keep. keep) (IsKeepOf calls.now site.now path.now bytes.now) result }
-    ensures listed { IfOk result (All (λ question. Contains (questions calls.now site.now) (meant question))) }
+    ensures listed { IfOk result (All (λ question. Contains (questions calls.now site.now) question)) }
     ensures reads_nothing { IsErrOf result Stop.ReadFault → ⊥ }
 {
     match read_questions(alloc, bytes, calls, site) {
@@ -67,7 +66,7 @@ pub fn read_keep<S: Shelf>(
     site: &SiteTable,
 ) -> Result<Questions, Stop>
     ensures reads_what_is_kept { IfSome (S.told shelf.old) (λ files. IsSaid (λ keep. keep) (IsKeepIn files calls.now site.now path.now) result) }
-    ensures listed { IfOk result (All (λ question. Contains (questions calls.now site.now) (meant question))) }
+    ensures listed { IfOk result (All (λ question. Contains (questions calls.now site.now) question)) }
     ensures asks_for_it { Went S.asks shelf.old shelf.new (input_file path.now ∷ []) (course result) }
     ensures map_stays { S.told shelf.new ≡ S.told shelf.old }
     ensures fault_rose { HasReadCause (S.faults shelf.old) (S.faults shelf.new) result }

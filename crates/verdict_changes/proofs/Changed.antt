@@ -4,14 +4,14 @@ use Rattle.std.specs.Prelude.{◌&&◌, flat_map, map, if◌then◌else◌}
 use Rattle.std.specs.List.{AllByRecursion}
 use Rattle.abs_path.specs.ByteOrder.{AreAscending, is_before}
 use Rattle.abs_path.specs.Paths.{Path}
-use Rattle.call_table.specs.Table as calls
 use Rattle.chosen_calls.specs.Chosen.{calls_for}
 use Rattle.judge_command.specs.Answers.{Denied, Open, IsTrueAnswer}
 use Rattle.judge_command.specs.ByRule.{AnswersAreTrue, answer_of}
 use Rattle.kernel_laws.specs.Blind.{IsFolder, is_blind}
 use Rattle.kernel_laws.specs.Bound.{is_open}
 use Rattle.kernel_laws.specs.Launched.{launch_of}
-use Rattle.kernel_laws.specs.Questions.{Question, questions}
+use Rattle.question_types.specs.declared.question.Question.{Question}
+use Rattle.kernel_laws.specs.Questions.{questions}
 use Rattle.kernel_model.specs.World.{World}
 use Rattle.kernel_ways.specs.Blindness.{BlindIsExact}
 use Rattle.kernel_ways.specs.Laws.{IsServedWorld}

@@ -6,7 +6,8 @@ use Rattle.call_table.specs.Table as calls
 use Rattle.judge_command.specs.Answers.{Open, IsTrueAnswer}
 use Rattle.kernel_calls.specs.declared.call.Call.{Call}
 use Rattle.kernel_laws.specs.Denied.{IsBlind, IsDenied}
-use Rattle.kernel_laws.specs.Questions.{Question, questions}
+use Rattle.question_types.specs.declared.question.Question.{Question}
+use Rattle.kernel_laws.specs.Questions.{questions}
 use Rattle.kernel_model.specs.World.{World}
 use Rattle.kernel_ways.specs.Blindness.{IsExposed}
 use Rattle.site_table.specs.Kinds.{is_dir}

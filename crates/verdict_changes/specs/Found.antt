@@ -1,7 +1,7 @@
 -- What is found of one question and of one folder.
 use Rattle.std.specs.Prelude.{List, [], ◌∷◌}
 use Rattle.abs_path.specs.Paths.{Path}
-use Rattle.kernel_laws.specs.Questions.{Question}
+use Rattle.question_types.specs.declared.question.Question.{Question}
 use Rattle.verdict_changes.specs.Changes.{Change, Closed, Hidden, Opened, Shown}
 use Rattle.verdict_changes.specs.declared.asking.VerdictChange.{VerdictChange}
 use Rattle.verdict_changes.specs.declared.asking.VerdictChange.TheVariants as verdict

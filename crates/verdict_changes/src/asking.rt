@@ -3,14 +3,13 @@ ghost use Rattle.std.specs.Prelude.{◌≡◌, Contains, IfOk};
 ghost use Rattle.judge_command.specs.Asked.{IsAsked, launch_in, world_in};
 ghost use Rattle.judge_command.specs.Lent.{IsServiceOf};
 ghost use Rattle.kernel_laws.specs.Questions.{questions};
-ghost use Rattle.questions.specs.Meanings.{meant};
 ghost use Rattle.verdict_changes.specs.ByRule.{question_change};
 ghost use Rattle.verdict_changes.specs.Found.{change_of};
 
 use judge_command::Asked;
 use kernel_calls::Call;
 use open_calls::{Service, calls};
-use questions::Question;
+use question_types::Question;
 use std::alloc::AllocError;
 
 /// What changes of a question from one launched service to another.
@@ -35,9 +34,9 @@ pub fn verdict_change(
     requires before { IsAsked before.now }
     requires after { IsAsked after.now }
     requires its_service { IsServiceOf after.now service.now }
-    requires listed_before { Contains (questions (world_in before.now).calls (world_in before.now).site) (meant question.now) }
-    requires listed_after { Contains (questions (world_in after.now).calls (world_in after.now).site) (meant question.now) }
-    ensures by_the_rule { IfOk result (λ change. change_of (meant question.now) change ≡ question_change (launch_in before.now) (launch_in after.now) after.now.bounded.service.program (meant question.now)) }
+    requires listed_before { Contains (questions (world_in before.now).calls (world_in before.now).site) question.now }
+    requires listed_after { Contains (questions (world_in after.now).calls (world_in after.now).site) question.now }
+    ensures by_the_rule { IfOk result (λ change. change_of question.now change ≡ question_change (launch_in before.now) (launch_in after.now) after.now.bounded.service.program question.now) }
 {
     match (
         before.bounded.is_open(question),

@@ -6,8 +6,7 @@ use Rattle.std.proofs.lemmas.Slice.Eq.{bytes_eq-Decides}
 use Rattle.call_table.specs.Table as calls
 use Rattle.kernel_laws.specs.Questions as asked
 use Rattle.question_text.specs.Printed.{IsPrintedSo, Reads}
-use Rattle.questions.specs.Meanings.{meant}
-use Rattle.questions.specs.declared.question.Question.{Question}
+use Rattle.question_types.specs.declared.question.Question.{Question}
 use Rattle.report_text.specs.Wording.{question_words}
 use Rattle.site_table.specs.Table.{Site}
 use Rattle.why_command.specs.Asking.{or_refused, question_named}
@@ -36,12 +35,12 @@ module _ {X : Type 0} (p : X → Bool) where
       find_first first xs None (λ e. absurd (none first (0, (omega arith), refl) e)) (λ e. find_none xs (λ y is. none y (one_more first xs y is))) (p first) refl
 
 module _ (table : calls.Table) (site : Site) (text : List ℕ) where
-  printed_so : (question : asked.Question) → Contains (asked.questions table site) question → bytes_eq (question_words table site question) text ≡ true → IsPrintedSo table site text question
+  printed_so : (question : Question) → Contains (asked.questions table site) question → bytes_eq (question_words table site question) text ≡ true → IsPrintedSo table site text question
   printed_so question listed same = record { listed = listed; printed = (bytes_eq-Decides (question_words table site question) text).0 same }
 
-  pub named : (question : Question) → Reads table site text (Some question) → question_named table site text ≡ Some (meant question)
+  pub named : (question : Question) → Reads table site text (Some question) → question_named table site text ≡ Some question
   named question reads =
-      find_only (λ one. bytes_eq (question_words table site one) text) (asked.questions table site) (meant question) reads.0.listed ((bytes_eq-Decides (question_words table site (meant question)) text).1 reads.0.printed)
+      find_only (λ one. bytes_eq (question_words table site one) text) (asked.questions table site) question reads.0.listed ((bytes_eq-Decides (question_words table site question) text).1 reads.0.printed)
       (λ other listed same. reads.1 other (printed_so other listed same))
 
   pub unnamed : Reads table site text None → question_named table site text ≡ None

@@ -16,8 +16,7 @@ use Rattle.command_answers.proofs.Refusing.{passes, quiet, stops, stops_as, stop
 use Rattle.deciding_lines.specs.Tried.{Tried}
 use Rattle.dropin_merge.specs.declared.resolved.Resolved.{Resolved}
 use Rattle.kernel_laws.specs.Questions as asked
-use Rattle.questions.specs.Meanings.{meant}
-use Rattle.questions.specs.declared.question.Question.{Question}
+use Rattle.question_types.specs.declared.question.Question.{Question}
 use Rattle.site_table.specs.Table.{Site}
 use Rattle.started_units.specs.Starting.{given, start_refusals}
 use Rattle.unit_inputs.specs.Inputs.{Inputs, input_refusals, inputs_of, inputs_view}
@@ -74,15 +73,15 @@ module _ (told : Option Files) (unit : List ℕ) (words : List (List ℕ)) (inpu
 
   -- the words are no question
   pub stops_at_question : (calls : Table) (site : Site) (why : Stop) → calls ≡ (inputs_view inputs).calls → site ≡ (inputs_view inputs).site
-      → IsAnswer {T = Question} meant (Err why) (question_in calls site words) → IsAdmitted (laws_over told (why_laws unit words)) ending_of text_of (Err why)
+      → IsAnswer {T = Question} (Err why) (question_in calls site words) → IsAdmitted (laws_over told (why_laws unit words)) ending_of text_of (Err why)
   stops_at_question calls site why one two is =
       stops_behind (λ made. Unit {0}) (refusals_behind unit words (inputs_view inputs)) why refl
-      (stops meant (λ (made : Why). Unit {0}) (question_in (inputs_view inputs).calls (inputs_view inputs).site words) why (start_refusals unit (inputs_view inputs))
-      (subst (λ (own : Site). IsAnswer {T = Question} meant (Err why) (question_in (inputs_view inputs).calls own words)) two
-      (subst (λ (own : Table). IsAnswer {T = Question} meant (Err why) (question_in own site words)) one is)))
+      (stops (λ (made : Why). Unit {0}) (question_in (inputs_view inputs).calls (inputs_view inputs).site words) why (start_refusals unit (inputs_view inputs))
+      (subst (λ (own : Site). IsAnswer {T = Question} (Err why) (question_in (inputs_view inputs).calls own words)) two
+      (subst (λ (own : Table). IsAnswer {T = Question} (Err why) (question_in own site words)) one is)))
 
   -- behind a question
-  module _ (question : asked.Question) (question_is : question_in (inputs_view inputs).calls (inputs_view inputs).site words ≡ Ok question) where
+  module _ (question : Question) (question_is : question_in (inputs_view inputs).calls (inputs_view inputs).site words ≡ Ok question) where
     abbrev tried : Tried
     tried = record { name = unit; inputs = inputs_view inputs; question = question }
 
@@ -107,7 +106,7 @@ module _ (told : Option Files) (unit : List ℕ) (words : List (List ℕ)) (inpu
         )
 
   -- also where the inputs are lent
-  pub admitted_as : (calls : Table) (site : Site) (question : asked.Question) → calls ≡ (inputs_view inputs).calls → site ≡ (inputs_view inputs).site
+  pub admitted_as : (calls : Table) (site : Site) (question : Question) → calls ≡ (inputs_view inputs).calls → site ≡ (inputs_view inputs).site
       → question_in calls site words ≡ Ok question → (own : Inputs) → own ≡ inputs_view inputs → (result : Result Why Stop)
       → Prepares (λ made. TellsWhy (record { name = unit; inputs = own; question = question }) (ending_of made) (text_of made)) (start_refusals unit own) result
       → IsAdmitted (laws_over told (why_laws unit words)) ending_of text_of result
@@ -138,12 +137,12 @@ as_any stop.ReadFault nothing e = nothing refl
 as_any stop.Memory nothing e = cc
 
 -- the line of words that are no question
-pub refused_tells : (line : Result (Vec ℕ Global) AllocError) (told : Stop) → told ≡ stop_of line → IfOk line (λ l. l.items ≡ refused_question) → (wanted : Result asked.Question (List ℕ)) → wanted ≡ Err refused_question
-    → IsAnswer {T = Question} meant (Err told) wanted
-refused_tells (Ok line) told is holds wanted same = subst (λ one. IsAnswer {T = Question} meant (Err one) wanted) (sym is) (same ∙ ap Err (sym holds))
-refused_tells (Err none) told is holds wanted same = subst (λ one. IsAnswer {T = Question} meant (Err one) wanted) (sym is) tt
+pub refused_tells : (line : Result (Vec ℕ Global) AllocError) (told : Stop) → told ≡ stop_of line → IfOk line (λ l. l.items ≡ refused_question) → (wanted : Result Question (List ℕ)) → wanted ≡ Err refused_question
+    → IsAnswer {T = Question} (Err told) wanted
+refused_tells (Ok line) told is holds wanted same = subst (λ one. IsAnswer {T = Question} (Err one) wanted) (sym is) (same ∙ ap Err (sym holds))
+refused_tells (Err none) told is holds wanted same = subst (λ one. IsAnswer {T = Question} (Err one) wanted) (sym is) tt
 
 -- also of the tables as they are lent
-pub listed_as : (table other : Table) (site own : Site) → table ≡ other → site ≡ own → (question : asked.Question) → Contains (asked.questions table site) question → Contains (asked.questions other own) question
+pub listed_as : (table other : Table) (site own : Site) → table ≡ other → site ≡ own → (question : Question) → Contains (asked.questions table site) question → Contains (asked.questions other own) question
 listed_as table other site own one two question is =
     subst (λ (these : Table). Contains (asked.questions these own) question) one (subst (λ (these : Site). Contains (asked.questions table these) question) two is)

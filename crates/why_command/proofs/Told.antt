@@ -27,8 +27,7 @@ use Rattle.kernel_ways.specs.Laws.{IsServedWorld}
 use Rattle.kernel_ways.specs.Offers.{RunsProgram}
 use Rattle.launcher.specs.declared.launched.Launched.{Launched as Service}
 use Rattle.open_calls.specs.declared.service.Service.{Service as Maker}
-use Rattle.questions.specs.Meanings.{meant}
-use Rattle.questions.specs.declared.question.Question.{Question}
+use Rattle.question_types.specs.declared.question.Question.{Question}
 use Rattle.site_table.specs.Table.{Site}
 use Rattle.started_units.specs.Starting.{StartsAs, start_refusals}
 use Rattle.unit_launch.specs.declared.launching.UnitLaunch.{UnitLaunch}
@@ -48,7 +47,7 @@ can_be_asked tried service bounded starts same bounds = record {
   site = ap (λ (own : Service). own.world.site) same ∙ own_site tried.inputs service starts;
 }
 
-pub lists_it : (tried : Tried) (bounded : Bounded) → CanBeAsked tried bounded → (question : asked.Question) → Contains (asked.questions tried.inputs.calls tried.inputs.site) question
+pub lists_it : (tried : Tried) (bounded : Bounded) → CanBeAsked tried bounded → (question : Question) → Contains (asked.questions tried.inputs.calls tried.inputs.site) question
     → Contains (asked.questions bounded.service.world.calls bounded.service.world.site) question
 lists_it tried bounded can question is =
     subst (λ (table : calls.Table). Contains (asked.questions table bounded.service.world.site) question) (sym can.calls)
@@ -62,27 +61,27 @@ module _ (bounded : Bounded) (maker : Maker) (is : (maker.world.now ≡ bounded.
   pub maker_runs : RunsProgram (launch_of bounded.service.world) bounded.service.program → RunsProgram (launch_of maker.world.now) maker.program.now
   maker_runs runs = subst (λ program. RunsProgram (launch_of maker.world.now) program) (sym is.1) (subst (λ (world : World). RunsProgram (launch_of world) bounded.service.program) (sym is.0) runs)
 
-  pub maker_lists : (question : asked.Question) → Contains (asked.questions bounded.service.world.calls bounded.service.world.site) question → Contains (asked.questions maker.world.now.calls maker.world.now.site) question
+  pub maker_lists : (question : Question) → Contains (asked.questions bounded.service.world.calls bounded.service.world.site) question → Contains (asked.questions maker.world.now.calls maker.world.now.site) question
   maker_lists question listed = subst (λ (world : World). Contains (asked.questions world.calls world.site) question) (sym is.0) listed
 
-  pub maker_opens : (question : asked.Question) → is_open (launch_of bounded.service.world) question ≡ true → is_open (launch_of maker.world.now) question ≡ true
+  pub maker_opens : (question : Question) → is_open (launch_of bounded.service.world) question ≡ true → is_open (launch_of maker.world.now) question ≡ true
   maker_opens question open' = subst (λ (world : World). is_open (launch_of world) question ≡ true) (sym is.0) open'
 
   -- a question that is open is told with a list that shows it
-  pub tells_open : (tried : Tried) (question : Question) → tried.question ≡ meant question → IsSo bounded.service.world question true → (list : List Call)
-      → Shows maker.world.now (meant question) list → AreMadeByService maker.world.now.calls list
-      → (text : List ℕ) → text ≡ answer_lines tried.inputs.calls tried.inputs.site (Open (meant question) list) → TellsService tried bounded.service text
+  pub tells_open : (tried : Tried) (question : Question) → tried.question ≡ question → IsSo bounded.service.world question true → (list : List Call)
+      → Shows maker.world.now question list → AreMadeByService maker.world.now.calls list
+      → (text : List ℕ) → text ≡ answer_lines tried.inputs.calls tried.inputs.site (Open question list) → TellsService tried bounded.service text
   tells_open tried question same so list shows made text says =
       open_by list (
-        subst (λ one. Shows bounded.service.world one list) (sym same) (subst (λ (world : World). Shows world (meant question) list) is.0 shows),
+        subst (λ one. Shows bounded.service.world one list) (sym same) (subst (λ (world : World). Shows world question list) is.0 shows),
         subst (λ (world : World). AreMadeByService world.calls list) is.0 made,
         λ denied. (let e : true ≡ false = so.1 (subst (IsDenied bounded.service.world) same denied) in cc),
       )
       (says ∙ ap (λ one. answer_lines tried.inputs.calls tried.inputs.site (Open one list)) (sym same))
 
 -- a question that is denied is told with what denies it
-pub tells_denied : (tried : Tried) (bounded : Bounded) (question : Question) → tried.question ≡ meant question → IsSo bounded.service.world question false → (told : Reason) → IsReason tried told
-    → (text : List ℕ) → text ≡ answer_lines tried.inputs.calls tried.inputs.site (Denied (meant question)) ++ reason_text tried.inputs.unit told → TellsService tried bounded.service text
+pub tells_denied : (tried : Tried) (bounded : Bounded) (question : Question) → tried.question ≡ question → IsSo bounded.service.world question false → (told : Reason) → IsReason tried told
+    → (text : List ℕ) → text ≡ answer_lines tried.inputs.calls tried.inputs.site (Denied question) ++ reason_text tried.inputs.unit told → TellsService tried bounded.service text
 tells_denied tried bounded question same so told reason text says =
     denied_by told (subst (IsDenied bounded.service.world) (sym same) (so.0 refl)) reason
     (says ∙ ap (λ one. answer_lines tried.inputs.calls tried.inputs.site (Denied one) ++ reason_text tried.inputs.unit told) (sym same))

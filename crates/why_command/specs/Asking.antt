@@ -5,7 +5,8 @@ use Rattle.asked_service.specs.Asked.{IsBounded}
 use Rattle.asked_service.specs.declared.bounding.Bounded.{Bounded}
 use Rattle.call_table.specs.Table as calls
 use Rattle.deciding_lines.specs.Tried.{Tried}
-use Rattle.kernel_laws.specs.Questions.{Question, questions}
+use Rattle.question_types.specs.declared.question.Question.{Question}
+use Rattle.kernel_laws.specs.Questions.{questions}
 use Rattle.kernel_laws.specs.Launched.{launch_of}
 use Rattle.kernel_ways.specs.Offers.{RunsProgram}
 use Rattle.report_text.specs.Wording.{question_words}

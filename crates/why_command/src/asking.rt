@@ -2,13 +2,12 @@
 ghost use Rattle.std.specs.Prelude.{◌≡◌, ◌++◌, Contains, IfOk, IsErrOf, OnOk, flat_map, map};
 ghost use Rattle.command_answers.specs.Stops.{IsAnswer};
 ghost use Rattle.kernel_laws.specs.Questions.{questions};
-ghost use Rattle.questions.specs.Meanings.{meant};
 ghost use Rattle.why_command.specs.Asking.{joined_words, question_in, refused_question, spaced};
 
 use call_table::CallTable;
 use command_answers::{Stop, refuse};
 use question_text::read_question;
-use questions::Question;
+use question_types::Question;
 use site_table::SiteTable;
 use std::alloc::{AllocError, Global};
 
@@ -64,8 +63,8 @@ pub fn asked_question(
     calls: &CallTable,
     site: &SiteTable,
 ) -> Result<Question, Stop>
-    ensures asks { IsAnswer meant result (question_in calls.now site.now (map (λ word. word.now) words.now)) }
-    ensures listed { IfOk result (λ question. Contains (questions calls.now site.now) (meant question)) }
+    ensures asks { IsAnswer result (question_in calls.now site.now (map (λ word. word.now) words.now)) }
+    ensures listed { IfOk result (λ question. Contains (questions calls.now site.now) question) }
     ensures reads_nothing { IsErrOf result Stop.ReadFault → ⊥ }
 {
     let text = joined_words(alloc, words)?;

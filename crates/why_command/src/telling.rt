@@ -2,7 +2,6 @@
 ghost use Rattle.std.specs.Prelude.{◌≡◌, ◌++◌, Contains, IfOk, OnOk, flat_map};
 ghost use Rattle.deciding_lines.specs.Deciding.{IsReason};
 ghost use Rattle.kernel_laws.specs.Questions.{questions};
-ghost use Rattle.questions.specs.Meanings.{meant};
 ghost use Rattle.report_text.specs.Answers.{call_line};
 ghost use Rattle.judge.specs.declared.answer.Verdict.TheVariants as verdict;
 ghost use Rattle.report_text.specs.Answers.{verdict_line};
@@ -14,7 +13,7 @@ use deciding_lines::Reason;
 use dropin_merge::Resolved;
 use judge::Verdict;
 use kernel_calls::Call;
-use questions::Question;
+use question_types::Question;
 use report_text::{call_line, verdict_line};
 use site_table::SiteTable;
 use std::alloc::{AllocError, Global};
@@ -42,8 +41,8 @@ pub fn open_text(
     calls: &CallTable,
     site: &SiteTable,
 ) -> Result<Vec<u8>, AllocError>
-    requires asked { Contains (questions calls.now site.now) (meant question.now) }
-    ensures { IfOk result (λ text. text.items ≡ verdict_line calls.now site.now (meant question.now) verdict.Open ++ flat_map (call_line calls.now) list.now) }
+    requires asked { Contains (questions calls.now site.now) question.now }
+    ensures { IfOk result (λ text. text.items ≡ verdict_line calls.now site.now question.now verdict.Open ++ flat_map (call_line calls.now) list.now) }
 {
     let mut text = verdict_line(alloc, question, Verdict::Open, calls, site)?;
     push_calls(alloc, &mut text, list, calls)?;
@@ -74,8 +73,8 @@ pub fn denied_text(
     calls: &CallTable,
     site: &SiteTable,
 ) -> Result<Vec<u8>, AllocError>
-    requires asked { Contains (questions calls.now site.now) (meant question.now) }
-    ensures { IfOk result (λ text. text.items ≡ verdict_line calls.now site.now (meant question.now) verdict.Denied ++ reason_text unit.now reason.now) }
+    requires asked { Contains (questions calls.now site.now) question.now }
+    ensures { IfOk result (λ text. text.items ≡ verdict_line calls.now site.now question.now verdict.Denied ++ reason_text unit.now reason.now) }
 {
     let mut text = verdict_line(alloc, question, Verdict::Denied, calls, site)?;
     let told = reason_text(alloc, unit, reason)?;

@@ -1,7 +1,8 @@
 //! Mount tables, and which of their entries lead to files of the host.
 use abs_path::{AbsPath, PathError};
 use kern_mounts::{Flags, MountStep, MountTable, What};
-use reach_paths::{Power, Wish, reach};
+use question_types::{Power, Wish};
+use reach_paths::reach;
 use row_tools::{number_or_none, said};
 use std::alloc::{AllocError, Global};
 

@@ -2,7 +2,6 @@
 ghost use Rattle.std.specs.Prelude.{◌≡◌, map, Some};
 ghost use Rattle.kernel_laws.specs.Launched.{IsLaunchedWorld, launch_of};
 ghost use Rattle.kernel_laws.specs.Questions.{questions};
-ghost use Rattle.questions.specs.Meanings.{meant};
 ghost use Rattle.site_table.specs.Table.{kind_at};
 ghost use Rattle.site_table.specs.declared.kinds.RowKind.TheVariants.{Dir};
 ghost use Rattle.ceilings.specs.Own.{IsCeilingOf};
@@ -13,7 +12,8 @@ use abs_path::AbsPath;
 use ceilings::{Ceiling, ceiling};
 use judge::{Verdict, blind, verdict};
 use launcher::Launched;
-use questions::{Question, questions};
+use question_types::Question;
+use questions::questions;
 use site_table::RowKind;
 use std::alloc::{AllocError, Global};
 
@@ -39,7 +39,7 @@ fn verdicts_of(
 ) -> Result<Vec<Verdict>, AllocError>
     requires launched { IsLaunchedWorld service.now.world }
     requires its_own_ceiling { IsCeilingOf (launch_of service.now.world) top.now }
-    requires all { map meant all.now ≡ questions service.now.world.calls service.now.world.site }
+    requires all { all.now ≡ questions service.now.world.calls service.now.world.site }
 {
     let mut verdicts = Vec::new(alloc);
     for question in all {

@@ -3,7 +3,7 @@ use Rattle.std.specs.Prelude.{◌&&◌, find}
 use Rattle.std.specs.Str.{bytes_eq}
 use Rattle.call_table.specs.Table.{Table, calls_in}
 use Rattle.call_table.specs.declared.listed.CallLine.{CallLine}
-use Rattle.kernel_laws.specs.Kinds.{PlainCall}
+use Rattle.question_types.specs.declared.kind.CallKind.TheVariants.{PlainCall}
 use Rattle.kernel_laws.specs.Launched.{launch_of, lets_line}
 use Rattle.ceilings.proofs.Naming.{itself_found, other_found}
 use Rattle.ceilings.proofs.calls.plain_line_at.Goals as goal

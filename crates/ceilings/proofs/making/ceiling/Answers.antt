@@ -3,10 +3,9 @@ use Rattle.std.specs.Prelude.{◌&&◌}
 use Rattle.linux_numbers.specs.Capabilities.{cap_sys_admin, cap_setuid, cap_setgid}
 use Rattle.cap_sets.specs.Sets.{has}
 use Rattle.kernel_laws.specs.Bound.{caps_at, power_by, power_of}
-use Rattle.kernel_laws.specs.Kinds.{ChangesMounts, RemovesMounts, TakesUid, TakesGid}
+use Rattle.question_types.specs.declared.kind.CallKind.TheVariants.{ChangesMounts, RemovesMounts, TakesUid, TakesGid}
 use Rattle.kernel_laws.specs.Launched.{Launch, launch_of, lets}
 use Rattle.kernel_ways.proofs.Exact.{ceiling_is_exact}
-use Rattle.reach_paths.specs.Meanings.{meant_power}
 use Rattle.kernel_ways.specs.Spared.{caps_by, power_using}
 use Rattle.ceilings.proofs.Bounded.{cap_denied, uid_denied, gid_denied}
 use Rattle.ceilings.proofs.Given.{has_id, uids_given, gids_given}
@@ -17,18 +16,18 @@ use Rattle.ceilings.proofs.making.ceiling.Goals as goal
 pub returns-clause-is_its_own : goal.returns-clause-is_its_own
 returns-clause-is_its_own c =
     let launch : Launch = launch_of c.args.launched.now.world in
-    let power : meant_power c.power_using-power.result ≡ power_of launch = c.power_using-power.ensures ∙ ap (power_using launch) c.of-passing.ensures.takes_uid in
+    let power : c.power_using-power.result ≡ power_of launch = c.power_using-power.ensures ∙ ap (power_using launch) c.of-passing.ensures.takes_uid in
     let caps : c.caps_by-effective.result ≡ caps_at launch (power_of launch) =
     c.caps_by-effective.ensures
-    ∙ ap (λ used. caps_by launch used (meant_power c.power_using-power.result)) c.of-passing.ensures.takes_uid
+    ∙ ap (λ used. caps_by launch used (c.power_using-power.result)) c.of-passing.ensures.takes_uid
     ∙ ap (caps_at launch) power in
     record {
       effective = caps;
       power = power;
       any_uid = c.can_take_any.ensures ∙ ap (λ used. has c.caps_by-effective.result cap_setuid && used) c.of-passing.ensures.takes_uid ∙ ap (λ set. has set cap_setuid && lets launch TakesUid) caps;
       any_gid = c.can_take_any-2.ensures ∙ ap (λ used. has c.caps_by-effective.result cap_setgid && used) c.of-passing.ensures.takes_gid ∙ ap (λ set. has set cap_setgid && lets launch TakesGid) caps;
-      uids = λ id. ap (has_id id) c.in_ok-uids.ensures ∙ uids_given launch (meant_power c.power_using-spared.result) id c.power_using-spared.ensures;
-      gids = λ id. ap (has_id id) c.in_ok-gids.ensures ∙ gids_given launch (meant_power c.power_using-power.result) id power;
+      uids = λ id. ap (has_id id) c.in_ok-uids.ensures ∙ uids_given launch (c.power_using-spared.result) id c.power_using-spared.ensures;
+      gids = λ id. ap (has_id id) c.in_ok-gids.ensures ∙ gids_given launch (c.power_using-power.result) id power;
       paths = c.of-2.ensures;
       rules = c.in_ok-rules.ensures;
       leads = c.in_ok-all_leads.ensures;

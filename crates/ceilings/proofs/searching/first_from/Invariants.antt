@@ -1,10 +1,9 @@
 use Rattle.std.proofs.Common.{◌≡◌, drop, false}
 use Rattle.kernel_laws.specs.Reach.{reach_from}
 use Rattle.kern_mounts.specs.Mounts.{steps_of}
-use Rattle.reach_paths.specs.Meanings.{meant_wish}
 use Rattle.ceilings.proofs.searching.first_from.Given as goal
 
 -- what is looked for stands from here on
 abbrev pub invariant-loop-at : goal.invariant-loop-at
 invariant-loop-at l =
-    reach_from false l.row (meant_wish l.wish) (drop l.at (steps_of l.search.table.now)) l.at ≡ reach_from false l.row (meant_wish l.wish) (drop l.from (steps_of l.search.table.now)) l.from
+    reach_from false l.row l.wish (drop l.at (steps_of l.search.table.now)) l.at ≡ reach_from false l.row l.wish (drop l.from (steps_of l.search.table.now)) l.from

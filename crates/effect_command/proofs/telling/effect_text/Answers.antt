@@ -1,6 +1,5 @@
 use Rattle.std.proofs.Common.{◌∙◌, ◌++◌, ap}
 use Rattle.std.specs.Prelude.{flat_map, map}
-use Rattle.questions.specs.Meanings.{meant}
 use Rattle.effect_command.specs.Lines.{counts_line, kind_of}
 use Rattle.effect_command.specs.Told.{changes_at, lines_in, turns_at}
 use Rattle.effect_command.proofs.Flattened.{told_is}
@@ -16,7 +15,7 @@ tell_questions-requires c = record {
   its_service = c.in_ok-service.ensures.of_the_launch;
   same_calls = c.requires.same_calls;
   same_site = c.requires.same_site;
-  all = ap (map meant) c.as_slice-list.ensures.value ∙ c.requires.after.questions;
+  all = c.as_slice-list.ensures.value ∙ c.requires.after.questions;
 }
 
 pub tell_rows-requires : goal.tell_rows-requires

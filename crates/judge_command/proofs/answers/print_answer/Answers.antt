@@ -3,7 +3,6 @@ use Rattle.std.specs.Prelude.{flat_map}
 use Rattle.command_answers.proofs.Texts.{nothing_taken, text_as, text_at_error, text_cut, text_then}
 use Rattle.host_io.specs.declared.writing.SinkError.TheVariants.{Memory}
 use Rattle.kernel_laws.specs.Bound.{is_open}
-use Rattle.questions.specs.Meanings.{meant}
 use Rattle.chosen_calls.specs.Chosen.{calls_for}
 use Rattle.judge.specs.declared.answer.Verdict.TheVariants.{Denied, Open}
 use Rattle.report_text.specs.Answers.{call_line, verdict_line}
@@ -32,8 +31,8 @@ pub returns-in-Denied-clause-takes_the_text : goal.returns-in-Denied-clause-take
 returns-in-Denied-clause-takes_the_text g c =
     let asked = c.args.asked.now in
     let question = c.args.question.now in
-    let line = verdict_line (world_in asked).calls (world_in asked).site (meant question) Denied in
-    text_as _ _ _ (answer_text asked question) c.put_line.result (denied_text asked question (not_open c.args.found (is_open (launch_in asked) (meant question)) c.requires.found c.in-Denied.is))
+    let line = verdict_line (world_in asked).calls (world_in asked).site question Denied in
+    text_as _ _ _ (answer_text asked question) c.put_line.result (denied_text asked question (not_open c.args.found (is_open (launch_in asked) question) c.requires.found c.in-Denied.is))
     (c.put_line.ensures.takes_the_line line (own_line asked question c.args.found Denied c.call_table-table.result.now c.site_table.result.now c.verdict_line-line.result c.call_table-table.ensures.told c.site_table.ensures.told c.in-Denied.is c.verdict_line-line.ensures.tells_the_verdict))
 
 pub returns-in_default-clause-takes_the_text : goal.returns-in_default-clause-takes_the_text
@@ -43,8 +42,8 @@ pub returns-in_err-put_line-in-Open-clause-takes_the_text : goal.returns-in_err-
 returns-in_err-put_line-in-Open-clause-takes_the_text g c =
     let asked = c.args.asked.now in
     let question = c.args.question.now in
-    let line = verdict_line (world_in asked).calls (world_in asked).site (meant question) Open in
-    let list = flat_map (call_line (world_in asked).calls) (calls_for (launch_in asked) asked.bounded.service.program (meant question)) in
+    let line = verdict_line (world_in asked).calls (world_in asked).site question Open in
+    let list = flat_map (call_line (world_in asked).calls) (calls_for (launch_in asked) asked.bounded.service.program question) in
     text_at_error _ _ _ c.in_err-put_line-in-Open.field-0.0 c.from_residual.result c.from_residual.ensures.0
     (text_as _ _ _ (answer_text asked question) (Err c.in_err-put_line-in-Open.field-0.0) (open_text asked question (c.requires.found.0 c.in-Open.is))
     (text_cut _ _ line list c.in_err-put_line-in-Open.field-0.0
@@ -54,8 +53,8 @@ pub returns-in_ok-put_line-in-Open-clause-takes_the_text : goal.returns-in_ok-pu
 returns-in_ok-put_line-in-Open-clause-takes_the_text g c =
     let asked = c.args.asked.now in
     let question = c.args.question.now in
-    let line = verdict_line (world_in asked).calls (world_in asked).site (meant question) Open in
-    let list = flat_map (call_line (world_in asked).calls) (calls_for (launch_in asked) asked.bounded.service.program (meant question)) in
+    let line = verdict_line (world_in asked).calls (world_in asked).site question Open in
+    let list = flat_map (call_line (world_in asked).calls) (calls_for (launch_in asked) asked.bounded.service.program question) in
     text_as _ _ _ (answer_text asked question) c.print_calls.result (open_text asked question (c.requires.found.0 c.in-Open.is))
     (text_then _ _ _ line list c.print_calls.result
     (c.in_ok-put_line-in-Open.ensures.takes_the_line line (own_line asked question c.args.found Open c.call_table-table.result.now c.site_table.result.now c.verdict_line-line.result c.call_table-table.ensures.told c.site_table.ensures.told c.in-Open.is c.verdict_line-line.ensures.tells_the_verdict))

@@ -2,11 +2,10 @@ use Rattle.std.proofs.Common.{◌≡◌, ◌∙◌, Option, Some, None}
 use Rattle.call_table.specs.declared.listed.CallLine.{CallLine}
 use Rattle.chosen_calls.proofs.FirstLines.{first_is}
 use Rattle.kernel_laws.specs.Launched.{launch_of}
-use Rattle.ceilings.specs.Meanings.{meant_kind}
 use Rattle.open_calls.proofs.first.line_of.Goals as goal
 
 pub unreachable-requires : goal.unreachable-requires
 unreachable-requires c =
-    let found = first_is (launch_of c.args.world.now) (meant_kind c.args.kind) c.requires.some_passes in
+    let found = first_is (launch_of c.args.world.now) c.args.kind c.requires.some_passes in
     let never : ◌≡◌ {A = Option CallLine} None (Some found.0) = c.in-None.ensures ∙ found.1 in
     cc

@@ -1,13 +1,12 @@
 use Rattle.std.proofs.Common.{◌∷◌, [], ◌+◌, ◌-◌, map, arith}
-use Rattle.kernel_laws.specs.Questions.{Cap, count_from}
-use Rattle.questions.specs.Meanings.{meant}
-use Rattle.questions.specs.declared.question.Question.TheVariants as own
-use Rattle.questions.proofs.Pushing.{piece_more, meant_more, caps_left}
+use Rattle.kernel_laws.specs.Questions.{count_from}
+use Rattle.question_types.specs.declared.question.Question.TheVariants.{Cap}
+use Rattle.questions.proofs.Pushing.{piece_more, caps_left}
 use Rattle.questions.proofs.all.push_caps.Goals as goal
 
 pub loop-cap-preserved : goal.loop-cap-preserved
 loop-cap-preserved c =
-    piece_more (map meant c.loop-cap.list.items) (map meant c.push.new.self.items) (Cap c.loop-cap.cap ∷ []) (map Cap (count_from c.loop-cap.cap (41 - c.loop-cap.cap))) (map Cap (count_from (c.loop-cap.cap + 1) (41 - (c.loop-cap.cap + 1)))) _
+    piece_more c.loop-cap.list.items c.push.new.self.items (Cap c.loop-cap.cap ∷ []) (map Cap (count_from c.loop-cap.cap (41 - c.loop-cap.cap))) (map Cap (count_from (c.loop-cap.cap + 1) (41 - (c.loop-cap.cap + 1)))) _
     c.loop-cap.invariant
-    (meant_more c.loop-cap.list.items c.push.new.self.items (own.Cap c.loop-cap.cap) c.in_ok-push.ensures.items)
+    c.in_ok-push.ensures.items
     (caps_left c.loop-cap.cap (omega (arith, c.loop-cap-test.true)))

@@ -1,9 +1,8 @@
 use Rattle.std.proofs.Common.{◌≡◌, ◌++◌, drop, map}
 use Rattle.call_table.specs.Table.{every_call}
 use Rattle.kernel_laws.specs.Questions.{of_calls}
-use Rattle.questions.specs.Meanings.{meant}
 use Rattle.questions.proofs.tables.push_calls.Given as goal
 
 -- what was added, and what is left to add
 abbrev pub invariant-loop-at : goal.invariant-loop-at
-invariant-loop-at l = map meant l.list.items ++ of_calls (every_call l.table) l.at (drop l.at (every_call l.table)) ≡ map meant l.initial.list.items ++ of_calls (every_call l.table) 0 (every_call l.table)
+invariant-loop-at l = l.list.items ++ of_calls (every_call l.table) l.at (drop l.at (every_call l.table)) ≡ l.initial.list.items ++ of_calls (every_call l.table) 0 (every_call l.table)

@@ -1,13 +1,11 @@
 use Rattle.std.proofs.Common.{ap, ◌∙◌, length, refl}
-use Rattle.std.specs.Prelude.{map}
-use Rattle.questions.specs.Meanings.{meant}
 use Rattle.sample_command.proofs.Counted.{all_answers, denied_answers, open_answers}
 use Rattle.sample_command.proofs.judging.count.Goals as goal
 
 pub count_open-open-requires : goal.count_open-open-requires
 count_open-open-requires c = record {
   bounded = c.requires.asked.bounded;
-  all = ap (map meant) c.as_slice-questions.ensures.value ∙ c.requires.asked.questions;
+  all = c.as_slice-questions.ensures.value ∙ c.requires.asked.questions;
 }
 
 pub returns : goal.returns

@@ -3,7 +3,7 @@ use Rattle.std.specs.Prelude.{List}
 use Rattle.host_io.specs.Calls.{Whole}
 use Rattle.command_answers.specs.Laws.{IsAdmitted}
 use Rattle.command_answers.proofs.FileCommands.{at_stop}
-use Rattle.questions.specs.declared.question.Question.{Question}
+use Rattle.question_types.specs.declared.question.Question.{Question}
 use Rattle.tighten.specs.Wishes.{wishes_by}
 use Rattle.unit_names.specs.Cutting.{name_of}
 use Rattle.unit_inputs.specs.Asking.{asks_with_file}

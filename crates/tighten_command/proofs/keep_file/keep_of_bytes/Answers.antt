@@ -1,6 +1,6 @@
 use Rattle.std.proofs.Common.{rules}
 use Rattle.std.specs.Prelude.{◌≢◌, List}
-use Rattle.questions.specs.declared.question.Question.{Question}
+use Rattle.question_types.specs.declared.question.Question.{Question}
 use Rattle.tighten_command.specs.KeepFiles.{IsKeepOf, a_keep, keep_line, no_keep}
 use Rattle.tighten_command.specs.declared.keeping.KeepError.TheVariants.{Memory}
 use Rattle.tighten_command.proofs.Reading.{listed_keep}

@@ -4,7 +4,7 @@ use Rattle.std.specs.declared.alloc.Global.{Global}
 use Rattle.command_answers.specs.Asking.{input_file}
 use Rattle.command_answers.proofs.Asking.{went_quiet}
 use Rattle.command_answers.proofs.FileCommands.{at_stop}
-use Rattle.questions.specs.declared.question.Question.{Question}
+use Rattle.question_types.specs.declared.question.Question.{Question}
 use Rattle.tighten_command.specs.KeepFiles.{IsKeepIn, IsKeepOf}
 use Rattle.tighten_command.specs.Said.{IsSaid}
 use Rattle.tighten_command.proofs.Prepared.{no_bytes, some_bytes}

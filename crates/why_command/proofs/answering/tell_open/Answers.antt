@@ -4,7 +4,6 @@ use Rattle.deciding_lines.specs.Tried.{tried_of}
 use Rattle.judge.specs.declared.answer.Verdict.TheVariants as verdict
 use Rattle.judge_command.specs.Answers.{Open}
 use Rattle.judge_command.specs.Report.{answer_lines}
-use Rattle.questions.specs.Meanings.{meant}
 use Rattle.report_text.specs.Answers.{call_line, verdict_line}
 use Rattle.why_command.specs.Prints.{TellsService}
 use Rattle.why_command.proofs.Told.{lists_it, maker_lists, maker_opens, maker_runs, maker_served, told_as, tells_open}

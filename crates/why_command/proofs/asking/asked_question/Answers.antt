@@ -1,5 +1,4 @@
 use Rattle.std.proofs.Common.{◌∙◌, ap, map, subst, sym}
-use Rattle.questions.specs.Meanings.{meant}
 use Rattle.question_text.specs.Printed.{Reads}
 use Rattle.why_command.specs.Asking.{or_refused, question_in, question_named}
 use Rattle.why_command.proofs.Named.{named, unnamed}

@@ -3,8 +3,7 @@ use Rattle.std.specs.Prelude.{IsErrOf}
 use Rattle.command_answers.specs.declared.stop.Stop.TheVariants.{ReadFault}
 use Rattle.command_answers.specs.Laws.{IsAdmitted, laws_over}
 use Rattle.command_answers.proofs.FileCommands.{at_stop}
-use Rattle.questions.specs.Meanings.{meant}
-use Rattle.questions.specs.declared.question.Question.{Question}
+use Rattle.question_types.specs.declared.question.Question.{Question}
 use Rattle.started_units.specs.Starting.{given}
 use Rattle.unit_inputs.specs.Asking.{input_asks}
 use Rattle.unit_inputs.specs.Inputs.{inputs_of, inputs_view}
@@ -31,12 +30,12 @@ returns-in_err-question-clause-reads_for_the_unit g c =
 pub answer-requires : goal.answer-requires
 answer-requires g c = record {
   can_be_tried =
-      listed_as c.deref.result.now c.deref-4.result.now c.deref-2.result.now c.deref-5.result.now (c.deref.ensures ∙ sym c.deref-4.ensures) (c.deref-2.ensures ∙ sym c.deref-5.ensures) (meant c.in_ok-question.question) c.in_ok-question.ensures.listed;
+      listed_as c.deref.result.now c.deref-4.result.now c.deref-2.result.now c.deref-5.result.now (c.deref.ensures ∙ sym c.deref-4.ensures) (c.deref-2.ensures ∙ sym c.deref-5.ensures) (c.in_ok-question.question) c.in_ok-question.ensures.listed;
 }
 
 pub returns-clause-prepares : goal.returns-clause-prepares
 returns-clause-prepares g c =
-    admitted_as (g.S.Shelf.told c.args.shelf.now) c.args.unit.now (map (λ word. word.now) c.args.words.now) c.in_ok-inputs.inputs c.in_ok-inputs.ensures.reads_by_the_files c.deref.result.now c.deref-2.result.now (meant c.in_ok-question.question) c.deref.ensures c.deref-2.ensures
+    admitted_as (g.S.Shelf.told c.args.shelf.now) c.args.unit.now (map (λ word. word.now) c.args.words.now) c.in_ok-inputs.inputs c.in_ok-inputs.ensures.reads_by_the_files c.deref.result.now c.deref-2.result.now (c.in_ok-question.question) c.deref.ensures c.deref-2.ensures
     c.in_ok-question.ensures.asks (given c.deref-3.result.now c.deref-4.result.now c.deref-5.result.now)
     (same_inputs (inputs_view c.in_ok-inputs.inputs) c.deref-3.result.now c.deref-4.result.now c.deref-5.result.now c.deref-3.ensures c.deref-4.ensures c.deref-5.ensures)
     c.answer.result c.answer.ensures.answers

@@ -1,6 +1,5 @@
 use Rattle.std.proofs.Common.{◌≡◌, ◌⊎◌, inl, inr, ap, arith}
-use Rattle.kernel_laws.specs.Reach.{Nowise, Unmounting}
-use Rattle.reach_paths.specs.Meanings.{meant_power, meant_wish}
+use Rattle.question_types.specs.declared.power.Power.TheVariants.{None as Nowise, Unmount as Unmounting}
 use Rattle.kern_mounts.specs.Mounts.{steps_of}
 use Rattle.open_calls.proofs.Leading.{below_proc, leads_by}
 use Rattle.open_calls.proofs.service.Service.exposing_path.Goals as goal
@@ -12,6 +11,6 @@ below_proc-requires c =
 
 pub shown_at-requires : goal.shown_at-requires
 shown_at-requires c =
-    let weak : (meant_power c.args.aim.now.power ≡ Nowise) ⊎ (meant_power c.args.aim.now.power ≡ Unmounting) = elim c.in-None.is [ inl e ↦ inl (ap meant_power e) | inr e ↦ inr (ap meant_power e) ] in
-    let x = leads_by c.args.self.now.world.now c.requires.served c.args.aim.now.row.now c.requires.aimed.known (meant_wish c.args.aim.now.wish) (meant_power c.args.aim.now.power) weak c.requires.aimed.reached (steps_of c.launched_table.result.now) c.args.aim.now.at c.launched_table.ensures.its_own c.requires.aimed.number in
+    let weak : (c.args.aim.now.power ≡ Nowise) ⊎ (c.args.aim.now.power ≡ Unmounting) = elim c.in-None.is [ inl e ↦ inl (ap e) | inr e ↦ inr (ap e) ] in
+    let x = leads_by c.args.self.now.world.now c.requires.served c.args.aim.now.row.now c.requires.aimed.known c.args.aim.now.wish c.args.aim.now.power weak c.requires.aimed.reached (steps_of c.launched_table.result.now) c.args.aim.now.at c.launched_table.ensures.its_own c.requires.aimed.number in
     record { in_range = x.in_range; leads = x.leads }

@@ -3,7 +3,6 @@ use Rattle.std.specs.Prelude.{OnOk}
 use Rattle.kernel_calls.specs.declared.call.Call.{Call}
 use Rattle.kernel_laws.specs.Launched.{launch_of}
 use Rattle.kernel_ways.proofs.Rows.{known_at}
-use Rattle.reach_paths.specs.Meanings.{meant_wish}
 use Rattle.open_calls.proofs.Listed.{row_is}
 use Rattle.open_calls.proofs.service.Service.push_path.Goals as goal
 
@@ -15,6 +14,6 @@ push_row-requires-clause-of_the_row c = c.leads_to.ensures.of_the_row (launch_of
 
 pub returns : goal.returns
 returns c =
-    let same = row_is (launch_of c.args.self.now.world.now) c.args.self.now.program.now c.args.at (meant_wish c.args.wish) c.in-Some.row.now (sym c.in-Some.ensures) in
+    let same = row_is (launch_of c.args.self.now.world.now) c.args.self.now.program.now c.args.at c.args.wish c.in-Some.row.now (sym c.in-Some.ensures) in
     let P : List Call → Type 0 = λ calls. OnOk c.push_row.result (c.push_row.new.calls.items ≡ c.args.calls.now.items ++ calls) in
     subst P same c.push_row.ensures

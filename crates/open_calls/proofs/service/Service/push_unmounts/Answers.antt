@@ -1,26 +1,25 @@
 use Rattle.std.proofs.Common.{sym, arith, refl, inr, subst, ◌≤◌, length}
 use Rattle.kern_mounts.specs.Split.{Table}
-use Rattle.kernel_laws.specs.Reach.{Unmounting}
-use Rattle.reach_paths.specs.Meanings.{meant_wish}
+use Rattle.question_types.specs.declared.power.Power.TheVariants.{Unmount as Unmounting}
 use Rattle.kern_mounts.specs.Mounts.{steps_of}
 use Rattle.open_calls.proofs.Leading.{leads_by}
 use Rattle.open_calls.proofs.service.Service.push_unmounts.Goals as goal
 
 pub shown_at-requires-clause-in_range : goal.shown_at-requires-clause-in_range
 shown_at-requires-clause-in_range c =
-    (leads_by c.args.self.now.world.now c.requires.served c.args.row.now c.requires.known (meant_wish c.args.wish) Unmounting (inr refl) c.requires.reached (steps_of c.launched_table-table.result.now) c.args.at c.launched_table-table.ensures.its_own c.requires.number).in_range
+    (leads_by c.args.self.now.world.now c.requires.served c.args.row.now c.requires.known c.args.wish Unmounting (inr refl) c.requires.reached (steps_of c.launched_table-table.result.now) c.args.at c.launched_table-table.ensures.its_own c.requires.number).in_range
 
 pub shown_at-requires-clause-leads : goal.shown_at-requires-clause-leads
 shown_at-requires-clause-leads c =
-    (leads_by c.args.self.now.world.now c.requires.served c.args.row.now c.requires.known (meant_wish c.args.wish) Unmounting (inr refl) c.requires.reached (steps_of c.launched_table-table.result.now) c.args.at c.launched_table-table.ensures.its_own c.requires.number).leads
+    (leads_by c.args.self.now.world.now c.requires.served c.args.row.now c.requires.known c.args.wish Unmounting (inr refl) c.requires.reached (steps_of c.launched_table-table.result.now) c.args.at c.launched_table-table.ensures.its_own c.requires.number).leads
 
 pub overflow_add-at : goal.overflow_add-at
 overflow_add-at c =
-    let x = leads_by c.args.self.now.world.now c.requires.served c.args.row.now c.requires.known (meant_wish c.args.wish) Unmounting (inr refl) c.requires.reached (steps_of c.launched_table-table.result.now) c.args.at c.launched_table-table.ensures.its_own c.requires.number in
+    let x = leads_by c.args.self.now.world.now c.requires.served c.args.row.now c.requires.known c.args.wish Unmounting (inr refl) c.requires.reached (steps_of c.launched_table-table.result.now) c.args.at c.launched_table-table.ensures.its_own c.requires.number in
     let few : length (steps_of c.launched_table-table.result.now) ≤ 161 = let P : Table → Type 0 = λ t. length t ≤ 161 in subst P (sym c.launched_table-table.ensures.its_own) c.requires.served.offers.plan.few in
     omega (arith, x.in_range, few)
 
 pub push_uncovering-requires : goal.push_uncovering-requires
 push_uncovering-requires c =
-    let x = leads_by c.args.self.now.world.now c.requires.served c.args.row.now c.requires.known (meant_wish c.args.wish) Unmounting (inr refl) c.requires.reached (steps_of c.launched_table-table.result.now) c.args.at c.launched_table-table.ensures.its_own c.requires.number in
+    let x = leads_by c.args.self.now.world.now c.requires.served c.args.row.now c.requires.known c.args.wish Unmounting (inr refl) c.requires.reached (steps_of c.launched_table-table.result.now) c.args.at c.launched_table-table.ensures.its_own c.requires.number in
     record { in_range = omega (arith, x.in_range) }
