@@ -1,3 +1,8 @@
+pub mod Sites
+pub mod Runs
+pub mod LaunchIsBlind
+pub mod ShownNothing
+pub mod Noninterference
 pub mod Asked
 pub mod PlainCaps
 pub mod Exposing

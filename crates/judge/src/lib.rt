@@ -1,5 +1,5 @@
 //! What a launched service can never do and never see: the verdict on each question that is asked of it, and whether it is blind to
-//! what lies below a folder.
+//! what lies below a folder, which it then cannot tell (`laws`).
 //!
 //! A question is denied or open, by the ceiling of the launched world and by the calls that its filters let through; what is
 //! denied is reached by no list of calls, of however many processes. It rests on `ceilings` for what processes can have, on
@@ -11,6 +11,7 @@ mod answer;
 mod blindness;
 mod ids;
 mod judging;
+pub mod laws;
 mod lines;
 mod open;
 mod rows;

@@ -15,8 +15,8 @@ ghost use Rattle.mount_plan.specs.Host.{host_of};
 ghost use Rattle.path_settings.specs.Mentions.{AreKept};
 ghost use Rattle.site_table.specs.Table.{IsSite, kind_at};
 ghost use Rattle.site_table.specs.declared.kinds.RowKind.TheVariants.{Dir};
-ghost use Rattle.alike_laws.specs.Alike.{IsAlike};
-ghost use Rattle.alike_laws.specs.Sites.{AgreeForUnit};
+ghost use Rattle.judge.specs.Alike.{IsAlike};
+ghost use Rattle.judge.specs.Sites.{AgreeForUnit};
 
 use abs_path::AbsPath;
 use call_table::CallTable;

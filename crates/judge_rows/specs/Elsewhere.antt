@@ -8,8 +8,8 @@ use Rattle.kernel_model.specs.World.{World}
 use Rattle.launcher.specs.Answers.{given_bytes, launch_with}
 use Rattle.launcher.specs.Launch.{Launched}
 use Rattle.launcher.specs.declared.launched.Launched.{Launched as Service}
-use Rattle.alike_laws.specs.Alike.{IsAlike}
-use Rattle.alike_laws.specs.Sites.{AgreeForUnit}
+use Rattle.judge.specs.Alike.{IsAlike}
+use Rattle.judge.specs.Sites.{AgreeForUnit}
 use Rattle.judge_rows.specs.declared.alike.asked.Asked.{Asked}
 
 -- a service that was launched with these programs is the same on the other site, where that agrees outside the folder

@@ -1,5 +1,5 @@
 use Rattle.std.proofs.Common.{◌≡◌, ℕ, List, ap, subst, ◌∙◌}
-use Rattle.alike_laws.specs.Alike.{IsAlike}
+use Rattle.judge.specs.Alike.{IsAlike}
 use Rattle.launcher.specs.Answers.{given_bytes, launch_with}
 use Rattle.judge_rows.proofs.alike.elsewhere.is_blind_at.Goals as goal
 

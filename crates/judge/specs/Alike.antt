@@ -20,8 +20,8 @@ use Rattle.mount_plan.specs.Answers.{Plans}
 use Rattle.mount_plan.specs.Host.{host_of}
 use Rattle.path_settings.specs.Mentions.{AreKept}
 use Rattle.site_table.specs.Table.{Site, IsSite}
-use Rattle.alike_laws.specs.Sites.{AgreeForUnit}
-use Rattle.alike_laws.specs.Worlds.{with_site}
+use Rattle.judge.specs.Sites.{AgreeForUnit}
+use Rattle.judge.specs.Worlds.{with_site}
 
 -- a service of the unit on the site: a table and a site that were read, the settings of the unit, whose paths are paths as they are
 -- kept, their plan, and a launch with the bytes of any programs, whether they match the filters or not, which ends in this world

@@ -17,7 +17,7 @@ use Rattle.mount_plan.specs.Host.{host_of}
 use Rattle.mount_plan.specs.Resting.{ShowsNothingOf}
 use Rattle.site_table.specs.Table.{Site}
 use Rattle.launcher.specs.Launch.{Wanted, Launched, launch}
-use Rattle.alike_laws.specs.Sites.{AgreeOutside}
+use Rattle.judge.specs.Sites.{AgreeOutside}
 
 -- the world on another site
 abbrev pub with_site : Site → World → World

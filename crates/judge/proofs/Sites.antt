@@ -9,7 +9,7 @@ use Rattle.mount_plan.specs.Resting.{AgreeButBelow}
 use Rattle.site_table.specs.Kinds.{is_dir}
 use Rattle.site_table.specs.declared.row.Row.{Row}
 use Rattle.site_table.specs.Table.{Site, row_at}
-use Rattle.alike_laws.specs.Sites.{rows_outside, AgreeOutside}
+use Rattle.judge.specs.Sites.{rows_outside, AgreeOutside}
 
 pub clash : (b : Bool) → b ≡ true → b ≡ false → ⊥
 clash b one other = cc

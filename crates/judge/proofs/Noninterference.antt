@@ -21,12 +21,12 @@ use Rattle.path_settings.specs.declared.mentions.Mention.{Mention}
 use Rattle.site_table.specs.Table.{Site}
 use Rattle.view_map.specs.Resting.{AreSameSources}
 use Rattle.view_map.proofs.Lists.{all_from_test, all_weaker}
-use Rattle.alike_laws.specs.Alike.{BlindToOthers}
-use Rattle.alike_laws.specs.Sites.{AgreeOutside}
-use Rattle.alike_laws.proofs.LaunchIsBlind.{has_plan, launch_is_blind}
-use Rattle.alike_laws.proofs.Runs.{replies_are_blind}
-use Rattle.alike_laws.proofs.ShownNothing.{blind_is_shown_nothing}
-use Rattle.alike_laws.proofs.Sites.{same_hosts}
+use Rattle.judge.specs.Alike.{BlindToOthers}
+use Rattle.judge.specs.Sites.{AgreeOutside}
+use Rattle.judge.proofs.LaunchIsBlind.{has_plan, launch_is_blind}
+use Rattle.judge.proofs.Runs.{replies_are_blind}
+use Rattle.judge.proofs.ShownNothing.{blind_is_shown_nothing}
+use Rattle.judge.proofs.Sites.{same_hosts}
 
 kept_normal : (mentions : List Mention) → AreKept mentions → AllByRecursion (λ mention. is_normal mention.path ≡ true) mentions
 kept_normal mentions kept =

@@ -1,7 +1,7 @@
-use Rattle.alike_laws.proofs.LaunchIsBlind.{launch_is_blind}
-use Rattle.alike_laws.proofs.Runs.{replies_are_blind}
-use Rattle.alike_laws.proofs.ShownNothing.{blind_is_shown_nothing}
-use Rattle.alike_laws.proofs.worlds_are_blind.Goals as goal
+use Rattle.judge.proofs.LaunchIsBlind.{launch_is_blind}
+use Rattle.judge.proofs.Runs.{replies_are_blind}
+use Rattle.judge.proofs.ShownNothing.{blind_is_shown_nothing}
+use Rattle.judge.proofs.laws.worlds_are_blind.Goals as goal
 
 pub returns-clause-replies : goal.returns-clause-replies
 returns-clause-replies c = replies_are_blind

@@ -16,8 +16,8 @@ use Rattle.kernel_laws.proofs.Exposed.{exposes_seen}
 use Rattle.kernel_laws.proofs.Reach.{none_any}
 use Rattle.kernel_model.specs.World.{table_of}
 use Rattle.mount_plan.specs.Resting.{ShowsNothingOf}
-use Rattle.alike_laws.specs.Worlds.{BlindIsShownNothing}
-use Rattle.alike_laws.proofs.Sites.{clash}
+use Rattle.judge.specs.Worlds.{BlindIsShownNothing}
+use Rattle.judge.proofs.Sites.{clash}
 
 -- where the folder itself is shown, so is what some name has below it
 itself_exposes : (folder : Path) (table : Table) (path : Path) → host_place table path ≡ Some folder → exposes false folder table ≡ true

@@ -31,8 +31,8 @@ use Rattle.launcher.proofs.Leading.{Leads, launched_leads, leads_parts, append_p
 use Rattle.launcher.proofs.Solo.{At}
 use Rattle.mount_plan.specs.Host.{host_of}
 use Rattle.view_map.proofs.Lists.{all_appended}
-use Rattle.alike_laws.specs.Worlds.{with_site, LaunchIsBlind}
-use Rattle.alike_laws.proofs.Runs.{FindsSame, PayloadSame, sited, step_sited, finds_same, not_shown, site_kept}
+use Rattle.judge.specs.Worlds.{with_site, LaunchIsBlind}
+use Rattle.judge.proofs.Runs.{FindsSame, PayloadSame, sited, step_sited, finds_same, not_shown, site_kept}
 
 -- ---- steps that are all done make a launch
 leads_launched : (world : World) (steps : List LaunchStep) (count : ℕ) (last : World) → Leads world steps last → launch_from world steps count ≡ Launched last (count + length steps)

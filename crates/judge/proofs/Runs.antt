@@ -46,9 +46,9 @@ use Rattle.kernel_model.specs.declared.reply.Reply.{Reply}
 use Rattle.kernel_model.specs.declared.reply.Reply.TheVariants as w
 use Rattle.kernel_model.proofs.Kernels.{told_stays}
 use Rattle.kernel_laws.specs.Denied.{Exposes}
-use Rattle.alike_laws.specs.Sites.{AgreeOutside}
-use Rattle.alike_laws.specs.Worlds.{with_site, RepliesAreBlind}
-use Rattle.alike_laws.proofs.Sites.{same_row}
+use Rattle.judge.specs.Sites.{AgreeOutside}
+use Rattle.judge.specs.Worlds.{with_site, RepliesAreBlind}
+use Rattle.judge.proofs.Sites.{same_row}
 
 module _ (site other : Site) where
   -- the path finds the same on both
