@@ -1,3 +1,4 @@
+pub mod RunTexts
 pub mod Steps
 pub mod Runs
 pub mod InOrder

@@ -1,3 +1,5 @@
+pub mod Lines
+pub mod Performed
 pub mod Scripts
 pub mod Texts
 pub mod Prepared

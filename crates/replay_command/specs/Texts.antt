@@ -6,7 +6,7 @@ use Rattle.command_answers.specs.declared.ending.Ending.{Ending}
 use Rattle.command_answers.specs.declared.ending.Ending.TheVariants.{Done, LaunchRefused}
 use Rattle.kernel_calls.specs.declared.call.Call.{Call}
 use Rattle.launcher.specs.declared.launched.Launched.{Launched as Service}
-use Rattle.replay.specs.Lines.{run_text}
+use Rattle.replay_command.specs.Lines.{run_text}
 use Rattle.report_text.specs.Launches.{launched_line}
 use Rattle.unit_launch.specs.Refusals.{refusal_line}
 use Rattle.unit_launch.specs.Told.{told_of}

@@ -3,11 +3,11 @@ ghost use Rattle.command_answers.specs.Printing.{HasWriteCause, TakesText};
 ghost use Rattle.replay_command.specs.Texts.{replay_text, service_text};
 
 use crate::lines::count_line;
+use crate::replaying::replay;
 use call_table::CallTable;
 use command_answers::put_line;
 use host_io::{Sink, SinkError};
 use launcher::Launched;
-use replay::replay;
 use report_text::launched_line;
 use script_text::Script;
 use std::alloc::Global;

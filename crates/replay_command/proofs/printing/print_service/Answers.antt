@@ -1,7 +1,7 @@
 use Rattle.std.proofs.Common.{◌≡◌, ◌++◌, Err, length, subst}
 use Rattle.std.specs.Prelude.{IfOk}
 use Rattle.command_answers.proofs.Texts.{text_at_error, text_cut, text_then}
-use Rattle.replay.specs.Lines.{run_text}
+use Rattle.replay_command.specs.Lines.{run_text}
 use Rattle.report_text.specs.Launches.{launched_line}
 use Rattle.unit_launch.specs.Told.{told_of}
 use Rattle.replay_command.specs.Texts.{count_line}

@@ -1,7 +1,7 @@
 use Rattle.std.proofs.Common.{arith, ◌∙◌}
 use Rattle.command_answers.proofs.Texts.{text_at_error}
-use Rattle.replay.proofs.Runs.{more_made, more_taken, performed_till, taken_till}
-use Rattle.replay.proofs.replaying.make_calls.Goals as goal
+use Rattle.replay_command.proofs.RunTexts.{more_made, more_taken, performed_till, taken_till}
+use Rattle.replay_command.proofs.replaying.make_calls.Goals as goal
 
 pub loop-call-preserved : goal.loop-call-preserved
 loop-call-preserved g c = record {

@@ -7,7 +7,7 @@ use Rattle.kernel_calls.specs.declared.call.Call.{Call}
 use Rattle.kernel_model.specs.Runs.{run}
 use Rattle.kernel_model.specs.Step.{step}
 use Rattle.kernel_model.specs.World.{World}
-use Rattle.replay.specs.Lines.{run_text}
+use Rattle.replay_command.specs.Lines.{run_text}
 
 -- the calls that were made are a front of the script: those whose lines the sink has taken whole, and at most one more, of
 -- whose line it has taken a front

@@ -13,8 +13,8 @@ use Rattle.kernel_calls.specs.declared.call.Call.{Call}
 use Rattle.kernel_model.specs.Runs.{moment_at, moments, run}
 use Rattle.kernel_model.specs.Step.{step}
 use Rattle.kernel_model.specs.World.{World}
-use Rattle.replay.specs.Lines.{moment_line, run_text}
-use Rattle.replay.specs.Performed.{IsCut, Makes, Performs}
+use Rattle.replay_command.specs.Lines.{moment_line, run_text}
+use Rattle.replay_command.specs.Performed.{IsCut, Makes, Performs}
 
 pub run_behind : (world : World) (some others : List Call) → run world (some ++ others) ≡ run (run world some) others
 run_behind world [] others = refl

@@ -2,8 +2,8 @@
 ghost use Rattle.std.specs.Prelude.{◌≡◌};
 ghost use Rattle.command_answers.specs.Printing.{HasWriteCause, TakesText};
 ghost use Rattle.kernel_model.specs.Runs.{moment_at};
-ghost use Rattle.replay.specs.Lines.{moment_line, run_text};
-ghost use Rattle.replay.specs.Performed.{Makes, Performs};
+ghost use Rattle.replay_command.specs.Lines.{moment_line, run_text};
+ghost use Rattle.replay_command.specs.Performed.{Makes, Performs};
 
 use crate::lines::call_line;
 use call_table::CallTable;

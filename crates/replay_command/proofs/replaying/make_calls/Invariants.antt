@@ -1,8 +1,8 @@
 use Rattle.std.proofs.Common.{◌≡◌, take}
 use Rattle.host_io.specs.Writing.{Grew}
 use Rattle.kernel_model.specs.Runs.{run}
-use Rattle.replay.specs.Lines.{run_text}
-use Rattle.replay.proofs.replaying.make_calls.Given as goal
+use Rattle.replay_command.specs.Lines.{run_text}
+use Rattle.replay_command.proofs.replaying.make_calls.Given as goal
 
 abbrev pub invariant-loop-call : goal.invariant-loop-call
 invariant-loop-call g l = record {
