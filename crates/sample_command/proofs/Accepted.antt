@@ -15,10 +15,10 @@ use Rattle.launched_units.specs.declared.refusal.UnitRefusal.TheVariants.{Settin
 use Rattle.mount_plan.specs.Host.{host_of}
 use Rattle.mount_plan.specs.declared.error.PlanError.{PlanError}
 use Rattle.mount_plan.specs.declared.error.PlanError.TheVariants as plan
-use Rattle.plain_launch.specs.EndsWell.{ArePlain, IsNeverRefused, PlainSettingsAreLaunched, ShowsProgram}
+use Rattle.sample_launch.specs.EndsWell.{ArePlain, IsNeverRefused, PlainSettingsAreLaunched, ShowsProgram}
 use Rattle.sample_inputs.specs.Facts.{HasSampleRows, SaysSample, plain_exe, program}
-use Rattle.sample_settings.specs.Planned.{FindsItsProgram, PathsAreNotRefused, ProgramsAreFound}
-use Rattle.sample_settings.specs.Settled.{AreSampleSettings, SettingsAreNotRefused, SettingsAreTheSamples}
+use Rattle.sample_launch.specs.Planned.{FindsItsProgram, PathsAreNotRefused, ProgramsAreFound}
+use Rattle.sample_launch.specs.Settled.{AreSampleSettings, SettingsAreNotRefused, SettingsAreTheSamples}
 use Rattle.site_table.specs.Table.{Site}
 use Rattle.unit_launch.specs.Launching.{IsRefused}
 use Rattle.unit_launch.specs.declared.refusal.LaunchRefusal.{LaunchRefusal}

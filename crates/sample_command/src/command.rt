@@ -8,8 +8,8 @@ use crate::launching::launch_sample;
 use crate::sampled::Sampled;
 use command_answers::Stop;
 use judge_command::truths;
-use plain_launch::launches_end_well;
 use sample_inputs::made;
+use sample_launch::launches_end_well;
 use std::alloc::Global;
 
 /// Prepares `sample` and a number from 0 to 999: makes the inputs, settles, plans and launches the unit, asks every question of the
@@ -21,8 +21,8 @@ pub fn prepare(alloc: Global, number: u32) -> Result<Sampled, Stop>
 {
     // Why the answers are true, and why nothing is refused.
     truths();
-    sample_settings::settings();
-    sample_settings::plan();
+    sample_launch::settings();
+    sample_launch::plan();
     launches_end_well();
     let inputs = made(alloc, number)?;
     inputs.calls.look_at();

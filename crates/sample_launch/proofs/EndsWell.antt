@@ -24,10 +24,10 @@ use Rattle.cap_sets.proofs.Members.{within_through}
 use Rattle.mount_plan.specs.Host.{host_of}
 use Rattle.site_table.specs.Kinds.{is_exe}
 use Rattle.site_table.specs.Table.{Site, row_at}
-use Rattle.plain_launch.specs.EndsWell.{ShowsProgram, IsPlain, PlainLaunchEndsWell, ArePlain, IsNeverRefused, PlainSettingsAreLaunched}
-use Rattle.plain_launch.proofs.Going.{goes_on, leads_append, leads_launch}
-use Rattle.plain_launch.proofs.Made.{goes_mounts, runs_program}
-use Rattle.plain_launch.proofs.Launching.{Root, Any, goes_identity}
+use Rattle.sample_launch.specs.EndsWell.{ShowsProgram, IsPlain, PlainLaunchEndsWell, ArePlain, IsNeverRefused, PlainSettingsAreLaunched}
+use Rattle.sample_launch.proofs.Going.{goes_on, leads_append, leads_launch}
+use Rattle.sample_launch.proofs.Made.{goes_mounts, runs_program}
+use Rattle.sample_launch.proofs.Launching.{Root, Any, goes_identity}
 use Rattle.launcher.proofs.Solo.{At}
 use Rattle.launcher.proofs.LaunchCreds.{IsReady}
 

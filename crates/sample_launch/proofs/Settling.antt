@@ -51,10 +51,10 @@ use Rattle.unit_values.specs.Listed.{unit_listed}
 use Rattle.unit_values.specs.Words.{unit_words}
 use Rattle.filter_settings.proofs.Joined.{made}
 use Rattle.sample_inputs.specs.Facts.{program}
-use Rattle.sample_settings.specs.Mentions.{sample_mentions}
-use Rattle.sample_settings.specs.Settled.{AreSampleSettings, SettingsAreNotRefused, SettingsAreTheSamples}
-use Rattle.sample_settings.proofs.Turns.{same_half}
-use Rattle.sample_settings.proofs.Alike.{below_four, site_by, same_mentions, same_twice, site_is, turn_below, unit_by, unit_is}
+use Rattle.sample_launch.specs.Mentions.{sample_mentions}
+use Rattle.sample_launch.specs.Settled.{AreSampleSettings, SettingsAreNotRefused, SettingsAreTheSamples}
+use Rattle.sample_launch.proofs.Turns.{same_half}
+use Rattle.sample_launch.proofs.Alike.{below_four, site_by, same_mentions, same_twice, site_is, turn_below, unit_by, unit_is}
 
 -- the user of a sample, with no further groups
 abbrev app : Identity

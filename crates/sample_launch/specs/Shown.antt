@@ -15,7 +15,7 @@ use Rattle.site_table.specs.Table.{Site, row_at}
 use Rattle.view_map.specs.Kept.{KeepsByRules}
 use Rattle.view_map.specs.Object.{on_host, object_at}
 use Rattle.view_map.specs.View.{is_no_exec}
-use Rattle.plain_launch.specs.EndsWell.{ShowsProgram}
+use Rattle.sample_launch.specs.EndsWell.{ShowsProgram}
 
 -- the row is an executable file without set-id bits and capabilities
 pub record IsPlainProgram (program : Row) : Type 0 where

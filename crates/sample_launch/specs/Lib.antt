@@ -1,3 +1,5 @@
+pub mod EndsWell
+pub mod Shown
 pub mod Mentions
 pub mod Settled
 pub mod Planned

@@ -5,3 +5,7 @@ pub mod Launching
 pub mod EndsWell
 pub mod PlainSettings
 pub mod Shown
+pub mod Turns
+pub mod Alike
+pub mod Settling
+pub mod Plans

@@ -1,5 +1,5 @@
-use Rattle.plain_launch.proofs.Shown.{shown_by_the_view, shown_beside_mentions}
-use Rattle.plain_launch.proofs.programs_are_shown.Goals as goal
+use Rattle.sample_launch.proofs.Shown.{shown_by_the_view, shown_beside_mentions}
+use Rattle.sample_launch.proofs.programs_are_shown.Goals as goal
 
 pub returns-clause-by_the_view : goal.returns-clause-by_the_view
 returns-clause-by_the_view c = shown_by_the_view

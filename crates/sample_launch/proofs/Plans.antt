@@ -24,10 +24,10 @@ use Rattle.view_map.specs.Resting.{AreSame, AreSameSources}
 use Rattle.view_map.proofs.Resting.{kept_rests}
 use Rattle.mount_plan.proofs.Resting.{plan_rests}
 use Rattle.sample_inputs.specs.Facts.{HasSampleRows, SaysSample, folder, program}
-use Rattle.sample_settings.specs.Mentions.{folder_mentions_by, sample_mentions}
-use Rattle.sample_settings.specs.Planned.{FindsItsProgram, PathsAreNotRefused, ProgramsAreFound, whole_host}
-use Rattle.sample_settings.proofs.Settling.{mentioned}
-use Rattle.sample_settings.proofs.Alike.{below_four, turn_below, unit_is}
+use Rattle.sample_launch.specs.Mentions.{folder_mentions_by, sample_mentions}
+use Rattle.sample_launch.specs.Planned.{FindsItsProgram, PathsAreNotRefused, ProgramsAreFound, whole_host}
+use Rattle.sample_launch.proofs.Settling.{mentioned}
+use Rattle.sample_launch.proofs.Alike.{below_four, turn_below, unit_is}
 
 -- the folders of which something is said, in byte order
 abbrev ordered : List ℕ

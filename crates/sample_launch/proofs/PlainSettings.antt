@@ -5,7 +5,7 @@ use Rattle.cap_sets.specs.Sets.{none, all, IsWithin}
 use Rattle.cap_sets.proofs.Members.{none_within, within_self}
 use Rattle.exec_settings.specs.declared.service.Settings.{Settings}
 use Rattle.linux_numbers.specs.Limits.{ngroups_max, no_id}
-use Rattle.plain_launch.specs.EndsWell.{ArePlain}
+use Rattle.sample_launch.specs.EndsWell.{ArePlain}
 
 pub plain_settings : (settings : Settings) → settings.filters.items ≡ [] → settings.uid < no_id → length settings.groups ≤ ngroups_max
     → settings.bounding ≡ all → settings.ambient ≡ none → ArePlain settings

@@ -28,10 +28,10 @@ use Rattle.launcher.proofs.Leading.{clash}
 use Rattle.launcher.proofs.Solo.{At, weaker}
 use Rattle.linux_numbers.specs.Limits.{no_id}
 use Rattle.site_table.specs.Table.{Site}
-use Rattle.plain_launch.specs.EndsWell.{IsPlain}
-use Rattle.plain_launch.proofs.Going.{Goes, stays, goes_on, goes_each}
-use Rattle.plain_launch.proofs.Granted.{full, groups_granted, gids_granted, uids_granted, drop_granted, still_within, sets_granted, raise_granted}
-use Rattle.plain_launch.proofs.Made.{goes_creds}
+use Rattle.sample_launch.specs.EndsWell.{IsPlain}
+use Rattle.sample_launch.proofs.Going.{Goes, stays, goes_on, goes_each}
+use Rattle.sample_launch.proofs.Granted.{full, groups_granted, gids_granted, uids_granted, drop_granted, still_within, sets_granted, raise_granted}
+use Rattle.sample_launch.proofs.Made.{goes_creds}
 
 -- what is counted is below the end, and what a filter leaves has what it asks for
 counted_below : (from count : ℕ) → from + count ≤ 41 → AllByRecursion (λ n. n < 41) (count_from from count)

@@ -6,8 +6,8 @@ use Rattle.site_table.specs.Table.{Site}
 use Rattle.sample_inputs.specs.Facts.{HasSampleRows, SaysSample, folder, site_account_groups, site_accounts}
 use Rattle.sample_inputs.specs.Unit.{unit_path, unit_said}
 use Rattle.sample_inputs.specs.Site.{numbers_from}
-use Rattle.sample_settings.specs.Mentions.{folder_mentions_by, sample_mentions}
-use Rattle.sample_settings.proofs.Turns.{same_said, same_turn}
+use Rattle.sample_launch.specs.Mentions.{folder_mentions_by, sample_mentions}
+use Rattle.sample_launch.proofs.Turns.{same_said, same_turn}
 
 abbrev pub unit_by : Resolved → ℕ → Resolved
 unit_by unit m = record unit { files = record { path = unit_path; text = unit_said m } ∷ [] }

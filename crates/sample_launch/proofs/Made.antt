@@ -40,9 +40,9 @@ use Rattle.launcher.proofs.MountSteps.{plan_mounted}
 use Rattle.launcher.proofs.Solo.{At, solo, only, own_table}
 use Rattle.linux_numbers.specs.Errnos.{eacces}
 use Rattle.site_table.specs.Table.{Site, row_at}
-use Rattle.plain_launch.specs.EndsWell.{ShowsProgram}
-use Rattle.plain_launch.proofs.Going.{Goes, goes_once}
-use Rattle.plain_launch.proofs.Granted.{full, exec_granted}
+use Rattle.sample_launch.specs.EndsWell.{ShowsProgram}
+use Rattle.sample_launch.proofs.Going.{Goes, goes_once}
+use Rattle.sample_launch.proofs.Granted.{full, exec_granted}
 
 module _ (table : calls.Table) (site : Site) where
   passes : (creds : Creds) (namespace : ℕ) (tables : List MountList) (nr : ℕ) (args : List ℕ) (payload : Payload) (rule' : Rule) (doing : Doing)

@@ -20,7 +20,7 @@ use Rattle.site_table.specs.Table.{row_at}
 use Rattle.view_map.proofs.Lists.{all_enumerated}
 use Rattle.view_map.specs.Object.{Object, on_host, object_at, object_from}
 use Rattle.view_map.specs.View.{is_read_only, is_no_exec, leading_to, longest, prevails, says_exec, says_no_exec}
-use Rattle.plain_launch.specs.Shown.{ShownByTheView, AreElsewhere, ShownBesideMentions}
+use Rattle.sample_launch.specs.Shown.{ShownByTheView, AreElsewhere, ShownBesideMentions}
 
 -- what an entry of the host's shows
 host_shown : (rows : Path → Option Row) (what' : What) (own path place : Path) (program : Row) → shown_by what' own path ≡ on_host place → rows place ≡ Some program → found_by rows what' own path ≡ row program

@@ -9,7 +9,7 @@ use Rattle.exec_settings.specs.Refusals.{refusal_of}
 use Rattle.exec_settings.specs.declared.service.Settings.{Settings}
 use Rattle.site_table.specs.Table.{Site}
 use Rattle.sample_inputs.specs.Facts.{HasSampleRows, SaysSample, program}
-use Rattle.sample_settings.specs.Mentions.{sample_mentions}
+use Rattle.sample_launch.specs.Mentions.{sample_mentions}
 
 pub record AreSampleSettings (n : ℕ) (made : Settings) : Type 0 where
   pub launches : made.program ≡ program

@@ -1,5 +1,5 @@
-use Rattle.plain_launch.proofs.EndsWell.{plain_launch_ends_well, plain_settings_are_launched}
-use Rattle.plain_launch.proofs.launches_end_well.Goals as goal
+use Rattle.sample_launch.proofs.EndsWell.{plain_launch_ends_well, plain_settings_are_launched}
+use Rattle.sample_launch.proofs.launches_end_well.Goals as goal
 
 pub returns-clause-ends_well : goal.returns-clause-ends_well
 returns-clause-ends_well c = plain_launch_ends_well

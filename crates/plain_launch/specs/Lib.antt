@@ -1,2 +1,0 @@
-pub mod EndsWell
-pub mod Shown

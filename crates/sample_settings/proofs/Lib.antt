@@ -1,4 +1,0 @@
-pub mod Turns
-pub mod Alike
-pub mod Settling
-pub mod Plans
