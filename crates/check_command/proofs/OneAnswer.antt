@@ -17,7 +17,7 @@ use Rattle.unit_inputs.specs.CallsRefusals.{calls_in}
 use Rattle.unit_inputs.specs.Inputs.{Inputs, all_three, input_refusals, inputs_of}
 use Rattle.unit_inputs.specs.SiteRefusals.{site_in}
 use Rattle.unit_inputs.specs.UnitRefusals.{unit_in}
-use Rattle.unit_settings.specs.Settled.{refusals_of}
+use Rattle.unit_inputs.specs.Settled.{refusals_of}
 use Rattle.check_command.specs.Answers.{OneAnswer, compared, refused_before}
 use Rattle.check_command.specs.Causes.{check_line, file_line}
 use Rattle.check_command.specs.Comparing.{Compares, ComparesNamed, is_compared, is_on, not_compared, not_on, wanted_word}

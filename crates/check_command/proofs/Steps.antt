@@ -9,8 +9,8 @@ use Rattle.command_answers.specs.declared.stop.Stop.TheVariants as stop
 use Rattle.unit_inputs.specs.FileRefusals.{bytes_in}
 use Rattle.unit_inputs.specs.Inputs.{input_refusals, inputs_of, inputs_view}
 use Rattle.unit_inputs.specs.declared.inputs.UnitInputs.{UnitInputs}
-use Rattle.unit_settings.specs.Settled.{refusals_of}
-use Rattle.unit_settings.specs.declared.settling.SettledUnit.{SettledUnit}
+use Rattle.unit_inputs.specs.Settled.{refusals_of}
+use Rattle.unit_inputs.specs.declared.settling.SettledUnit.{SettledUnit}
 use Rattle.check_command.specs.Prepared.{AreReady, IsPrepared, a_setting, an_input, the_file}
 use Rattle.check_command.specs.Programs.{IsProgramIn, IsProgramOf, no_file, of_file}
 use Rattle.check_command.specs.Said.{IsSaid}

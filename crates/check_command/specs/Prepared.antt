@@ -6,7 +6,7 @@ use Rattle.command_answers.specs.Stops.{first_refusal}
 use Rattle.command_answers.specs.declared.stop.Stop.{Stop}
 use Rattle.command_answers.specs.declared.stop.Stop.TheVariants as stop
 use Rattle.unit_inputs.specs.Inputs.{Inputs, input_refusals, inputs_of, inputs_view}
-use Rattle.unit_settings.specs.Settled.{refusals_of}
+use Rattle.unit_inputs.specs.Settled.{refusals_of}
 use Rattle.check_command.specs.Programs.{IsProgramIn}
 use Rattle.check_command.specs.declared.preparing.Prepared.{Prepared}
 

@@ -3,7 +3,7 @@ ghost use Rattle.std.specs.Prelude.{◌≡◌, IfOk, IsErrOf};
 ghost use Rattle.call_rules.specs.Sizes.{CanCompile};
 ghost use Rattle.exec_settings.specs.Dynamic.{unit_filters};
 ghost use Rattle.filter_check.specs.Finding.{wanted_by};
-ghost use Rattle.unit_settings.specs.Settled.{AreSettled};
+ghost use Rattle.unit_inputs.specs.Settled.{AreSettled};
 ghost use Rattle.check_command.specs.Causes.{check_cause, check_line, no_filter_line};
 ghost use Rattle.check_command.specs.Comparing.{Compares, ComparesNamed};
 ghost use Rattle.check_command.specs.Prepared.{inputs_in};

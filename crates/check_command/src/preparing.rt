@@ -3,7 +3,7 @@ ghost use Rattle.std.specs.Prelude.{IfOk, IfSome};
 ghost use Rattle.command_answers.specs.Asking.{course};
 ghost use Rattle.unit_inputs.specs.Asking.{AsksInOrder, asks_with_file};
 ghost use Rattle.unit_inputs.specs.ReadsFor.{ReadsFor};
-ghost use Rattle.unit_settings.specs.Settled.{AreSettled};
+ghost use Rattle.unit_inputs.specs.Settled.{AreSettled};
 ghost use Rattle.check_command.specs.Prepared.{IsPrepared, inputs_in};
 
 use crate::programs::read_program;
@@ -11,8 +11,7 @@ use bpf_code::Program;
 use command_answers::Stop;
 use host_io::Shelf;
 use std::alloc::Global;
-use unit_inputs::read_inputs;
-use unit_settings::{SettledUnit, settle};
+use unit_inputs::{SettledUnit, read_inputs, settle};
 
 /// All that a comparison is made from.
 #[derive(Drop)]

@@ -36,9 +36,9 @@ use Rattle.unit_names.specs.Cutting.{name_of}
 use Rattle.unit_inputs.specs.declared.inputs.UnitInputs.{UnitInputs}
 use Rattle.unit_launch.specs.Refusals.{refusal_line}
 use Rattle.unit_launch.specs.declared.refusal.LaunchRefusal.{LaunchRefusal}
-use Rattle.unit_settings.specs.Refusals.{settings_line}
-use Rattle.unit_settings.specs.Settled.{refusals_by}
-use Rattle.unit_settings.proofs.Steps.{refusals_with}
+use Rattle.unit_inputs.specs.SettingsRefusals.{settings_line}
+use Rattle.unit_inputs.specs.Settled.{refusals_by}
+use Rattle.unit_inputs.proofs.Steps.{refusals_with}
 use Rattle.derive_command.specs.Prints.{PrintsAnswer, PrintsDerived, derived, refused, derive_laws, ending_of, text_of}
 use Rattle.dropin_merge.specs.declared.resolved.Resolved.{Resolved}
 use Rattle.site_table.specs.Table.{Site}

@@ -12,7 +12,7 @@ use Rattle.started_units.specs.Starting.{start_refusals}
 use Rattle.trace_profile.specs.Extended.{open_unit}
 use Rattle.trace_profile.specs.Scripts.{first_seccomp}
 use Rattle.unit_inputs.specs.Inputs.{Inputs, input_refusals, inputs_of}
-use Rattle.unit_settings.specs.Settled.{refusals_by}
+use Rattle.unit_inputs.specs.Settled.{refusals_by}
 
 -- the first call, from 1, that asks to push a program, seccomp(2)
 abbrev pub seccomp_cause : ℕ → List ℕ

@@ -15,7 +15,7 @@ use Rattle.trace_profile.specs.declared.derived.DeriveError.TheVariants.{Seccomp
 use Rattle.unit_inputs.specs.Inputs.{Inputs}
 use Rattle.unit_launch.specs.Refusals.{refusal_line}
 use Rattle.unit_launch.specs.declared.refusal.LaunchRefusal.{LaunchRefusal}
-use Rattle.unit_settings.specs.Refusals.{settings_line}
+use Rattle.unit_inputs.specs.SettingsRefusals.{settings_line}
 use Rattle.derive_command.specs.Refusals.{seccomp_line}
 use Rattle.derive_command.specs.declared.answering.Allowing.{Allowing}
 

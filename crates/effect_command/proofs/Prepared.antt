@@ -24,8 +24,8 @@ use Rattle.unit_inputs.specs.declared.inputs.UnitInputs.{UnitInputs}
 use Rattle.unit_launch.specs.declared.launching.UnitLaunch.{UnitLaunch}
 use Rattle.unit_launch.specs.declared.launching.UnitLaunch.TheVariants.{Launched, Refused}
 use Rattle.unit_names.specs.Cutting.{name_of}
-use Rattle.unit_settings.specs.Settled.{refusals_by}
-use Rattle.unit_settings.proofs.Steps.{refusals_with}
+use Rattle.unit_inputs.specs.Settled.{refusals_by}
+use Rattle.unit_inputs.proofs.Steps.{refusals_with}
 use Rattle.effect_command.specs.Lines.{with_line}
 use Rattle.started_units.specs.Starting.{StartsAs, first_start, given, start_refusals}
 use Rattle.effect_command.specs.Longer.{dropin_in, longer_unit, with_dropin}

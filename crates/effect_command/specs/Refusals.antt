@@ -4,7 +4,7 @@ use Rattle.host_io.specs.Files.{Files}
 use Rattle.started_units.specs.Starting.{first_start}
 use Rattle.unit_grammar.specs.declared.unit.UnitText.{UnitText}
 use Rattle.unit_inputs.specs.Inputs.{Inputs, input_refusals, inputs_of}
-use Rattle.unit_settings.specs.Settled.{refusals_by}
+use Rattle.unit_inputs.specs.Settled.{refusals_by}
 use Rattle.effect_command.specs.Lines.{with_line}
 use Rattle.effect_command.specs.Longer.{dropin_in, with_dropin}
 

@@ -12,8 +12,8 @@ use Rattle.command_answers.specs.declared.stop.Stop.{Stop}
 use Rattle.command_answers.specs.declared.stop.Stop.TheVariants as stop
 use Rattle.command_answers.proofs.FileCommands.{go_together, ready_is_admitted}
 use Rattle.unit_inputs.specs.Inputs.{inputs_of, inputs_view}
-use Rattle.unit_settings.specs.Settled.{AreSettled, unit_refusals}
-use Rattle.unit_settings.specs.declared.settling.SettledUnit.{SettledUnit}
+use Rattle.unit_inputs.specs.Settled.{AreSettled, unit_refusals}
+use Rattle.unit_inputs.specs.declared.settling.SettledUnit.{SettledUnit}
 use Rattle.filter_command.specs.declared.command.Filters.{Filters}
 use Rattle.filter_command.specs.declared.compiled.Compiled.{Compiled}
 use Rattle.filter_command.specs.Compiled.{AreCompiled, AreFilters}

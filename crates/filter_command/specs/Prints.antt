@@ -7,7 +7,7 @@ use Rattle.command_answers.specs.declared.ending.Ending.{Ending}
 use Rattle.command_answers.specs.declared.ending.Ending.TheVariants.{Done}
 use Rattle.unit_inputs.specs.Inputs.{Inputs, inputs_of}
 use Rattle.unit_names.specs.Cutting.{name_of}
-use Rattle.unit_settings.specs.Settled.{unit_refusals}
+use Rattle.unit_inputs.specs.Settled.{unit_refusals}
 use Rattle.filter_command.specs.declared.command.Filters.{Filters}
 use Rattle.filter_command.specs.declared.compiled.Compiled.{Compiled}
 use Rattle.filter_command.specs.Compiled.{AreFilters}

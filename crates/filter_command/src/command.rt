@@ -17,7 +17,7 @@ use command_answers::{Ending, Ready, Stop, put_line};
 use filter_rules::Filter;
 use host_io::{Shelf, Sink, SinkError};
 use std::alloc::Global;
-use unit_settings::settle_unit;
+use unit_inputs::settle_unit;
 
 /// The compiled filters of a unit, ready to be printed.
 #[derive(Drop)]

@@ -1,7 +1,7 @@
 //! The command `filter`: the compiled filters of a unit, as text.
 //!
 //! The settings are taken from the files, and each filter that is on is compiled; then the programs are printed, or the
-//! line of the first refusal. It stands on `unit_settings` and `seccomp_compile`.
+//! line of the first refusal. It stands on `unit_inputs` and `seccomp_compile`.
 //!
 //! `prepare(alloc, &mut shelf, "web.service")?` has the programs, and `print` puts their lines.
 #![tactic(auto)]

@@ -4,7 +4,7 @@ use Rattle.std.specs.Fmt.{decimal}
 use Rattle.text_forms.specs.Escaped.{escaped_word}
 use Rattle.unit_names.specs.Names.{text_of}
 use Rattle.unit_inputs.specs.UnitRefusals.{unit_line}
-use Rattle.unit_settings.specs.Refusals.{settings_line}
+use Rattle.unit_inputs.specs.SettingsRefusals.{settings_line}
 use Rattle.fleet_report.specs.declared.rows.FleetOutcome.{FleetOutcome}
 use Rattle.fleet_report.specs.declared.rows.FleetOutcome.TheVariants.{Scored, Unresolved, Unset}
 use Rattle.fleet_report.specs.declared.rows.FleetRow.{FleetRow}

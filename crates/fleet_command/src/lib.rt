@@ -2,7 +2,7 @@
 //!
 //! The units are named, the tables and the policy are read, and each unit is scored by itself; a refused unit is a line of the
 //! text and refuses nothing. It stands on `fleet_names` for the names, on `unit_inputs` and `score_command` for the tables and
-//! the policy, on `fleet_report` for the rows, and on `unit_inputs` and `unit_settings` for the lines of refused units.
+//! the policy, on `fleet_report` for the rows, and on `unit_inputs` for the lines of refused units.
 //!
 //! `prepare(alloc, &mut shelf, "policy.json", &tests)?` has the rows, and `print` puts their lines.
 #![tactic(auto)]

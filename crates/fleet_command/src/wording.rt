@@ -5,8 +5,7 @@ ghost use Rattle.fleet_command.specs.Texts.{counts_line, exposure_line, is_refus
 use fleet_report::{FleetOutcome, FleetRow};
 use std::alloc::{AllocError, Global};
 use text_forms::push_word;
-use unit_inputs::unit_line;
-use unit_settings::settings_line;
+use unit_inputs::{settings_line, unit_line};
 
 // The line of a unit that is scored.
 fn exposure_line(alloc: Global, unit: &str, exposure: u32) -> Result<Vec<u8>, AllocError>

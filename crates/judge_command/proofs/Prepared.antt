@@ -12,8 +12,8 @@ use Rattle.command_answers.specs.declared.stop.Stop.{Stop}
 use Rattle.command_answers.specs.declared.stop.Stop.TheVariants as stop
 use Rattle.site_table.specs.Table.{Site}
 use Rattle.unit_inputs.specs.Inputs.{inputs_of, inputs_view}
-use Rattle.unit_settings.specs.Settled.{AreSettled, unit_refusals}
-use Rattle.unit_settings.specs.declared.settling.SettledUnit.{SettledUnit}
+use Rattle.unit_inputs.specs.Settled.{AreSettled, unit_refusals}
+use Rattle.unit_inputs.specs.declared.settling.SettledUnit.{SettledUnit}
 use Rattle.plan_command.specs.Planned.{IsPlan, path_refusals}
 use Rattle.plan_command.specs.Prints.{plan_refusals}
 use Rattle.plan_command.proofs.Prepared.{at_paths, refused_as, refused_before}

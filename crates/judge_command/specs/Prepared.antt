@@ -7,8 +7,8 @@ use Rattle.mount_plan.specs.Host.{host_of}
 use Rattle.exec_settings.specs.Mounts.{unit_mentions}
 use Rattle.exec_settings.specs.declared.service.Settings.{Settings}
 use Rattle.unit_inputs.specs.Inputs.{Inputs, inputs_of, inputs_view}
-use Rattle.unit_settings.specs.Settled.{AreSettled}
-use Rattle.unit_settings.specs.declared.settling.SettledUnit.{SettledUnit}
+use Rattle.unit_inputs.specs.Settled.{AreSettled}
+use Rattle.unit_inputs.specs.declared.settling.SettledUnit.{SettledUnit}
 use Rattle.plan_command.specs.Planned.{IsPlan}
 use Rattle.judge_command.specs.declared.preparing.Prepared.{Prepared}
 

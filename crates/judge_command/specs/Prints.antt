@@ -14,7 +14,7 @@ use Rattle.command_answers.specs.declared.ending.Ending.TheVariants.{Done, Launc
 use Rattle.launcher.specs.declared.launched.Launched.{Launched as Service}
 use Rattle.unit_inputs.specs.Inputs.{Inputs, inputs_of}
 use Rattle.unit_names.specs.Cutting.{name_of}
-use Rattle.unit_settings.specs.Settled.{AreSettled}
+use Rattle.unit_inputs.specs.Settled.{AreSettled}
 use Rattle.unit_launch.specs.Launching.{ComesTo}
 use Rattle.unit_launch.specs.Refusals.{refusal_line}
 use Rattle.unit_launch.specs.Told.{told_of}

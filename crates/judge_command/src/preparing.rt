@@ -12,7 +12,7 @@ use host_io::Shelf;
 use mount_plan::MountSteps;
 use plan_command::plan_mounts;
 use std::alloc::Global;
-use unit_settings::{SettledUnit, settle_unit};
+use unit_inputs::{SettledUnit, settle_unit};
 
 /// All that a report starts with.
 #[derive(Drop)]

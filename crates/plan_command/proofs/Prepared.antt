@@ -15,9 +15,9 @@ use Rattle.command_answers.proofs.FileCommands.{go_together, ready_is_admitted, 
 use Rattle.command_answers.proofs.Refusing.{stops_as, stops_before}
 use Rattle.site_table.specs.Table.{Site}
 use Rattle.unit_inputs.specs.Inputs.{inputs_of, inputs_view}
-use Rattle.unit_settings.specs.Settled.{refusals_by, unit_refusals}
-use Rattle.unit_settings.specs.declared.settling.SettledUnit.{SettledUnit}
-use Rattle.unit_settings.proofs.Steps.{refusals_with}
+use Rattle.unit_inputs.specs.Settled.{refusals_by, unit_refusals}
+use Rattle.unit_inputs.specs.declared.settling.SettledUnit.{SettledUnit}
+use Rattle.unit_inputs.proofs.Steps.{refusals_with}
 use Rattle.plan_command.specs.declared.command.Mounts.{Mounts}
 use Rattle.plan_command.specs.Lines.{text_of}
 use Rattle.plan_command.specs.Planned.{IsPlan, path_refusals}

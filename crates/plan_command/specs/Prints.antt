@@ -9,7 +9,7 @@ use Rattle.command_answers.specs.declared.ending.Ending.{Ending}
 use Rattle.command_answers.specs.declared.ending.Ending.TheVariants.{Done}
 use Rattle.unit_inputs.specs.Inputs.{Inputs, inputs_of}
 use Rattle.unit_names.specs.Cutting.{name_of}
-use Rattle.unit_settings.specs.Settled.{refusals_by, unit_refusals}
+use Rattle.unit_inputs.specs.Settled.{refusals_by, unit_refusals}
 use Rattle.plan_command.specs.declared.command.Mounts.{Mounts}
 use Rattle.plan_command.specs.Lines.{text_of}
 use Rattle.plan_command.specs.Planned.{IsPlan, path_refusals}

@@ -12,7 +12,7 @@ use command_answers::{Ending, Ready, Stop, put_line};
 use host_io::{Shelf, Sink, SinkError};
 use mount_plan::MountSteps;
 use std::alloc::Global;
-use unit_settings::settle_unit;
+use unit_inputs::settle_unit;
 
 /// The mounts of a unit, ready to be printed.
 #[derive(Drop)]

@@ -1,7 +1,7 @@
 //! The command `plan`: the mounts of a unit, as text.
 //!
 //! The settings of the unit are taken from its inputs, and the mounts that give the service its view are planned; then the
-//! plan is printed, or the line of the first refusal. It stands on `unit_settings` and `mount_plan`.
+//! plan is printed, or the line of the first refusal. It stands on `unit_inputs` and `mount_plan`.
 //!
 //! `prepare(alloc, &mut shelf, "web.service")?` has the mounts, and `print` puts their lines.
 #![tactic(auto)]

@@ -17,9 +17,9 @@ use Rattle.command_answers.proofs.Refusing.{behind_none, passes, stops, stops_as
 use Rattle.site_table.specs.Table.{Site}
 use Rattle.unit_inputs.specs.Inputs.{input_refusals, inputs_of, inputs_view}
 use Rattle.unit_inputs.specs.declared.inputs.UnitInputs.{UnitInputs}
-use Rattle.unit_settings.specs.Settled.{AreSettled, refusals_by, refusals_of}
-use Rattle.unit_settings.specs.declared.settling.SettledUnit.{SettledUnit}
-use Rattle.unit_settings.proofs.Steps.{refusals_with}
+use Rattle.unit_inputs.specs.Settled.{AreSettled, refusals_by, refusals_of}
+use Rattle.unit_inputs.specs.declared.settling.SettledUnit.{SettledUnit}
+use Rattle.unit_inputs.proofs.Steps.{refusals_with}
 use Rattle.plan_command.specs.Planned.{IsPlan, path_refusals}
 use Rattle.plan_command.specs.Prints.{refused_paths}
 use Rattle.replay_command.specs.Prepared.{CanBeStarted, IsPrepared, refusals_behind, replay_refusals}

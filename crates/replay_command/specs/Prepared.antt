@@ -7,7 +7,7 @@ use Rattle.mount_plan.specs.Host.{host_of}
 use Rattle.exec_settings.specs.Mounts.{unit_mentions}
 use Rattle.command_answers.specs.Stops.{refusal_in}
 use Rattle.unit_inputs.specs.Inputs.{Inputs, input_refusals, inputs_of, inputs_view}
-use Rattle.unit_settings.specs.Settled.{AreSettled, refusals_by, refusals_of}
+use Rattle.unit_inputs.specs.Settled.{AreSettled, refusals_by, refusals_of}
 use Rattle.plan_command.specs.Planned.{IsPlan}
 use Rattle.plan_command.specs.Prints.{refused_paths}
 use Rattle.replay_command.specs.Scripts.{script_in}

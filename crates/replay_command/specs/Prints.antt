@@ -18,7 +18,7 @@ use Rattle.launcher.specs.Answers.{launch_with}
 use Rattle.launcher.specs.Launch as ends
 use Rattle.unit_inputs.specs.Inputs.{Inputs, inputs_of}
 use Rattle.unit_names.specs.Cutting.{name_of}
-use Rattle.unit_settings.specs.Settled.{AreSettled}
+use Rattle.unit_inputs.specs.Settled.{AreSettled}
 use Rattle.unit_launch.specs.Launching.{ComesTo}
 use Rattle.unit_launch.specs.OtherPrograms.{AreOthers, HasRoomByBounds}
 use Rattle.unit_launch.specs.declared.launching.UnitLaunch.{UnitLaunch}

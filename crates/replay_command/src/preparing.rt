@@ -15,8 +15,7 @@ use mount_plan::MountSteps;
 use plan_command::plan_mounts;
 use script_text::Script;
 use std::alloc::Global;
-use unit_inputs::read_inputs;
-use unit_settings::{SettledUnit, settle};
+use unit_inputs::{SettledUnit, read_inputs, settle};
 
 /// All that a replay starts with.
 #[derive(Drop)]

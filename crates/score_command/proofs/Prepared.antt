@@ -19,8 +19,8 @@ use Rattle.command_answers.specs.declared.stop.Stop.TheVariants as stop
 use Rattle.command_answers.proofs.FileCommands.{go_together, ready_is_admitted, stop_is_admitted}
 use Rattle.command_answers.proofs.Refusing.{stops_as, stops_before}
 use Rattle.unit_inputs.specs.Inputs.{inputs_of}
-use Rattle.unit_settings.specs.Settled.{refusals_by}
-use Rattle.unit_settings.proofs.Steps.{refusals_with}
+use Rattle.unit_inputs.specs.Settled.{refusals_by}
+use Rattle.unit_inputs.proofs.Steps.{refusals_with}
 use Rattle.score_command.specs.Prepared.{CanBeWeighed, IsPrepared, inputs_in}
 use Rattle.score_command.specs.Prints.{PrintsScore, ending_of, score_laws, scored_text}
 use Rattle.score_command.specs.Refusals.{read_refusals, score_refusals, weight_refusals, weights_in}

@@ -14,10 +14,10 @@ use Rattle.policy_file.specs.declared.policy.PolicyTest.{PolicyTest}
 use Rattle.service_facts.proofs.Accepted.{few_paths}
 use Rattle.unit_inputs.specs.Inputs.{input_refusals, inputs_of, inputs_view}
 use Rattle.unit_inputs.specs.declared.inputs.UnitInputs.{UnitInputs}
-use Rattle.unit_settings.specs.Refusals.{settings_line}
-use Rattle.unit_settings.specs.Settled.{AreSettled, refusals_by, refusals_of}
-use Rattle.unit_settings.specs.declared.settling.SettledUnit.{SettledUnit}
-use Rattle.unit_settings.proofs.Steps.{refusals_with}
+use Rattle.unit_inputs.specs.SettingsRefusals.{settings_line}
+use Rattle.unit_inputs.specs.Settled.{AreSettled, refusals_by, refusals_of}
+use Rattle.unit_inputs.specs.declared.settling.SettledUnit.{SettledUnit}
+use Rattle.unit_inputs.proofs.Steps.{refusals_with}
 use Rattle.score_command.specs.Policies.{policy_in}
 use Rattle.score_command.specs.Prepared.{CanBeWeighed, IsPrepared}
 use Rattle.score_command.specs.Refusals.{read_refusals, refusals_behind}

@@ -3,7 +3,7 @@ use Rattle.std.specs.Prelude.{◌≡◌, ℕ, ◌≤◌, List, length, Some, Ok}
 use Rattle.host_io.specs.Files.{Files}
 use Rattle.mount_settings.specs.Written.{unit_written}
 use Rattle.unit_inputs.specs.Inputs.{Inputs, inputs_of, inputs_view}
-use Rattle.unit_settings.specs.Settled.{AreSettled}
+use Rattle.unit_inputs.specs.Settled.{AreSettled}
 use Rattle.score_command.specs.Policies.{policy_in}
 use Rattle.score_command.specs.declared.preparing.Prepared.{Prepared}
 

@@ -12,7 +12,7 @@ use Rattle.command_answers.specs.declared.ending.Ending.{Ending}
 use Rattle.command_answers.specs.declared.ending.Ending.TheVariants.{Done, AboveThreshold}
 use Rattle.unit_inputs.specs.Inputs.{Inputs, inputs_of}
 use Rattle.unit_names.specs.Cutting.{name_of}
-use Rattle.unit_settings.specs.Settled.{AreSettled}
+use Rattle.unit_inputs.specs.Settled.{AreSettled}
 use Rattle.score_command.specs.Policies.{policy_in}
 use Rattle.score_command.specs.Refusals.{score_refusals}
 use Rattle.score_command.specs.Texts.{ending_by, score_text}

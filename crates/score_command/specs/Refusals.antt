@@ -7,7 +7,7 @@ use Rattle.exposure_score.specs.StoredTests.{StoredTests}
 use Rattle.policy_weights.specs.Weights.{weight_of}
 use Rattle.command_answers.specs.Stops.{refusal_in}
 use Rattle.unit_inputs.specs.Inputs.{Inputs, input_refusals, inputs_of}
-use Rattle.unit_settings.specs.Settled.{refusals_by, refusals_of}
+use Rattle.unit_inputs.specs.Settled.{refusals_by, refusals_of}
 use Rattle.score_command.specs.Policies.{policy_in}
 use Rattle.score_command.specs.Weights.{weight_refusal}
 

@@ -1,7 +1,7 @@
 //! The command `score`: the exposure of a unit by a policy, as text.
 //!
 //! The settings of the unit are taken from its inputs and give facts; by them and the stored tests that are handed in, the
-//! policy weighs the service, a line for each of its tests. It stands on `unit_settings` for the settings, on `service_facts`
+//! policy weighs the service, a line for each of its tests. It stands on `unit_inputs` for the settings, on `service_facts`
 //! for facts, on `policy_file` and `exposure_score` for the weighing, and on `report_text` for the lines.
 //!
 //! `prepare(alloc, &mut shelf, "web.service", "policy.json", 57, &tests)?` has the score, and `print` puts its lines.

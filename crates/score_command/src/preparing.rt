@@ -13,8 +13,7 @@ use host_io::Shelf;
 use policy_file::Policy;
 use service_facts::laws::accepted_units_write_few_paths;
 use std::alloc::Global;
-use unit_inputs::read_inputs;
-use unit_settings::{SettledUnit, settle};
+use unit_inputs::{SettledUnit, read_inputs, settle};
 
 /// All that a score is made from.
 #[derive(Drop)]

@@ -26,7 +26,7 @@ use Rattle.plan_command.specs.Refusals.{error_line, plan_line}
 use Rattle.site_table.specs.Table.{Site}
 use Rattle.unit_launch.specs.declared.launching.UnitLaunch.TheVariants.{Launched, Refused}
 use Rattle.unit_launch.specs.declared.refusal.LaunchRefusal.{LaunchRefusal}
-use Rattle.unit_settings.specs.Refusals.{settings_line}
+use Rattle.unit_inputs.specs.SettingsRefusals.{settings_line}
 use Rattle.view_map.specs.Kept.{Refusal, kept_of}
 use Rattle.started_units.specs.Starting.{StartsAs, TellsRefusal, given, start_refusals}
 

@@ -19,8 +19,8 @@ use Rattle.unit_inputs.specs.Inputs.{Inputs}
 use Rattle.unit_launch.specs.Launching.{ComesTo}
 use Rattle.unit_launch.specs.declared.launching.UnitLaunch.{UnitLaunch}
 use Rattle.unit_launch.specs.declared.refusal.LaunchRefusal.{LaunchRefusal}
-use Rattle.unit_settings.specs.Refusals.{settings_line}
-use Rattle.unit_settings.specs.Settled.{AreSettled, refusals_of}
+use Rattle.unit_inputs.specs.SettingsRefusals.{settings_line}
+use Rattle.unit_inputs.specs.Settled.{AreSettled, refusals_of}
 
 -- what is read of a unit
 abbrev pub given : Resolved → calls.Table → Site → Inputs

@@ -16,7 +16,7 @@ use Rattle.tighten.specs.declared.tight.TightenError.{TightenError}
 use Rattle.tighten.specs.declared.tight.TightenError.TheVariants.{Settings, Plan, Launch, Keep, Wish, Memory}
 use Rattle.unit_launch.specs.Refusals.{refusal_line}
 use Rattle.unit_launch.specs.declared.refusal.LaunchRefusal.{LaunchRefusal}
-use Rattle.unit_settings.specs.Refusals.{settings_line}
+use Rattle.unit_inputs.specs.SettingsRefusals.{settings_line}
 use Rattle.tighten_command.specs.Lines.{keep_line, tight_text, wish_line}
 use Rattle.tighten_command.specs.declared.hardening.Hardening.{Hardening}
 

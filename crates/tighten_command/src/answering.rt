@@ -21,7 +21,7 @@ use site_table::SiteTable;
 use std::alloc::Global;
 use tighten::{StoredWish, Tight, TightenError, tighten};
 use unit_launch::{LaunchRefusal, refusal_line};
-use unit_settings::settings_line;
+use unit_inputs::settings_line;
 
 // What can be added.
 fn tell_tight(alloc: Global, tight: &Tight) -> Result<Hardening, Stop>

@@ -1,3 +1,4 @@
 pub mod Ended
 pub mod Ordering
 pub mod Reading
+pub mod Steps

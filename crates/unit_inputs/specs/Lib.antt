@@ -5,3 +5,5 @@ pub mod SiteRefusals
 pub mod Inputs
 pub mod ReadsFor
 pub mod Asking
+pub mod SettingsRefusals
+pub mod Settled

@@ -24,8 +24,8 @@ use Rattle.unit_inputs.specs.ReadsFor.{ReadsFor}
 use Rattle.unit_inputs.specs.declared.inputs.UnitInputs.{UnitInputs}
 use Rattle.unit_launch.specs.declared.launching.UnitLaunch.{UnitLaunch}
 use Rattle.unit_launch.specs.declared.launching.UnitLaunch.TheVariants.{Launched, Refused}
-use Rattle.unit_settings.specs.Settled.{refusals_by}
-use Rattle.unit_settings.proofs.Steps.{refusals_with}
+use Rattle.unit_inputs.specs.Settled.{refusals_by}
+use Rattle.unit_inputs.proofs.Steps.{refusals_with}
 use Rattle.why_command.specs.Asking.{question_in, refused_question}
 use Rattle.why_command.specs.Prints.{PrintsWhy, TellsLaunch, TellsWhy, ending_of, refusals_behind, text_of, why_laws, why_refusals}
 use Rattle.why_command.specs.declared.why.Why.{Why}

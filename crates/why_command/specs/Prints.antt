@@ -19,7 +19,7 @@ use Rattle.unit_launch.specs.Refusals.{refusal_line}
 use Rattle.unit_launch.specs.declared.launching.UnitLaunch.{UnitLaunch}
 use Rattle.unit_launch.specs.declared.launching.UnitLaunch.TheVariants.{Launched, Refused}
 use Rattle.unit_names.specs.Cutting.{name_of}
-use Rattle.unit_settings.specs.Settled.{refusals_by}
+use Rattle.unit_inputs.specs.Settled.{refusals_by}
 use Rattle.why_command.specs.Asking.{question_in}
 use Rattle.why_command.specs.Lines.{reason_text}
 use Rattle.why_command.specs.declared.why.Why.{Why}

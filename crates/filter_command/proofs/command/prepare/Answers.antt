@@ -2,7 +2,7 @@ use Rattle.std.proofs.Common.{ap, ◌∙◌}
 use Rattle.command_answers.specs.Laws.{IsAdmitted, laws_over}
 use Rattle.command_answers.proofs.FileCommands.{at_stop, stop_is_admitted}
 use Rattle.unit_inputs.proofs.Reading.{read_then}
-use Rattle.unit_settings.specs.declared.settling.SettledUnit.{SettledUnit}
+use Rattle.unit_inputs.specs.declared.settling.SettledUnit.{SettledUnit}
 use Rattle.filter_command.specs.Prints.{ending_of, filter_laws, filters_text}
 use Rattle.filter_command.proofs.Prepared.{prepared}
 use Rattle.unit_inputs.specs.Asking.{input_asks}

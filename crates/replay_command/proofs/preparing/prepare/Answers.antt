@@ -8,7 +8,7 @@ use Rattle.replay_command.specs.Prepared.{IsPrepared, replay_refusals}
 use Rattle.replay_command.proofs.Steps.{can_start, is_prepared, script_is, stops_at_inputs, stops_at_paths, stops_at_script, stops_at_settings}
 use Rattle.unit_inputs.specs.Asking.{asks_with_file}
 use Rattle.host_io.specs.Calls.{Whole}
-use Rattle.unit_settings.specs.declared.settling.SettledUnit.{SettledUnit}
+use Rattle.unit_inputs.specs.declared.settling.SettledUnit.{SettledUnit}
 use Rattle.kernel_calls.specs.declared.call.Call.{Call}
 use Rattle.kern_mounts.specs.declared.step.MountStep.{MountStep}
 use Rattle.std.proofs.Common.{List}

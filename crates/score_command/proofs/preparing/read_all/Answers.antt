@@ -1,7 +1,7 @@
 use Rattle.score_command.proofs.Steps.{can_weigh, is_prepared, policy_is, stops_at_inputs, stops_at_policy, stops_at_settings}
 use Rattle.unit_inputs.specs.Asking.{asks_with_file}
 use Rattle.host_io.specs.Calls.{Whole}
-use Rattle.unit_settings.specs.declared.settling.SettledUnit.{SettledUnit}
+use Rattle.unit_inputs.specs.declared.settling.SettledUnit.{SettledUnit}
 use Rattle.policy_file.specs.declared.policy.PolicyTest.{PolicyTest}
 use Rattle.std.proofs.Common.{List}
 use Rattle.unit_inputs.proofs.Ordering.{order_quiet_stopped, stops_at_file, stops_before_file, with_file}

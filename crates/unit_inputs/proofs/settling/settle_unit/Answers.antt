@@ -1,5 +1,5 @@
 use Rattle.unit_inputs.proofs.Reading.{read_then}
-use Rattle.unit_settings.proofs.Steps.{settled, stops_at_inputs}
+use Rattle.unit_inputs.proofs.Steps.{settled, stops_at_inputs}
 use Rattle.unit_inputs.specs.Asking.{input_asks}
 use Rattle.unit_inputs.proofs.Ordering.{order_quiet}
 use Rattle.std.proofs.Common.{◌≡◌, Some}
@@ -7,9 +7,9 @@ use Rattle.std.specs.Prelude.{IfSome}
 use Rattle.command_answers.specs.Stops.{Prepares}
 use Rattle.command_answers.proofs.FileCommands.{at_stop}
 use Rattle.unit_inputs.specs.Inputs.{inputs_of, inputs_view}
-use Rattle.unit_settings.specs.Settled.{refusals_by, refusals_of, unit_refusals}
-use Rattle.unit_settings.specs.declared.settling.SettledUnit.{SettledUnit}
-use Rattle.unit_settings.proofs.settling.settle_unit.Goals as goal
+use Rattle.unit_inputs.specs.Settled.{refusals_by, refusals_of, unit_refusals}
+use Rattle.unit_inputs.specs.declared.settling.SettledUnit.{SettledUnit}
+use Rattle.unit_inputs.proofs.settling.settle_unit.Goals as goal
 
 pub returns-clause-settles_by_the_files : goal.returns-clause-settles_by_the_files
 returns-clause-settles_by_the_files g c =

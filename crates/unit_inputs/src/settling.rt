@@ -5,14 +5,14 @@ ghost use Rattle.command_answers.specs.Stops.{Prepares};
 ghost use Rattle.unit_inputs.specs.Inputs.{inputs_of, inputs_view};
 ghost use Rattle.unit_inputs.specs.Asking.{AsksInOrder, input_asks};
 ghost use Rattle.unit_inputs.specs.ReadsFor.{ReadsFor};
-ghost use Rattle.unit_settings.specs.Settled.{AreSettled, refusals_of, unit_refusals};
+ghost use Rattle.unit_inputs.specs.Settled.{AreSettled, refusals_of, unit_refusals};
 
+use crate::inputs::{UnitInputs, read_inputs};
 use crate::refusals::settings_line;
 use command_answers::{Stop, boxed, refuse};
 use exec_settings::{Settings, SettingsError, settings};
 use host_io::Shelf;
 use std::alloc::Global;
-use unit_inputs::{UnitInputs, read_inputs};
 
 /// A unit with its settings.
 #[derive(Drop)]
@@ -47,7 +47,7 @@ pub fn settle(alloc: Global, unit: &str, inputs: UnitInputs) -> Result<SettledUn
 
 /// Reads the inputs of a unit and takes its settings from them, for a command that reads nothing between the two.
 ///
-/// The first that is refused decides: an input (`unit_inputs`), then a setting. A fault comes only where the shelf's count
+/// The first that is refused decides: an input (`read_inputs`), then a setting. A fault comes only where the shelf's count
 /// of faults rose, and only for the name of a service; without one nothing is read.
 pub fn settle_unit<S: Shelf>(alloc: Global, shelf: &mut S, unit: &str) -> Result<SettledUnit, Stop>
     ensures settles_by_the_files { IfSome (S.told shelf.old) (λ files. Prepares (λ one. inputs_of files unit.now ≡ Some (inputs_view one.inputs)) (unit_refusals files unit.now) result) }

@@ -1,6 +1,6 @@
 //! The lines of units whose settings are refused.
 ghost use Rattle.std.specs.Prelude.{◌≡◌, IfOk};
-ghost use Rattle.unit_settings.specs.Refusals.{cause_with, settings_cause, settings_line};
+ghost use Rattle.unit_inputs.specs.SettingsRefusals.{cause_with, settings_cause, settings_line};
 
 use command_answers::refused_line;
 use exec_settings::SettingsError;

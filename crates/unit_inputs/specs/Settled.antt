@@ -6,7 +6,7 @@ use Rattle.exec_settings.specs.AreSettings.{AreSettings}
 use Rattle.exec_settings.specs.Refusals.{refusal_of}
 use Rattle.exec_settings.specs.declared.service.Settings.{Settings}
 use Rattle.unit_inputs.specs.Inputs.{Inputs, input_refusals, inputs_of}
-use Rattle.unit_settings.specs.Refusals.{settings_line}
+use Rattle.unit_inputs.specs.SettingsRefusals.{settings_line}
 
 -- these are the settings of the unit
 abbrev pub AreSettled : Inputs → Settings → Type 0

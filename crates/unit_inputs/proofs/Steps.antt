@@ -8,8 +8,8 @@ use Rattle.command_answers.specs.declared.stop.Stop.TheVariants as stop
 use Rattle.command_answers.proofs.Refusing.{behind_none, stops_before}
 use Rattle.unit_inputs.specs.Inputs.{Inputs, input_refusals, inputs_of, inputs_view}
 use Rattle.unit_inputs.specs.declared.inputs.UnitInputs.{UnitInputs}
-use Rattle.unit_settings.specs.Settled.{AreSettled, refusals_by, refusals_of, unit_refusals}
-use Rattle.unit_settings.specs.declared.settling.SettledUnit.{SettledUnit}
+use Rattle.unit_inputs.specs.Settled.{AreSettled, refusals_by, refusals_of, unit_refusals}
+use Rattle.unit_inputs.specs.declared.settling.SettledUnit.{SettledUnit}
 
 -- with the inputs, what is refused behind others is what they are refused for
 pub refusals_with : (files : Files) (unit : List ℕ) (some : List (Option (List ℕ))) (more : Inputs → List (Option (List ℕ))) (inputs : Inputs) → first_refusal some ≡ None → inputs_of files unit ≡ Some inputs → first_refusal (some ++ refusals_by more (inputs_of files unit)) ≡ first_refusal (more inputs)
