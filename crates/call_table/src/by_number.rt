@@ -30,7 +30,7 @@ fn numbered_lines(alloc: Global, lines: &[CallLine]) -> Result<Vec<Numbered>, Al
 /// The numbers of lines with their positions, ascending by number.
 pub fn by_number(alloc: Global, lines: &[CallLine]) -> Result<Vec<Numbered>, AllocError>
     requires { AreOnce lines.now }
-    ensures { IfOk result (λ order. AscendsByNumber lines.now order.items) }
+    ensures ascending { IfOk result (λ order. AscendsByNumber lines.now order.items) }
 {
     let mut order = numbered_lines(alloc, lines)?;
     order.sort_unstable_by_key(|numbered| numbered.number);

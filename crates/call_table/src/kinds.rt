@@ -108,7 +108,7 @@ fn kind_by<'a, 'b>(word: &str, words: &'b [&'a str]) -> Kind<'a, 'b>
 
 /// What the line of these words is.
 pub fn kind_of_words<'a, 'b>(words: &'b [&'a str]) -> Kind<'a, 'b>
-    ensures { seen result ≡ kind_of (map (λ word. word.now) words.now) }
+    ensures by_first_word { seen result ≡ kind_of (map (λ word. word.now) words.now) }
 {
     match words.split_first() {
         Some((word, words)) => kind_by(*word, words),

@@ -53,7 +53,7 @@ pub struct Lists {
 
 /// The calls of a second ABI, where there is one.
 pub fn second_calls(second: &Option<SecondAbi>) -> Option<&CallLines>
-    ensures { lines_seen result ≡ second_calls (option_map made_second second.now) }
+    ensures calls_of_second { lines_seen result ≡ second_calls (option_map made_second second.now) }
 {
     match second {
         Some(second) => Some(&second.calls),

@@ -8,21 +8,21 @@ use crate::listed::{CallLine, CallLines};
 
 /// Whether a line has this number.
 pub fn has_number(lines: &[CallLine], number: u32) -> bool
-    ensures { result ≡ list_any (has_number number) lines.now }
+    ensures some_line { result ≡ list_any (has_number number) lines.now }
 {
     lines.iter().any(|line| line.number == number)
 }
 
 /// The line of this number.
 pub fn numbered(lines: &[CallLine], number: u32) -> Option<&CallLine>
-    ensures { option_copied result ≡ numbered number lines.now }
+    ensures by_number { option_copied result ≡ numbered number lines.now }
 {
     lines.iter().find(|line| line.number == number)
 }
 
 /// The calls of an ABI, where there is one.
 pub fn lines_of(calls: Option<&CallLines>) -> &[CallLine]
-    ensures { result.now ≡ lines_seen calls.entry }
+    ensures lines_or_none { result.now ≡ lines_seen calls.entry }
 {
     match calls {
         Some(calls) => calls.lines(),
@@ -32,7 +32,7 @@ pub fn lines_of(calls: Option<&CallLines>) -> &[CallLine]
 
 /// The call of this name in an ABI, where there is one.
 pub fn named<'l>(calls: Option<&'l CallLines>, name: &str) -> Option<&'l CallLine>
-    ensures { option_copied result ≡ named name.now (lines_seen calls.entry) }
+    ensures by_name { option_copied result ≡ named name.now (lines_seen calls.entry) }
 {
     calls?.get(name)
 }
@@ -47,7 +47,7 @@ fn place_in(calls: Option<&CallLines>, name: &str) -> Option<usize>
 /// The position of the first call of this name, from 0, where the calls of another ABI stand behind these.
 pub fn place_among(calls: &CallLines, more: Option<&CallLines>, name: &str) -> Option<usize>
     requires { length calls.now + length (lines_seen more) < 2 ^ 63 }
-    ensures { result ≡ place_named name.now (calls.now ++ lines_seen more.entry) }
+    ensures by_name { result ≡ place_named name.now (calls.now ++ lines_seen more.entry) }
 {
     match calls.place(name) {
         Some(place) => Some(place),

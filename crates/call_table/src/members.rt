@@ -121,7 +121,7 @@ pub fn find_members(
     requires few { length calls.now ≤ most_calls }
     requires few_more { length (lines_seen more) ≤ most_calls }
     requires groups { AreGroups (length (calls.now ++ lines_seen more)) groups.now }
-    ensures { IfOk result (FindsMembers (calls.now ++ lines_seen more.entry) groups.now (map (λ word. word.now) words.now)) }
+    ensures finds_members { IfOk result (FindsMembers (calls.now ++ lines_seen more.entry) groups.now (map (λ word. word.now) words.now)) }
 {
     let mut marks = vec![in alloc; false; calls.lines().len() + lines_of(more).len()]?;
     members_among(alloc, &mut marks, calls, more, groups, words)

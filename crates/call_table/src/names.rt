@@ -63,14 +63,14 @@ fn has_name_bytes(word: &str) -> bool
 
 /// Whether the word is a name: ASCII letters, digits, `_` and `-`, at least one.
 pub fn is_name(word: &str) -> bool
-    ensures { result ≡ is_name word.now }
+    ensures by_its_bytes { result ≡ is_name word.now }
 {
     !word.is_empty() && has_name_bytes(word)
 }
 
 /// The name of the group that a word `@NAME` stands for.
 pub fn behind_at(word: &str) -> Option<&str>
-    ensures { option_map (λ name. name.now) result ≡ behind_at word.now }
+    ensures behind_the_at { option_map (λ name. name.now) result ≡ behind_at word.now }
 {
     word.strip_prefix('@')
 }

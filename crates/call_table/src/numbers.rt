@@ -36,7 +36,7 @@ pub fn read_arch(digits: &str) -> Option<u32>
 /// The number of a decimal text, below 2^32.
 #[tactic(auto, unfolding(crate::specs::Numbers::number_of))]
 pub fn read_number(digits: &str) -> Option<u32>
-    ensures { result ≡ number_of digits.now }
+    ensures by_its_digits { result ≡ number_of digits.now }
 {
     let number = read_decimal(digits)?;
     u32::try_from(number).ok()

@@ -98,7 +98,7 @@ impl CallTable {
 
     /// The architecture, as AUDIT_ARCH of linux/audit.h: `0xc000003e` for x86-64.
     pub fn arch(&self) -> u32
-        ensures { result ≡ self.now.arch }
+        ensures as_stated { result ≡ self.now.arch }
     {
         self.lists.arch
     }

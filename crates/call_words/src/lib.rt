@@ -40,7 +40,7 @@ fn place_of_abi(table: &CallTable, name: &str) -> Option<u8>
 
 /// The ABI that a word speaks of, and the name or number that stands there: behind the last colon, or the whole word.
 pub fn spelled<'a>(table: &CallTable, word: &'a str) -> Option<(u8, &'a str)>
-    ensures { option_map (λ call. (call.0, call.1.now)) result ≡ spelled table.now word.now }
+    ensures by_the_table { option_map (λ call. (call.0, call.1.now)) result ≡ spelled table.now word.now }
 {
     match last_cut(word) {
         Some((name, call)) => Some((place_of_abi(table, name)?, call)),

@@ -3,5 +3,5 @@ ghost use Rattle.check_command.specs.Answers.{OneAnswer};
 
 /// Over the same files and words there is one answer: one refusal, or one outcome.
 pub fn one_answer()
-    ensures { OneAnswer }
+    ensures one_refusal_or_outcome { OneAnswer }
 {}

@@ -16,7 +16,7 @@ fn cap_named(word: &str) -> Option<u8>
 
 /// The set of the capabilities that the words name; words that name none are passed over.
 pub fn named_caps(words: &[Text]) -> CapSet
-    ensures { result ≡ named_caps words.now }
+    ensures all_named { result ≡ named_caps words.now }
 {
     let mut set = CapSet::empty();
     for word in words {
@@ -33,7 +33,7 @@ pub fn note_words(
     value: &Value,
     words: &[Text],
 ) -> Result<(), AllocError>
-    ensures { OnOk result (notes.new.items ≡ notes.old.items ++ flat_map (word_notes value.now) words.now) }
+    ensures unknown_noted { OnOk result (notes.new.items ≡ notes.old.items ++ flat_map (word_notes value.now) words.now) }
 {
     for word in words {
         if cap_named(word.as_str()).is_none() {

@@ -9,7 +9,7 @@ const GREATEST_ID: u64 = 4_294_967_294;
 
 /// The id that a word is: decimal, 0 to 4,294,967,294.
 pub fn read_id(word: &str) -> Option<u32>
-    ensures { result ≡ id_number word.now }
+    ensures by_its_digits { result ≡ id_number word.now }
 {
     let number = read_decimal(word)?;
     if number <= GREATEST_ID {

@@ -59,7 +59,7 @@ pub fn account(
     is_dynamic: bool,
     word: &str,
 ) -> Result<Option<Account>, AllocError>
-    ensures { IfOk result (λ account. account ≡ account_of site.now is_dynamic word.now) }
+    ensures of_the_site { IfOk result (λ account. account ≡ account_of site.now is_dynamic word.now) }
 {
     if word.is_empty() {
         return Ok(Some(if is_dynamic {

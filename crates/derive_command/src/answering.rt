@@ -20,8 +20,8 @@ use script_text::Script;
 use site_table::SiteTable;
 use std::alloc::Global;
 use trace_profile::{DeriveError, derive, drop_in};
-use unit_launch::{LaunchRefusal, refusal_line};
 use unit_inputs::settings_line;
+use unit_launch::{LaunchRefusal, refusal_line};
 
 /// A drop-in that allows a list of calls, or the line of a launch that is refused, ready to be printed.
 #[derive(Drop)]

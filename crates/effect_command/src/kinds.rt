@@ -29,7 +29,7 @@ fn is_same(one: Kind, other: Kind) -> bool
 
 /// How many are of a kind.
 pub fn count_of(wanted: Kind, kinds: &[Kind]) -> usize
-    ensures { result ≡ count_of wanted kinds.now }
+    ensures counts { result ≡ count_of wanted kinds.now }
 {
     kinds.iter().filter(|kind| is_same(wanted, **kind)).count()
 }

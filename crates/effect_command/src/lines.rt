@@ -15,7 +15,7 @@ use text_forms::push_word;
 
 /// The line of a refusal of the unit with the drop-in.
 pub fn with_line(alloc: Global, line: &[u8]) -> Result<Vec<u8>, AllocError>
-    ensures { IfOk result (λ told. told.items ≡ with_line line.now) }
+    ensures stands_behind_with { IfOk result (λ told. told.items ≡ with_line line.now) }
 {
     let mut told = b"with ".to_vec(alloc)?;
     told.extend_from_slice(line)?;
@@ -41,7 +41,7 @@ pub fn question_line(
     site: &SiteTable,
 ) -> Result<Vec<u8>, AllocError>
     requires asked { Contains (questions calls.now site.now) question.now }
-    ensures { IfOk result (λ line. line.items ≡ question_line word.now calls.now site.now question.now) }
+    ensures tells_the_question { IfOk result (λ line. line.items ≡ question_line word.now calls.now site.now question.now) }
 {
     let reported = verdict_line(alloc, question, Verdict::Denied, calls, site)?;
     behind_word(alloc, word, reported.as_slice())
@@ -49,7 +49,7 @@ pub fn question_line(
 
 /// The line of a folder behind a word.
 pub fn folder_line(alloc: Global, word: &str, folder: &AbsPath) -> Result<Vec<u8>, AllocError>
-    ensures { IfOk result (λ line. line.items ≡ folder_line word.now folder.now) }
+    ensures names_the_folder { IfOk result (λ line. line.items ≡ folder_line word.now folder.now) }
 {
     let mut line = word.as_bytes().to_vec(alloc)?;
     line.push(b' ')?;
@@ -60,7 +60,7 @@ pub fn folder_line(alloc: Global, word: &str, folder: &AbsPath) -> Result<Vec<u8
 
 /// The last line: how many changes there are of each kind.
 pub fn counts_line(alloc: Global, kinds: &[Kind]) -> Result<Vec<u8>, AllocError>
-    ensures { IfOk result (λ line. line.items ≡ counts_line kinds.now) }
+    ensures counts { IfOk result (λ line. line.items ≡ counts_line kinds.now) }
 {
     let closed = count_of(Kind::Closed, kinds);
     let opened = count_of(Kind::Opened, kinds);

@@ -8,7 +8,7 @@ use crate::rows::ScoreRow;
 /// The part of a weight that a badness counts for.
 pub fn term(badness: u32, range: u32, weight: u32) -> u32
     requires { 0 < range }
-    ensures { result ≡ term badness range weight }
+    ensures by_weight { result ≡ term badness range weight }
 {
     let counted = u64::from(badness.min(range)) * u64::from(weight);
     counted.div_ceil(u64::from(range)) as u32

@@ -32,7 +32,7 @@ fn push_hex(out: &mut Vec<u8>, bytes: &[u8]) -> Result<(), AllocError>
 
 /// The line of an instruction.
 pub fn insn_line(alloc: Global, insn: &Insn) -> Result<Vec<u8>, AllocError>
-    ensures { IfOk result (λ line. line.items ≡ insn_line insn.now) }
+    ensures tells_the_instruction { IfOk result (λ line. line.items ≡ insn_line insn.now) }
 {
     let mut line = Vec::new(alloc);
     push_hex(&mut line, &insn.code.to_le_bytes())?;
@@ -45,7 +45,7 @@ pub fn insn_line(alloc: Global, insn: &Insn) -> Result<Vec<u8>, AllocError>
 
 /// The first line of a filter.
 pub fn head_line(alloc: Global, filter: &Compiled) -> Result<Vec<u8>, AllocError>
-    ensures { IfOk result (λ line. line.items ≡ head_line filter.now) }
+    ensures tells_the_filter { IfOk result (λ line. line.items ≡ head_line filter.now) }
 {
     let name = filter.name.text();
     let length = filter.program.insns().len();
@@ -54,7 +54,7 @@ pub fn head_line(alloc: Global, filter: &Compiled) -> Result<Vec<u8>, AllocError
 
 /// The last line of all.
 pub fn count_line(alloc: Global, count: usize) -> Result<Vec<u8>, AllocError>
-    ensures { IfOk result (λ line. line.items ≡ count_line count) }
+    ensures counts { IfOk result (λ line. line.items ≡ count_line count) }
 {
     Ok(format!(in alloc; "filters {count}\n")?.into_bytes())
 }

@@ -29,7 +29,7 @@ pub fn blocked_choice(
     words: &[&str],
     name: &str,
 ) -> Option<Choice>
-    ensures { result ≡ blocked_choice table.now (map (λ word. word.now) words.now) name.now }
+    ensures by_the_words { result ≡ blocked_choice table.now (map (λ word. word.now) words.now) name.now }
 {
     is_blocked(table, words, name).then_some(always(alloc, NOT_PERMITTED))
 }

@@ -48,7 +48,7 @@ fn unlisted_action(mode: Mode, default: Action) -> Action
 
 /// What is done to every call that is not listed, and to every number without a name.
 pub fn rest_action(calls: &Option<CallList>, default: Action) -> Action
-    ensures { result ≡ rest_action calls.now default }
+    ensures by_the_mode { result ≡ rest_action calls.now default }
 {
     match calls {
         Some(list) => unlisted_action(list.mode, default),
@@ -67,7 +67,7 @@ fn list_action(table: &CallTable, default: Action, name: &str, list: &CallList) 
 
 /// Whether SystemCallFilter= lets calls of this name through: it does where it is not set.
 pub fn allows_call(table: &CallTable, settings: &FilterSettings, name: &str) -> bool
-    ensures { result ≡ allows_call table.now settings.now name.now }
+    ensures by_the_lists { result ≡ allows_call table.now settings.now name.now }
 {
     match &settings.calls {
         Some(list) => list_action(table, settings.default_action, name, list) == Action::Allow,
@@ -96,7 +96,7 @@ pub fn calls_choice(
     default: Action,
     name: &str,
 ) -> Option<Choice>
-    ensures { result ≡ calls_choice table.now calls.now default name.now }
+    ensures by_the_list { result ≡ calls_choice table.now calls.now default name.now }
 {
     list_choice(alloc, table, default, name, calls.as_ref()?)
 }

@@ -23,7 +23,7 @@ pub struct Choice {
 /// The test that these bits are set in the argument, which counts from 0.
 pub fn bits(arg: u8, mask: u32) -> Test
     requires { arg ≤ 5 }
-    ensures { result ≡ bits arg mask }
+    ensures mask_is_set { result ≡ bits arg mask }
 {
     Test::new(arg, mask, mask)
 }
@@ -31,14 +31,14 @@ pub fn bits(arg: u8, mask: u32) -> Test
 /// The test that the argument is this value.
 pub fn whole(arg: u8, value: u32) -> Test
     requires { arg ≤ 5 }
-    ensures { result ≡ whole arg value }
+    ensures is_the_value { result ≡ whole arg value }
 {
     Test::new(arg, 0xffff_ffff, value)
 }
 
 /// This action whatever the arguments are.
 pub fn always(alloc: Global, action: Action) -> Choice
-    ensures { result ≡ always action }
+    ensures no_tests { result ≡ always action }
 {
     Choice {
         given: None,
@@ -69,14 +69,14 @@ fn choice_where(
 
 /// Not permitted where one of these tests holds.
 pub fn refused_where(alloc: Global, tests: &[Test]) -> Result<Choice, AllocError>
-    ensures { IfOk result (λ choice. choice ≡ refused_where tests.now) }
+    ensures refused { IfOk result (λ choice. choice ≡ refused_where tests.now) }
 {
     choice_where(alloc, tests, NOT_PERMITTED, Action::Allow)
 }
 
 /// Permitted only where one of these tests holds.
 pub fn allowed_where(alloc: Global, tests: &[Test]) -> Result<Choice, AllocError>
-    ensures { IfOk result (λ choice. choice ≡ allowed_where tests.now) }
+    ensures allowed { IfOk result (λ choice. choice ≡ allowed_where tests.now) }
 {
     choice_where(alloc, tests, Action::Allow, NOT_PERMITTED)
 }
@@ -112,7 +112,7 @@ fn cases_of(alloc: Global, choice: &Choice) -> Result<Cases, AllocError>
 
 /// The rule that chooses so for the call of a number.
 pub fn rule_with(alloc: Global, number: u32, choice: &Choice) -> Result<CallRule, AllocError>
-    ensures { IfOk result (λ rule. rule ≡ rule_with number choice.now) }
+    ensures of_the_number { IfOk result (λ rule. rule ≡ rule_with number choice.now) }
 {
     Ok(CallRule {
         number,

@@ -21,7 +21,7 @@ fn has_member_named(table: &CallTable, name: &str, members: &[usize]) -> bool
 /// Whether the word speaks of the calls of this name.
 #[tactic(auto, unfolding(crate::specs::Covers::covers))]
 pub fn covers(table: &CallTable, word: &str, name: &str) -> bool
-    ensures { result ≡ covers table.now word.now name.now }
+    ensures by_the_word { result ≡ covers table.now word.now name.now }
 {
     match behind_at(word) {
         None => word == name,

@@ -41,7 +41,7 @@ fn is_refused_by(mode: Mode, is_listed: bool) -> bool
 
 /// Whether socket(2) may be asked for the family of this number, AF_* of socket(2).
 pub fn permits_family(families: &Option<FamilyList>, number: u32) -> bool
-    ensures { result ≡ permits_family families.now number }
+    ensures by_the_list { result ≡ permits_family families.now number }
 {
     match families {
         Some(list) => !is_refused_by(list.mode, is_listed(list.mentions.list(), number)),
@@ -94,7 +94,7 @@ pub fn families_choice(
     families: &Option<FamilyList>,
     name: &str,
 ) -> Result<Option<Choice>, AllocError>
-    ensures { IfOk result (λ choice. choice ≡ families_choice table.now families.now name.now) }
+    ensures by_the_families { IfOk result (λ choice. choice ≡ families_choice table.now families.now name.now) }
 {
     match families {
         Some(list) if name == "socket" => Ok(Some(socket_choice(alloc, table, list)?)),

@@ -19,7 +19,7 @@ pub enum NamespaceType {
 impl NamespaceType {
     /// The type as it is written (systemd.exec(5), RestrictNamespaces=).
     pub fn name(self) -> &'static str
-        ensures { result.now ≡ name_of self }
+        ensures as_written { result.now ≡ name_of self }
     {
         match self {
             Cgroup => "cgroup",
@@ -34,7 +34,7 @@ impl NamespaceType {
 
     /// The flag of this type, CLONE_NEW* of clone(2).
     pub fn flag(self) -> u32
-        ensures { result ≡ flag_of self }
+        ensures clone_flag { result ≡ flag_of self }
     {
         match self {
             Cgroup => 0x0200_0000,
@@ -63,7 +63,7 @@ pub struct NamespaceTypes {
 impl NamespaceTypes {
     /// Whether namespaces of this type are permitted.
     pub fn permits(self, kind: NamespaceType) -> bool
-        ensures { result ≡ permits self kind }
+        ensures of_the_kind { result ≡ permits self kind }
     {
         match kind {
             Cgroup => self.cgroup,
@@ -79,7 +79,7 @@ impl NamespaceTypes {
 
 /// The types in their order (systemd.exec(5), RestrictNamespaces=).
 pub fn all_types() -> &'static [NamespaceType]
-    ensures { result.now ≡ all_types }
+    ensures in_order { result.now ≡ all_types }
 {
     &[Cgroup, Ipc, Net, Mnt, Pid, User, Uts]
 }

@@ -19,7 +19,7 @@ fn permits_each(types: NamespaceTypes, kinds: &[NamespaceType]) -> bool
 
 /// Whether some type is not permitted.
 pub fn forbids_a_type(types: NamespaceTypes) -> bool
-    ensures { result ≡ not (list_all (permits types) all_types) }
+    ensures not_all_permitted { result ≡ not (list_all (permits types) all_types) }
 {
     !permits_each(types, all_types())
 }
@@ -85,7 +85,7 @@ pub fn namespaces_choice(
     types: NamespaceTypes,
     name: &str,
 ) -> Result<Option<Choice>, AllocError>
-    ensures { IfOk result (λ choice. choice ≡ namespaces_choice types name.now) }
+    ensures by_the_types { IfOk result (λ choice. choice ≡ namespaces_choice types name.now) }
 {
     match types_argument(name) {
         Some(at) => Ok(Some(refused_types(alloc, types, name, at)?)),

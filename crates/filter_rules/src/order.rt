@@ -12,7 +12,7 @@ pub fn ascending<'t>(
     table: &'t CallTable,
     abi: u8,
 ) -> Result<Vec<&'t CallLine>, AllocError>
-    ensures { IfOk result (λ ordered. Ascends (calls_in table.now abi) (map (λ call. call.now) ordered.items)) }
+    ensures ascending { IfOk result (λ ordered. Ascends (calls_in table.now abi) (map (λ call. call.now) ordered.items)) }
 {
     let calls = table.calls_in(abi);
     let mut ordered = Vec::new(alloc);

@@ -13,7 +13,7 @@ const ASKS_ONLY: u32 = 0xffff_ffff;
 
 /// What is done to a call of this name, where it sets the domain, which is argument 0.
 pub fn personality_choice(alloc: Global, name: &str) -> Result<Option<Choice>, AllocError>
-    ensures { IfOk result (λ choice. choice ≡ personality_choice name.now) }
+    ensures by_the_call { IfOk result (λ choice. choice ≡ personality_choice name.now) }
 {
     if name != "personality" {
         return Ok(None);

@@ -127,7 +127,7 @@ pub fn rule_set(
     requires known_families { HasKnownFamilies table.now settings.now }
     requires in_range { abi < length (abis table.now) }
     requires ascends { Ascends (calls_in table.now abi) (map (λ call. call.now) calls.now) }
-    ensures { IfOk result (λ rules. AreRulesOf filter settings.now table.now abi rules) }
+    ensures of_the_settings { IfOk result (λ rules. AreRulesOf filter settings.now table.now abi rules) }
 {
     // What the costs of the rules rest on.
     let few_calls = table.calls_in(abi).len() <= 512;

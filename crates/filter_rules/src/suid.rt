@@ -50,7 +50,7 @@ fn mode_choice(alloc: Global, given: Option<Test>, at: u8) -> Result<Choice, All
 
 /// What is done to a call of this name, where it has a mode.
 pub fn suid_choice(alloc: Global, name: &str) -> Result<Option<Choice>, AllocError>
-    ensures { IfOk result (λ choice. choice ≡ suid_choice name.now) }
+    ensures by_the_call { IfOk result (λ choice. choice ≡ suid_choice name.now) }
 {
     match mode_argument(name) {
         Some(at) => Ok(Some(mode_choice(alloc, mode_test(name), at)?)),

@@ -11,7 +11,7 @@ use unit_values::{KeyValue, Said, last_of_key};
 /// The action that a text asks for: `kill`, or the name or the number of an error.
 #[tactic(auto, unfolding(crate::specs::ErrorActions::error_action))]
 pub fn error_action(text: &str) -> Option<Action>
-    ensures { result ≡ error_action text.now }
+    ensures named_action { result ≡ error_action text.now }
 {
     if text == "kill" {
         return Some(Action::KillProcess);

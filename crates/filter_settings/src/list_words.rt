@@ -73,7 +73,7 @@ pub fn add_lines<M: ListMention>(
     lines: &[Listed],
     mentions: &mut Vec<M>,
 ) -> Result<(), AllocError>
-    ensures { OnOk result (mentions.new.items ≡ mentions.old.items ++ flat_map (λ one. filter_map (M.mention_of table.now mode (adds_to mode one.line)) one.line.words) lines.now) }
+    ensures added { OnOk result (mentions.new.items ≡ mentions.old.items ++ flat_map (λ one. filter_map (M.mention_of table.now mode (adds_to mode one.line)) one.line.words) lines.now) }
 {
     for one in lines {
         add_line(alloc, table, mode, &one.line, mentions)?;
@@ -88,7 +88,7 @@ pub fn note_words<M: ListMention>(
     one: &Listed,
     notes: &mut Vec<FileNote>,
 ) -> Result<(), AllocError>
-    ensures { OnOk result (notes.new.items ≡ notes.old.items ++ flat_map (λ word. notes_at one.now.value (M.causes_of table.now mode (adds_to mode one.now.line) word)) one.now.line.words) }
+    ensures noted { OnOk result (notes.new.items ≡ notes.old.items ++ flat_map (λ word. notes_at one.now.value (M.causes_of table.now mode (adds_to mode one.now.line) word)) one.now.line.words) }
 {
     let adds = adds_to(mode, &one.line);
     let words = one.line.words.list();

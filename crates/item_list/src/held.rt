@@ -50,7 +50,7 @@ impl<T: Held> HeldList<T> {
 
     /// The items alone.
     pub fn into_items(self) -> Vec<T>
-        ensures { result.items ≡ self }
+        ensures all_in_order { result.items ≡ self }
     {
         self.items
     }

@@ -65,7 +65,7 @@ impl<T: Drop> ItemList<T> {
 
     /// These items, and behind them those.
     pub fn and(self, more: ItemList<T>) -> Result<ItemList<T>, AllocError>
-        ensures { IfOk result (λ all. all ≡ self ++ more) }
+        ensures appended { IfOk result (λ all. all ≡ self ++ more) }
     {
         let ItemList { mut items } = self;
         let ItemList { items: others } = more;

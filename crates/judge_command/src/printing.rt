@@ -16,8 +16,8 @@ use dropin_merge::Resolved;
 use host_io::{Sink, SinkError};
 use report_text::{launched_line, note_line, summary_line, unit_line};
 use std::alloc::Global;
-use unit_launch::{refusal_line, told};
 use unit_inputs::SettledUnit;
+use unit_launch::{refusal_line, told};
 use unit_values::FileNote;
 
 // Prints notes, one behind the other.

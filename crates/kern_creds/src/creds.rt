@@ -82,14 +82,14 @@ impl Creds {
 
     /// The supplementary groups.
     pub fn groups(&self) -> &[u32]
-        ensures { result.now ≡ self.now.groups }
+        ensures as_held { result.now ≡ self.now.groups }
     {
         self.groups.ids()
     }
 
     /// The permitted set: the most that the process can make effective.
     pub fn permitted(&self) -> CapSet
-        ensures { result ≡ self.now.permitted }
+        ensures as_held { result ≡ self.now.permitted }
     {
         self.permitted
     }
@@ -103,35 +103,35 @@ impl Creds {
 
     /// The inheritable set.
     pub fn inheritable(&self) -> CapSet
-        ensures { result ≡ self.now.inheritable }
+        ensures as_held { result ≡ self.now.inheritable }
     {
         self.inheritable
     }
 
     /// The bounding set: the most that execve gives.
     pub fn bounding(&self) -> CapSet
-        ensures { result ≡ self.now.bounding }
+        ensures as_held { result ≡ self.now.bounding }
     {
         self.bounding
     }
 
     /// The ambient set: what stays over an execve of a file that is not privileged.
     pub fn ambient(&self) -> CapSet
-        ensures { result ≡ self.now.ambient }
+        ensures as_held { result ≡ self.now.ambient }
     {
         self.ambient
     }
 
     /// Whether execve can give no new privileges, PR_GET_NO_NEW_PRIVS of prctl(2).
     pub fn no_new_privs(&self) -> bool
-        ensures { result ≡ self.now.no_new_privs }
+        ensures as_held { result ≡ self.now.no_new_privs }
     {
         self.no_new_privs
     }
 
     /// Whether the permitted set stays when the last uid 0 goes, PR_GET_KEEPCAPS of prctl(2).
     pub fn keepcaps(&self) -> bool
-        ensures { result ≡ self.now.keepcaps }
+        ensures as_held { result ≡ self.now.keepcaps }
     {
         self.keepcaps
     }

@@ -123,7 +123,7 @@ impl Creds {
     /// capabilities; else the credentials change by the rules of capabilities(7). In a newer user namespace, user_namespaces(7),
     /// set-id bits count for nothing and root is a user as others.
     pub fn exec(&mut self, file: &FileCreds, nosuid: bool, newer: bool) -> Result<(), u32>
-        ensures { Becomes self.old self.new result (exec_in newer self.old file.now nosuid) }
+        ensures by_the_file { Becomes self.old self.new result (exec_in newer self.old file.now nosuid) }
     {
         if self.is_refused(file, nosuid) {
             return Err(EPERM);

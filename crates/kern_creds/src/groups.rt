@@ -46,7 +46,7 @@ impl Groups {
 
     /// The groups in order.
     pub fn ids(&self) -> &[u32]
-        ensures { result.now ≡ self.now }
+        ensures in_order { result.now ≡ self.now }
     {
         match &self.ids {
             Some(ids) => ids.as_slice(),

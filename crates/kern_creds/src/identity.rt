@@ -51,7 +51,7 @@ impl Creds {
     ///
     /// EINVAL of the id -1, EPERM of another id that is not to be had.
     pub fn setuid(&mut self, id: u32) -> Result<(), u32>
-        ensures { Becomes self.old self.new result (after_setuid self.old id) }
+        ensures by_the_rule { Becomes self.old self.new result (after_setuid self.old id) }
     {
         let uids = self.uids.set(self.effective.contains(CAP_SETUID), id)?;
         self.take_uids(uids);
@@ -60,7 +60,7 @@ impl Creds {
 
     /// setgid(2): as `setuid`, of the gids and with CAP_SETGID.
     pub fn setgid(&mut self, id: u32) -> Result<(), u32>
-        ensures { Becomes self.old self.new result (after_setgid self.old id) }
+        ensures by_the_rule { Becomes self.old self.new result (after_setgid self.old id) }
     {
         let gids = self.gids.set(self.effective.contains(CAP_SETGID), id)?;
         self.gids = gids;
@@ -81,7 +81,7 @@ impl Creds {
 
     /// setresgid(2): as `setresuid`, of the gids and with CAP_SETGID.
     pub fn setresgid(&mut self, real: u32, effective: u32, saved: u32) -> Result<(), u32>
-        ensures { Becomes self.old self.new result (after_setresgid self.old real effective saved) }
+        ensures by_the_rule { Becomes self.old self.new result (after_setresgid self.old real effective saved) }
     {
         let privileged = self.effective.contains(CAP_SETGID);
         let gids = self.gids.set_all(privileged, real, effective, saved)?;
@@ -93,7 +93,7 @@ impl Creds {
     ///
     /// EPERM without CAP_SETGID; EINVAL of more than 65,536 ids; Memory, and then nothing changes.
     pub fn setgroups(&mut self, ids: &[u32]) -> Result<(), CredError>
-        ensures { BecomesOrMemory self.old self.new result (after_setgroups self.old ids.now) }
+        ensures by_the_rule { BecomesOrMemory self.old self.new result (after_setgroups self.old ids.now) }
     {
         if !self.effective.contains(CAP_SETGID) {
             return Err(CredError::Errno(EPERM));

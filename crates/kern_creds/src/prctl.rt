@@ -33,7 +33,7 @@ impl Creds {
         effective: CapSet,
         inheritable: CapSet,
     ) -> Result<(), u32>
-        ensures { Becomes self.old self.new result (after_capset self.old permitted effective inheritable) }
+        ensures by_the_rule { Becomes self.old self.new result (after_capset self.old permitted effective inheritable) }
     {
         if !self.may_capset(permitted, effective, inheritable) {
             return Err(EPERM);
@@ -49,7 +49,7 @@ impl Creds {
     ///
     /// EINVAL above 40, then EPERM without CAP_SETPCAP.
     pub fn drop_bounding(&mut self, cap: u32) -> Result<(), u32>
-        ensures { Becomes self.old self.new result (after_drop_bounding self.old cap) }
+        ensures by_the_rule { Becomes self.old self.new result (after_drop_bounding self.old cap) }
     {
         if cap > CAP_LAST_CAP as u32 {
             return Err(EINVAL);
@@ -65,7 +65,7 @@ impl Creds {
     ///
     /// EINVAL above 40, then EPERM unless it is permitted and inheritable.
     pub fn raise(&mut self, cap: u32) -> Result<(), u32>
-        ensures { Becomes self.old self.new result (after_raise self.old cap) }
+        ensures by_the_rule { Becomes self.old self.new result (after_raise self.old cap) }
     {
         if cap > CAP_LAST_CAP as u32 {
             return Err(EINVAL);
@@ -82,7 +82,7 @@ impl Creds {
     ///
     /// EINVAL above 40.
     pub fn lower(&mut self, cap: u32) -> Result<(), u32>
-        ensures { Becomes self.old self.new result (after_lower self.old cap) }
+        ensures by_the_rule { Becomes self.old self.new result (after_lower self.old cap) }
     {
         if cap > CAP_LAST_CAP as u32 {
             return Err(EINVAL);
@@ -93,21 +93,21 @@ impl Creds {
 
     /// PR_CAP_AMBIENT_CLEAR_ALL: empties the ambient set.
     pub fn clear_ambient(&mut self)
-        ensures { self.new ≡ after_clear_ambient self.old }
+        ensures none_ambient { self.new ≡ after_clear_ambient self.old }
     {
         self.ambient = CapSet::empty();
     }
 
     /// PR_SET_KEEPCAPS: whether the permitted set stays when the last uid 0 goes.
     pub fn set_keepcaps(&mut self, on: bool)
-        ensures { self.new ≡ after_set_keepcaps self.old on }
+        ensures as_asked { self.new ≡ after_set_keepcaps self.old on }
     {
         self.keepcaps = on;
     }
 
     /// PR_SET_NO_NEW_PRIVS: from now on execve gives no new privileges.
     pub fn set_no_new_privs(&mut self)
-        ensures { self.new ≡ after_set_no_new_privs self.old }
+        ensures set { self.new ≡ after_set_no_new_privs self.old }
     {
         self.no_new_privs = true;
     }

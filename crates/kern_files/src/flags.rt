@@ -11,21 +11,21 @@ use kern_mounts::{Flags, MountTable};
 
 /// Whether some bit of the mask is on.
 pub fn has_some(mask: u32, flags: u32) -> bool
-    ensures { result ≡ has_some mask flags }
+    ensures some_flag { result ≡ has_some mask flags }
 {
     flags & mask != 0
 }
 
 /// Whether every bit of the mask is on.
 pub fn has_all(mask: u32, flags: u32) -> bool
-    ensures { result ≡ has_all mask flags }
+    ensures each_flag { result ≡ has_all mask flags }
 {
     flags & mask == mask
 }
 
 /// The flags of the mount that the path is on, mount(2).
 pub fn flags_at(table: &MountTable, path: &AbsPath) -> Flags
-    ensures { result ≡ flags_at (steps_of table.now) path.now }
+    ensures by_the_mount { result ≡ flags_at (steps_of table.now) path.now }
 {
     entry_of(table, path).flags
 }

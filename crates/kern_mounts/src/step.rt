@@ -41,8 +41,8 @@ pub enum What {
 }
 
 impl What {
-    // The same again.
-    pub(crate) fn copy(&self, alloc: Global) -> Result<What, AllocError>
+    /// The same again.
+    pub fn copy(&self, alloc: Global) -> Result<What, AllocError>
         ensures same { IfOk result (λ what. what ≡ self.now) }
     {
         match self {
@@ -66,8 +66,8 @@ pub struct MountStep {
 }
 
 impl MountStep {
-    // The same again.
-    pub(crate) fn copy(&self, alloc: Global) -> Result<MountStep, AllocError>
+    /// The same again.
+    pub fn copy(&self, alloc: Global) -> Result<MountStep, AllocError>
         ensures same { IfOk result (λ step. step ≡ self.now) }
     {
         Ok(MountStep {

@@ -73,7 +73,7 @@ fn payload_fits(payload: &Payload)
 
 /// Every call that a program holds is one that a process can make. It looks at the call and changes nothing.
 pub fn fits(call: &Call)
-    ensures { IsCall call.now }
+    ensures within_registers { IsCall call.now }
 {
     let _pid = call.pid;
     let _abi = call.abi;

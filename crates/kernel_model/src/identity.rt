@@ -29,7 +29,7 @@ impl<'a> Told<'a> {
         table: &MountTable,
         path: &AbsPath,
     ) -> Result<(), u32>
-        ensures { Becomes creds.old creds.new result (exec_answer_in newer creds.old (flags_at (steps_of table.now) path.now) (finds (row_at self.now.site.now.rows) (steps_of table.now) path.now)) }
+        ensures by_the_file { Becomes creds.old creds.new result (exec_answer_in newer creds.old (flags_at (steps_of table.now) path.now) (finds (row_at self.now.site.now.rows) (steps_of table.now) path.now)) }
     {
         let program = program_at(table, self.site, path)?;
         creds.exec(&program.file, program.no_suid, newer)

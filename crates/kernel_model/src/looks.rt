@@ -46,35 +46,35 @@ fn done(value: u64, outcome: Result<(), u32>) -> Reply
 impl<'a> Told<'a> {
     /// stat(2), access(2) and their like: the path is found.
     pub fn see(&self, table: &MountTable, path: &AbsPath) -> Reply
-        ensures { result ≡ value_reply (see_answer 0 (finds (row_at self.now.site.now.rows) (steps_of table.now) path.now)) }
+        ensures by_the_place { result ≡ value_reply (see_answer 0 (finds (row_at self.now.site.now.rows) (steps_of table.now) path.now)) }
     {
         done(0, see(table, self.site, path))
     }
 
     /// open(2) and openat(2), for what the flags say.
     pub fn open(&self, table: &MountTable, path: &AbsPath, flags: u32) -> Reply
-        ensures { result ≡ value_reply (open_answer flags (flags_at (steps_of table.now) path.now) (finds (row_at self.now.site.now.rows) (steps_of table.now) path.now)) }
+        ensures by_the_place { result ≡ value_reply (open_answer flags (flags_at (steps_of table.now) path.now) (finds (row_at self.now.site.now.rows) (steps_of table.now) path.now)) }
     {
         value_reply(open_file(table, self.site, path, flags))
     }
 
     /// creat(2) of a file that is there: it is opened for writing.
     pub fn create(&self, table: &MountTable, path: &AbsPath) -> Reply
-        ensures { result ≡ value_reply (write_answer 3 (flags_at (steps_of table.now) path.now) (finds (row_at self.now.site.now.rows) (steps_of table.now) path.now)) }
+        ensures by_the_place { result ≡ value_reply (write_answer 3 (flags_at (steps_of table.now) path.now) (finds (row_at self.now.site.now.rows) (steps_of table.now) path.now)) }
     {
         done(DESCRIPTOR, write_file(table, self.site, path))
     }
 
     /// truncate(2).
     pub fn truncate(&self, table: &MountTable, path: &AbsPath) -> Reply
-        ensures { result ≡ value_reply (write_answer 0 (flags_at (steps_of table.now) path.now) (finds (row_at self.now.site.now.rows) (steps_of table.now) path.now)) }
+        ensures by_the_place { result ≡ value_reply (write_answer 0 (flags_at (steps_of table.now) path.now) (finds (row_at self.now.site.now.rows) (steps_of table.now) path.now)) }
     {
         done(0, write_file(table, self.site, path))
     }
 
     /// socket(2): EAFNOSUPPORT of a family that the table lacks, EPERM without the family's capability.
     pub fn socket(&self, creds: &Creds, newer: bool, family: u32) -> Reply
-        ensures { Answers result (socket_effect newer creds.now (numbered family self.now.calls.now.families)) }
+        ensures by_the_family { Answers result (socket_effect newer creds.now (numbered family self.now.calls.now.families)) }
     {
         match family_of(self.calls, family) {
             None => Reply::Refused(EAFNOSUPPORT),
@@ -84,7 +84,7 @@ impl<'a> Told<'a> {
 
     /// socketcall(2): as socket(2) for SYS_SOCKET, and EINVAL of an operation that there is not.
     pub fn socketcall(&self, creds: &Creds, newer: bool, operation: u32, family: u32) -> Reply
-        ensures { Answers result (socketcall_effect newer creds.now operation (numbered family self.now.calls.now.families)) }
+        ensures by_the_family { Answers result (socketcall_effect newer creds.now operation (numbered family self.now.calls.now.families)) }
     {
         match operation {
             SYS_SOCKET => self.socket(creds, newer, family),

@@ -37,7 +37,7 @@ impl Model for State {
 impl State {
     /// The first process and the host's table.
     pub fn first(alloc: Global) -> Result<State, AllocError>
-        ensures { IfOk result (λ state. state ≡ record { processes = first_process ∷ []; tables = first_mounts ∷ []; owners = 1 ∷ []; users = 0 }) }
+        ensures one_process { IfOk result (λ state. state ≡ record { processes = first_process ∷ []; tables = first_mounts ∷ []; owners = 1 ∷ []; users = 0 }) }
     {
         let mut processes = Vec::new(alloc);
         processes.push(Process::first(alloc))?;
@@ -55,7 +55,7 @@ impl State {
 
     /// The process with this number, whether it lives or not.
     pub fn process(&self, pid: u32) -> Option<&Process>
-        ensures { option_map (λ process. process.now) result ≡ of_number self.now.processes pid }
+        ensures by_number { option_map (λ process. process.now) result ≡ of_number self.now.processes pid }
     {
         match pid.checked_sub(1) {
             None => None,
@@ -65,7 +65,7 @@ impl State {
 
     /// The table of the namespace with this number.
     pub fn table(&self, namespace: u32) -> Option<&MountTable>
-        ensures { option_map (λ table. table.now) result ≡ of_number self.now.tables namespace }
+        ensures by_number { option_map (λ table. table.now) result ≡ of_number self.now.tables namespace }
     {
         match namespace.checked_sub(1) {
             None => None,
@@ -75,7 +75,7 @@ impl State {
 
     /// The user namespace that the mount namespace with this number belongs to.
     pub fn owner(&self, namespace: u32) -> Option<u32>
-        ensures { result ≡ of_number self.now.owners namespace }
+        ensures by_number { result ≡ of_number self.now.owners namespace }
     {
         match namespace.checked_sub(1) {
             None => None,

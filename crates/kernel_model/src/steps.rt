@@ -1,6 +1,6 @@
 //! Mount steps, which a launcher makes for a process before its program begins.
 
-ghost use Rattle.std.specs.Prelude.{◌≡◌, ◌<◌, true, length, IfOk, IsOk, OnOk, OnErr};
+ghost use Rattle.std.specs.Prelude.{◌≡◌, ◌<◌, true, length, IsOk, OnOk, OnErr};
 ghost use Rattle.std.specs.List.{AllByRecursion};
 ghost use Rattle.abs_path.specs.Paths.{is_root};
 ghost use Rattle.linux_numbers.specs.Limits.{mount_max};
@@ -10,33 +10,8 @@ ghost use Rattle.kernel_model.specs.World.{of_number, put_number, table_or};
 ghost use Rattle.kernel_model.specs.Worlds.{HasSpace, IsRooted};
 
 use crate::state::State;
-use kern_mounts::{MountError, MountStep, MountTable, What};
+use kern_mounts::{MountError, MountStep, MountTable};
 use std::alloc::{AllocError, Global};
-
-// An equal one.
-fn copy_of_what(alloc: Global, what: &What) -> Result<What, AllocError>
-    ensures { IfOk result (λ copy. copy ≡ what.now) }
-{
-    match what {
-        What::Host(source) => {
-            let copy = source.copy(alloc)?;
-            Ok(What::Host(copy))
-        }
-        What::Empty => Ok(What::Empty),
-        What::Hidden(directory) => Ok(What::Hidden(*directory)),
-    }
-}
-
-// An equal step.
-fn copy_of(alloc: Global, step: &MountStep) -> Result<MountStep, AllocError>
-    ensures { IfOk result (λ copy. copy ≡ step.now) }
-{
-    Ok(MountStep {
-        place: step.place.copy(alloc)?,
-        what: copy_of_what(alloc, &step.what)?,
-        flags: step.flags,
-    })
-}
 
 /// Makes a mount step on a table with room: at `/` the first entry gets its flags, everywhere else it becomes the last entry.
 pub(crate) fn mount_step(
@@ -54,7 +29,7 @@ pub(crate) fn mount_step(
         table.set_root_flags(step.flags);
         return Ok(());
     }
-    match table.push(copy_of(alloc, step)?) {
+    match table.push(step.copy(alloc)?) {
         Ok(()) => return Ok(()),
         Err(MountError::Errno(_)) => unreachable!(),
         Err(MountError::Memory) => return Err(AllocError),

@@ -54,7 +54,7 @@ pub fn launch_whole<'a>(
     calls: &'a CallTable,
     site: &'a SiteTable,
 ) -> Result<Launched<'a>, UnitRefusal>
-    ensures { Launches unit.now calls.now site.now result }
+    ensures launches { Launches unit.now calls.now site.now result }
 {
     let made = settle(alloc, unit, calls, site)?;
     let steps = lay_out(alloc, &made.mentions, site)?;

@@ -23,7 +23,7 @@ fn said(alloc: Global, bytes: &[u8]) -> Result<UnitText, AllocError>
 
 /// The unit with a file of these bytes behind its files, where a drop-in with the last name of all would stand.
 pub fn with_file(alloc: Global, unit: &Resolved, bytes: &[u8]) -> Result<Resolved, AllocError>
-    ensures { IfOk result (λ longer. longer ≡ with_file unit.now bytes.now) }
+    ensures file_stands_last { IfOk result (λ longer. longer ≡ with_file unit.now bytes.now) }
 {
     unit.extended(alloc, said(alloc, bytes)?)
 }

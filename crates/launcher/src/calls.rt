@@ -26,7 +26,7 @@ pub fn first_call(
     three: u64,
     payload: Payload,
 ) -> Call
-    ensures { result ≡ first_call table.now.calls name.now (one ∷ two ∷ three ∷ 0 ∷ 0 ∷ 0 ∷ []) payload }
+    ensures by_name_with_three_words { result ≡ first_call table.now.calls name.now (one ∷ two ∷ three ∷ 0 ∷ 0 ∷ 0 ∷ []) payload }
 {
     Call {
         pid: 1,
@@ -39,14 +39,14 @@ pub fn first_call(
 
 /// The call of prctl(2) of this option.
 pub fn prctl(table: &CallTable, option: u64, value: u64, third: u64) -> Call
-    ensures { Makes result ≡ prctl_step table.now.calls option value third }
+    ensures of_the_option { Makes result ≡ prctl_step table.now.calls option value third }
 {
     first_call(table, "prctl", option, value, third, Payload::Nothing)
 }
 
 /// The call of capset(2) of these sets.
 pub fn capset(table: &CallTable, permitted: CapSet, effective: CapSet, inheritable: CapSet) -> Call
-    ensures { Makes result ≡ capset_step table.now.calls permitted effective inheritable }
+    ensures of_the_sets { Makes result ≡ capset_step table.now.calls permitted effective inheritable }
 {
     let sets = Payload::Sets(permitted, effective, inheritable);
     first_call(table, "capset", 0, 0, 0, sets)
@@ -70,7 +70,7 @@ impl Model for CallSteps {
 impl CallSteps {
     /// No calls.
     pub fn new(alloc: Global) -> CallSteps
-        ensures { result ≡ [] }
+        ensures empty { result ≡ [] }
     {
         CallSteps {
             calls: Vec::new(alloc),
@@ -79,7 +79,7 @@ impl CallSteps {
 
     /// Puts a call behind the others.
     pub fn push(&mut self, call: Call) -> Result<(), AllocError>
-        ensures { OnOk result (self.new ≡ self.old ++ Makes call ∷ []) }
+        ensures goes_last { OnOk result (self.new ≡ self.old ++ Makes call ∷ []) }
     {
         self.calls.push(call)?;
         Ok(())
@@ -87,7 +87,7 @@ impl CallSteps {
 
     /// Puts a call behind the others, where it is wanted.
     pub fn push_if(&mut self, wanted: bool, call: Call) -> Result<(), AllocError>
-        ensures { OnOk result (self.new ≡ self.old ++ if_so wanted (Makes call)) }
+        ensures goes_last_where_wanted { OnOk result (self.new ≡ self.old ++ if_so wanted (Makes call)) }
     {
         if wanted {
             self.push(call)?;
@@ -97,7 +97,7 @@ impl CallSteps {
 
     /// The calls in their order.
     pub fn list(&self) -> &[Call]
-        ensures { map Makes result.now ≡ self.now }
+        ensures all_in_order { map Makes result.now ≡ self.now }
     {
         &self.calls
     }

@@ -38,7 +38,7 @@ fn compile_one(alloc: Global, filter: &Filter) -> Result<FilterProgram, AllocErr
 /// The programs of these filters, one for each, which match them.
 pub fn compile_all(alloc: Global, filters: &[Filter]) -> Result<FilterPrograms, AllocError>
     requires can_be_compiled { All (λ one. CanCompile one.rules) filters.now }
-    ensures { IfOk result (AreProgramsOf filters.now) }
+    ensures one_for_each_filter { IfOk result (AreProgramsOf filters.now) }
 {
     let mut made = Vec::new(alloc);
     for filter in filters {

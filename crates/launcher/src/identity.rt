@@ -132,7 +132,7 @@ pub fn identity_steps(
     table: &CallTable,
     settings: &Settings,
 ) -> Result<CallSteps, AllocError>
-    ensures { IfOk result (λ steps. steps ≡ identity_steps table.now.calls (wanted_of settings.now [])) }
+    ensures calls_before_the_filters { IfOk result (λ steps. steps ≡ identity_steps table.now.calls (wanted_of settings.now [])) }
 {
     let mut steps = CallSteps::new(alloc);
     group_steps(alloc, &mut steps, table, settings)?;

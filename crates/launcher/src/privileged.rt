@@ -71,7 +71,7 @@ fn shows_marked(site: &SiteTable, entry: &MountStep, path: &AbsPath) -> bool
 
 /// Whether the program finds an executable file with a set-id bit or capabilities on the plan.
 pub fn is_privileged(plan: &[MountStep], site: &SiteTable, program: &AbsPath) -> bool
-    ensures { result ≡ is_privileged_row (finds (row_at site.now.rows) plan.now program.now) }
+    ensures by_the_row_that_is_found { result ≡ is_privileged_row (finds (row_at site.now.rows) plan.now program.now) }
 {
     match entry_of(plan, program) {
         None => false,

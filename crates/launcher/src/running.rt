@@ -27,7 +27,7 @@ pub fn make_call(
     call: &Call,
     step: u32,
 ) -> Result<(), LaunchError>
-    ensures { StepsTo world.old (Makes call.now) step result world.new }
+    ensures makes_the_step { StepsTo world.old (Makes call.now) step result world.new }
 {
     let reply = world.step(alloc, call)?;
     done(reply, step)
@@ -41,7 +41,7 @@ pub fn make_calls(
     before: u32,
 ) -> Result<u32, LaunchError>
     requires few { before + length calls.now < 2 ^ 32 }
-    ensures { Ends (launch_from world.old (map Makes calls.now) before) result world.new }
+    ensures ends_as_its_steps_do { Ends (launch_from world.old (map Makes calls.now) before) result world.new }
 {
     let mut steps = before;
     for call in calls {

@@ -38,7 +38,7 @@ pub fn call_steps(
     settings: &Settings,
     filters: &FilterPrograms,
 ) -> Result<CallSteps, AllocError>
-    ensures { IfOk result (λ steps. steps ≡ call_steps table.now.calls (wanted_of settings.now (given_bytes filters.now))) }
+    ensures calls_by_these_programs { IfOk result (λ steps. steps ≡ call_steps table.now.calls (wanted_of settings.now (given_bytes filters.now))) }
 {
     let mut steps = identity_steps(alloc, table, settings)?;
     filter_steps(alloc, &mut steps, table, filters.list())?;

@@ -115,7 +115,7 @@ pub fn steps_at(
     places: &[AbsPath],
 ) -> Result<Vec<MountStep>, AllocError>
     requires { HaveShortHosts kept.now places.now }
-    ensures { IfOk result (λ steps.
+    ensures by_the_entry { IfOk result (λ steps.
         steps.items ≡ map (step_at kept.now (hides_dir_at (host_of site.now) kept.now)) places.now) }
 {
     let mut steps = Vec::new(alloc);

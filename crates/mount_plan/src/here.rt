@@ -82,7 +82,7 @@ pub fn unbeaten<'a>(alloc: Global, here: &[&'a Mention]) -> Result<Vec<&'a Menti
 
 /// Whether the mention is of this part.
 pub fn is_asked(part: Part, mention: &Mention) -> bool
-    ensures { result ≡ is_asked part mention.now.kind }
+    ensures of_its_part { result ≡ is_asked part mention.now.kind }
 {
     match part {
         Part::Origins => mention.kind.is_origin(),
@@ -99,14 +99,14 @@ fn source_row(site: &SiteTable, kind: &Kind) -> Option<bool>
 
 /// What becomes of a mention; `is_put` says whether an empty file system or a bind is kept at its path.
 pub fn fate_beside(site: &SiteTable, beneath: Beneath, is_put: bool, mention: &Mention) -> Fate
-    ensures { result ≡ fate_beside (host_of site.now) beneath is_put mention.now }
+    ensures by_the_host { result ≡ fate_beside (host_of site.now) beneath is_put mention.now }
 {
     fate_of(mention, source_row(site, &mention.kind), beneath, is_put)
 }
 
 /// Whether the mention is kept, where this becomes of it.
 pub fn is_kept(fate: Fate) -> bool
-    ensures { result ≡ is_kept fate }
+    ensures by_its_fate { result ≡ is_kept fate }
 {
     matches!(fate, Fate::Kept)
 }

@@ -26,14 +26,14 @@ pub fn row_through(
     path: &AbsPath,
 ) -> Option<bool>
     requires { is_prefix front.now path.now ≡ true }
-    ensures { result ≡ host_of site.now (source.now ++ rest_of front.now path.now) }
+    ensures by_the_source { result ≡ host_of site.now (source.now ++ rest_of front.now path.now) }
 {
     is_dir(site.row_through(source, front, path))
 }
 
 /// Whether the site has a row at the path, and then whether it is a directory.
 pub fn row_at(site: &SiteTable, path: &AbsPath) -> Option<bool>
-    ensures { result ≡ host_of site.now path.now }
+    ensures of_the_site { result ≡ host_of site.now path.now }
 {
     is_dir(site.row_behind(path, ""))
 }

@@ -13,7 +13,7 @@ pub fn put_paths(
     paths: &mut Vec<AbsPath>,
     mentions: &[Mention],
 ) -> Result<(), AllocError>
-    ensures { OnOk result
+    ensures added { OnOk result
         (paths.new.items ≡ with_placed paths.old.items (map (λ mention. mention.path) mentions.now)) }
 {
     for mention in mentions {

@@ -83,7 +83,7 @@ impl PathKey {
 
     /// Whether it names folders, whose mentions stand behind all written ones.
     pub fn is_implied(self) -> bool
-        ensures { result ≡ is_implied self }
+        ensures by_its_key { result ≡ is_implied self }
     {
         matches!(
             self,

@@ -1,6 +1,5 @@
 pub mod Pieces
 pub mod Ways
 pub mod Lasts
-pub mod Taking
 pub mod Nodes
 pub mod On

@@ -1,5 +1,5 @@
 -- What one more node, and one more number, change of a tree's nodes.
-use Rattle.std.proofs.Common.{◌≡◌, ◌<◌, ◌≤◌, ◌+◌, ◌⊎◌, inl, inr, ℕ, zero, suc, Bool, true, false, cond, List, [], ◌∷◌, ◌++◌, length, get_or, set, take, drop, filter, Option, Some, None, refl, sym, ap, ◌∙◌, subst, arith}
+use Rattle.std.proofs.Common.{◌≡◌, ◌<◌, ◌≤◌, ◌+◌, ◌⊎◌, inl, inr, ℕ, zero, suc, Bool, true, false, cond, List, [], ◌∷◌, ◌++◌, length, get_or, set, take, Option, Some, None, refl, sym, ap, ◌∙◌, subst, arith}
 use Rattle.std.specs.Prelude.{◌==◌, ◌&&◌, option_and_then}
 use Rattle.std.specs.List.{slice_get, AllByRecursion}
 use Rattle.std.specs.Option.{IsSome}
@@ -286,27 +286,6 @@ take_all P [] zero h = tt
 take_all P [] (suc n) h = tt
 take_all P (place ∷ places) zero h = tt
 take_all P (place ∷ places) (suc n) h = (h.0, take_all P places n h.1)
-
-drop_all : (P : Path → Type 0) (places : List Path) (n : ℕ) → AllByRecursion P places → AllByRecursion P (drop n places)
-drop_all P [] zero h = tt
-drop_all P [] (suc n) h = tt
-drop_all P (place ∷ places) zero h = h
-drop_all P (place ∷ places) (suc n) h = drop_all P places n h.1
-
-filter_all : (P : Path → Type 0) (kind : Path → Bool) (places : List Path) → AllByRecursion P places → AllByRecursion P (filter kind places)
-filter_all P kind [] h = tt
-filter_all P kind (place ∷ places) h = by (kind place) (filter_all P kind places h.1)
-  where
-    by : (b : Bool) → AllByRecursion P (filter kind places) → AllByRecursion P (cond b (place ∷ filter kind places) (filter kind places))
-    by true more = (h.0, more)
-    by false more = more
-
-append_all : (P : Path → Type 0) (places more : List Path) → AllByRecursion P places → AllByRecursion P more → AllByRecursion P (places ++ more)
-append_all P [] more h g = g
-append_all P (place ∷ places) more h g = (h.0, append_all P places more h.1 g)
-
-pub without_all : (P : Path → Type 0) (kind : Path → Bool) (places : List Path) (at next : ℕ) → AllByRecursion P places → AllByRecursion P (take at places ++ filter kind (drop next places))
-without_all P kind places at next h = append_all P (take at places) (filter kind (drop next places)) (take_all P places at h) (filter_all P kind (drop next places) (drop_all P places next h))
 
 -- a new node, and no way to it
 pub unmade_grows : (old pushed : List Node) (bare node next : Node) (at : ℕ) → pushed ≡ old ++ bare ∷ [] → IsBare bare → IsArena old → at < length old → node ≡ get_or pushed at node → next.last ≡ node.last →

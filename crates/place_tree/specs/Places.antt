@@ -1,8 +1,8 @@
 -- A list of places, and the last of them that leads to a path, by whole parts.
-use Rattle.std.specs.Prelude.{◌≡◌, ◌<◌, ◌+◌, ◌++◌, ℕ, suc, max, Bool, true, false, cond, not, filter, take, drop, List, [], ◌∷◌, length, Option, Some, None}
+use Rattle.std.specs.Prelude.{◌≡◌, ◌<◌, ◌+◌, ℕ, suc, max, Bool, true, false, cond, List, [], ◌∷◌, length, Option, Some, None}
 use Rattle.std.specs.List.{AllWithin, HoldsAt}
 use Rattle.abs_path.specs.Paths.{Path}
-use Rattle.abs_path.specs.Prefix.{is_prefix, is_same, is_below}
+use Rattle.abs_path.specs.Prefix.{is_prefix, is_same}
 
 -- the place of this number is of the kind, and no later one is
 pub record IsLastAt (kind : Path → Bool) (places : List Path) (at : ℕ) : Type 0 where
@@ -34,7 +34,3 @@ behind_or None place path = cond (is_same place path) (Some 0) None
 abbrev pub last_at : Path → List Path → Option ℕ
 last_at path [] = None
 last_at path (place ∷ places) = behind_or (last_at path places) place path
-
--- the places without the one of this number, and without the later ones that stand strictly below the path
-abbrev pub without : ℕ → Path → List Path → List Path
-without at path places = take at places ++ filter (λ place. not (is_below place path)) (drop (at + 1) places)

@@ -1,9 +1,9 @@
-//! The type of a tree of places: places are added behind the others or taken away, and the last that leads to a path is found.
+//! The type of a tree of places: places are added behind the others, the first of them are kept, and the last that leads to a path is found.
 //!
 //! A contract sees a tree as the list of its places. Nodes that no place is at may stay.
 
-ghost use Rattle.std.specs.Prelude.{◌≡◌, ◌++◌, ◌∷◌, [], ◌<◌, length, take, IfOk, OnOk, OnErr};
-ghost use Rattle.place_tree.specs.Places.{IsLastLeading, without};
+ghost use Rattle.std.specs.Prelude.{◌≡◌, ◌++◌, ◌∷◌, [], take, IfOk, OnOk, OnErr};
+ghost use Rattle.place_tree.specs.Places.{IsLastLeading};
 
 use crate::arena::{greatest, node_for, renumber};
 use crate::node::Node;
@@ -72,15 +72,6 @@ impl PlaceTree {
         renumber(&mut self.nodes, &self.places);
     }
 
-    /// Takes away the place of this number, and the later ones strictly below the path. It takes no memory.
-    pub fn take_away(&mut self, at: usize, path: &AbsPath)
-        requires in_range { at < length self.old }
-        ensures place_and_below { self.new ≡ without at path.now self.old }
-    {
-        take_places(&mut self.places, at, path);
-        renumber(&mut self.nodes, &self.places);
-    }
-
     /// The same places again.
     pub fn copy(&self) -> Result<PlaceTree, AllocError>
         ensures same { IfOk result (λ tree. tree ≡ self.now) }
@@ -91,17 +82,4 @@ impl PlaceTree {
         }
         Ok(tree)
     }
-}
-
-// Takes away the place of this number, and the later ones strictly below the path.
-fn take_places(places: &mut Vec<AbsPath>, at: usize, path: &AbsPath)
-    requires in_range { at < length places.old.items }
-    ensures place_and_below { places.new.items ≡ without at path.now places.old.items }
-{
-    for index in (at + 1..places.len()).rev() {
-        if places[index].is_below(path) {
-            places.remove(index);
-        }
-    }
-    places.remove(at);
 }

@@ -48,7 +48,7 @@ fn push_shown(line: &mut Vec<u8>, step: &MountStep) -> Result<(), AllocError>
 
 /// The line of a mount.
 pub fn mount_line(alloc: Global, step: &MountStep) -> Result<Vec<u8>, AllocError>
-    ensures { IfOk result (λ line. line.items ≡ mount_line step.now) }
+    ensures tells_the_mount { IfOk result (λ line. line.items ≡ mount_line step.now) }
 {
     let mut line = b"mount ".to_vec(alloc)?;
     push_word(&mut line, step.place.text())?;
@@ -59,7 +59,7 @@ pub fn mount_line(alloc: Global, step: &MountStep) -> Result<Vec<u8>, AllocError
 
 /// The last line of all.
 pub fn count_line(alloc: Global, count: usize) -> Result<Vec<u8>, AllocError>
-    ensures { IfOk result (λ line. line.items ≡ count_line count) }
+    ensures counts { IfOk result (λ line. line.items ≡ count_line count) }
 {
     Ok(format!(in alloc; "mounts {count}\n")?.into_bytes())
 }

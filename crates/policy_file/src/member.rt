@@ -53,7 +53,7 @@ fn numbers_of(said: &Value) -> Option<(u32, u32)>
 
 /// The test of this identifier, by what the policy says of it.
 pub fn read_test(alloc: Global, id: &str, said: &Value) -> Result<PolicyTest, PolicyError>
-    ensures { SaysTest id.now (view said.now) result }
+    ensures says_the_test { SaysTest id.now (view said.now) result }
 {
     let id = TestId::new(alloc, id).or(Err(PolicyError::Memory))?;
     match numbers_of(said) {

@@ -14,7 +14,7 @@ const OBJECTS: u32 = 64;
 
 /// Puts a value into a table.
 pub fn put(alloc: Global, table: &mut Table, key: &str, value: Value) -> Result<(), AllocError>
-    ensures { OnOk result (table_view table.new ≡ with_member key.now (view value) (table_view table.old)) }
+    ensures puts_the_member { OnOk result (table_view table.new ≡ with_member key.now (view value) (table_view table.old)) }
 {
     table.insert(String::from_str(alloc, key)?, value)?;
     Ok(())
@@ -32,7 +32,7 @@ fn plain_table(alloc: Global, kind: &str, path: &str) -> Result<Table, AllocErro
 
 /// The row of a kind and a path.
 pub fn plain_row(alloc: Global, kind: &str, path: &str) -> Result<Value, AllocError>
-    ensures { IfOk result (λ row. view row ≡ plain_row kind.now path.now) }
+    ensures of_kind_and_path { IfOk result (λ row. view row ≡ plain_row kind.now path.now) }
 {
     Ok(Value::Table(plain_table(alloc, kind, path)?))
 }
@@ -79,7 +79,7 @@ pub fn push_folder(
 ) -> Result<(), AllocError>
     requires number { n ≤ 999 }
     requires folder { folder < 16 }
-    ensures { OnOk result (map view rows.new.items ≡ map view rows.old.items ++ folder_rows n folder) }
+    ensures rows_go_last { OnOk result (map view rows.new.items ≡ map view rows.old.items ++ folder_rows n folder) }
 {
     let path = format!(in alloc; "/d{folder}")?;
     rows.push(plain_row(alloc, "dir", path.as_str())?)?;

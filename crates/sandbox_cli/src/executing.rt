@@ -18,7 +18,7 @@ fn asks_to_execute(question: &Question) -> bool
 
 /// Whether some file can be executed by the verdicts.
 pub fn can_execute(rows: &[VerdictRow]) -> bool
-    ensures { result ≡ can_execute rows.now }
+    ensures by_the_verdicts { result ≡ can_execute rows.now }
 {
     rows.iter()
         .any(|row| row.is_open && asks_to_execute(&row.question))

@@ -84,7 +84,7 @@ pub fn answer(action: Action) -> Insn
 
 /// Whether the instruction ends with the action.
 pub fn is_answer(insn: Insn, action: Action) -> bool
-    ensures { IsTrue result ↔ IsEnd action insn }
+    ensures ends_with_it { IsTrue result ↔ IsEnd action insn }
 {
     insn.code == RET_K && insn.k == action.word()
 }

@@ -46,7 +46,7 @@ pub enum Tree {
 impl Tree {
     /// The action of a tree that ends at once.
     pub fn ending(&self) -> Option<Action>
-        ensures { result ≡ ending_of (decision_of self.now) }
+        ensures ending { result ≡ ending_of (decision_of self.now) }
     {
         match self {
             Tree::End(action) => Some(*action),
@@ -56,7 +56,7 @@ impl Tree {
 
     /// What the tree does where the word at this offset and this mask is looked at already.
     pub fn past_look(self, offset: u32, mask: u32) -> Tree
-        ensures { decision_of result ≡ past_look offset mask (decision_of self) }
+        ensures past_the_look { decision_of result ≡ past_look offset mask (decision_of self) }
     {
         match self {
             Tree::Look {
@@ -70,14 +70,14 @@ impl Tree {
 
     /// Whether the tree ends at once.
     pub fn is_end(&self) -> bool
-        ensures { result ≡ is_end (decision_of self.now) }
+        ensures ends { result ≡ is_end (decision_of self.now) }
     {
         self.ending().is_some()
     }
 
     /// Whether the tree begins with a comparison.
     pub fn is_split(&self) -> bool
-        ensures { result ≡ is_split (decision_of self.now) }
+        ensures splits { result ≡ is_split (decision_of self.now) }
     {
         matches!(self, Tree::Split { .. })
     }

@@ -21,7 +21,7 @@ fn has_family(calls: &CallTable, name: &str) -> bool
 
 /// Whether the table has both families of the Internet, and none of the name of both.
 pub fn has_internet(calls: &CallTable) -> bool
-    ensures { result ≡ has_internet calls.now }
+    ensures both_families { result ≡ has_internet calls.now }
 {
     has_family(calls, "AF_INET")
         && has_family(calls, "AF_INET6")

@@ -99,7 +99,7 @@ pub fn push_line(
     line: &Line,
     facts: &mut Vec<Fact>,
 ) -> Result<(), AllocError>
-    ensures { OnOk result (told facts.new.items ≡ told facts.old.items ++ told_by_line sandbox.now calls.now (line.now.0.now, line.now.1)) }
+    ensures told_behind { OnOk result (told facts.new.items ≡ told facts.old.items ++ told_by_line sandbox.now calls.now (line.now.0.now, line.now.1)) }
 {
     let teller = Teller {
         alloc,

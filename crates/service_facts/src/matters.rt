@@ -17,7 +17,7 @@ pub fn one_if(bad: bool) -> u32
 
 /// Whether the protection is on.
 pub fn is_on(sandbox: &Sandbox, protection: Protection) -> bool
-    ensures { result ≡ is_on sandbox.now protection }
+    ensures as_set { result ≡ is_on sandbox.now protection }
 {
     match protection {
         Protection::PrivateDevices => sandbox.filters.private_devices,
@@ -37,7 +37,7 @@ pub fn is_on(sandbox: &Sandbox, protection: Protection) -> bool
 
 /// How bad ProtectSystem= is.
 pub fn system_badness(system: SystemProtection) -> u32
-    ensures { result ≡ system_badness system }
+    ensures by_the_choice { result ≡ system_badness system }
 {
     match system {
         SystemProtection::No => 10,
@@ -49,7 +49,7 @@ pub fn system_badness(system: SystemProtection) -> u32
 
 /// How bad ProtectHome= is.
 pub fn home_badness(home: HomeProtection) -> u32
-    ensures { result ≡ home_badness home }
+    ensures by_the_choice { result ≡ home_badness home }
 {
     match home {
         HomeProtection::No => 10,
@@ -61,7 +61,7 @@ pub fn home_badness(home: HomeProtection) -> u32
 
 /// Whether there is an ambient capability.
 pub fn has_ambient(sandbox: &Sandbox) -> bool
-    ensures { result ≡ has_ambient sandbox.now }
+    ensures some_ambient { result ≡ has_ambient sandbox.now }
 {
     sandbox.ambient != CapSet::empty()
 }

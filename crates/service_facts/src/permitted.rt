@@ -39,7 +39,7 @@ fn permits_named(calls: &CallTable, filters: &FilterSettings, name: &str) -> boo
 
 /// Whether a family of the Internet is permitted.
 pub fn permits_internet(calls: &CallTable, filters: &FilterSettings) -> bool
-    ensures { result ≡ permits_internet calls.now filters.now }
+    ensures by_the_families { result ≡ permits_internet calls.now filters.now }
 {
     permits_named(calls, filters, "AF_INET") || permits_named(calls, filters, "AF_INET6")
 }

@@ -43,7 +43,7 @@ pub fn are_caps(values: &[Value]) -> bool
 
 /// The set of the capabilities that are named.
 pub fn caps_of(values: &[Value]) -> CapSet
-    ensures { result ≡ caps_of (map view values.now) }
+    ensures by_their_names { result ≡ caps_of (map view values.now) }
 {
     let mut set = CapSet::empty();
     for value in values {

@@ -41,7 +41,7 @@ fn has_exe_key(row: &Value) -> bool
 
 /// Whether the row is of kind dir, whatever else is in it.
 pub fn is_dir(row: &Value) -> bool
-    ensures { result ≡ option_map_or is_dir (kind_of (view row.now)) false }
+    ensures by_its_kind { result ≡ option_map_or is_dir (kind_of (view row.now)) false }
 {
     matches!(kind_of(row), Some(RowKind::Dir))
 }
@@ -111,7 +111,7 @@ fn exe_cause(row: &Value) -> Option<RowCause>
 
 /// What a row says of the file at its path, where it has no key that only an executable may have.
 pub fn plain_file(path: AbsPath, kind: RowKind) -> Row
-    ensures { result ≡ plain_file path kind }
+    ensures path_and_kind { result ≡ plain_file path kind }
 {
     Row {
         path,

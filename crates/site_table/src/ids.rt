@@ -28,14 +28,14 @@ fn id_of(number: i64) -> Option<u32>
 
 /// The id at a key, if there is a number in range.
 pub fn id_at(value: &Value, key: &str) -> Option<u32>
-    ensures { result ≡ id_at key.now (view value.now) }
+    ensures id_or_none { result ≡ id_at key.now (view value.now) }
 {
     id_of(number_at(value, key)?)
 }
 
 /// Whether a number out of range stands at a key.
 pub fn is_out_of_range(value: &Value, key: &str) -> bool
-    ensures { result ≡ is_out_of_range key.now (view value.now) }
+    ensures past_the_ids { result ≡ is_out_of_range key.now (view value.now) }
 {
     number_at(value, key).is_some_and(|number| id_of(number).is_none())
 }
@@ -53,7 +53,7 @@ fn count_of(number: i64) -> Option<u32>
 
 /// How many user namespaces may be made: none where the key is missing, and no answer where the number is out of range.
 pub fn spaces_at(site: &Value) -> Option<u32>
-    ensures { result ≡ spaces_at (view site.now) }
+    ensures count_in_range { result ≡ spaces_at (view site.now) }
 {
     match number_at(site, "user_namespaces") {
         None => Some(0),

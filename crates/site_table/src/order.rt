@@ -66,7 +66,7 @@ pub fn place_for(ordered: &OrderedRows, path: &AbsPath) -> Option<usize>
 /// A number of the row of the folder that a path is in, where that is among the rows or always there,
 /// to be given as the hint for the next path; for the root any number.
 pub fn folder_of(ordered: &OrderedRows, hint: usize, path: &AbsPath) -> Option<usize>
-    ensures { IfSome result (λ at. stands_behind ordered.now path.now ≡ true) }
+    ensures folder_stands { IfSome result (λ at. stands_behind ordered.now path.now ≡ true) }
 {
     match parent(path) {
         Some(folder) if !is_always_dir_text(folder) => dir_place(ordered.list(), hint, folder),
@@ -77,14 +77,14 @@ pub fn folder_of(ordered: &OrderedRows, hint: usize, path: &AbsPath) -> Option<u
 /// Puts a row in its place.
 pub fn put(ordered: &mut OrderedRows, at: usize, row: Row) -> Result<(), AllocError>
     requires { GoesAt ordered.old row.path at }
-    ensures { OnOk result (ordered.new ≡ row_placed row ordered.old) }
+    ensures placed { OnOk result (ordered.new ≡ row_placed row ordered.old) }
 {
     ordered.insert(at, row)
 }
 
 /// Puts a directory of this path in its place, unless there is a row of the path.
 pub fn put_dir(ordered: &mut OrderedRows, path: AbsPath) -> Result<(), AllocError>
-    ensures { OnOk result (ordered.new ≡ dir_placed path ordered.old) }
+    ensures dir_placed { OnOk result (ordered.new ≡ dir_placed path ordered.old) }
 {
     match place_for(ordered, &path) {
         Some(at) => put(ordered, at, plain_file(path, RowKind::Dir)),

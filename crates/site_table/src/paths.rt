@@ -27,7 +27,7 @@ fn short_path(alloc: Global, text: &str) -> Result<Option<AbsPath>, AllocError>
 
 /// The path of a row, where it has one.
 pub fn path_of(alloc: Global, row: &Value) -> Result<Option<AbsPath>, AllocError>
-    ensures { IfOk result (λ path. path ≡ path_of (view row.now)) }
+    ensures path_or_none { IfOk result (λ path. path ≡ path_of (view row.now)) }
 {
     match text_at(row, "path") {
         Some(text) => short_path(alloc, text),

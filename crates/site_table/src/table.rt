@@ -124,7 +124,7 @@ impl SiteTable {
     /// The row at the source with what the path has behind the place, as a bind shows it (mount(2)). No path is built.
     pub fn row_through(&self, source: &AbsPath, place: &AbsPath, path: &AbsPath) -> Option<&Row>
         requires { is_prefix place.now path.now ≡ true }
-        ensures { option_map (λ row. row.now) result ≡ row_at self.now.rows (source.now ++ rest_of place.now path.now) }
+        ensures by_the_source { option_map (λ row. row.now) result ≡ row_at self.now.rows (source.now ++ rest_of place.now path.now) }
     {
         self.row_behind(source, place.rest(path)?)
     }

@@ -10,8 +10,8 @@ use launched_units::{UnitRefusal, launch_whole};
 use plan_command::plan_line;
 use site_table::SiteTable;
 use std::alloc::Global;
-use unit_launch::{LaunchRefusal, UnitLaunch};
 use unit_inputs::settings_line;
+use unit_launch::{LaunchRefusal, UnitLaunch};
 
 // The launch that is refused, or the line of the setting or the path that is.
 fn tell(alloc: Global, name: &str, refusal: UnitRefusal) -> Result<LaunchRefusal, Stop>

@@ -15,7 +15,7 @@ use question_types::Question;
 pub fn first_denied(bounded: &Bounded<'_>, keep: &[Question]) -> Option<u64>
     requires bounded { IsBounded bounded.now }
     requires listed { All (λ question. Contains (questions bounded.now.service.world.calls bounded.now.service.world.site) question) keep.now }
-    ensures { Finds (IsKept bounded.now.service.world) (IsShut bounded.now.service.world) keep.now result }
+    ensures first_that_is_denied { Finds (IsKept bounded.now.service.world) (IsShut bounded.now.service.world) keep.now result }
 {
     let mut before: u64 = 0;
     for question in keep {
@@ -31,7 +31,7 @@ pub fn first_denied(bounded: &Bounded<'_>, keep: &[Question]) -> Option<u64>
 
 /// The first of these wishes that answers false, counted from 1.
 pub fn first_refused(rows: &[VerdictRow], wishes: &[StoredWish]) -> Option<u64>
-    ensures { let all = wishes_by (λ wish. wish.must_open) (λ wish. Test.post wish.test) wishes.now in
+    ensures first_that_answers_false { let all = wishes_by (λ wish. wish.must_open) (λ wish. Test.post wish.test) wishes.now in
         Finds (IsGranted all rows.now) (λ wish. all.Answers rows.now wish false) wishes.now result }
 {
     let mut before: u64 = 0;

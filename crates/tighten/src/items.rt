@@ -37,7 +37,7 @@ fn lines() -> &'static [&'static str]
 pub fn line(item: u8) -> &'static str
     requires from_1 { 1 ≤ item }
     requires to_17 { item ≤ 17 }
-    ensures { result.now ≡ line_of item }
+    ensures by_its_number { result.now ≡ line_of item }
 {
     lines()[item as usize - 1]
 }

@@ -85,7 +85,7 @@ impl<'a> Trial<'a> {
     ) -> Result<Held<'a>, AllocError>
         requires can_be_tried { CanBeTried self.now }
         requires holds { IsHeld (tried_of self.now (wishes_by (λ wish. wish.must_open) (λ wish. Test.post wish.test) wishes.now)) held }
-        ensures { IfOk result (IsMost (tried_of self.now (wishes_by (λ wish. wish.must_open) (λ wish. Test.post wish.test) wishes.now))) }
+        ensures none_can_be_added { IfOk result (IsMost (tried_of self.now (wishes_by (λ wish. wish.must_open) (λ wish. Test.post wish.test) wishes.now))) }
     {
         let few = held.set.len();
         let kept = self.try_items(alloc, wishes, held)?;

@@ -88,7 +88,7 @@ impl<'a> Trial<'a> {
     ) -> Result<Option<Lack>, AllocError>
         requires can_be_tried { CanBeTried self.now }
         requires over_the_tables { IsOver (tried_of self.now (wishes_by (λ wish. wish.must_open) (λ wish. Test.post wish.test) wishes.now)) bounded.now }
-        ensures { IfOk result (Lacks (tried_of self.now (wishes_by (λ wish. wish.must_open) (λ wish. Test.post wish.test) wishes.now)) bounded.now.service.world) }
+        ensures first_lack { IfOk result (Lacks (tried_of self.now (wishes_by (λ wish. wish.must_open) (λ wish. Test.post wish.test) wishes.now)) bounded.now.service.world) }
     {
         match first_denied(bounded, self.keep) {
             Some(number) => Ok(Some(Lack::Keep(number))),
@@ -122,7 +122,7 @@ impl<'a> Trial<'a> {
     ) -> Result<Option<Bounded<'a>>, AllocError>
         requires can_be_tried { CanBeTried self.now }
         requires some { 0 < length (in_order set.now) }
-        ensures { IfOk result (Tells (tried_of self.now (wishes_by (λ wish. wish.must_open) (λ wish. Test.post wish.test) wishes.now)) set.now) }
+        ensures tells_whether_they_serve { IfOk result (Tells (tried_of self.now (wishes_by (λ wish. wish.must_open) (λ wish. Test.post wish.test) wishes.now)) set.now) }
     {
         let unit = tightened(alloc, self.unit, set)?;
         match launch_whole(alloc, &unit, self.calls, self.site) {

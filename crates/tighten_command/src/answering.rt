@@ -20,8 +20,8 @@ use question_types::Question;
 use site_table::SiteTable;
 use std::alloc::Global;
 use tighten::{StoredWish, Tight, TightenError, tighten};
-use unit_launch::{LaunchRefusal, refusal_line};
 use unit_inputs::settings_line;
+use unit_launch::{LaunchRefusal, refusal_line};
 
 // What can be added.
 fn tell_tight(alloc: Global, tight: &Tight) -> Result<Hardening, Stop>

@@ -101,7 +101,7 @@ fn lacks_none(keys: &[Key], value: &Value) -> bool
 
 /// Whether the value is a table with these keys alone, and each that must be there.
 pub fn has_keys(keys: &[Key], value: &Value) -> bool
-    ensures { result ≡ has_keys (map known keys.now) (view value.now) }
+    ensures known_and_needed { result ≡ has_keys (map known keys.now) (view value.now) }
 {
     match value.as_table() {
         Some(table) => each_is_known(keys, table) && lacks_none(keys, value),

@@ -15,28 +15,28 @@ fn at<'a>(value: &'a Value, key: &str) -> Option<&'a Value>
 
 /// The text at a key, if there is one.
 pub fn text_at<'a>(value: &'a Value, key: &str) -> Option<&'a str>
-    ensures { option_copied result ≡ text_at key.now (view value.now) }
+    ensures text_or_none { option_copied result ≡ text_at key.now (view value.now) }
 {
     at(value, key)?.as_str()
 }
 
 /// The number at a key, if there is one.
 pub fn number_at(value: &Value, key: &str) -> Option<i64>
-    ensures { result ≡ number_at key.now (view value.now) }
+    ensures number_or_none { result ≡ number_at key.now (view value.now) }
 {
     at(value, key)?.as_integer()
 }
 
 /// The boolean at a key, if there is one.
 pub fn flag_at(value: &Value, key: &str) -> Option<bool>
-    ensures { result ≡ flag_at key.now (view value.now) }
+    ensures flag_or_none { result ≡ flag_at key.now (view value.now) }
 {
     at(value, key)?.as_bool()
 }
 
 /// The elements of an array; none of anything else.
 pub fn elements_of(value: &Value) -> &[Value]
-    ensures { map view result.now ≡ elements_of (view value.now) }
+    ensures elements_or_none { map view result.now ≡ elements_of (view value.now) }
 {
     match value.as_array() {
         Some(array) => array.as_slice(),

@@ -10,7 +10,7 @@ use std::alloc::{AllocError, Global};
 
 /// The name of the call line at a place.
 pub fn name_at(calls: &CallTable, place: u32) -> &str
-    ensures { result.now ≡ name_at calls.now place }
+    ensures of_its_line { result.now ≡ name_at calls.now place }
 {
     match calls.call_at(place as usize) {
         Some(line) => line.name.as_str(),
@@ -46,7 +46,7 @@ pub fn extended(
     calls: &CallTable,
     names: &[u32],
 ) -> Result<Resolved, AllocError>
-    ensures { IfOk result (λ longer. longer ≡ extended unit.now calls.now names.now) }
+    ensures drop_in_stands_last { IfOk result (λ longer. longer ≡ extended unit.now calls.now names.now) }
 {
     let text = drop_in(alloc, calls, names)?;
     with_file(alloc, unit, text.as_slice())

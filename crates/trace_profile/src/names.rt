@@ -47,7 +47,7 @@ fn push_first(names: &mut Vec<u32>, calls: &CallTable, place: u32) -> Result<(),
 
 /// Every name of the table.
 pub fn every_name(alloc: Global, calls: &CallTable) -> Result<Vec<u32>, AllocError>
-    ensures { IfOk result (λ names. names.items ≡ every_name calls.now) }
+    ensures all_of_the_table { IfOk result (λ names. names.items ≡ every_name calls.now) }
 {
     let mut names = Vec::new(alloc);
     for place in 0..count_lines(calls) {
@@ -58,7 +58,7 @@ pub fn every_name(alloc: Global, calls: &CallTable) -> Result<Vec<u32>, AllocErr
 
 /// The names but one.
 pub fn without(alloc: Global, names: &[u32], name: u32) -> Result<Vec<u32>, AllocError>
-    ensures { IfOk result (λ others. others.items ≡ without name names.now) }
+    ensures all_but_one { IfOk result (λ others. others.items ≡ without name names.now) }
 {
     let mut others = Vec::new(alloc);
     for one in names {
@@ -81,7 +81,7 @@ fn is_marked(marks: &[bool], place: u32) -> bool
 
 /// Those of the names that are marked.
 pub fn marked(alloc: Global, names: &[u32], marks: &[bool]) -> Result<Vec<u32>, AllocError>
-    ensures { IfOk result (λ some. some.items ≡ filter (is_marked marks.now) names.now) }
+    ensures those_that_are_marked { IfOk result (λ some. some.items ≡ filter (is_marked marks.now) names.now) }
 {
     let mut some = Vec::new(alloc);
     for place in names {

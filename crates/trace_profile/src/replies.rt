@@ -45,7 +45,7 @@ pub fn are_replies(
     said: &[Reply],
 ) -> Result<bool, AllocError>
     requires one_each { length said.now ≡ length script.now }
-    ensures { IfOk result (Compares (replies world.old script.now) said.now) }
+    ensures compares_the_replies { IfOk result (Compares (replies world.old script.now) said.now) }
 {
     for (at, call) in script.iter().enumerate() {
         if !are_same(world.step(alloc, call)?, said[at]) {

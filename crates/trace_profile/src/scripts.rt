@@ -26,7 +26,7 @@ fn seccomp_at(calls: &CallTable, script: &[Call]) -> Option<usize>
 
 /// The first such call, counted from 1.
 pub fn first_seccomp(calls: &CallTable, script: &[Call]) -> Option<u64>
-    ensures { result ≡ first_seccomp calls.now script.now }
+    ensures first_of_the_script { result ≡ first_seccomp calls.now script.now }
 {
     match seccomp_at(calls, script) {
         Some(place) => Some(place as u64 + 1),

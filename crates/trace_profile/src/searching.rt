@@ -45,7 +45,7 @@ impl<'a> Trial<'a> {
     /// Whether the unit with these names is launched and replies so.
     pub fn serves(&self, alloc: Global, names: &[u32]) -> Result<bool, AllocError>
         requires one_each { length self.now.said.now ≡ length self.now.script.now }
-        ensures { IfOk result (Tells (tried_of self.now) names.now) }
+        ensures tells_whether_they_serve { IfOk result (Tells (tried_of self.now) names.now) }
     {
         let unit = extended(alloc, self.unit, self.calls, names)?;
         match launch_whole(alloc, &unit, self.calls, self.site) {
@@ -82,7 +82,7 @@ impl<'a> Trial<'a> {
     pub fn least(&self, alloc: Global, names: Vec<u32>) -> Result<Vec<u32>, AllocError>
         requires one_each { length self.now.said.now ≡ length self.now.script.now }
         requires serving { AreServing (tried_of self.now) names.items }
-        ensures { IfOk result (λ left. IsLeast (tried_of self.now) left.items) }
+        ensures none_can_be_left_out { IfOk result (λ left. IsLeast (tried_of self.now) left.items) }
     {
         let kept = self.keep_needed(alloc, &names)?;
         if kept.len() == names.len() {

@@ -34,21 +34,21 @@ fn trailing_backslashes(text: &[u8]) -> usize
 
 /// The text without its leading white space.
 pub fn trimmed_start(text: &str) -> &str
-    ensures { result.now ≡ trim_start text.now }
+    ensures start_trimmed { result.now ≡ trim_start text.now }
 {
     &text[leading_white(text.as_bytes())..]
 }
 
 /// The text without its trailing white space.
 pub fn trimmed_end(text: &str) -> &str
-    ensures { result.now ≡ trim_end text.now }
+    ensures end_trimmed { result.now ≡ trim_end text.now }
 {
     &text[..text.len() - trailing_white(text.as_bytes())]
 }
 
 /// The text without white space at its ends.
 pub fn trimmed(text: &str) -> &str
-    ensures { result.now ≡ trim text.now }
+    ensures both_trimmed { result.now ≡ trim text.now }
 {
     trimmed_end(trimmed_start(text))
 }
@@ -63,14 +63,14 @@ pub fn continues_line(line: &str) -> bool
 /// The text without its last byte, which is a backslash.
 pub fn without_backslash(line: &str) -> &str
     requires { continues line.now ≡ true }
-    ensures { result.now ≡ without_last line.now }
+    ensures last_left_out { result.now ≡ without_last line.now }
 {
     &line[..line.len() - 1]
 }
 
 /// Whether a line without leading white space is a comment.
 pub fn is_comment_line(line: &str) -> bool
-    ensures { result ≡ is_comment line.now }
+    ensures by_its_first_mark { result ≡ is_comment line.now }
 {
     matches!(line.as_bytes(), [b'#' | b';', ..])
 }

@@ -22,7 +22,7 @@ pub struct Parts<'a> {
 
 /// What stands before `.service`, where the text ends so.
 pub fn stem_of(text: &str) -> Option<&str>
-    ensures { option_map (λ stem. stem.now) result ≡ before_end (codes ".service") text.now }
+    ensures before_the_ending { option_map (λ stem. stem.now) result ≡ before_end (codes ".service") text.now }
 {
     text.strip_suffix(SUFFIX)
 }
@@ -35,7 +35,7 @@ fn sides_of_at(stem: &str) -> Option<(&str, &str)>
 
 /// The parts of what stands before `.service`: they are cut at the first `@`.
 pub fn parts_of(stem: &str) -> Parts<'_>
-    ensures { borrowed_name result ≡ of_stem stem.now }
+    ensures of_the_stem { borrowed_name result ≡ of_stem stem.now }
 {
     let (prefix, instance) = match sides_of_at(stem) {
         Some((prefix, instance)) => (prefix, Some(instance)),
@@ -88,7 +88,7 @@ fn is_instance(instance: Option<&str>) -> bool
 
 /// The parts of the name that a text is, or nothing where it is none.
 pub fn name_parts(text: &str) -> Option<Parts<'_>>
-    ensures { option_map (λ parts. borrowed_name parts) result ≡ name_of text.now }
+    ensures of_a_name { option_map (λ parts. borrowed_name parts) result ≡ name_of text.now }
 {
     let parts = parts_of(stem_of(text)?);
     let allowed = is_prefix(parts.prefix) && is_instance(parts.instance);

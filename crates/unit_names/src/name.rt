@@ -99,21 +99,21 @@ impl UnitName {
 
     /// What stands before the first `@`, or before `.service` where the name has no instance.
     pub fn prefix(&self) -> &str
-        ensures { result.now ≡ self.now.prefix }
+        ensures before_the_at { result.now ≡ self.now.prefix }
     {
         self.prefix.as_str()
     }
 
     /// What stands between the first `@` and `.service`; `None` exactly where there is no `@`.
     pub fn instance(&self) -> Option<&str>
-        ensures { option_copied result ≡ self.now.instance }
+        ensures behind_the_at { option_copied result ≡ self.now.instance }
     {
         self.instance.as_ref().map(|instance| instance.as_str())
     }
 
     /// What stands before `.service`.
     pub fn stem(&self) -> &str
-        ensures { result.now ≡ stem_of self.now }
+        ensures before_the_ending { result.now ≡ stem_of self.now }
     {
         self.text.strip_suffix(SUFFIX).unwrap()
     }
@@ -121,7 +121,7 @@ impl UnitName {
     /// The name of the file that an instance is made from, `PREFIX@.service`; `None` exactly where
     /// the name has no instance.
     pub fn template(&self, alloc: Global) -> Result<Option<String>, AllocError>
-        ensures { IfOk result (λ template. option_map (λ t. string_bytes t) template ≡ template_of self.now) }
+        ensures without_instance { IfOk result (λ template. option_map (λ t. string_bytes t) template ≡ template_of self.now) }
     {
         match &self.instance {
             Some(_) => Ok(Some(format!(in alloc; "{}@{SUFFIX}", self.prefix)?)),

@@ -52,7 +52,7 @@ pub enum Specifier {
 impl Specifier {
     /// The specifier with this letter, if there is one.
     pub fn with_letter(letter: u8) -> Option<Specifier>
-        ensures { result ≡ specifier_at letter }
+        ensures by_letter { result ≡ specifier_at letter }
     {
         Some(match letter {
             b'%' => Specifier::Percent,
@@ -80,7 +80,7 @@ impl Specifier {
 
     /// Whether it stands for an unescaped text.
     pub fn unescapes(self) -> bool
-        ensures { result ≡ unescapes self }
+        ensures by_kind { result ≡ unescapes self }
     {
         matches!(
             self,

@@ -56,7 +56,7 @@ fn first_byte(text: &[u8]) -> Result<Option<(u8, &[u8])>, ExpandError>
 
 /// Puts what an escaped text stands for behind the bytes.
 pub fn push_unescaped(bytes: &mut Vec<u8>, text: &[u8]) -> Result<(), ExpandError>
-    ensures { AddsMeaning bytes.old.items (unescaped text.now) result bytes.new.items }
+    ensures adds_its_meaning { AddsMeaning bytes.old.items (unescaped text.now) result bytes.new.items }
 {
     let mut rest = text;
     while let Some((byte, behind)) = first_byte(rest)? {

@@ -26,7 +26,7 @@ pub struct Listed {
 impl Listed {
     /// Whether the value is empty, which resets what was listed before it.
     pub fn is_reset(&self) -> bool
-        ensures { result ≡ is_reset self.now }
+        ensures empty_value { result ≡ is_reset self.now }
     {
         self.value.text.as_str().is_empty()
     }

@@ -12,7 +12,7 @@ pub fn note_value(
     value: &Value,
     cause: NoteCause,
 ) -> Result<(), AllocError>
-    ensures { OnOk result (notes.new.items ≡ notes.old.items ++ note_at value.now cause ∷ []) }
+    ensures noted { OnOk result (notes.new.items ≡ notes.old.items ++ note_at value.now cause ∷ []) }
 {
     notes.push(FileNote {
         place: value.place,
@@ -27,7 +27,7 @@ pub fn note_causes(
     value: &Value,
     causes: &[NoteCause],
 ) -> Result<(), AllocError>
-    ensures { OnOk result (notes.new.items ≡ notes.old.items ++ notes_at value.now causes.now) }
+    ensures all_noted { OnOk result (notes.new.items ≡ notes.old.items ++ notes_at value.now causes.now) }
 {
     for cause in causes {
         note_value(notes, value, *cause)?;

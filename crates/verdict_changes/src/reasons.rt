@@ -6,7 +6,7 @@ use kernel_ways::blindness;
 
 /// What is found to change from one launched service to another changes, and nothing else does.
 pub fn changes_are_true()
-    ensures { ChangesAreTrue }
+    ensures exactly_what_changes { ChangesAreTrue }
 {
     truths();
     blindness();

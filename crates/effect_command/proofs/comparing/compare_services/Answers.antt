@@ -30,7 +30,7 @@ effect_text-requires c = record {
 pub returns : goal.returns
 returns c = λ table site one other.
     compared table site c.args.before c.args.after one other c.in_ok-first.first c.in_ok-second.second c.in_ok-first.ensures.asks.0 c.in_ok-second.ensures.asks.0
-    c.changes_are_true.ensures c.in_ok-second.ensures.asks.1 _ _ refl c.in_ok-effect_text.ensures.tells_all
+    c.changes_are_true.ensures.exactly_what_changes c.in_ok-second.ensures.asks.1 _ _ refl c.in_ok-effect_text.ensures.tells_all
 
 pub returns-in_err-first : goal.returns-in_err-first
 returns-in_err-first c = λ table site one other. at_stop (IsReadyWith (TellsBoth table site (Launched c.args.before) (Launched c.args.after))) c.from_residual.result stop.Memory c.from_residual.ensures.1 tt

@@ -9,5 +9,7 @@ behind_word-requires c = record {
 }
 
 pub returns : goal.returns
-returns c =
-    c.behind_word.ensures (codes " " ++ (question_words c.args.calls.now c.args.site.now c.args.question.now ++ 10 ∷ [])) (c.as_slice.ensures.value ∙ c.in_ok-reported.ensures.tells_the_verdict)
+returns c = record {
+  tells_the_question =
+      c.behind_word.ensures (codes " " ++ (question_words c.args.calls.now c.args.site.now c.args.question.now ++ 10 ∷ [])) (c.as_slice.ensures.value ∙ c.in_ok-reported.ensures.tells_the_verdict);
+}

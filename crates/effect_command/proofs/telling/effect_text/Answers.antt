@@ -38,7 +38,7 @@ returns c = record {
       (c.rows-rows.ensures.rows ∙ ap (λ site. site.rows) c.site_table.ensures.told)
       (c.in_ok-tell_questions.ensures.tells ∙ ap (λ front. front ++ flat_map (λ question. lines_in after (changes_at before after question)) list) c.new-text.ensures.items)
       c.in_ok-tell_rows.ensures.tells
-      (c.in_ok-counts.ensures
+      (c.in_ok-counts.ensures.counts
       ∙ ap counts_line (c.as_slice.ensures.value ∙ c.in_ok-tell_rows.ensures.counts
       ∙ ap (λ front. front ++ flat_map (λ row. map kind_of (turns_at before after row)) rows)
       (c.in_ok-tell_questions.ensures.counts ∙ ap (λ front. front ++ flat_map (λ question. map kind_of (changes_at before after question)) list) c.new-kinds.ensures.items)))

@@ -8,12 +8,12 @@ use Rattle.filter_command.proofs.printing.print_filter.Goals as goal
 pub returns-in_err-put_line-clause-takes_the_text : goal.returns-in_err-put_line-clause-takes_the_text
 returns-in_err-put_line-clause-takes_the_text g c =
     text_at_error _ _ _ c.in_err-put_line.field-0.0 c.from_residual.result c.from_residual.ensures.0
-    (text_cut _ _ (head_line c.args.filter.now) (flat_map insn_line c.args.filter.now.program) c.in_err-put_line.field-0.0 (c.in_err-put_line.ensures.takes_the_line _ c.head_line.ensures))
+    (text_cut _ _ (head_line c.args.filter.now) (flat_map insn_line c.args.filter.now.program) c.in_err-put_line.field-0.0 (c.in_err-put_line.ensures.takes_the_line _ c.head_line.ensures.tells_the_filter))
 
 pub returns-clause-takes_the_text : goal.returns-clause-takes_the_text
 returns-clause-takes_the_text g c =
     text_then _ _ _ (head_line c.args.filter.now) (flat_map insn_line c.args.filter.now.program) c.print_insns.result
-    (c.in_ok-put_line.ensures.takes_the_line _ c.head_line.ensures)
+    (c.in_ok-put_line.ensures.takes_the_line _ c.head_line.ensures.tells_the_filter)
     (rw c.insns.ensures.insns at c.print_insns.ensures.takes_the_text)
 
 pub returns-clause-fault_rose : goal.returns-clause-fault_rose

@@ -50,4 +50,4 @@ whole calls lines done order i e h ge is =
     subst (Ascends calls) (sym (is ∙ ap (λ ls. map (line_at ls) (take i order)) e ∙ ap (map (line_at calls)) (take_all i order ge))) (ascends calls order h)
 
 pub returns : goal.returns
-returns c = whole (calls_in c.args.table.now c.args.abi) c.calls_in-calls.result.now _ c.by_number_in-numbered-items.result.now c.loop-numbered.numbered-index c.calls_in-calls.ensures.lists c.by_number_in-numbered-items.ensures.ascends c.loop-numbered-test.false c.loop-numbered.invariant
+returns c = record { ascending = whole (calls_in c.args.table.now c.args.abi) c.calls_in-calls.result.now _ c.by_number_in-numbered-items.result.now c.loop-numbered.numbered-index c.calls_in-calls.ensures.lists c.by_number_in-numbered-items.ensures.ascends c.loop-numbered-test.false c.loop-numbered.invariant }

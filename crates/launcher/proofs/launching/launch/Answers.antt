@@ -16,8 +16,8 @@ pub make_steps-requires-clause-few_calls : goal.make_steps-requires-clause-few_c
 make_steps-requires-clause-few_calls c =
     let settings = c.args.settings.now in
     let made = c.in_ok-filters.filters in
-    let are : AreProgramsOf settings.filters.items made = subst (λ filters. AreProgramsOf filters made) c.deref.ensures.value c.in_ok-filters.ensures in
-    subst (λ (steps : List LaunchStep). length steps ≤ 40000) (sym c.in_ok-list.ensures)
+    let are : AreProgramsOf settings.filters.items made = subst (λ filters. AreProgramsOf filters made) c.deref.ensures.value c.in_ok-filters.ensures.one_for_each_filter in
+    subst (λ (steps : List LaunchStep). length steps ≤ 40000) (sym c.in_ok-list.ensures.calls_by_these_programs)
     (few_calls c.args.calls.now.calls (wanted_of settings (given_bytes made)) settings.filters.items made are c.requires.settings.fit_into_a_stack refl)
 
 pub returns-in_err-steps-clause-ends_as_its_steps_do : goal.returns-in_err-steps-clause-ends_as_its_steps_do
@@ -29,9 +29,9 @@ returns-in_err-steps-clause-ends_as_its_steps_do c =
     let made = c.in_ok-filters.filters in
     let e = c.in_err-steps.field-0.0 in
     let after : World = c.make_steps.new.world in
-    let are : AreProgramsOf settings.filters.items made = subst (λ filters. AreProgramsOf filters made) c.deref.ensures.value c.in_ok-filters.ensures in
-    let plain : is_privileged_row (finds (row_at site.rows) plan settings.program) ≡ false = sym c.is_privileged.ensures ∙ c.if-is_privileged.false in
-    let ends = steps_end table site settings plan c.look_at.ensures.whole (word_archs table c.look_at.ensures.native c.look_at.ensures.second) c.requires.plan c.requires.settings made are plain c.in_ok-list.list c.in_ok-world.world (Err e) after c.in_ok-world.ensures.starts c.in_ok-list.ensures c.in_err-steps.ensures in
+    let are : AreProgramsOf settings.filters.items made = subst (λ filters. AreProgramsOf filters made) c.deref.ensures.value c.in_ok-filters.ensures.one_for_each_filter in
+    let plain : is_privileged_row (finds (row_at site.rows) plan settings.program) ≡ false = sym c.is_privileged.ensures.by_the_row_that_is_found ∙ c.if-is_privileged.false in
+    let ends = steps_end table site settings plan c.look_at.ensures.whole (word_archs table c.look_at.ensures.native c.look_at.ensures.second) c.requires.plan c.requires.settings made are plain c.in_ok-list.list c.in_ok-world.world (Err e) after c.in_ok-world.ensures.starts c.in_ok-list.ensures.calls_by_these_programs c.in_err-steps.ensures in
     at_error (EndsAs table site settings plan) c.from_residual-in_err-steps.result e c.from_residual-in_err-steps.ensures.1
     (ends_refused table site settings plan c.look_at.ensures.whole (word_archs table c.look_at.ensures.native c.look_at.ensures.second) c.requires.plan c.requires.settings made are plain e after ends)
 
@@ -43,9 +43,9 @@ returns c =
     let plan = c.args.plan.now in
     let made = c.in_ok-filters.filters in
     let after : World = c.make_steps.new.world in
-    let are : AreProgramsOf settings.filters.items made = subst (λ filters. AreProgramsOf filters made) c.deref.ensures.value c.in_ok-filters.ensures in
-    let plain : is_privileged_row (finds (row_at site.rows) plan settings.program) ≡ false = sym c.is_privileged.ensures ∙ c.if-is_privileged.false in
-    let ends = steps_end table site settings plan c.look_at.ensures.whole (word_archs table c.look_at.ensures.native c.look_at.ensures.second) c.requires.plan c.requires.settings made are plain c.in_ok-list.list c.in_ok-world.world (Ok c.in_ok-steps.steps) after c.in_ok-world.ensures.starts c.in_ok-list.ensures c.in_ok-steps.ensures in
+    let are : AreProgramsOf settings.filters.items made = subst (λ filters. AreProgramsOf filters made) c.deref.ensures.value c.in_ok-filters.ensures.one_for_each_filter in
+    let plain : is_privileged_row (finds (row_at site.rows) plan settings.program) ≡ false = sym c.is_privileged.ensures.by_the_row_that_is_found ∙ c.if-is_privileged.false in
+    let ends = steps_end table site settings plan c.look_at.ensures.whole (word_archs table c.look_at.ensures.native c.look_at.ensures.second) c.requires.plan c.requires.settings made are plain c.in_ok-list.list c.in_ok-world.world (Ok c.in_ok-steps.steps) after c.in_ok-world.ensures.starts c.in_ok-list.ensures.calls_by_these_programs c.in_ok-steps.ensures in
     let service : Service = record { world = after; program = c.in_ok-copy-2.field-0; filters = made; steps = c.in_ok-steps.steps } in
     let launched : LaunchesTo table site settings plan service = record { program = c.in_ok-copy-2.ensures.same; filters = are; ends = ends } in
     record {

@@ -10,7 +10,7 @@ compare-requires-clause-miss t c =
     let n = c.in_ok-miss_at-in-Split.ensures.placed in
     let y = c.in_ok-hit_at-in-Split.ensures.placed in
     let ending : is_end (decision_of c.deref-then-is_end-2.result.now) ≡ true =
-    ap (λ tree. is_end (decision_of tree)) (c.deref-then-is_end-2.ensures ∙ sym c.deref-in-Split.ensures) ∙ sym c.is_end.ensures ∙ c.if-is_end.true in
+    ap (λ tree. is_end (decision_of tree)) (c.deref-then-is_end-2.ensures ∙ sym c.deref-in-Split.ensures) ∙ sym c.is_end.ensures.ends ∙ c.if-is_end.true in
     let one = end_most (decision_of c.deref-then-is_end-2.result.now) ending in
     (omega (arith, n.inside, grows-le c.place-then-is_end.new.code.items c.place-then-is_end-2.new.code.items y.grows), omega (arith, n.near, y.short, one))
 
@@ -21,7 +21,7 @@ returns-then-is_end-clause-placed t c =
     let miss = decision_of c.deref-then-is_end.result.now in
     let hit = decision_of c.deref-then-is_end-2.result.now in
     let ending : is_end hit ≡ true =
-    ap (λ tree. is_end (decision_of tree)) (c.deref-then-is_end-2.ensures ∙ sym c.deref-in-Split.ensures) ∙ sym c.is_end.ensures ∙ c.if-is_end.true in
+    ap (λ tree. is_end (decision_of tree)) (c.deref-then-is_end-2.ensures ∙ sym c.deref-in-Split.ensures) ∙ sym c.is_end.ensures.ends ∙ c.if-is_end.true in
     let whole : decision_of c.args.tree.now ≡ splits c.in-Split.comparison c.in-Split.number miss hit =
     ap decision_of c.in-Split.is
     ∙ ap (λ tree. splits c.in-Split.comparison c.in-Split.number (decision_of tree) (decision_of c.in-Split.hit.value)) (sym c.deref-then-is_end.ensures)
@@ -50,7 +50,7 @@ returns-in_ok-compare-in-Split-2-clause-placed t c =
     let hit = decision_of c.deref-in-Split-2.result.now in
     let miss = decision_of c.deref-in-Split-3.result.now in
     let tree : is_end hit ≡ false =
-    ap (λ tree. is_end (decision_of tree)) (c.deref-in-Split-2.ensures ∙ sym c.deref-in-Split.ensures) ∙ sym c.is_end.ensures ∙ c.if-is_end.false in
+    ap (λ tree. is_end (decision_of tree)) (c.deref-in-Split-2.ensures ∙ sym c.deref-in-Split.ensures) ∙ sym c.is_end.ensures.ends ∙ c.if-is_end.false in
     let whole : decision_of c.args.tree.now ≡ splits c.in-Split.comparison c.in-Split.number miss hit =
     ap decision_of c.in-Split.is
     ∙ ap (λ tree. splits c.in-Split.comparison c.in-Split.number (decision_of tree) (decision_of c.in-Split.hit.value)) (sym c.deref-in-Split-3.ensures)

@@ -8,18 +8,18 @@ use Rattle.started_units.proofs.Started.{reads_nothing, starts, stopped, told}
 use Rattle.started_units.proofs.starting.start.Goals as goal
 
 pub returns-in-Ok-clause-starts : goal.returns-in-Ok-clause-starts
-returns-in-Ok-clause-starts c = starts c.args.name.now c.args.unit.now c.args.calls.now c.args.site.now c.in-Ok.service c.in-Ok.ensures
+returns-in-Ok-clause-starts c = starts c.args.name.now c.args.unit.now c.args.calls.now c.args.site.now c.in-Ok.service c.in-Ok.ensures.launches
 
 pub returns-in_ok-tell-in-Err-clause-starts : goal.returns-in_ok-tell-in-Err-clause-starts
 returns-in_ok-tell-in-Err-clause-starts c =
-    told c.args.name.now c.args.unit.now c.args.calls.now c.args.site.now c.in-Err.refusal (Ok c.in_ok-tell-in-Err.field-0) c.in-Err.ensures c.in_ok-tell-in-Err.ensures
+    told c.args.name.now c.args.unit.now c.args.calls.now c.args.site.now c.in-Err.refusal (Ok c.in_ok-tell-in-Err.field-0) c.in-Err.ensures.launches c.in_ok-tell-in-Err.ensures
 
 pub returns-in_err-tell-in-Err-clause-starts : goal.returns-in_err-tell-in-Err-clause-starts
 returns-in_err-tell-in-Err-clause-starts c =
     let inputs = given c.args.unit.now c.args.calls.now c.args.site.now in
     at_stop (λ result. Prepares (StartsAs inputs) (start_refusals c.args.name.now inputs) result) c.from_residual.result c.in_err-tell-in-Err.field-0.0 c.from_residual.ensures.1
     (stopped c.args.name.now c.args.unit.now c.args.calls.now c.args.site.now c.in_err-tell-in-Err.field-0.0
-    (told c.args.name.now c.args.unit.now c.args.calls.now c.args.site.now c.in-Err.refusal (Err c.in_err-tell-in-Err.field-0.0) c.in-Err.ensures c.in_err-tell-in-Err.ensures))
+    (told c.args.name.now c.args.unit.now c.args.calls.now c.args.site.now c.in-Err.refusal (Err c.in_err-tell-in-Err.field-0.0) c.in-Err.ensures.launches c.in_err-tell-in-Err.ensures))
 
 pub returns-in_err-tell-in-Err-clause-reads_nothing : goal.returns-in_err-tell-in-Err-clause-reads_nothing
 returns-in_err-tell-in-Err-clause-reads_nothing c =

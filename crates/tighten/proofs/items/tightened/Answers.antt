@@ -9,4 +9,4 @@ drop_in-requires c = record { are_items = subst (All (λ item. (1 ≤ item) × (
 pub returns : goal.returns
 returns c =
     tightened_is c.args.unit.now c.args.set.now c.in_ok-items.items.items c.deref.result.now c.in_ok-text.text.items c.deref-2.result.now c.with_file.result
-    c.in_ok-items.ensures.in_order c.deref.ensures.value c.in_ok-text.ensures.adds_exactly_these c.deref-2.ensures.value c.requires.some c.with_file.ensures
+    c.in_ok-items.ensures.in_order c.deref.ensures.value c.in_ok-text.ensures.adds_exactly_these c.deref-2.ensures.value c.requires.some c.with_file.ensures.file_stands_last

@@ -23,7 +23,7 @@ pub count_open-open_after-requires : goal.count_open-open_after-requires
 count_open-open_after-requires g c =
     let tried = tried_of c.args.trial.now (wishes_by (λ wish. wish.must_open) (λ wish shown answer. (goal.Fn-dyn g).post (wish.test.vtable, wish.test.value) (shown, tt) answer) c.args.wishes.now) in
     let most = c.in_ok-most.most in
-    let holds = c.in_ok-most.ensures.holds in
+    let holds = c.in_ok-most.ensures.none_can_be_added.holds in
     record {
       bounded = holds.is_bounded;
       all = all_asked tried most.bounded c.args.trial.now.questions.now (is_over tried (tightened tried.unit most.set.items) most.bounded holds.launched holds.is_bounded) c.requires.can_be_tried.all;
@@ -32,7 +32,7 @@ count_open-open_after-requires g c =
 pub returns : goal.returns
 returns g c =
     let tried = tried_of c.args.trial.now (wishes_by (λ wish. wish.must_open) (λ wish shown answer. (goal.Fn-dyn g).post (wish.test.vtable, wish.test.value) (shown, tt) answer) c.args.wishes.now) in
-    tight_is tried c.openness.ensures.each_listed c.args.trial.now.questions.now c.requires.can_be_tried.all c.args.own c.in_ok-most.most _ c.requires.serves c.in_ok-most.ensures
+    tight_is tried c.openness.ensures.each_listed c.args.trial.now.questions.now c.requires.can_be_tried.all c.args.own c.in_ok-most.most _ c.requires.serves c.in_ok-most.ensures.none_can_be_added
     (c.new-2.ensures ∙ c.in_ok-in_order.ensures.in_order ∙ ap in_order c.deref.ensures.value)
     c.count_open-open_before.ensures.counts refl
     c.count_open-open_after.ensures.counts refl

@@ -6,8 +6,11 @@ use Rattle.unit_names.proofs.unescape.push_unescaped.Goals as goal
 pub returns-in_err-byte : goal.returns-in_err-byte
 returns-in_err-byte c =
     let p = err_from_is_err_and c.from_residual.result c.from_residual.ensures.1 in
-    rw (p.1, p.2)
-    (part_refused c.args.bytes.now.items c.loop-byte.bytes.items c.loop-byte.bytes.items c.args.text.now c.loop-byte.rest.now c.in_err-byte.field-0.0 c.loop-byte.invariant c.in_err-byte.ensures)
+    record {
+      adds_its_meaning =
+          rw (p.1, p.2)
+          (part_refused c.args.bytes.now.items c.loop-byte.bytes.items c.loop-byte.bytes.items c.args.text.now c.loop-byte.rest.now c.in_err-byte.field-0.0 c.loop-byte.invariant c.in_err-byte.ensures);
+    }
 
 pub loop-byte-preserved : goal.loop-byte-preserved
 loop-byte-preserved c =

@@ -12,4 +12,4 @@ returns-in_err-print_filters-clause-takes_the_text g c =
 pub returns-clause-takes_the_text : goal.returns-clause-takes_the_text
 returns-clause-takes_the_text g c =
     text_as _ _ (text_of c.as_slice-filters.result.now) _ c.put_line.result (ap text_of c.as_slice-filters.ensures.value)
-    (text_then _ _ _ (flat_map filter_text c.as_slice-filters.result.now) (count_line (length c.as_slice-filters.result.now)) c.put_line.result c.in_ok-print_filters.ensures.takes_the_text (c.put_line.ensures.takes_the_line _ c.count_line.ensures))
+    (text_then _ _ _ (flat_map filter_text c.as_slice-filters.result.now) (count_line (length c.as_slice-filters.result.now)) c.put_line.result c.in_ok-print_filters.ensures.takes_the_text (c.put_line.ensures.takes_the_line _ c.count_line.ensures.counts))

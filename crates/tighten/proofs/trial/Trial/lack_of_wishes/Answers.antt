@@ -12,11 +12,11 @@ verdict_rows-requires g c = record {
 
 pub returns-in-Some : goal.returns-in-Some
 returns-in-Some g c =
-    refuses_at (tried_of c.args.self.now (wishes_by (λ wish. wish.must_open) (λ wish shown answer. (goal.Fn-dyn g).post (wish.test.vtable, wish.test.value) (shown, tt) answer) c.args.wishes.now)) c.args.bounded.now.service.world c.in_ok-rows.rows.items c.deref.result.now c.in-Some.number c.requires.keeps c.in_ok-rows.ensures.one_each_and_so c.deref.ensures.value c.in-Some.ensures
+    refuses_at (tried_of c.args.self.now (wishes_by (λ wish. wish.must_open) (λ wish shown answer. (goal.Fn-dyn g).post (wish.test.vtable, wish.test.value) (shown, tt) answer) c.args.wishes.now)) c.args.bounded.now.service.world c.in_ok-rows.rows.items c.deref.result.now c.in-Some.number c.requires.keeps c.in_ok-rows.ensures.one_each_and_so c.deref.ensures.value c.in-Some.ensures.first_that_answers_false
 
 pub returns : goal.returns
 returns g c =
-    pleases_all (tried_of c.args.self.now (wishes_by (λ wish. wish.must_open) (λ wish shown answer. (goal.Fn-dyn g).post (wish.test.vtable, wish.test.value) (shown, tt) answer) c.args.wishes.now)) c.args.bounded.now.service.world c.in_ok-rows.rows.items c.deref.result.now c.requires.keeps c.in_ok-rows.ensures.one_each_and_so c.deref.ensures.value c.in-None.ensures
+    pleases_all (tried_of c.args.self.now (wishes_by (λ wish. wish.must_open) (λ wish shown answer. (goal.Fn-dyn g).post (wish.test.vtable, wish.test.value) (shown, tt) answer) c.args.wishes.now)) c.args.bounded.now.service.world c.in_ok-rows.rows.items c.deref.result.now c.requires.keeps c.in_ok-rows.ensures.one_each_and_so c.deref.ensures.value c.in-None.ensures.first_that_answers_false
 
 pub returns-then-is_empty : goal.returns-then-is_empty
 returns-then-is_empty g c =

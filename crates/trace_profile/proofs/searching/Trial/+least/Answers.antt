@@ -4,7 +4,9 @@ use Rattle.trace_profile.proofs.Kept.{least_of}
 use Rattle.trace_profile.proofs.searching.Trial.+least.Goals as goal
 
 pub returns-then-len : goal.returns-then-len
-returns-then-len t c =
-    least_of (tried_of c.args.self.now) c.args.names.items c.in_ok-kept.kept.items
-    (subst (λ these. AreKept (tried_of c.args.self.now) these these c.in_ok-kept.kept.items) c.deref.ensures.value c.in_ok-kept.ensures)
-    (omega (arith, c.len.ensures, c.len-2.ensures, c.if-len.true))
+returns-then-len t c = record {
+  none_can_be_left_out =
+      least_of (tried_of c.args.self.now) c.args.names.items c.in_ok-kept.kept.items
+      (subst (λ these. AreKept (tried_of c.args.self.now) these these c.in_ok-kept.kept.items) c.deref.ensures.value c.in_ok-kept.ensures)
+      (omega (arith, c.len.ensures, c.len-2.ensures, c.if-len.true));
+}

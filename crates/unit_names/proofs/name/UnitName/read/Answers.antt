@@ -4,7 +4,7 @@ use Rattle.unit_names.proofs.Spelling.{reading}
 use Rattle.unit_names.proofs.name.UnitName.read.Goals as goal
 
 pub with_parts-requires : goal.with_parts-requires
-with_parts-requires c = (reading c.args.text.now (borrowed_name c.in-Some.parts)).0 (sym c.in-Some.ensures)
+with_parts-requires c = (reading c.args.text.now (borrowed_name c.in-Some.parts)).0 (sym c.in-Some.ensures.of_a_name)
 
 pub returns-in-Some-clause-reading_is_spelling : goal.returns-in-Some-clause-reading_is_spelling
 returns-in-Some-clause-reading_is_spelling c = reading c.args.text.now
