@@ -1,5 +1,5 @@
 -- What the law of two sites says of a service that a unit comes to on one of them.
-use Rattle.std.specs.Prelude.{◌≡◌, ℕ, List}
+use Rattle.std.specs.Prelude.{◌≡◌, ℕ, List, []}
 use Rattle.abs_path.specs.Paths.{Path, text_of}
 use Rattle.exec_settings.specs.declared.service.Settings.{Settings}
 use Rattle.kern_mounts.specs.Split.{Table}
@@ -23,9 +23,11 @@ AreSameThere asked made plan programs folder =
     (last : World) (steps : ℕ) → launch_with asked.calls.now asked.site.now made plan programs ≡ Launched last steps → IsBlind last folder
     → IsSameThere asked made plan programs folder last steps
 
--- the service is blind to the folder that is asked for, and is the same on the other site
+-- the service is blind to the folder that is asked for, and is the same on the other site; and so is one that is launched without any
+-- filter and is blind to it
 pub record IsBlindThere (asked : Asked) (made : Settings) (plan : Table) (service : Service) : Type 0 where
   pub folder : Path
   pub named : text_of folder ≡ asked.folder.now
   pub blind : IsBlind service.world folder
   pub same : IsSameThere asked made plan (given_bytes service.filters) folder service.world service.steps
+  pub unfiltered : AreSameThere asked made plan [] folder

@@ -1,5 +1,5 @@
 //! A service on the other site of a pair, by the law of two sites.
-ghost use Rattle.std.specs.Prelude.{◌≡◌, true, Ok, Some, IfOk};
+ghost use Rattle.std.specs.Prelude.{◌≡◌, true, [], Ok, Some, IfOk};
 ghost use Rattle.judge_rows.specs.Elsewhere.{AreSameThere, IsBlindThere, IsSameThere};
 ghost use Rattle.ceilings.specs.Own.{IsCeilingOf};
 ghost use Rattle.exec_settings.specs.AreSettings.{AreSettings};
@@ -49,7 +49,8 @@ fn know_alike(
     );
 }
 
-// Whether the service is blind to the folder; where it is, it is the same on the other site.
+// Whether the service is blind to the folder; where it is, it is the same on the other site. So is one that is launched without
+// any filter, whose programs match those of the settings nowhere: the law is called at programs that nothing is known of.
 fn is_blind_at(
     asked: &Asked<'_>,
     settings: &Settings,
@@ -65,10 +66,12 @@ fn is_blind_at(
     requires its_own_ceiling { IsCeilingOf (launch_of service.now.world) top.now }
     requires folder { kind_at asked.now.site.now.rows folder.now ≡ Some Dir }
     ensures blind { result ≡ true → IsBlind service.now.world folder.now }
+    ensures unfiltered { AreSameThere asked.now settings.now plan.now [] folder.now }
     ensures same_there { result ≡ true → IsSameThere asked.now settings.now plan.now
         (given_bytes service.now.filters) folder.now service.now.world service.now.steps }
 {
     know_alike(asked, settings, plan, service.filters.list(), folder);
+    know_alike(asked, settings, plan, &[], folder);
     blind(service, top, folder)
 }
 
