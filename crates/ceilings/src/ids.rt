@@ -69,7 +69,7 @@ pub(crate) fn uids(alloc: Global, world: &World<'_>, power: Power) -> Result<IdL
 {
     let creds = &launched_process(world).creds;
     let mut ids = Vec::new(alloc);
-    ids.push(creds.uids().1)?;
+    ids.push(creds.uids().effective)?;
     if !creds.no_new_privs() {
         push_given(
             &mut ids,
@@ -89,7 +89,7 @@ pub(crate) fn gids(alloc: Global, world: &World<'_>, power: Power) -> Result<IdL
 {
     let creds = &launched_process(world).creds;
     let mut ids = Vec::new(alloc);
-    ids.push(creds.gids().1)?;
+    ids.push(creds.gids().effective)?;
     ids.extend_from_slice(creds.groups())?;
     if !creds.no_new_privs() {
         push_given(

@@ -40,7 +40,7 @@ fn is_moved(entry: &MountStep) -> bool
 {
     match &entry.what {
         What::Host(source) => *source != entry.place,
-        What::Empty | What::Hidden(_) => false,
+        What::Empty | What::Hidden { .. } => false,
     }
 }
 
@@ -97,7 +97,7 @@ fn shows(search: &Search<'_>, at: usize, entry: &MountStep, own: usize, row: &Ab
                 at == own
             }
         }
-        What::Empty | What::Hidden(_) => false,
+        What::Empty | What::Hidden { .. } => false,
     }
 }
 

@@ -71,7 +71,7 @@ fn shows_below(
             (source.is_below(folder) && is_clear(table, at, place, "", uncover))
                 || shows_folder(table, at, place, source, folder, uncover)
         }
-        What::Empty | What::Hidden(_) => false,
+        What::Empty | What::Hidden { .. } => false,
     }
 }
 

@@ -63,21 +63,21 @@ impl Creds {
     }
 
     /// The real, the effective and the saved uid.
-    pub fn uids(&self) -> (u32, u32, u32)
-        ensures real { result.0 ≡ self.now.uids.real }
-        ensures effective { result.1 ≡ self.now.uids.effective }
-        ensures saved { result.2 ≡ self.now.uids.saved }
+    pub fn uids(&self) -> Ids
+        ensures real { result.real ≡ self.now.uids.real }
+        ensures effective { result.effective ≡ self.now.uids.effective }
+        ensures saved { result.saved ≡ self.now.uids.saved }
     {
-        (self.uids.real, self.uids.effective, self.uids.saved)
+        self.uids
     }
 
     /// The real, the effective and the saved gid.
-    pub fn gids(&self) -> (u32, u32, u32)
-        ensures real { result.0 ≡ self.now.gids.real }
-        ensures effective { result.1 ≡ self.now.gids.effective }
-        ensures saved { result.2 ≡ self.now.gids.saved }
+    pub fn gids(&self) -> Ids
+        ensures real { result.real ≡ self.now.gids.real }
+        ensures effective { result.effective ≡ self.now.gids.effective }
+        ensures saved { result.saved ≡ self.now.gids.saved }
     {
-        (self.gids.real, self.gids.effective, self.gids.saved)
+        self.gids
     }
 
     /// The supplementary groups.

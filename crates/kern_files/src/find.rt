@@ -39,7 +39,7 @@ fn found_by<'a>(site: &'a SiteTable, entry: &MountStep, path: &AbsPath) -> Found
         What::Host(source) => row_or_nothing(site.row_through(source, &entry.place, path)),
         What::Empty if entry.place == *path => Found::EmptyDirectory,
         What::Empty => Found::Nothing(ENOENT),
-        What::Hidden(_) => Found::Nothing(EACCES),
+        What::Hidden { .. } => Found::Nothing(EACCES),
     }
 }
 

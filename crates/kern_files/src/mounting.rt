@@ -96,7 +96,7 @@ pub fn mount(
 {
     match planned(table, site, source, target, flags) {
         Ok(Change::Remount) => remount(table, target, flags),
-        Ok(Change::Bind(recursive)) => table.bind(source, target, recursive),
+        Ok(Change::Bind { recursive }) => table.bind(source, target, recursive),
         Ok(Change::Empty) => mount_empty(alloc, table, target, flags),
         Err(errno) => Err(MountError::Errno(errno)),
     }

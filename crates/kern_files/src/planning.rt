@@ -36,8 +36,11 @@ const OTHER_KINDS: u32 = 0x1e_2000;
 pub enum Change {
     /// The mount there is given other flags.
     Remount,
-    /// What is seen at the source is seen there too; where true, with what is mounted below the source.
-    Bind(bool),
+    /// What is seen at the source is seen there too.
+    Bind {
+        /// And what is mounted below the source, MS_REC.
+        recursive: bool,
+    },
     /// An empty file system is mounted there.
     Empty,
 }
@@ -58,7 +61,7 @@ fn hidden_kind(entry: &MountStep, path: &AbsPath) -> Option<bool>
     ensures { result ≡ hidden_kind entry.now.place entry.now.what path.now }
 {
     match &entry.what {
-        What::Hidden(directory) if entry.place == *path => Some(*directory),
+        What::Hidden { directory } if entry.place == *path => Some(*directory),
         _ => None,
     }
 }
@@ -101,7 +104,9 @@ fn planned_onto(
         if own != directory {
             return Err(ENOTDIR);
         }
-        return Ok(Change::Bind(has_some(MS_REC, flags)));
+        return Ok(Change::Bind {
+            recursive: has_some(MS_REC, flags),
+        });
     }
     if !directory {
         return Err(ENOTDIR);

@@ -36,8 +36,11 @@ pub enum What {
     Host(AbsPath),
     /// An empty file system: a directory with nothing in it.
     Empty,
-    /// Something that nobody may look at: a directory where true, else a file.
-    Hidden(bool),
+    /// Something that nobody may look at.
+    Hidden {
+        /// It is a directory, else a file.
+        directory: bool,
+    },
 }
 
 impl What {
@@ -51,7 +54,9 @@ impl What {
                 Ok(What::Host(copy))
             }
             What::Empty => Ok(What::Empty),
-            What::Hidden(directory) => Ok(What::Hidden(*directory)),
+            What::Hidden { directory } => Ok(What::Hidden {
+                directory: *directory,
+            }),
         }
     }
 }

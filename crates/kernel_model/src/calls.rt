@@ -67,10 +67,10 @@ impl State {
     {
         match self.perform_there(alloc, told, place, doing)? {
             Outcome::Replied(reply) => Ok(reply),
-            Outcome::MakesChild(own) => self.make_child(place, own),
+            Outcome::MakesChild { own_mounts: own } => self.make_child(place, own),
             Outcome::MakesTable => self.make_table(place),
-            Outcome::MakesUserChild(own) => self.make_user_child(told, place, own),
-            Outcome::MakesOwnUser(own) => self.make_own_user(told, place, own),
+            Outcome::MakesUserChild { own_mounts: own } => self.make_user_child(told, place, own),
+            Outcome::MakesOwnUser { own_mounts: own } => self.make_own_user(told, place, own),
         }
     }
 }

@@ -32,15 +32,19 @@ pub(crate) fn clone(creds: &Creds, flags: u32) -> Outcome
         return Outcome::Replied(Reply::Refused(EINVAL));
     }
     if flags & CLONE_NEWUSER != 0 {
-        return Outcome::MakesUserChild(flags & CLONE_NEWNS != 0);
+        return Outcome::MakesUserChild {
+            own_mounts: flags & CLONE_NEWNS != 0,
+        };
     }
     if flags & OTHER_SPACES == 0 {
-        return Outcome::MakesChild(false);
+        return Outcome::MakesChild { own_mounts: false };
     }
     if !creds.effective().contains(CAP_SYS_ADMIN) {
         return Outcome::Replied(Reply::Refused(EPERM));
     }
-    Outcome::MakesChild(flags & CLONE_NEWNS != 0)
+    Outcome::MakesChild {
+        own_mounts: flags & CLONE_NEWNS != 0,
+    }
 }
 
 /// unshare(2): EINVAL of a flag of no namespace, EPERM of one without a user namespace and without CAP_SYS_ADMIN.
@@ -51,7 +55,9 @@ pub(crate) fn unshare(creds: &Creds, flags: u32) -> Outcome
         return Outcome::Replied(Reply::Refused(EINVAL));
     }
     if flags & CLONE_NEWUSER != 0 {
-        return Outcome::MakesOwnUser(flags & CLONE_NEWNS != 0);
+        return Outcome::MakesOwnUser {
+            own_mounts: flags & CLONE_NEWNS != 0,
+        };
     }
     if flags & OTHER_SPACES == 0 {
         return Outcome::Replied(Reply::Done(0));

@@ -94,7 +94,7 @@ pub(crate) fn perform(
             Ok(Replied(told.socketcall(&caller.creds, newer, operation, family)))
         }
         Doing::Enter => Ok(Replied(Reply::Refused(EBADF))),
-        Doing::Fork => Ok(MakesChild(false)),
+        Doing::Fork => Ok(MakesChild { own_mounts: false }),
         Doing::Clone(flags) => Ok(clone(&caller.creds, flags)),
         Doing::Unshare(flags) => Ok(unshare(&caller.creds, flags)),
         Doing::Exit => Ok(end(caller)),

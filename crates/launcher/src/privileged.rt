@@ -65,7 +65,7 @@ fn shows_marked(site: &SiteTable, entry: &MountStep, path: &AbsPath) -> bool
     match &entry.what {
         What::Host(source) => is_some_marked(site.row_through(source, &entry.place, path)),
         What::Empty => false,
-        What::Hidden(_) => false,
+        What::Hidden { .. } => false,
     }
 }
 

@@ -37,7 +37,7 @@ fn what_by(
         what ≡ what_of (object_by mention.now.kind mention.now.path path.now) is_dir) }
 {
     match &mention.kind {
-        Kind::Hide => Ok(What::Hidden(is_dir)),
+        Kind::Hide => Ok(What::Hidden { directory: is_dir }),
         Kind::Tmp { .. } => Ok(What::Empty),
         Kind::Bind { source, .. } => {
             let host = path.moved(alloc, &mention.path, source)?;
@@ -78,7 +78,7 @@ fn flags_for(what: &What, seen: Seen) -> Flags
     ensures { result ≡ flags_by what.now seen.read_only seen.no_exec }
 {
     match what {
-        What::Hidden(_) => Flags::default(),
+        What::Hidden { .. } => Flags::default(),
         _ => Flags {
             read_only: seen.read_only,
             no_exec: seen.no_exec,

@@ -70,7 +70,7 @@ fn shown_at(alloc: Global, table: &MountTable, row: &AbsPath, at: usize) -> Made
     let entry = table.entry(at);
     match &entry.what {
         What::Host(source) => row.moved(alloc, source, &entry.place),
-        What::Empty | What::Hidden(_) => unreachable!(),
+        What::Empty | What::Hidden { .. } => unreachable!(),
     }
 }
 

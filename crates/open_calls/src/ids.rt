@@ -65,8 +65,8 @@ impl IdKind {
     {
         let creds = &launched_process(world).creds;
         match self {
-            IdKind::User => id == creds.uids().1,
-            IdKind::Group => id == creds.gids().1 || is_among(id, creds.groups()),
+            IdKind::User => id == creds.uids().effective,
+            IdKind::Group => id == creds.gids().effective || is_among(id, creds.groups()),
         }
     }
 }

@@ -5,7 +5,6 @@ ghost use Rattle.chosen_calls.specs.First.{names_of};
 
 use question_types::{CallKind, Wish};
 
-
 // Those that do what is wished of a path.
 fn path_names(wish: Wish) -> &'static [&'static str]
     ensures { map (λ name. name.now) result.now ≡ names_of (CallKind.ForPath wish) }

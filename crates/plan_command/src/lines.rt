@@ -42,7 +42,7 @@ fn push_shown(line: &mut Vec<u8>, step: &MountStep) -> Result<(), AllocError>
             line.extend_from_slice(b" empty")?;
             push_flags(line, step.flags)
         }
-        What::Hidden(_) => line.extend_from_slice(b" hidden"),
+        What::Hidden { .. } => line.extend_from_slice(b" hidden"),
     }
 }
 

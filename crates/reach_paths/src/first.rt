@@ -30,7 +30,7 @@ fn shows(table: &MountTable, at: usize, row: &AbsPath, uncover: bool) -> bool
             None => false,
             Some(rest) => uncover || !is_covered(table, at + 1, &entry.place, rest),
         },
-        What::Empty | What::Hidden(_) => false,
+        What::Empty | What::Hidden { .. } => false,
     }
 }
 

@@ -62,7 +62,7 @@ fn push_what(text: &mut String, what: &What) -> Result<(), AllocError> {
             text.push_str(source.text())
         }
         What::Empty => text.push_str(" empty"),
-        What::Hidden(true) => text.push_str(" hidden"),
-        What::Hidden(false) => text.push_str(" hidden file"),
+        What::Hidden { directory: true } => text.push_str(" hidden"),
+        What::Hidden { directory: false } => text.push_str(" hidden file"),
     }
 }

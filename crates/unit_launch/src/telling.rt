@@ -11,8 +11,8 @@ fn told_by(world: &World, steps: u32) -> Launched
 {
     match world.process(1) {
         Some(process) => Launched {
-            uid: process.creds.uids().1,
-            gid: process.creds.gids().1,
+            uid: process.creds.uids().effective,
+            gid: process.creds.gids().effective,
             no_new_privs: process.creds.no_new_privs(),
             steps,
         },

@@ -164,8 +164,8 @@ fn push_mount(text: &mut String, step: &MountStep) -> Result<(), AllocError> {
             text.push_str(source.text())?;
         }
         What::Empty => text.push_str(" empty")?,
-        What::Hidden(true) => text.push_str(" hidden")?,
-        What::Hidden(false) => text.push_str(" hidden file")?,
+        What::Hidden { directory: true } => text.push_str(" hidden")?,
+        What::Hidden { directory: false } => text.push_str(" hidden file")?,
     }
     text.push_str(if step.flags.read_only { " ro" } else { " rw" })?;
     text.push_str(if step.flags.no_exec {

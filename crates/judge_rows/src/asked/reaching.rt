@@ -32,7 +32,7 @@ fn pushed(alloc: Global, table: &mut MountTable, step: MountStep) -> Result<Stri
 fn step(alloc: Global, place: &str, what: &str, flags: &str) -> Result<MountStep, PathError> {
     let what = match what {
         "empty" => What::Empty,
-        "hidden" => What::Hidden(true),
+        "hidden" => What::Hidden { directory: true },
         path => What::Host(AbsPath::read(alloc, path)?),
     };
     Ok(MountStep {

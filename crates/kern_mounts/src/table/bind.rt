@@ -137,7 +137,7 @@ fn can_show(entry: &MountStep, source: &AbsPath) -> bool
     match &entry.what {
         What::Host(host) => !is_long(host, &entry.place, source),
         What::Empty => true,
-        What::Hidden(_) => false,
+        What::Hidden { .. } => false,
     }
 }
 
@@ -153,7 +153,9 @@ fn object_at(alloc: Global, entry: &MountStep, source: &AbsPath) -> Result<What,
             Ok(What::Host(shown))
         }
         What::Empty => Ok(What::Empty),
-        What::Hidden(directory) => Ok(What::Hidden(*directory)),
+        What::Hidden { directory } => Ok(What::Hidden {
+            directory: *directory,
+        }),
     }
 }
 

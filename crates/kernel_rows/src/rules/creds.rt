@@ -1,6 +1,6 @@
 //! Credentials, and the calls that change them.
 use cap_sets::CapSet;
-use kern_creds::{CredError, Creds, FileCreds};
+use kern_creds::{CredError, Creds, FileCreds, Ids};
 use linux_numbers::errnos::ENOSYS;
 use row_tools::{number, number32, said};
 use std::alloc::{AllocError, Global};
@@ -179,8 +179,8 @@ fn shown(alloc: Global, creds: &Creds) -> Result<String, AllocError> {
     )
 }
 
-fn three(alloc: Global, ids: (u32, u32, u32)) -> Result<String, AllocError> {
-    format!(in alloc; "{} {} {}", ids.0, ids.1, ids.2)
+fn three(alloc: Global, ids: Ids) -> Result<String, AllocError> {
+    format!(in alloc; "{} {} {}", ids.real, ids.effective, ids.saved)
 }
 
 fn sets(alloc: Global, creds: &Creds) -> Result<String, AllocError> {

@@ -81,8 +81,8 @@ fn step(alloc: Global, place: &str, what: &str, flags: &str) -> Result<MountStep
 pub fn what_of(alloc: Global, text: &str) -> Result<What, PathError> {
     match text {
         "empty" => Ok(What::Empty),
-        "a hidden folder" => Ok(What::Hidden(true)),
-        "a hidden file" => Ok(What::Hidden(false)),
+        "a hidden folder" => Ok(What::Hidden { directory: true }),
+        "a hidden file" => Ok(What::Hidden { directory: false }),
         path => Ok(What::Host(AbsPath::read(alloc, path)?)),
     }
 }
@@ -144,8 +144,8 @@ pub fn what_shown(what: &What) -> &str {
     match what {
         What::Host(path) => path.text(),
         What::Empty => "empty",
-        What::Hidden(true) => "a hidden folder",
-        What::Hidden(false) => "a hidden file",
+        What::Hidden { directory: true } => "a hidden folder",
+        What::Hidden { directory: false } => "a hidden file",
     }
 }
 

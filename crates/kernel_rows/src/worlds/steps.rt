@@ -10,8 +10,8 @@ pub fn step_of(alloc: Global, words: &[&str]) -> Option<MountStep> {
             step(alloc, place, What::Host(path_of(alloc, source)?), flags)
         }
         [place, "empty", flags @ ..] => step(alloc, place, What::Empty, flags),
-        [place, "hidden"] => step(alloc, place, What::Hidden(true), &[]),
-        [place, "hidden", "file"] => step(alloc, place, What::Hidden(false), &[]),
+        [place, "hidden"] => step(alloc, place, What::Hidden { directory: true }, &[]),
+        [place, "hidden", "file"] => step(alloc, place, What::Hidden { directory: false }, &[]),
         _ => None,
     }
 }
