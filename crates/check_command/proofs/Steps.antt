@@ -7,18 +7,15 @@ use Rattle.command_answers.specs.Stops.{IsAnswer, Prepares, first_refusal}
 use Rattle.command_answers.specs.declared.stop.Stop.{Stop}
 use Rattle.command_answers.specs.declared.stop.Stop.TheVariants as stop
 use Rattle.unit_inputs.specs.FileRefusals.{bytes_in}
-use Rattle.unit_inputs.specs.Inputs.{input_refusals, inputs_of, inputs_view}
+use Rattle.unit_inputs.specs.Inputs.{input_refusals, inputs_view}
 use Rattle.unit_inputs.specs.declared.inputs.UnitInputs.{UnitInputs}
 use Rattle.unit_inputs.specs.Settled.{refusals_of}
 use Rattle.unit_inputs.specs.declared.settling.SettledUnit.{SettledUnit}
+use Rattle.unit_inputs.proofs.Steps.{AreRead}
 use Rattle.check_command.specs.Prepared.{AreReady, IsPrepared, a_setting, an_input, the_file}
 use Rattle.check_command.specs.Programs.{IsProgramIn, IsProgramOf, no_file, of_file}
 use Rattle.check_command.specs.Said.{IsSaid}
 use Rattle.check_command.proofs.Telling.{said_as}
-
--- the inputs are read
-abbrev pub AreRead : Files → List ℕ → UnitInputs → Type 0
-AreRead files unit inputs = (first_refusal (input_refusals files unit) ≡ None) × (inputs_of files unit ≡ Some (inputs_view inputs))
 
 -- an input is refused
 input_stops : (P : UnitInputs → Type 0) (files : Files) (unit path : List ℕ) (why : Stop) → Prepares P (input_refusals files unit) (Err why) → IsPrepared files unit path (Err why)

@@ -13,7 +13,7 @@ use Rattle.command_answers.specs.declared.ending.Ending.TheVariants.{Done, Launc
 use Rattle.command_answers.specs.declared.stop.Stop.{Stop}
 use Rattle.command_answers.specs.declared.stop.Stop.TheVariants as stop
 use Rattle.command_answers.proofs.FileCommands.{go_together, ready_is_admitted, stop_is_admitted}
-use Rattle.command_answers.proofs.Refusing.{quiet, stops_as, stops_before}
+use Rattle.command_answers.proofs.Refusing.{quiet, stops_as}
 use Rattle.exec_settings.specs.Mounts.{unit_mentions}
 use Rattle.exec_settings.specs.Refusals.{refusal_of}
 use Rattle.exec_settings.specs.declared.errors.SettingsError.{SettingsError}
@@ -24,7 +24,7 @@ use Rattle.kern_mounts.specs.declared.step.MountStep.{MountStep}
 use Rattle.mount_plan.specs.declared.error.PlanError.{PlanError}
 use Rattle.plan_command.specs.Refusals.{error_line}
 use Rattle.replay_command.specs.Scripts.{script_in}
-use Rattle.started_units.specs.Starting.{given, start_refusals}
+use Rattle.started_units.specs.Starting.{start_refusals}
 use Rattle.started_units.proofs.Started as started
 use Rattle.trace_profile.specs.Derived.{IsDerived, IsOnlyOne}
 use Rattle.trace_profile.specs.PlainNames.{HasPlainNames}
@@ -38,10 +38,9 @@ use Rattle.unit_launch.specs.Refusals.{refusal_line}
 use Rattle.unit_launch.specs.declared.refusal.LaunchRefusal.{LaunchRefusal}
 use Rattle.unit_inputs.specs.SettingsRefusals.{settings_line}
 use Rattle.unit_inputs.specs.Settled.{refusals_by}
-use Rattle.unit_inputs.proofs.Steps.{refusals_with}
+use Rattle.unit_inputs.proofs.Steps as steps
+use Rattle.unit_inputs.proofs.Steps.{AreRead, refusals_with}
 use Rattle.derive_command.specs.Prints.{PrintsAnswer, PrintsDerived, derived, refused, derive_laws, ending_of, text_of}
-use Rattle.dropin_merge.specs.declared.resolved.Resolved.{Resolved}
-use Rattle.site_table.specs.Table.{Site}
 use Rattle.derive_command.specs.Refusals.{derive_refusals, opened, refusals_behind, refusals_behind_script, refusals_by_script, seccomp_line}
 use Rattle.derive_command.specs.Telling.{AnswersCalls, allowed, not_launched}
 use Rattle.derive_command.specs.declared.answering.Allowing.{Allowing}
@@ -107,11 +106,6 @@ printed_answer inputs script plain _ _ (allowed names is only) = derived names i
 printed_answer inputs script plain _ _ (not_launched refusal is) = refused refusal is
 
 -- ---- the whole
--- the inputs, as their parts are lent
-pub same_inputs : (inputs : Inputs) (unit : Resolved) (calls : Table) (site : Site) → unit ≡ inputs.unit → calls ≡ inputs.calls → site ≡ inputs.site → given unit calls site ≡ inputs
-same_inputs inputs unit calls site one two three =
-    ap (λ own. given own calls site) one ∙ ap (λ own. given inputs.unit own site) two ∙ ap (λ own. given inputs.unit inputs.calls own) three
-
 module _ (told : Option Files) (unit path : List ℕ) where
   -- each ending behind what is derived is an answer
   answered : (ending : Ending) → (derive_laws unit path).may_end ending → IsTrue (is_answer ending)
@@ -121,17 +115,11 @@ module _ (told : Option Files) (unit path : List ℕ) where
   pub together : GoTogether (laws_over told (derive_laws unit path))
   together = go_together (derive_laws unit path) told answered
 
--- the inputs are read and none is refused
-abbrev pub AreRead : Files → List ℕ → UnitInputs → Type 0
-AreRead files unit inputs = (first_refusal (input_refusals files unit) ≡ None) × (inputs_of files unit ≡ Some (inputs_view inputs))
-
 -- an input is refused
 pub stops_at_inputs : (P : Files → UnitInputs → Type 0) (told : Option Files) (unit path : List ℕ) (stop : Stop) → IfSome told (λ files. Prepares (P files) (input_refusals files unit) (Err stop)) → IsAdmitted (laws_over told (derive_laws unit path)) ending_of text_of (Err stop)
-stops_at_inputs P told unit path stop said = stop_is_admitted (derive_laws unit path) ending_of text_of (λ (allowing : Allowing). Unit {0}) told stop (before told said)
-  where
-    before : (told : Option Files) → IfSome told (λ files. Prepares (P files) (input_refusals files unit) (Err stop)) → IfSome told (λ files. Prepares (λ (allowing : Allowing). Unit {0}) (derive_refusals files unit path) (Err stop))
-    before None said = tt
-    before (Some files) said = stops_before (P files) (λ (allowing : Allowing). Unit {0}) stop (input_refusals files unit) (refusals_by (refusals_behind files unit path) (inputs_of files unit)) said
+stops_at_inputs P told unit path stop said =
+    stop_is_admitted (derive_laws unit path) ending_of text_of (λ (allowing : Allowing). Unit {0}) told stop
+    (steps.stops_at_inputs P (λ files (allowing : Allowing). Unit {0}) told unit (λ files. refusals_by (refusals_behind files unit path) (inputs_of files unit)) stop said)
 
 -- behind inputs that are read
 behind_inputs : (files : Files) (unit path : List ℕ) (inputs : UnitInputs) → AreRead files unit inputs → first_refusal (derive_refusals files unit path) ≡ first_refusal (refusals_by_script unit path (inputs_view inputs) (script_in files path (inputs_view inputs).calls))

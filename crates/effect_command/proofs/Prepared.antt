@@ -12,7 +12,7 @@ use Rattle.command_answers.specs.declared.ending.Ending.TheVariants.{Done, Launc
 use Rattle.command_answers.specs.declared.stop.Stop.{Stop}
 use Rattle.command_answers.specs.declared.stop.Stop.TheVariants as stop
 use Rattle.command_answers.proofs.FileCommands.{go_together, ready_is_admitted, stop_is_admitted}
-use Rattle.command_answers.proofs.Refusing.{quiet, stops_as, stops_before}
+use Rattle.command_answers.proofs.Refusing.{quiet, stops_as}
 use Rattle.dropin_merge.specs.declared.resolved.Resolved.{Resolved}
 use Rattle.dropin_merge.specs.declared.resolved.UnitFile.{UnitFile}
 use Rattle.std.specs.declared.alloc.AllocError.{AllocError}
@@ -25,7 +25,8 @@ use Rattle.unit_launch.specs.declared.launching.UnitLaunch.{UnitLaunch}
 use Rattle.unit_launch.specs.declared.launching.UnitLaunch.TheVariants.{Launched, Refused}
 use Rattle.unit_names.specs.Cutting.{name_of}
 use Rattle.unit_inputs.specs.Settled.{refusals_by}
-use Rattle.unit_inputs.proofs.Steps.{refusals_with}
+use Rattle.unit_inputs.proofs.Steps as steps
+use Rattle.unit_inputs.proofs.Steps.{AreRead, refusals_with}
 use Rattle.effect_command.specs.Lines.{with_line}
 use Rattle.started_units.specs.Starting.{StartsAs, first_start, given, start_refusals}
 use Rattle.effect_command.specs.Longer.{dropin_in, longer_unit, with_dropin}
@@ -98,11 +99,6 @@ ends_so table site (Launched before) (Refused refusal) ending text tells = inr t
 ends_so table site (Launched before) (Launched after) ending text tells = inl tells.0
 
 -- ---- the whole
--- the inputs, as their parts are lent
-pub same_inputs : (inputs : Inputs) (unit : Resolved) (calls : Table) (site : Site) → unit ≡ inputs.unit → calls ≡ inputs.calls → site ≡ inputs.site → given unit calls site ≡ inputs
-same_inputs inputs unit calls site one two three =
-    ap (λ own. given own calls site) one ∙ ap (λ own. given inputs.unit own site) two ∙ ap (λ own. given inputs.unit inputs.calls own) three
-
 module _ (told : Option Files) (unit path : List ℕ) where
   -- each ending behind an effect is an answer
   answered : (ending : Ending) → (effect_laws unit path).may_end ending → IsTrue (is_answer ending)
@@ -112,17 +108,11 @@ module _ (told : Option Files) (unit path : List ℕ) where
   pub together : GoTogether (laws_over told (effect_laws unit path))
   together = go_together (effect_laws unit path) told answered
 
--- the inputs are read and none is refused
-abbrev pub AreRead : Files → List ℕ → UnitInputs → Type 0
-AreRead files unit inputs = (first_refusal (input_refusals files unit) ≡ None) × (inputs_of files unit ≡ Some (inputs_view inputs))
-
 -- an input is refused
 pub stops_at_inputs : (P : Files → UnitInputs → Type 0) (told : Option Files) (unit path : List ℕ) (stop : Stop) → IfSome told (λ files. Prepares (P files) (input_refusals files unit) (Err stop)) → IsAdmitted (laws_over told (effect_laws unit path)) ending_of text_of (Err stop)
-stops_at_inputs P told unit path stop said = stop_is_admitted (effect_laws unit path) ending_of text_of (λ (made : Effect). Unit {0}) told stop (before told said)
-  where
-    before : (told : Option Files) → IfSome told (λ files. Prepares (P files) (input_refusals files unit) (Err stop)) → IfSome told (λ files. Prepares (λ (made : Effect). Unit {0}) (effect_refusals files unit path) (Err stop))
-    before None said = tt
-    before (Some files) said = stops_before (P files) (λ (made : Effect). Unit {0}) stop (input_refusals files unit) (refusals_by (refusals_behind files unit path) (inputs_of files unit)) said
+stops_at_inputs P told unit path stop said =
+    stop_is_admitted (effect_laws unit path) ending_of text_of (λ (made : Effect). Unit {0}) told stop
+    (steps.stops_at_inputs P (λ files (made : Effect). Unit {0}) told unit (λ files. refusals_by (refusals_behind files unit path) (inputs_of files unit)) stop said)
 
 -- behind inputs that are read
 behind_inputs : (files : Files) (unit path : List ℕ) (inputs : UnitInputs) → AreRead files unit inputs → first_refusal (effect_refusals files unit path) ≡ first_refusal (refusals_by_dropin unit (inputs_view inputs) (dropin_in files path))

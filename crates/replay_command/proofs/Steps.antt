@@ -19,20 +19,17 @@ use Rattle.unit_inputs.specs.Inputs.{input_refusals, inputs_of, inputs_view}
 use Rattle.unit_inputs.specs.declared.inputs.UnitInputs.{UnitInputs}
 use Rattle.unit_inputs.specs.Settled.{AreSettled, refusals_by, refusals_of}
 use Rattle.unit_inputs.specs.declared.settling.SettledUnit.{SettledUnit}
-use Rattle.unit_inputs.proofs.Steps.{refusals_with}
+use Rattle.unit_inputs.proofs.Steps as steps
+use Rattle.unit_inputs.proofs.Steps.{AreRead, refusals_with}
 use Rattle.plan_command.specs.Planned.{IsPlan, path_refusals}
 use Rattle.plan_command.specs.Prints.{refused_paths}
 use Rattle.replay_command.specs.Prepared.{CanBeStarted, IsPrepared, refusals_behind, replay_refusals}
 use Rattle.replay_command.specs.Scripts.{script_in}
 
--- the inputs are read and none is refused
-abbrev pub AreRead : Files → List ℕ → UnitInputs → Type 0
-AreRead files unit inputs = (first_refusal (input_refusals files unit) ≡ None) × (inputs_of files unit ≡ Some (inputs_view inputs))
-
 -- an input is refused
 pub stops_at_inputs : (P : UnitInputs → Type 0) (told : Option Files) (unit path : List ℕ) (stop : Stop) → IfSome told (λ files. Prepares P (input_refusals files unit) (Err stop)) → IfSome told (λ files. Prepares (IsPrepared files unit path) (replay_refusals files unit path) (Err stop))
-stops_at_inputs P None unit path stop said = tt
-stops_at_inputs P (Some files) unit path stop said = stops_before P (IsPrepared files unit path) stop (input_refusals files unit) (refusals_by (refusals_behind files unit path) (inputs_of files unit)) said
+stops_at_inputs P told unit path stop said =
+    steps.stops_at_inputs (λ files. P) (λ files. IsPrepared files unit path) told unit (λ files. refusals_by (refusals_behind files unit path) (inputs_of files unit)) stop said
 
 -- behind inputs that are read
 module _ (files : Files) (unit path : List ℕ) (inputs : UnitInputs) (read : AreRead files unit inputs) where

@@ -6,7 +6,7 @@ use Rattle.host_io.specs.Files.{Files}
 use Rattle.command_answers.specs.Stops.{IsAnswer, Prepares, first_refusal}
 use Rattle.command_answers.specs.declared.stop.Stop.{Stop}
 use Rattle.command_answers.specs.declared.stop.Stop.TheVariants as stop
-use Rattle.command_answers.proofs.Refusing.{passes, stops, stops_as, stops_before}
+use Rattle.command_answers.proofs.Refusing.{passes, stops, stops_as}
 use Rattle.exec_settings.specs.Refusals.{refusal_of}
 use Rattle.exec_settings.specs.declared.errors.SettingsError.{SettingsError}
 use Rattle.mount_settings.specs.Written.{unit_written}
@@ -17,19 +17,16 @@ use Rattle.unit_inputs.specs.declared.inputs.UnitInputs.{UnitInputs}
 use Rattle.unit_inputs.specs.SettingsRefusals.{settings_line}
 use Rattle.unit_inputs.specs.Settled.{AreSettled, refusals_by, refusals_of}
 use Rattle.unit_inputs.specs.declared.settling.SettledUnit.{SettledUnit}
-use Rattle.unit_inputs.proofs.Steps.{refusals_with}
+use Rattle.unit_inputs.proofs.Steps as steps
+use Rattle.unit_inputs.proofs.Steps.{AreRead, refusals_with}
 use Rattle.score_command.specs.Policies.{policy_in}
 use Rattle.score_command.specs.Prepared.{CanBeWeighed, IsPrepared}
 use Rattle.score_command.specs.Refusals.{read_refusals, refusals_behind}
 
--- the inputs are read and none is refused
-abbrev pub AreRead : Files → List ℕ → UnitInputs → Type 0
-AreRead files unit inputs = (first_refusal (input_refusals files unit) ≡ None) × (inputs_of files unit ≡ Some (inputs_view inputs))
-
 -- an input is refused
 pub stops_at_inputs : (P : UnitInputs → Type 0) (told : Option Files) (unit path : List ℕ) (stop : Stop) → IfSome told (λ files. Prepares P (input_refusals files unit) (Err stop)) → IfSome told (λ files. Prepares (IsPrepared files unit path) (read_refusals files unit path) (Err stop))
-stops_at_inputs P None unit path stop said = tt
-stops_at_inputs P (Some files) unit path stop said = stops_before P (IsPrepared files unit path) stop (input_refusals files unit) (refusals_by (refusals_behind files unit path) (inputs_of files unit)) said
+stops_at_inputs P told unit path stop said =
+    steps.stops_at_inputs (λ files. P) (λ files. IsPrepared files unit path) told unit (λ files. refusals_by (refusals_behind files unit path) (inputs_of files unit)) stop said
 
 -- behind inputs that are read
 module _ (files : Files) (unit path : List ℕ) (inputs : UnitInputs) (read : AreRead files unit inputs) where

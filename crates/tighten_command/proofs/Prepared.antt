@@ -7,7 +7,7 @@ use Rattle.host_io.specs.Files.{Files}
 use Rattle.call_table.specs.Table.{Table}
 use Rattle.command_answers.specs.Endings.{is_answer, is_whole}
 use Rattle.command_answers.specs.Laws.{GoTogether, IsAdmitted}
-use Rattle.command_answers.specs.Stops.{HasReadCause, IsAnswer, Prepares, first_refusal}
+use Rattle.command_answers.specs.Stops.{HasReadCause, IsAnswer, Prepares}
 use Rattle.command_answers.specs.declared.ending.Ending.{Ending}
 use Rattle.command_answers.specs.declared.ending.Ending.TheVariants.{Done, LaunchRefused, Refused}
 use Rattle.command_answers.specs.declared.stop.Stop.{Stop}
@@ -19,9 +19,10 @@ use Rattle.site_table.specs.Table.{Site}
 use Rattle.tighten.specs.Tried.{Tried, tried_with}
 use Rattle.tighten.specs.Wishes.{Wishes}
 use Rattle.unit_inputs.specs.FileRefusals.{bytes_in}
-use Rattle.unit_inputs.specs.Inputs.{Inputs, input_refusals, inputs_of, inputs_view}
+use Rattle.unit_inputs.specs.Inputs.{Inputs, input_refusals, inputs_view}
 use Rattle.unit_inputs.specs.ReadsFor.{ReadsFor}
 use Rattle.unit_inputs.specs.declared.inputs.UnitInputs.{UnitInputs}
+use Rattle.unit_inputs.proofs.Steps.{AreRead}
 use Rattle.unit_names.specs.Cutting.{name_of}
 use Rattle.tighten_command.specs.KeepFiles.{IsKeepIn, IsKeepOf, no_file, of_file}
 use Rattle.tighten_command.specs.Prints.{Admits, MayEndUntold, RefusesBefore, an_input, ending_of, refuses, tells, text_of, the_keep, tighten_laws}
@@ -88,10 +89,6 @@ module _ (unit path : List ℕ) (wishes : Wishes) where
     whole = λ ending may. untold_whole ending (admitted_may files ending may.0 may.1);
     answers = λ accepts ending may. unrefused ending (admitted_may files ending may.0 may.1) (λ refused. accepts may.0 (subst (λ own. Admits files unit path wishes own may.0) refused may.1));
   }
-
--- the inputs are read, and none is refused
-abbrev pub AreRead : Files → List ℕ → UnitInputs → Type 0
-AreRead files unit inputs = (first_refusal (input_refusals files unit) ≡ None) × (inputs_of files unit ≡ Some (inputs_view inputs))
 
 module _ (unit path : List ℕ) (wishes : Wishes) where
   -- an input is refused

@@ -12,20 +12,20 @@ use Rattle.command_answers.specs.declared.ending.Ending.TheVariants.{Done, Launc
 use Rattle.command_answers.specs.declared.stop.Stop.{Stop}
 use Rattle.command_answers.specs.declared.stop.Stop.TheVariants as stop
 use Rattle.command_answers.proofs.FileCommands.{go_together, ready_is_admitted, stop_is_admitted}
-use Rattle.command_answers.proofs.Refusing.{passes, quiet, stops, stops_as, stops_before}
+use Rattle.command_answers.proofs.Refusing.{passes, quiet, stops, stops_as}
 use Rattle.deciding_lines.specs.Tried.{Tried}
-use Rattle.dropin_merge.specs.declared.resolved.Resolved.{Resolved}
 use Rattle.kernel_laws.specs.Questions as asked
 use Rattle.question_types.specs.declared.question.Question.{Question}
 use Rattle.site_table.specs.Table.{Site}
-use Rattle.started_units.specs.Starting.{given, start_refusals}
+use Rattle.started_units.specs.Starting.{start_refusals}
 use Rattle.unit_inputs.specs.Inputs.{Inputs, input_refusals, inputs_of, inputs_view}
 use Rattle.unit_inputs.specs.ReadsFor.{ReadsFor}
 use Rattle.unit_inputs.specs.declared.inputs.UnitInputs.{UnitInputs}
 use Rattle.unit_launch.specs.declared.launching.UnitLaunch.{UnitLaunch}
 use Rattle.unit_launch.specs.declared.launching.UnitLaunch.TheVariants.{Launched, Refused}
 use Rattle.unit_inputs.specs.Settled.{refusals_by}
-use Rattle.unit_inputs.proofs.Steps.{refusals_with}
+use Rattle.unit_inputs.proofs.Steps as steps
+use Rattle.unit_inputs.proofs.Steps.{AreRead, refusals_with}
 use Rattle.why_command.specs.Asking.{question_in, refused_question}
 use Rattle.why_command.specs.Prints.{PrintsWhy, TellsLaunch, TellsWhy, ending_of, refusals_behind, text_of, why_laws, why_refusals}
 use Rattle.why_command.specs.declared.why.Why.{Why}
@@ -44,17 +44,11 @@ module _ (told : Option Files) (unit : List ℕ) (words : List (List ℕ)) where
   pub together : GoTogether (laws_over told (why_laws unit words))
   together = go_together (why_laws unit words) told answered
 
--- the inputs are read and none is refused
-abbrev pub AreRead : Files → List ℕ → UnitInputs → Type 0
-AreRead files unit inputs = (first_refusal (input_refusals files unit) ≡ None) × (inputs_of files unit ≡ Some (inputs_view inputs))
-
 -- an input is refused
 pub stops_at_inputs : (P : Files → UnitInputs → Type 0) (told : Option Files) (unit : List ℕ) (words : List (List ℕ)) (stop : Stop) → IfSome told (λ files. Prepares (P files) (input_refusals files unit) (Err stop)) → IsAdmitted (laws_over told (why_laws unit words)) ending_of text_of (Err stop)
-stops_at_inputs P told unit words stop said = stop_is_admitted (why_laws unit words) ending_of text_of (λ (made : Why). Unit {0}) told stop (before told said)
-  where
-    before : (told : Option Files) → IfSome told (λ files. Prepares (P files) (input_refusals files unit) (Err stop)) → IfSome told (λ files. Prepares (λ (made : Why). Unit {0}) (why_refusals files unit words) (Err stop))
-    before None said = tt
-    before (Some files) said = stops_before (P files) (λ (made : Why). Unit {0}) stop (input_refusals files unit) (refusals_by (refusals_behind unit words) (inputs_of files unit)) said
+stops_at_inputs P told unit words stop said =
+    stop_is_admitted (why_laws unit words) ending_of text_of (λ (made : Why). Unit {0}) told stop
+    (steps.stops_at_inputs P (λ files (made : Why). Unit {0}) told unit (λ files. refusals_by (refusals_behind unit words) (inputs_of files unit)) stop said)
 
 module _ (told : Option Files) (unit : List ℕ) (words : List (List ℕ)) (inputs : UnitInputs) (are : IfSome told (λ files. AreRead files unit inputs)) where
   read_is : (files : Files) → told ≡ Some files → AreRead files unit inputs
@@ -114,11 +108,6 @@ module _ (told : Option Files) (unit : List ℕ) (words : List (List ℕ)) (inpu
       admitted question
       (subst (λ (these : Site). question_in (inputs_view inputs).calls these words ≡ Ok question) two (subst (λ (these : Table). question_in these site words ≡ Ok question) one is))
       result (subst (λ (these : Inputs). Prepares (λ made. TellsWhy (record { name = unit; inputs = these; question = question }) (ending_of made) (text_of made)) (start_refusals unit these) result) same answers)
-
--- the inputs, as their parts are lent
-pub same_inputs : (inputs : Inputs) (unit : Resolved) (calls : Table) (site : Site) → unit ≡ inputs.unit → calls ≡ inputs.calls → site ≡ inputs.site → given unit calls site ≡ inputs
-same_inputs inputs unit calls site one two three =
-    ap (λ own. given own calls site) one ∙ ap (λ own. given inputs.unit own site) two ∙ ap (λ own. given inputs.unit inputs.calls own) three
 
 -- what reads nothing, behind what was read for the unit
 pub read_behind : {S T V : Type 0} (told : S → Option Files) (faults : S → ℕ) (unit : List ℕ) (before now : S) (value : T) → ReadsFor told faults unit before now (Ok value)

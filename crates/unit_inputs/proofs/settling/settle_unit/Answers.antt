@@ -25,4 +25,4 @@ returns-clause-asks_in_order g c =
 pub returns-in_err-inputs-clause-settles_by_the_files : goal.returns-in_err-inputs-clause-settles_by_the_files
 returns-in_err-inputs-clause-settles_by_the_files g c =
     at_stop (λ result. IfSome (g.S.Shelf.told c.args.shelf.now) (λ files. Prepares (λ (one : SettledUnit). inputs_of files c.args.unit.now ≡ Some (inputs_view one.inputs)) (unit_refusals files c.args.unit.now) result)) c.from_residual.result c.in_err-inputs.field-0.0 c.from_residual.ensures.1
-    (stops_at_inputs (λ files (one : SettledUnit). inputs_of files c.args.unit.now ≡ Some (inputs_view one.inputs)) (g.S.Shelf.told c.args.shelf.now) c.args.unit.now (λ files. refusals_by (refusals_of c.args.unit.now) (inputs_of files c.args.unit.now)) c.in_err-inputs.field-0.0 c.in_err-inputs.ensures.reads_by_the_files)
+    (stops_at_inputs (λ files inputs. inputs_of files c.args.unit.now ≡ Some (inputs_view inputs)) (λ files (one : SettledUnit). inputs_of files c.args.unit.now ≡ Some (inputs_view one.inputs)) (g.S.Shelf.told c.args.shelf.now) c.args.unit.now (λ files. refusals_by (refusals_of c.args.unit.now) (inputs_of files c.args.unit.now)) c.in_err-inputs.field-0.0 c.in_err-inputs.ensures.reads_by_the_files)

@@ -8,8 +8,9 @@ use Rattle.started_units.specs.Starting.{given}
 use Rattle.unit_inputs.specs.Asking.{input_asks}
 use Rattle.unit_inputs.specs.Inputs.{inputs_of, inputs_view}
 use Rattle.unit_inputs.proofs.Ordering.{order_quiet, order_quiet_stopped}
+use Rattle.started_units.proofs.Given.{same_inputs}
 use Rattle.why_command.specs.Prints.{ending_of, text_of, why_laws}
-use Rattle.why_command.proofs.Prepared.{admitted_as, as_any, listed_as, read_behind, same_inputs, stops_at_inputs, stops_at_question}
+use Rattle.why_command.proofs.Prepared.{admitted_as, as_any, listed_as, read_behind, stops_at_inputs, stops_at_question}
 use Rattle.why_command.proofs.command.prepare.Goals as goal
 
 pub returns-in_err-inputs-clause-prepares : goal.returns-in_err-inputs-clause-prepares
