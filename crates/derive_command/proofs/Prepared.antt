@@ -1,19 +1,19 @@
 -- What is ready, and the line of a refusal, are what the definitions admit.
 use Rattle.std.proofs.Common.{◌≡◌, ◌∙◌, ℕ, Option, Some, None, List, [], ◌∷◌, Result, Ok, Err, Vec, Global, refl, sym, ap, subst, inl, inr}
-use Rattle.std.specs.Prelude.{◌⊎◌, IfOk, IfSome, IsErrOf, IsSome, IsTrue, option_map}
+use Rattle.std.specs.Prelude.{◌⊎◌, IfOk, IfSome, IsTrue, option_map}
 use Rattle.std.specs.declared.alloc.AllocError.{AllocError}
 use Rattle.host_io.specs.Files.{Files}
 use Rattle.call_table.specs.Table.{Table}
 use Rattle.kernel_calls.specs.declared.call.Call.{Call}
 use Rattle.command_answers.specs.Endings.{is_answer}
 use Rattle.command_answers.specs.Laws.{AcceptsFiles, GoTogether, IsAdmitted, laws_over}
-use Rattle.command_answers.specs.Stops.{HasReadCause, IsAnswer, Prepares, first_refusal, stop_of}
+use Rattle.command_answers.specs.Stops.{IsAnswer, Prepares, first_refusal, stop_of}
 use Rattle.command_answers.specs.declared.ending.Ending.{Ending}
 use Rattle.command_answers.specs.declared.ending.Ending.TheVariants.{Done, LaunchRefused}
 use Rattle.command_answers.specs.declared.stop.Stop.{Stop}
 use Rattle.command_answers.specs.declared.stop.Stop.TheVariants as stop
 use Rattle.command_answers.proofs.FileCommands.{go_together, ready_is_admitted, stop_is_admitted}
-use Rattle.command_answers.proofs.Refusing.{quiet, stops_as}
+use Rattle.command_answers.proofs.Refusing.{stops_as}
 use Rattle.exec_settings.specs.Mounts.{unit_mentions}
 use Rattle.exec_settings.specs.Refusals.{refusal_of}
 use Rattle.exec_settings.specs.declared.errors.SettingsError.{SettingsError}
@@ -31,8 +31,6 @@ use Rattle.trace_profile.specs.PlainNames.{HasPlainNames}
 use Rattle.trace_profile.specs.Extended.{drop_in_text, open_unit}
 use Rattle.trace_profile.specs.Scripts.{first_seccomp}
 use Rattle.unit_inputs.specs.Inputs.{Inputs, input_refusals, inputs_of, inputs_view}
-use Rattle.unit_inputs.specs.ReadsFor.{ReadsFor}
-use Rattle.unit_names.specs.Cutting.{name_of}
 use Rattle.unit_inputs.specs.declared.inputs.UnitInputs.{UnitInputs}
 use Rattle.unit_launch.specs.Refusals.{refusal_line}
 use Rattle.unit_launch.specs.declared.refusal.LaunchRefusal.{LaunchRefusal}
@@ -196,17 +194,3 @@ module _ (told now : Option Files) (unit path : List ℕ) (inputs : UnitInputs) 
       admitted result
       (subst (λ these. Prepares (λ allowing. AnswersCalls (inputs_view inputs) these (ending_of allowing) (text_of allowing)) (refusals_behind_script unit path (inputs_view inputs) these) result) lends
       (subst (λ these. Prepares (λ allowing. AnswersCalls these lent (ending_of allowing) (text_of allowing)) (refusals_behind_script unit path these lent) result) is answers))
-
-pub named : {X : Type 0} (found : Option X) (name : X) → found ≡ Some name → IsSome found
-named None name is = cc
-named (Some own) name is = refl
-
--- what reads nothing, behind a script that was read for a unit with a name
-module _ {S T U : Type 0} (told : S → Option Files) (faults : S → ℕ) (unit : List ℕ) (before mid now : S) (value : T) (more : U) (reads : ReadsFor told faults unit before mid (Ok value)) (name : IsSome (name_of unit)) (stays : told now ≡ told mid) (cause : HasReadCause (faults mid) (faults now) (Ok more)) where
-  pub read_behind : {V : Type 0} (result : Result V Stop) → (IsErrOf result stop.ReadFault → ⊥) → ReadsFor told faults unit before now result
-  read_behind result nothing = record {
-    reads_for_a_name = λ e. absurd (nothing e);
-    unread_without_a_name = λ none. absurd (none name);
-    map_stays = stays ∙ reads.map_stays;
-    fault_rose = quiet (faults before) (faults now) result (cause.no_other_fault ∙ reads.fault_rose.no_other_fault) nothing;
-  }

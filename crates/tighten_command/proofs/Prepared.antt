@@ -1,31 +1,28 @@
 -- What is ready, and the line of a refusal, are what the definitions admit, and the laws go together.
-use Rattle.std.proofs.Common.{◌≡◌, ◌∙◌, ℕ, List, Option, Some, None, Result, Ok, Err, refl, sym, ap, subst, inl, inr}
+use Rattle.std.proofs.Common.{◌≡◌, ◌∙◌, ℕ, List, Option, Some, None, Result, Ok, Err, refl, sym, subst, inl, inr}
 use Rattle.std.specs.List.{All}
 use Rattle.kernel_laws.specs.Questions.{questions}
-use Rattle.std.specs.Prelude.{◌⊎◌, Contains, IfSome, IsErrOf, IsSome, IsTrue}
+use Rattle.std.specs.Prelude.{Contains, IfSome, IsTrue}
 use Rattle.host_io.specs.Files.{Files}
 use Rattle.call_table.specs.Table.{Table}
 use Rattle.command_answers.specs.Endings.{is_answer, is_whole}
 use Rattle.command_answers.specs.Laws.{GoTogether, IsAdmitted}
-use Rattle.command_answers.specs.Stops.{HasReadCause, IsAnswer, Prepares}
+use Rattle.command_answers.specs.Stops.{IsAnswer, Prepares}
 use Rattle.command_answers.specs.declared.ending.Ending.{Ending}
-use Rattle.command_answers.specs.declared.ending.Ending.TheVariants.{Done, LaunchRefused, Refused}
+use Rattle.command_answers.specs.declared.ending.Ending.TheVariants.{Refused}
 use Rattle.command_answers.specs.declared.stop.Stop.{Stop}
 use Rattle.command_answers.specs.declared.stop.Stop.TheVariants as stop
-use Rattle.command_answers.proofs.Refusing.{quiet}
 use Rattle.dropin_merge.specs.declared.resolved.Resolved.{Resolved}
 use Rattle.question_types.specs.declared.question.Question.{Question}
 use Rattle.site_table.specs.Table.{Site}
 use Rattle.tighten.specs.Tried.{Tried, tried_with}
 use Rattle.tighten.specs.Wishes.{Wishes}
 use Rattle.unit_inputs.specs.FileRefusals.{bytes_in}
-use Rattle.unit_inputs.specs.Inputs.{Inputs, input_refusals, inputs_view}
-use Rattle.unit_inputs.specs.ReadsFor.{ReadsFor}
+use Rattle.unit_inputs.specs.Inputs.{input_refusals, inputs_view}
 use Rattle.unit_inputs.specs.declared.inputs.UnitInputs.{UnitInputs}
 use Rattle.unit_inputs.proofs.Steps.{AreRead}
-use Rattle.unit_names.specs.Cutting.{name_of}
 use Rattle.tighten_command.specs.KeepFiles.{IsKeepIn, IsKeepOf, no_file, of_file}
-use Rattle.tighten_command.specs.Prints.{Admits, MayEndUntold, RefusesBefore, an_input, ending_of, refuses, tells, text_of, the_keep, tighten_laws}
+use Rattle.tighten_command.specs.Prints.{Admits, MayEndUntold, an_input, ending_of, refuses, tells, text_of, the_keep, tighten_laws}
 use Rattle.tighten_command.specs.Said.{IsSaid}
 use Rattle.tighten_command.specs.Telling.{IsTold, TellsTight, denies, no_launch, no_plan, no_settings, refuses_wish, tightened}
 use Rattle.tighten_command.specs.declared.hardening.Hardening.{Hardening}
@@ -152,17 +149,3 @@ lent_listed table own site lent_site keep lent one two three listed =
     subst (λ (these : Site). All (λ question. Contains (questions own these) question) lent) two
     (subst (λ (these : Table). All (λ question. Contains (questions these site) question) lent) one
     (subst (λ (these : List Question). All (λ question. Contains (questions table site) question) these) (sym three) listed))
-
-pub named : {X : Type 0} (found : Option X) (name : X) → found ≡ Some name → IsSome found
-named None name is = cc
-named (Some own) name is = refl
-
--- what reads nothing, behind a file that was read for a unit with a name
-module _ {S T U : Type 0} (told : S → Option Files) (faults : S → ℕ) (unit : List ℕ) (before mid now : S) (value : T) (more : U) (reads : ReadsFor told faults unit before mid (Ok value)) (name : IsSome (name_of unit)) (stays : told now ≡ told mid) (cause : HasReadCause (faults mid) (faults now) (Ok more)) where
-  pub read_behind : {V : Type 0} (result : Result V Stop) → (IsErrOf result stop.ReadFault → ⊥) → ReadsFor told faults unit before now result
-  read_behind result nothing = record {
-    reads_for_a_name = λ e. absurd (nothing e);
-    unread_without_a_name = λ none. absurd (none name);
-    map_stays = stays ∙ reads.map_stays;
-    fault_rose = quiet (faults before) (faults now) result (cause.no_other_fault ∙ reads.fault_rose.no_other_fault) nothing;
-  }

@@ -1,12 +1,14 @@
 -- Steps that read nothing, behind one that read for the unit.
-use Rattle.std.proofs.Common.{◌≡◌, ℕ, List, Option, Result, Ok, Err, ap}
-use Rattle.std.specs.Prelude.{IsErrOf}
+use Rattle.std.proofs.Common.{◌≡◌, ◌∙◌, ℕ, List, Option, Some, None, Result, Ok, Err, refl, ap}
+use Rattle.std.specs.Prelude.{IsErrOf, IsSome}
 use Rattle.std.specs.Result.{IsErrAnd}
 use Rattle.host_io.specs.Files.{Files}
+use Rattle.command_answers.specs.Stops.{HasReadCause}
 use Rattle.command_answers.specs.declared.stop.Stop.{Stop}
 use Rattle.command_answers.specs.declared.stop.Stop.TheVariants.{ReadFault}
 use Rattle.command_answers.proofs.FileCommands.{at_stop}
 use Rattle.command_answers.proofs.Refusing.{quiet}
+use Rattle.unit_names.specs.Cutting.{name_of}
 use Rattle.unit_inputs.specs.ReadsFor.{ReadsFor}
 
 module _ {S T : Type 0} (told : S → Option Files) (faults : S → ℕ) (unit : List ℕ) (before now : S) (value : T) (reads : ReadsFor told faults unit before now (Ok value)) where
@@ -22,3 +24,18 @@ module _ {S T : Type 0} (told : S → Option Files) (faults : S → ℕ) (unit :
   -- and where what stops them is passed on
   pub read_then_stopped : {U V : Type 0} (result : Result V Stop) (why : Stop) → IsErrAnd result (λ error. error ≡ why) → (IsErrOf {T = U} (Err why) ReadFault → ⊥) → ReadsFor told faults unit before now result
   read_then_stopped result why is nothing = at_stop (ReadsFor told faults unit before now) result why is (read_then (Err why) (λ e. (let same : why ≡ ReadFault = cc in nothing (ap Err same))))
+
+-- a name that is found is there
+pub named : {X : Type 0} (found : Option X) (name : X) → found ≡ Some name → IsSome found
+named None name is = cc
+named (Some own) name is = refl
+
+-- behind a file that was read for a unit with a name
+module _ {S T U : Type 0} (told : S → Option Files) (faults : S → ℕ) (unit : List ℕ) (before mid now : S) (value : T) (more : U) (reads : ReadsFor told faults unit before mid (Ok value)) (name : IsSome (name_of unit)) (stays : told now ≡ told mid) (cause : HasReadCause (faults mid) (faults now) (Ok more)) where
+  pub read_behind : {V : Type 0} (result : Result V Stop) → (IsErrOf result ReadFault → ⊥) → ReadsFor told faults unit before now result
+  read_behind result nothing = record {
+    reads_for_a_name = λ e. absurd (nothing e);
+    unread_without_a_name = λ none. absurd (none name);
+    map_stays = stays ∙ reads.map_stays;
+    fault_rose = quiet (faults before) (faults now) result (cause.no_other_fault ∙ reads.fault_rose.no_other_fault) nothing;
+  }

@@ -1,25 +1,24 @@
 -- What is prepared, step by step.
-use Rattle.std.proofs.Common.{◌≡◌, ◌∙◌, ℕ, List, [], ◌∷◌, ◌++◌, Some, None, Option, Result, Ok, Err, Vec, Global, ◌⊎◌, inl, inr, refl, sym, ap, subst}
+use Rattle.std.proofs.Common.{◌≡◌, ◌∙◌, ℕ, List, [], Some, None, Option, Result, Ok, Err, Vec, Global, ◌⊎◌, inl, inr, refl, sym, ap, subst}
 use Rattle.std.specs.declared.alloc.AllocError.{AllocError}
-use Rattle.std.specs.Prelude.{Contains, IfOk, IfSome, IsErrOf, IsSome, IsTrue}
+use Rattle.std.specs.Prelude.{Contains, IfOk, IfSome, IsErrOf, IsTrue}
 use Rattle.host_io.specs.Files.{Files}
 use Rattle.call_table.specs.Table.{Table}
 use Rattle.command_answers.specs.Endings.{is_answer}
 use Rattle.command_answers.specs.Laws.{AcceptsFiles, GoTogether, IsAdmitted, laws_over}
-use Rattle.command_answers.specs.Stops.{HasReadCause, IsAnswer, Prepares, first_refusal, refusal_in, stop_of}
+use Rattle.command_answers.specs.Stops.{IsAnswer, Prepares, first_refusal, stop_of}
 use Rattle.command_answers.specs.declared.ending.Ending.{Ending}
 use Rattle.command_answers.specs.declared.ending.Ending.TheVariants.{Done, LaunchRefused}
 use Rattle.command_answers.specs.declared.stop.Stop.{Stop}
 use Rattle.command_answers.specs.declared.stop.Stop.TheVariants as stop
 use Rattle.command_answers.proofs.FileCommands.{go_together, ready_is_admitted, stop_is_admitted}
-use Rattle.command_answers.proofs.Refusing.{passes, quiet, stops, stops_as}
+use Rattle.command_answers.proofs.Refusing.{passes, stops, stops_as}
 use Rattle.deciding_lines.specs.Tried.{Tried}
 use Rattle.kernel_laws.specs.Questions as asked
 use Rattle.question_types.specs.declared.question.Question.{Question}
 use Rattle.site_table.specs.Table.{Site}
 use Rattle.started_units.specs.Starting.{start_refusals}
 use Rattle.unit_inputs.specs.Inputs.{Inputs, input_refusals, inputs_of, inputs_view}
-use Rattle.unit_inputs.specs.ReadsFor.{ReadsFor}
 use Rattle.unit_inputs.specs.declared.inputs.UnitInputs.{UnitInputs}
 use Rattle.unit_launch.specs.declared.launching.UnitLaunch.{UnitLaunch}
 use Rattle.unit_launch.specs.declared.launching.UnitLaunch.TheVariants.{Launched, Refused}
@@ -108,16 +107,6 @@ module _ (told : Option Files) (unit : List ℕ) (words : List (List ℕ)) (inpu
       admitted question
       (subst (λ (these : Site). question_in (inputs_view inputs).calls these words ≡ Ok question) two (subst (λ (these : Table). question_in these site words ≡ Ok question) one is))
       result (subst (λ (these : Inputs). Prepares (λ made. TellsWhy (record { name = unit; inputs = these; question = question }) (ending_of made) (text_of made)) (start_refusals unit these) result) same answers)
-
--- what reads nothing, behind what was read for the unit
-pub read_behind : {S T V : Type 0} (told : S → Option Files) (faults : S → ℕ) (unit : List ℕ) (before now : S) (value : T) → ReadsFor told faults unit before now (Ok value)
-    → (result : Result V Stop) → (IsErrOf result stop.ReadFault → ⊥) → ReadsFor told faults unit before now result
-read_behind told faults unit before now value reads result nothing = record {
-  reads_for_a_name = λ e. absurd (nothing e);
-  unread_without_a_name = reads.unread_without_a_name;
-  map_stays = reads.map_stays;
-  fault_rose = quiet (faults before) (faults now) result reads.fault_rose.no_other_fault nothing;
-}
 
 -- a stop that reads nothing, whatever was wanted
 pub as_any : {A B : Type 0} (why : Stop) → (IsErrOf {T = A} (Err why) stop.ReadFault → ⊥) → IsErrOf {T = B} (Err why) stop.ReadFault → ⊥

@@ -5,8 +5,9 @@ use Rattle.unit_names.specs.Cutting.{name_of}
 use Rattle.unit_inputs.specs.Inputs.{inputs_of, inputs_view}
 use Rattle.started_units.specs.Starting.{given}
 use Rattle.started_units.proofs.Given.{same_inputs}
+use Rattle.unit_inputs.proofs.Reading.{named, read_behind}
 use Rattle.effect_command.specs.Prints.{effect_laws, ending_of, text_of}
-use Rattle.effect_command.proofs.Prepared.{admitted_as, named, read_behind, stops_at_dropin, stops_at_inputs}
+use Rattle.effect_command.proofs.Prepared.{admitted_as, stops_at_dropin, stops_at_inputs}
 use Rattle.unit_inputs.specs.Asking.{asks_with_file}
 use Rattle.host_io.specs.Calls.{Whole}
 use Rattle.unit_grammar.specs.declared.unit.UnitText.{UnitText}

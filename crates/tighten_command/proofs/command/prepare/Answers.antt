@@ -9,8 +9,9 @@ use Rattle.unit_names.specs.Cutting.{name_of}
 use Rattle.unit_inputs.specs.Asking.{asks_with_file}
 use Rattle.unit_inputs.specs.Inputs.{inputs_of, inputs_view}
 use Rattle.unit_inputs.proofs.Ordering.{order_quiet, stops_at_file, stops_before_file, with_file}
+use Rattle.unit_inputs.proofs.Reading.{named, read_behind}
 use Rattle.tighten_command.specs.Prints.{ending_of, text_of, tighten_laws}
-use Rattle.tighten_command.proofs.Prepared.{answered_as, lent_listed, named, read_behind, stops_at_inputs, stops_at_keep}
+use Rattle.tighten_command.proofs.Prepared.{answered_as, lent_listed, stops_at_inputs, stops_at_keep}
 use Rattle.tighten_command.proofs.command.prepare.Goals as goal
 
 pub returns-in_err-inputs-clause-prepares : goal.returns-in_err-inputs-clause-prepares

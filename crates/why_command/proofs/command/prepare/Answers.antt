@@ -9,8 +9,9 @@ use Rattle.unit_inputs.specs.Asking.{input_asks}
 use Rattle.unit_inputs.specs.Inputs.{inputs_of, inputs_view}
 use Rattle.unit_inputs.proofs.Ordering.{order_quiet, order_quiet_stopped}
 use Rattle.started_units.proofs.Given.{same_inputs}
+use Rattle.unit_inputs.proofs.Reading.{read_then}
 use Rattle.why_command.specs.Prints.{ending_of, text_of, why_laws}
-use Rattle.why_command.proofs.Prepared.{admitted_as, as_any, listed_as, read_behind, stops_at_inputs, stops_at_question}
+use Rattle.why_command.proofs.Prepared.{admitted_as, as_any, listed_as, stops_at_inputs, stops_at_question}
 use Rattle.why_command.proofs.command.prepare.Goals as goal
 
 pub returns-in_err-inputs-clause-prepares : goal.returns-in_err-inputs-clause-prepares
@@ -25,7 +26,7 @@ returns-in_err-question-clause-prepares g c =
 
 pub returns-in_err-question-clause-reads_for_the_unit : goal.returns-in_err-question-clause-reads_for_the_unit
 returns-in_err-question-clause-reads_for_the_unit g c =
-    read_behind g.S.Shelf.told g.S.Shelf.faults c.args.unit.now _ _ c.in_ok-inputs.inputs c.in_ok-inputs.ensures.reads_for_the_unit c.from_residual-in_err-question.result
+    read_then g.S.Shelf.told g.S.Shelf.faults c.args.unit.now _ _ c.in_ok-inputs.inputs c.in_ok-inputs.ensures.reads_for_the_unit c.from_residual-in_err-question.result
     (at_stop (λ result. IsErrOf result ReadFault → ⊥) c.from_residual-in_err-question.result c.in_err-question.field-0.0 c.from_residual-in_err-question.ensures.1 (as_any c.in_err-question.field-0.0 c.in_err-question.ensures.reads_nothing))
 
 pub answer-requires : goal.answer-requires
@@ -43,7 +44,7 @@ returns-clause-prepares g c =
 
 pub returns-clause-reads_for_the_unit : goal.returns-clause-reads_for_the_unit
 returns-clause-reads_for_the_unit g c =
-    read_behind g.S.Shelf.told g.S.Shelf.faults c.args.unit.now _ _ c.in_ok-inputs.inputs c.in_ok-inputs.ensures.reads_for_the_unit c.answer.result c.answer.ensures.reads_nothing
+    read_then g.S.Shelf.told g.S.Shelf.faults c.args.unit.now _ _ c.in_ok-inputs.inputs c.in_ok-inputs.ensures.reads_for_the_unit c.answer.result c.answer.ensures.reads_nothing
 
 pub returns-in_err-question-clause-asks_in_order : goal.returns-in_err-question-clause-asks_in_order
 returns-in_err-question-clause-asks_in_order g c =
