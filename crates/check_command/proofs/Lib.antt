@@ -1,4 +1,3 @@
-pub mod Telling
 pub mod Joined
 pub mod Named
 pub mod Once

@@ -10,6 +10,8 @@ use Rattle.call_rules.specs.Action.{word_of}
 use Rattle.call_rules.specs.Sizes.{CanCompile}
 use Rattle.call_table.specs.Table.{Table}
 use Rattle.command_answers.specs.declared.stop.Stop.{Stop}
+use Rattle.command_answers.specs.Said.{IsSaid}
+use Rattle.command_answers.proofs.Said.{said_as}
 use Rattle.exec_settings.specs.AreSettings.{AreFilters, HasWantedRules}
 use Rattle.filter_check.specs.Finding.{DiffersAt, Finds, foreign, too_many, same, differs, memory, wanted_by}
 use Rattle.filter_check.specs.declared.outcome.CheckError.{CheckError}
@@ -20,9 +22,7 @@ use Rattle.filter_rules.specs.declared.installed.Filter.{Filter}
 use Rattle.filter_rules.specs.declared.settings.FilterSettings.{FilterSettings}
 use Rattle.check_command.specs.Comparing.{Compares, ComparesNamed, not_compared, is_compared, is_on, wanted_word}
 use Rattle.check_command.specs.Naming.{means, named_place}
-use Rattle.check_command.specs.Said.{IsSaid}
 use Rattle.check_command.specs.declared.ready.Checked.{Checked}
-use Rattle.check_command.proofs.Telling.{said_as}
 
 -- words that are wanted alike differ alike
 differs_as : (code : List Insn) (one other : CallData → ℕ) (input : CallData) (theirs ours : ℕ) → one input ≡ other input → DiffersAt code one input theirs ours → DiffersAt code other input theirs ours

@@ -6,6 +6,8 @@ use Rattle.bpf_code.specs.declared.machine.Insn.{Insn}
 use Rattle.command_answers.specs.Stops.{IsAnswer, Prepares, first_refusal}
 use Rattle.command_answers.specs.declared.stop.Stop.{Stop}
 use Rattle.command_answers.specs.declared.stop.Stop.TheVariants as stop
+use Rattle.command_answers.specs.Said.{IsSaid}
+use Rattle.command_answers.proofs.Said.{said_as}
 use Rattle.unit_inputs.specs.FileRefusals.{bytes_in}
 use Rattle.unit_inputs.specs.Inputs.{input_refusals, inputs_view}
 use Rattle.unit_inputs.specs.declared.inputs.UnitInputs.{UnitInputs}
@@ -14,8 +16,6 @@ use Rattle.unit_inputs.specs.declared.settling.SettledUnit.{SettledUnit}
 use Rattle.unit_inputs.proofs.Steps.{AreRead}
 use Rattle.check_command.specs.Prepared.{AreReady, IsPrepared, a_setting, an_input, the_file}
 use Rattle.check_command.specs.Programs.{IsProgramIn, IsProgramOf, no_file, of_file}
-use Rattle.check_command.specs.Said.{IsSaid}
-use Rattle.check_command.proofs.Telling.{said_as}
 
 -- an input is refused
 input_stops : (P : UnitInputs → Type 0) (files : Files) (unit path : List ℕ) (why : Stop) → Prepares P (input_refusals files unit) (Err why) → IsPrepared files unit path (Err why)

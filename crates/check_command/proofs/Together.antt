@@ -7,6 +7,7 @@ use Rattle.command_answers.specs.Laws.{GoTogether, IsAdmitted}
 use Rattle.command_answers.specs.declared.ending.Ending.{Ending}
 use Rattle.command_answers.specs.declared.stop.Stop.{Stop}
 use Rattle.command_answers.specs.declared.stop.Stop.TheVariants as stop
+use Rattle.command_answers.specs.Said.{IsSaid}
 use Rattle.exec_settings.specs.Dynamic.{unit_filters}
 use Rattle.filter_check.specs.declared.outcome.Outcome.{Outcome}
 use Rattle.filter_check.specs.declared.outcome.Outcome.TheVariants as outcome
@@ -16,7 +17,6 @@ use Rattle.check_command.specs.Comparing.{ComparesNamed}
 use Rattle.check_command.specs.Lines.{ending_by}
 use Rattle.check_command.specs.Prepared.{IsPrepared, inputs_in}
 use Rattle.check_command.specs.Prints.{Admits, MayEndUntold, check_laws, refuses, tells}
-use Rattle.check_command.specs.Said.{IsSaid}
 use Rattle.check_command.specs.declared.preparing.Prepared.{Prepared}
 use Rattle.check_command.specs.declared.ready.Checked.{Checked}
 use Rattle.check_command.proofs.Once.{not_both}

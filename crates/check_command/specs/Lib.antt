@@ -1,4 +1,3 @@
-pub mod Said
 pub mod Causes
 pub mod Programs
 pub mod Naming

@@ -4,10 +4,10 @@ ghost use Rattle.call_rules.specs.Sizes.{CanCompile};
 ghost use Rattle.exec_settings.specs.Dynamic.{unit_filters};
 ghost use Rattle.filter_check.specs.Finding.{wanted_by};
 ghost use Rattle.unit_inputs.specs.Settled.{AreSettled};
+ghost use Rattle.command_answers.specs.Said.{IsSaid};
 ghost use Rattle.check_command.specs.Causes.{check_cause, check_line, no_filter_line};
 ghost use Rattle.check_command.specs.Comparing.{Compares, ComparesNamed};
 ghost use Rattle.check_command.specs.Prepared.{inputs_in};
-ghost use Rattle.check_command.specs.Said.{IsSaid};
 
 use crate::naming::named_filter;
 use crate::preparing::Prepared;

@@ -3,9 +3,9 @@ ghost use Rattle.std.specs.Prelude.{◌≡◌, ◌∷◌, [], IfOk, IfSome, IsEr
 ghost use Rattle.host_io.specs.Calls.{Went};
 ghost use Rattle.command_answers.specs.Asking.{course, input_file};
 ghost use Rattle.command_answers.specs.Stops.{HasReadCause};
+ghost use Rattle.command_answers.specs.Said.{IsSaid};
 ghost use Rattle.check_command.specs.Causes.{file_cause, file_line, placed, program_cause};
 ghost use Rattle.check_command.specs.Programs.{IsProgramIn, IsProgramOf};
-ghost use Rattle.check_command.specs.Said.{IsSaid};
 
 use bpf_code::{Program, ProgramError};
 use command_answers::{Stop, refuse, refused_line};

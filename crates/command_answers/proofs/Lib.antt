@@ -5,3 +5,4 @@ pub mod Refusing
 pub mod Texts
 pub mod Runs
 pub mod Stopped
+pub mod Said

@@ -6,3 +6,4 @@ pub mod ReadFiles
 pub mod Refusals
 pub mod Runs
 pub mod Stops
+pub mod Said

@@ -12,6 +12,8 @@ use Rattle.command_answers.specs.declared.ending.Ending.{Ending}
 use Rattle.command_answers.specs.declared.ending.Ending.TheVariants.{Refused}
 use Rattle.command_answers.specs.declared.stop.Stop.{Stop}
 use Rattle.command_answers.specs.declared.stop.Stop.TheVariants as stop
+use Rattle.command_answers.specs.Said.{IsSaid}
+use Rattle.command_answers.proofs.Said.{said_as}
 use Rattle.dropin_merge.specs.declared.resolved.Resolved.{Resolved}
 use Rattle.question_types.specs.declared.question.Question.{Question}
 use Rattle.site_table.specs.Table.{Site}
@@ -23,10 +25,8 @@ use Rattle.unit_inputs.specs.declared.inputs.UnitInputs.{UnitInputs}
 use Rattle.unit_inputs.proofs.Steps.{AreRead}
 use Rattle.tighten_command.specs.KeepFiles.{IsKeepIn, IsKeepOf, no_file, of_file}
 use Rattle.tighten_command.specs.Prints.{Admits, MayEndUntold, an_input, ending_of, refuses, tells, text_of, the_keep, tighten_laws}
-use Rattle.tighten_command.specs.Said.{IsSaid}
 use Rattle.tighten_command.specs.Telling.{IsTold, TellsTight, denies, no_launch, no_plan, no_settings, refuses_wish, tightened}
 use Rattle.tighten_command.specs.declared.hardening.Hardening.{Hardening}
-use Rattle.tighten_command.proofs.Telling.{said_as}
 
 -- ---- the file of what is to be kept
 -- the bytes of the file are not there

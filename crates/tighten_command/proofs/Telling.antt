@@ -1,5 +1,5 @@
 -- What a step of preparing tells.
-use Rattle.std.proofs.Common.{◌≡◌, ℕ, List, Result, Ok, Err, refl, sym, subst}
+use Rattle.std.proofs.Common.{◌≡◌, ℕ, List, Result, Ok, Err, sym, subst}
 use Rattle.std.specs.Prelude.{IfOk, IsErrOf, Vec}
 use Rattle.std.specs.declared.alloc.AllocError.{AllocError}
 use Rattle.std.specs.declared.alloc.Global.{Global}
@@ -14,25 +14,8 @@ use Rattle.tighten.specs.declared.tight.Tight.{Tight}
 use Rattle.tighten.specs.declared.tight.TightenError.{TightenError}
 use Rattle.tighten.specs.declared.tight.TightenError.TheVariants as error
 use Rattle.tighten_command.specs.Lines.{tight_text}
-use Rattle.tighten_command.specs.Said.{IsSaid}
 use Rattle.tighten_command.specs.Telling.{IsTold, TellsError, TellsTight, denies, no_launch, no_plan, no_settings, refuses_wish, tightened}
 use Rattle.tighten_command.specs.declared.hardening.Hardening.{Hardening}
-
-module _ {T V : Type 0} (see : T → V) (IsWanted : Result V (List ℕ) → Type 0) where
-  -- the line of a refusal that stands, where there was memory for it
-  said_line : (line : Result (Vec ℕ Global) AllocError) (text : List ℕ) → IfOk line (λ own. own.items ≡ text) → IsWanted (Err text) → IsSaid see IsWanted (Err (stop_of line))
-  said_line (Ok line) text is wanted = subst (λ own. IsWanted (Err own)) (sym is) wanted
-  said_line (Err error) text is wanted = tt
-
-  pub said_refused : (line : Result (Vec ℕ Global) AllocError) (text : List ℕ) (told : Stop) → told ≡ stop_of line → IfOk line (λ own. own.items ≡ text) → IsWanted (Err text) → IsSaid see IsWanted (Err told)
-  said_refused line text told same is wanted = subst (λ own. IsSaid see IsWanted (Err own)) (sym same) (said_line line text is wanted)
-
-  -- what is wanted by one relation is so by another
-  pub said_as : (IsOther : Result V (List ℕ) → Type 0) → ((said : Result V (List ℕ)) → IsWanted said → IsOther said) → (result : Result T Stop) → IsSaid see IsWanted result → IsSaid see IsOther result
-  said_as IsOther as_other (Ok value) said = as_other (Ok (see value)) said
-  said_as IsOther as_other (Err (stop.Refused line)) said = as_other (Err line.items) said
-  said_as IsOther as_other (Err stop.ReadFault) said = tt
-  said_as IsOther as_other (Err stop.Memory) said = tt
 
 module _ (P : Ending → List ℕ → Type 0) where
   told_line : (line : Result (Vec ℕ Global) AllocError) (text : List ℕ) → IfOk line (λ own. own.items ≡ text) → P Refused text → IsTold P (Err (stop_of line))

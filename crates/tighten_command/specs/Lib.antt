@@ -1,4 +1,3 @@
-pub mod Said
 pub mod Keeping
 pub mod KeepFiles
 pub mod Lines

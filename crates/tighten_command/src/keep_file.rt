@@ -4,9 +4,9 @@ ghost use Rattle.std.specs.List.{All};
 ghost use Rattle.host_io.specs.Calls.{Went};
 ghost use Rattle.command_answers.specs.Asking.{course, input_file};
 ghost use Rattle.command_answers.specs.Stops.{HasReadCause};
+ghost use Rattle.command_answers.specs.Said.{IsSaid};
 ghost use Rattle.kernel_laws.specs.Questions.{questions};
 ghost use Rattle.tighten_command.specs.KeepFiles.{IsKeepIn, IsKeepOf, keep_cause, keep_line};
-ghost use Rattle.tighten_command.specs.Said.{IsSaid};
 
 use crate::keeping::{KeepError, read_questions};
 use call_table::CallTable;

@@ -1,10 +1,10 @@
 use Rattle.std.proofs.Common.{None, Some, ap, ◌∙◌}
 use Rattle.exec_settings.specs.Dynamic.{unit_filters}
+use Rattle.command_answers.proofs.Said.{said_refused}
 use Rattle.check_command.specs.Causes.{no_filter_line}
 use Rattle.check_command.specs.Comparing.{ComparesNamed, not_on}
 use Rattle.check_command.specs.declared.ready.Checked.{Checked}
 use Rattle.check_command.proofs.Named.{can_be_compiled, compares_named, found_in, named_none}
-use Rattle.check_command.proofs.Telling.{said_refused}
 use Rattle.check_command.proofs.comparing.compare.Goals as goal
 
 pub compare_rules-requires : goal.compare_rules-requires

@@ -1,10 +1,10 @@
 use Rattle.std.proofs.Common.{rules}
 use Rattle.std.specs.Prelude.{◌≢◌, List}
 use Rattle.question_types.specs.declared.question.Question.{Question}
+use Rattle.command_answers.proofs.Said.{said_refused}
 use Rattle.tighten_command.specs.KeepFiles.{IsKeepOf, a_keep, keep_line, no_keep}
 use Rattle.tighten_command.specs.declared.keeping.KeepError.TheVariants.{Memory}
 use Rattle.tighten_command.proofs.Reading.{listed_keep}
-use Rattle.tighten_command.proofs.Telling.{said_refused}
 use Rattle.tighten_command.proofs.keep_file.keep_of_bytes.Goals as goal
 
 pub returns-in-Ok-clause-says : goal.returns-in-Ok-clause-says

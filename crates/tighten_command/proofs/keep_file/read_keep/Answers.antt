@@ -4,9 +4,9 @@ use Rattle.std.specs.declared.alloc.Global.{Global}
 use Rattle.command_answers.specs.Asking.{input_file}
 use Rattle.command_answers.proofs.Asking.{went_quiet}
 use Rattle.command_answers.proofs.FileCommands.{at_stop}
+use Rattle.command_answers.specs.Said.{IsSaid}
 use Rattle.question_types.specs.declared.question.Question.{Question}
 use Rattle.tighten_command.specs.KeepFiles.{IsKeepIn, IsKeepOf}
-use Rattle.tighten_command.specs.Said.{IsSaid}
 use Rattle.tighten_command.proofs.Prepared.{no_bytes, some_bytes}
 use Rattle.tighten_command.proofs.keep_file.read_keep.Goals as goal
 

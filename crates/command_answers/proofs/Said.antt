@@ -1,4 +1,4 @@
--- What a step of preparing tells.
+-- What a step of preparing answers, by a relation.
 use Rattle.std.proofs.Common.{◌≡◌, ℕ, List, Result, Ok, Err, sym, subst}
 use Rattle.std.specs.Prelude.{IfOk, Vec}
 use Rattle.std.specs.declared.alloc.AllocError.{AllocError}
@@ -6,7 +6,7 @@ use Rattle.std.specs.declared.alloc.Global.{Global}
 use Rattle.command_answers.specs.Stops.{stop_of}
 use Rattle.command_answers.specs.declared.stop.Stop.{Stop}
 use Rattle.command_answers.specs.declared.stop.Stop.TheVariants as stop
-use Rattle.check_command.specs.Said.{IsSaid}
+use Rattle.command_answers.specs.Said.{IsSaid}
 
 module _ {T V : Type 0} (see : T → V) (IsWanted : Result V (List ℕ) → Type 0) where
   -- the line of a refusal that stands, where there was memory for it
