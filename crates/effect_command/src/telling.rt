@@ -16,7 +16,7 @@ use judge_command::Asked;
 use kernel_calls::Call;
 use open_calls::Service;
 use question_types::Question;
-use report_text::call_line;
+use report_text::push_call_lines;
 use site_table::{Row, SiteTable};
 use std::alloc::{AllocError, Global};
 use verdict_changes::{FolderChange, VerdictChange, folder_change, verdict_change};
@@ -27,21 +27,6 @@ fn push_line(text: &mut Vec<u8>, line: Result<Vec<u8>, AllocError>) -> Result<()
 {
     let line = line?;
     text.extend_from_slice(line.as_slice())?;
-    Ok(())
-}
-
-// Tells calls, one behind the other.
-fn push_calls(
-    alloc: Global,
-    text: &mut Vec<u8>,
-    list: &[Call],
-    calls: &CallTable,
-) -> Result<(), AllocError>
-    ensures { OnOk result (text.new.items ≡ text.old.items ++ flat_map (call_line calls.now) list.now) }
-{
-    for call in list {
-        text.extend_from_slice(call_line(alloc, call, calls)?.as_slice())?;
-    }
     Ok(())
 }
 
@@ -59,7 +44,7 @@ fn push_opened(
 {
     let line = question_line(alloc, "opened", question, calls, site)?;
     text.extend_from_slice(line.as_slice())?;
-    push_calls(alloc, text, list, calls)?;
+    push_call_lines(alloc, text, list, calls)?;
     Ok(())
 }
 

@@ -1,5 +1,5 @@
 //! The lines of answers to questions, those of blind folders, and the count of all questions.
-ghost use Rattle.std.specs.Prelude.{◌≡◌, Contains, IfOk};
+ghost use Rattle.std.specs.Prelude.{◌≡◌, ◌++◌, Contains, IfOk, OnOk, flat_map};
 ghost use Rattle.kernel_laws.specs.Questions.{questions};
 ghost use Rattle.report_text.specs.Answers.{blind_line, call_line, summary_line, verdict_line, verdict_word};
 
@@ -56,6 +56,21 @@ pub fn call_line(alloc: Global, call: &Call, calls: &CallTable) -> Result<Vec<u8
     line.extend_from_slice(text.as_slice())?;
     line.push(b'\n')?;
     Ok(line)
+}
+
+/// Puts the lines of these calls behind a text.
+pub fn push_call_lines(
+    alloc: Global,
+    text: &mut Vec<u8>,
+    list: &[Call],
+    calls: &CallTable,
+) -> Result<(), AllocError>
+    ensures tells_the_calls { OnOk result (text.new.items ≡ text.old.items ++ flat_map (call_line calls.now) list.now) }
+{
+    for call in list {
+        text.extend_from_slice(call_line(alloc, call, calls)?.as_slice())?;
+    }
+    Ok(())
 }
 
 /// The line of a folder that is blind.

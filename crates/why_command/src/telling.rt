@@ -1,5 +1,5 @@
 //! What is told of a question.
-ghost use Rattle.std.specs.Prelude.{◌≡◌, ◌++◌, Contains, IfOk, OnOk, flat_map};
+ghost use Rattle.std.specs.Prelude.{◌≡◌, ◌++◌, Contains, IfOk, flat_map};
 ghost use Rattle.deciding_lines.specs.Deciding.{IsReason};
 ghost use Rattle.kernel_laws.specs.Questions.{questions};
 ghost use Rattle.report_text.specs.Answers.{call_line};
@@ -14,24 +14,9 @@ use dropin_merge::Resolved;
 use judge::Verdict;
 use kernel_calls::Call;
 use question_types::Question;
-use report_text::{call_line, verdict_line};
+use report_text::{push_call_lines, verdict_line};
 use site_table::SiteTable;
 use std::alloc::{AllocError, Global};
-
-// Tells calls, one behind the other.
-fn push_calls(
-    alloc: Global,
-    text: &mut Vec<u8>,
-    list: &[Call],
-    calls: &CallTable,
-) -> Result<(), AllocError>
-    ensures { OnOk result (text.new.items ≡ text.old.items ++ flat_map (call_line calls.now) list.now) }
-{
-    for call in list {
-        text.extend_from_slice(call_line(alloc, call, calls)?.as_slice())?;
-    }
-    Ok(())
-}
 
 /// A question that is open, above the calls that reach it.
 pub fn open_text(
@@ -45,7 +30,7 @@ pub fn open_text(
     ensures { IfOk result (λ text. text.items ≡ verdict_line calls.now site.now question.now verdict.Open ++ flat_map (call_line calls.now) list.now) }
 {
     let mut text = verdict_line(alloc, question, Verdict::Open, calls, site)?;
-    push_calls(alloc, &mut text, list, calls)?;
+    push_call_lines(alloc, &mut text, list, calls)?;
     Ok(text)
 }
 
