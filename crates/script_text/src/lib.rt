@@ -22,7 +22,7 @@ mod reader;
 pub use error::{ScriptCause, ScriptError};
 use item_list::ItemList;
 use kernel_calls::Call;
-pub use printing::print_call;
+pub use printing::{print_call, push_call};
 pub use reader::read_script;
 
 /// The calls of a script in their order, which contracts see as a list.

@@ -175,11 +175,25 @@ fn push_numbers(out: &mut Vec<u8>, numbers: &[u64]) -> Result<(), AllocError>
     Ok(())
 }
 
-/// The text of a call, as a line of a script has it: `PID NAME [PAYLOAD] [WORD ..]`, without a line feed.
+/// Puts the text of a call behind a text, as a line of a script has it: `PID NAME [PAYLOAD] [WORD ..]`, without a line feed.
 ///
 /// The call goes by its name where its ABI has its number and its payload is of the form of that name (a program is whole
 /// instructions of eight bytes); else it goes by `#` and its number, and its payload is not written. The name of an ABI that is
 /// not the native one stands before it with a colon. Numbers are decimal, and words that are zero are dropped at the end.
+pub fn push_call(
+    alloc: Global,
+    out: &mut Vec<u8>,
+    call: &Call,
+    calls: &CallTable,
+) -> Result<(), AllocError>
+    ensures tells_the_call { OnOk result (out.new.items ≡ out.old.items ++ call_text calls.now call.now) }
+{
+    push_u64(out, u64::from(call.pid))?;
+    push_named(alloc, out, call, calls)?;
+    push_numbers(out, without_last_zeros(&call.args))
+}
+
+/// The text of a call, as `push_call` has it.
 ///
 /// Where the table was read and has the call's ABI, and the call has a process from 1 on and carries nothing or what its name
 /// carries, the text has one reading as a line, the call itself.
@@ -192,8 +206,6 @@ pub fn print_call(alloc: Global, call: &Call, calls: &CallTable) -> Result<Vec<u
     let _abis = calls.abis();
     let _calls = calls.calls_in(call.abi);
     let mut text = Vec::new(alloc);
-    push_u64(&mut text, u64::from(call.pid))?;
-    push_named(alloc, &mut text, call, calls)?;
-    push_numbers(&mut text, without_last_zeros(&call.args))?;
+    push_call(alloc, &mut text, call, calls)?;
     Ok(text)
 }
