@@ -1,5 +1,5 @@
 //! The answers to questions, found and printed one by one.
-ghost use Rattle.std.specs.Prelude.{◌≡◌, Contains, OnOk, flat_map, map};
+ghost use Rattle.std.specs.Prelude.{◌≡◌, Contains, IfOk, OnOk, flat_map, map};
 ghost use Rattle.command_answers.specs.Printing.{HasWriteCause, TakesText};
 ghost use Rattle.judge.specs.declared.answer.Verdict.{Verdict};
 ghost use Rattle.kernel_laws.specs.Questions.{questions};
@@ -16,8 +16,17 @@ use judge::{Verdict, verdict};
 use kernel_calls::Call;
 use open_calls::{Service, calls};
 use question_types::Question;
-use report_text::{call_line, verdict_line};
-use std::alloc::Global;
+use report_text::{push_call_line, verdict_line};
+use std::alloc::{AllocError, Global};
+
+// The line of a call.
+fn call_line(alloc: Global, call: &Call, table: &CallTable) -> Result<Vec<u8>, AllocError>
+    ensures tells_the_call { IfOk result (λ line. line.items ≡ call_line table.now call.now) }
+{
+    let mut line = Vec::new(alloc);
+    push_call_line(alloc, &mut line, call, table)?;
+    Ok(line)
+}
 
 // Prints calls, one behind the other.
 fn print_calls<K: Sink>(

@@ -1,15 +1,17 @@
 //! The folders that are blind, found and printed one by one.
-ghost use Rattle.std.specs.Prelude.{◌≡◌, flat_map};
+ghost use Rattle.std.specs.Prelude.{◌≡◌, IfOk, flat_map};
 ghost use Rattle.command_answers.specs.Printing.{HasWriteCause, TakesText};
+ghost use Rattle.report_text.specs.Answers.{blind_line};
 ghost use Rattle.judge_command.specs.Asked.{IsAsked, IsRowIn, folder_text, is_named};
 
 use crate::asking::Asked;
+use abs_path::AbsPath;
 use command_answers::put_line;
 use host_io::{Sink, SinkError};
 use judge::blind;
-use report_text::blind_line;
+use report_text::push_blind_line;
 use site_table::{Row, RowKind};
-use std::alloc::Global;
+use std::alloc::{AllocError, Global};
 
 /// Whether a row is a folder that is blind. It takes no memory.
 pub fn is_named(asked: &Asked<'_>, row: &Row) -> bool
@@ -21,6 +23,15 @@ pub fn is_named(asked: &Asked<'_>, row: &Row) -> bool
         RowKind::Dir => blind(&asked.bounded.service, &asked.bounded.ceiling, &row.path),
         RowKind::File | RowKind::Exe => false,
     }
+}
+
+// The line of a folder that is blind.
+fn blind_line(alloc: Global, folder: &AbsPath) -> Result<Vec<u8>, AllocError>
+    ensures names_the_folder { IfOk result (λ line. line.items ≡ blind_line folder.now) }
+{
+    let mut line = Vec::new(alloc);
+    push_blind_line(&mut line, folder)?;
+    Ok(line)
 }
 
 // Prints the line of a row, if it is a folder that is blind.

@@ -10,7 +10,7 @@ use judge::Verdict;
 use kernel_calls::Call;
 use question_types::Question;
 use questions::laws::members;
-use script_text::print_call;
+use script_text::push_call;
 use site_table::SiteTable;
 use std::alloc::{AllocError, Global};
 use text_forms::push_word;
@@ -24,10 +24,30 @@ fn verdict_word(verdict: Verdict) -> &'static str
     }
 }
 
-/// The line of a question of the list: the verdict, and what is asked. Rows go by their paths and calls and families by their
-/// names, each an escaped word; ids go by their numbers, and capabilities by the names of capabilities(7).
+/// Puts the line of a question of the list behind a text: the verdict, and what is asked. Rows go by their paths and calls and
+/// families by their names, each an escaped word; ids go by their numbers, and capabilities by the names of capabilities(7).
 ///
 /// The one error is want of memory.
+pub fn push_verdict_line(
+    text: &mut Vec<u8>,
+    question: &Question,
+    verdict: Verdict,
+    calls: &CallTable,
+    site: &SiteTable,
+) -> Result<(), AllocError>
+    requires asked { Contains (questions calls.now site.now) question.now }
+    ensures tells_the_verdict { OnOk result (text.new.items ≡ text.old.items ++ verdict_line calls.now site.now question.now verdict) }
+{
+    // There is a thing that each question of the list is asked of.
+    members();
+    text.extend_from_slice(verdict_word(verdict).as_bytes())?;
+    text.push(b' ')?;
+    push_question(text, question, calls, site)?;
+    text.push(b'\n')?;
+    Ok(())
+}
+
+/// The line of a question of the list, as `push_verdict_line` has it.
 pub fn verdict_line(
     alloc: Global,
     question: &Question,
@@ -38,24 +58,24 @@ pub fn verdict_line(
     requires asked { Contains (questions calls.now site.now) question.now }
     ensures tells_the_verdict { IfOk result (λ line. line.items ≡ verdict_line calls.now site.now question.now verdict) }
 {
-    // There is a thing that each question of the list is asked of.
-    members();
-    let mut line = verdict_word(verdict).as_bytes().to_vec(alloc)?;
-    line.push(b' ')?;
-    push_question(&mut line, question, calls, site)?;
-    line.push(b'\n')?;
+    let mut line = Vec::new(alloc);
+    push_verdict_line(&mut line, question, verdict, calls, site)?;
     Ok(line)
 }
 
-/// The line of a call, below the open question that it leads to: two spaces, and the call as a script has it.
-pub fn call_line(alloc: Global, call: &Call, calls: &CallTable) -> Result<Vec<u8>, AllocError>
-    ensures tells_the_call { IfOk result (λ line. line.items ≡ call_line calls.now call.now) }
+/// Puts the line of a call behind a text, below the open question that it leads to: two spaces, and the call as a script has it.
+pub fn push_call_line(
+    alloc: Global,
+    text: &mut Vec<u8>,
+    call: &Call,
+    calls: &CallTable,
+) -> Result<(), AllocError>
+    ensures tells_the_call { OnOk result (text.new.items ≡ text.old.items ++ call_line calls.now call.now) }
 {
-    let text = print_call(alloc, call, calls)?;
-    let mut line = b"  ".to_vec(alloc)?;
-    line.extend_from_slice(text.as_slice())?;
-    line.push(b'\n')?;
-    Ok(line)
+    text.extend_from_slice(b"  ")?;
+    push_call(alloc, text, call, calls)?;
+    text.push(b'\n')?;
+    Ok(())
 }
 
 /// Puts the lines of these calls behind a text.
@@ -68,19 +88,19 @@ pub fn push_call_lines(
     ensures tells_the_calls { OnOk result (text.new.items ≡ text.old.items ++ flat_map (call_line calls.now) list.now) }
 {
     for call in list {
-        text.extend_from_slice(call_line(alloc, call, calls)?.as_slice())?;
+        push_call_line(alloc, text, call, calls)?;
     }
     Ok(())
 }
 
-/// The line of a folder that is blind.
-pub fn blind_line(alloc: Global, folder: &AbsPath) -> Result<Vec<u8>, AllocError>
-    ensures names_the_folder { IfOk result (λ line. line.items ≡ blind_line folder.now) }
+/// Puts the line of a folder that is blind behind a text.
+pub fn push_blind_line(text: &mut Vec<u8>, folder: &AbsPath) -> Result<(), AllocError>
+    ensures names_the_folder { OnOk result (text.new.items ≡ text.old.items ++ blind_line folder.now) }
 {
-    let mut line = b"blind ".to_vec(alloc)?;
-    push_word(&mut line, folder.text())?;
-    line.push(b'\n')?;
-    Ok(line)
+    text.extend_from_slice(b"blind ")?;
+    push_word(text, folder.text())?;
+    text.push(b'\n')?;
+    Ok(())
 }
 
 /// The last line of a report: how many questions are denied, and how many open.
