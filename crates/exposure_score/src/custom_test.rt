@@ -1,6 +1,7 @@
 //! Stored tests: tests that are handed in beside the policy.
 
-ghost use Rattle.std.specs.Prelude.{◌≡◌, ℕ, ◌≤◌, string_bytes};
+ghost use Rattle.std.specs.Prelude.{◌≡◌, ℕ, ◌≤◌, List, string_bytes};
+ghost use Rattle.exposure_score.specs.StoredTests.{StoredTests, stored_by};
 
 use crate::facts::Facts;
 use policy_file::TestId;
@@ -51,4 +52,13 @@ impl CustomTest {
     {
         (self.check)(facts)
     }
+}
+
+/// Tests that are handed in, as contracts see them.
+pub trait Stored {
+    ghost stored: { List Self → StoredTests };
+}
+
+impl Stored for CustomTest {
+    ghost stored = { stored_by (λ test. test.id) (λ test. test.range) (λ test. Check.post test.check) };
 }

@@ -17,7 +17,7 @@ mod rows;
 mod scoring;
 mod stored;
 
-pub use custom_test::{Check, CustomTest};
+pub use custom_test::{Check, CustomTest, Stored};
 pub use error::ScoreError;
 pub use facts::{Fact, FactList, Facts};
 pub use policy_file::TestId as FactId;
