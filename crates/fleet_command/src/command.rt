@@ -1,6 +1,5 @@
 //! The command `fleet` and the path of a policy.
 ghost use Rattle.std.specs.Prelude.{◌≡◌};
-ghost use Rattle.exposure_score.specs.StoredTests.{stored_by};
 ghost use Rattle.command_answers.specs.Asking.{course};
 ghost use Rattle.command_answers.specs.Laws.{IsAdmitted, laws_over};
 ghost use Rattle.command_answers.specs.Stops.{HasReadCause};
@@ -12,7 +11,7 @@ use crate::preparing::read_all;
 use crate::ready::Fleet;
 use crate::reporting::report;
 use command_answers::Stop;
-use exposure_score::{CustomTest, Facts};
+use exposure_score::{CustomTest, Stored};
 use host_io::Shelf;
 use std::alloc::Global;
 
@@ -27,8 +26,8 @@ pub fn prepare<S: Shelf>(
     path: &str,
     tests: &[CustomTest],
 ) -> Result<Fleet, Stop>
-    ensures prepares { IsAdmitted (laws_over (S.told shelf.old) (fleet_laws path.now (stored_by (λ test. test.id) (λ test. test.range) (λ test. ⟦<Box<dyn Fn(&Facts) -> u32> as Fn(&Facts) -> u32>⟧.post test.check) tests.now))) ending_of text_of result }
-    ensures asks_in_order { AsksInOrder S.asks (S.told shelf.old) (λ files. fleet_asks files path.now (stored_by (λ test. test.id) (λ test. test.range) (λ test. ⟦<Box<dyn Fn(&Facts) -> u32> as Fn(&Facts) -> u32>⟧.post test.check) tests.now)) shelf.old shelf.new (course result) }
+    ensures prepares { IsAdmitted (laws_over (S.told shelf.old) (fleet_laws path.now (⟦<CustomTest as Stored>⟧.stored tests.now))) ending_of text_of result }
+    ensures asks_in_order { AsksInOrder S.asks (S.told shelf.old) (λ files. fleet_asks files path.now (⟦<CustomTest as Stored>⟧.stored tests.now)) shelf.old shelf.new (course result) }
     ensures map_stays { S.told shelf.new ≡ S.told shelf.old }
     ensures fault_rose { HasReadCause (S.faults shelf.old) (S.faults shelf.new) result }
 {

@@ -1,6 +1,5 @@
 //! The rows of all units.
 ghost use Rattle.std.specs.Prelude.{◌≡◌, ◌∷◌, [], IfSome};
-ghost use Rattle.exposure_score.specs.StoredTests.{stored_by};
 ghost use Rattle.policy_weights.specs.Weights.{weight_of};
 ghost use Rattle.command_answers.specs.Asking.{course};
 ghost use Rattle.command_answers.specs.Stops.{HasReadCause, Prepares};
@@ -12,7 +11,7 @@ ghost use Rattle.fleet_command.specs.Reports.{AreFleet};
 
 use crate::preparing::FleetInputs;
 use command_answers::{Stop, refuse, refused_line};
-use exposure_score::{CustomTest, Facts};
+use exposure_score::{CustomTest, Stored};
 use fleet_report::{FleetError, FleetRow, fleet};
 use host_io::Shelf;
 use std::alloc::Global;
@@ -26,9 +25,9 @@ pub fn report<S: Shelf>(
     inputs: &FleetInputs,
     tests: &[CustomTest],
 ) -> Result<Vec<FleetRow>, Stop>
-    ensures reports { IfSome (S.told shelf.old) (λ files. Prepares (λ rows. AreFleet files (inputs_view inputs.now) (stored_by (λ test. test.id) (λ test. test.range) (λ test. ⟦<Box<dyn Fn(&Facts) -> u32> as Fn(&Facts) -> u32>⟧.post test.check) tests.now) rows.items)
-        (weight_refusal path.now (weight_of (inputs_view inputs.now).calls (stored_by (λ test. test.id) (λ test. test.range) (λ test. ⟦<Box<dyn Fn(&Facts) -> u32> as Fn(&Facts) -> u32>⟧.post test.check) tests.now) (inputs_view inputs.now).policy) ∷ []) result) }
-    ensures asks_in_order { AsksInOrder S.asks (S.told shelf.old) (λ files. unless_weightless (weight_of (inputs_view inputs.now).calls (stored_by (λ test. test.id) (λ test. test.range) (λ test. ⟦<Box<dyn Fn(&Facts) -> u32> as Fn(&Facts) -> u32>⟧.post test.check) tests.now) (inputs_view inputs.now).policy) (rows_asks files (inputs_view inputs.now).names)) shelf.old shelf.new (course result) }
+    ensures reports { IfSome (S.told shelf.old) (λ files. Prepares (λ rows. AreFleet files (inputs_view inputs.now) (⟦<CustomTest as Stored>⟧.stored tests.now) rows.items)
+        (weight_refusal path.now (weight_of (inputs_view inputs.now).calls (⟦<CustomTest as Stored>⟧.stored tests.now) (inputs_view inputs.now).policy) ∷ []) result) }
+    ensures asks_in_order { AsksInOrder S.asks (S.told shelf.old) (λ files. unless_weightless (weight_of (inputs_view inputs.now).calls (⟦<CustomTest as Stored>⟧.stored tests.now) (inputs_view inputs.now).policy) (rows_asks files (inputs_view inputs.now).names)) shelf.old shelf.new (course result) }
     ensures map_stays { S.told shelf.new ≡ S.told shelf.old }
     ensures fault_rose { HasReadCause (S.faults shelf.old) (S.faults shelf.new) result }
 {

@@ -1,7 +1,6 @@
 //! The report of all units.
 ghost use Rattle.std.specs.Prelude.{◌≡◌, ◌↔◌, ◌<◌, IfOk, IfSome, IsErrOf, IsPermutation, map};
 ghost use Rattle.std.specs.List.{All};
-ghost use Rattle.exposure_score.specs.StoredTests.{stored_by};
 ghost use Rattle.policy_weights.specs.Weights.{weight_of};
 ghost use Rattle.host_io.specs.Calls.{Went};
 ghost use Rattle.fleet_report.specs.Answers.{HasCause};
@@ -14,7 +13,7 @@ use crate::ordering::put_in_order;
 use crate::rows::FleetRow;
 use crate::scoring::row_of;
 use call_table::CallTable;
-use exposure_score::{CustomTest, Facts};
+use exposure_score::{CustomTest, Stored};
 use host_io::Shelf;
 use policy_file::Policy;
 use policy_weights::weighs;
@@ -32,9 +31,9 @@ fn rows_of<S: Shelf>(
     policy: &Policy,
     tests: &[CustomTest],
 ) -> Result<Vec<FleetRow>, FleetError>
-    requires weighs { 0 < weight_of calls.now (stored_by (λ test. test.id) (λ test. test.range) (λ test. ⟦<Box<dyn Fn(&Facts) -> u32> as Fn(&Facts) -> u32>⟧.post test.check) tests.now) policy.now }
+    requires weighs { 0 < weight_of calls.now (⟦<CustomTest as Stored>⟧.stored tests.now) policy.now }
     ensures a_row_a_name { IfOk result (λ rows. map (λ row. row.name) rows.items ≡ names.now) }
-    ensures by_their_files { IfSome (S.told shelf.old) (λ files. IfOk result (λ rows. All (IsRowOf files calls.now site.now policy.now (stored_by (λ test. test.id) (λ test. test.range) (λ test. ⟦<Box<dyn Fn(&Facts) -> u32> as Fn(&Facts) -> u32>⟧.post test.check) tests.now)) rows.items)) }
+    ensures by_their_files { IfSome (S.told shelf.old) (λ files. IfOk result (λ rows. All (IsRowOf files calls.now site.now policy.now (⟦<CustomTest as Stored>⟧.stored tests.now)) rows.items)) }
     ensures tells_no_fault { IfOk result (λ rows. All (λ row. TellsNoFault row.outcome) rows.items) }
     ensures asks_in_order { IfSome (S.told shelf.old) (λ files. Went S.asks shelf.old shelf.new (rows_asks files names.now) (course result)) }
     ensures map_stays { S.told shelf.new ≡ S.told shelf.old }
@@ -75,11 +74,11 @@ pub fn fleet<S: Shelf>(
     tests: &[CustomTest],
 ) -> Result<Vec<FleetRow>, FleetError>
     ensures a_row_a_name { IfOk result (λ rows. IsPermutation names.now (map (λ row. row.name) rows.items)) }
-    ensures by_their_files { IfSome (S.told shelf.old) (λ files. IfOk result (λ rows. All (IsRowOf files calls.now site.now policy.now (stored_by (λ test. test.id) (λ test. test.range) (λ test. ⟦<Box<dyn Fn(&Facts) -> u32> as Fn(&Facts) -> u32>⟧.post test.check) tests.now)) rows.items)) }
+    ensures by_their_files { IfSome (S.told shelf.old) (λ files. IfOk result (λ rows. All (IsRowOf files calls.now site.now policy.now (⟦<CustomTest as Stored>⟧.stored tests.now)) rows.items)) }
     ensures tells_no_fault { IfOk result (λ rows. All (λ row. TellsNoFault row.outcome) rows.items) }
     ensures least_protected_first { IfOk result (λ rows. AreInOrder rows.items) }
-    ensures no_weight { IsErrOf result FleetError.NoWeight ↔ (weight_of calls.now (stored_by (λ test. test.id) (λ test. test.range) (λ test. ⟦<Box<dyn Fn(&Facts) -> u32> as Fn(&Facts) -> u32>⟧.post test.check) tests.now) policy.now ≡ 0) }
-    ensures asks_in_order { IfSome (S.told shelf.old) (λ files. Went S.asks shelf.old shelf.new (unless_weightless (weight_of calls.now (stored_by (λ test. test.id) (λ test. test.range) (λ test. ⟦<Box<dyn Fn(&Facts) -> u32> as Fn(&Facts) -> u32>⟧.post test.check) tests.now) policy.now) (rows_asks files names.now)) (course result)) }
+    ensures no_weight { IsErrOf result FleetError.NoWeight ↔ (weight_of calls.now (⟦<CustomTest as Stored>⟧.stored tests.now) policy.now ≡ 0) }
+    ensures asks_in_order { IfSome (S.told shelf.old) (λ files. Went S.asks shelf.old shelf.new (unless_weightless (weight_of calls.now (⟦<CustomTest as Stored>⟧.stored tests.now) policy.now) (rows_asks files names.now)) (course result)) }
     ensures unread_without_weight { IsErrOf result FleetError.NoWeight → shelf.new ≡ shelf.old }
     ensures map_stays { S.told shelf.new ≡ S.told shelf.old }
     ensures fault_rose { HasCause (S.faults shelf.old) (S.faults shelf.new) result }

@@ -2,7 +2,6 @@
 ghost use Rattle.std.specs.Prelude.{◌≡◌, ◌<◌, IfErr, IfOk, IfSome, IsErrOf, None, Ok};
 ghost use Rattle.exec_settings.specs.AreSettings.{AreSettings};
 ghost use Rattle.exec_settings.specs.Refusals.{refusal_of};
-ghost use Rattle.exposure_score.specs.StoredTests.{stored_by};
 ghost use Rattle.policy_weights.specs.Weights.{weight_of};
 ghost use Rattle.dropin_merge.specs.Resolving.{resolved_of};
 ghost use Rattle.unit_names.specs.Names.{text_of};
@@ -17,7 +16,7 @@ use crate::rows::{FleetOutcome, FleetRow};
 use call_table::CallTable;
 use dropin_merge::{ResolveError, Resolved, resolve};
 use exec_settings::{Settings, SettingsError, settings};
-use exposure_score::{CustomTest, Facts, ScoreError, score};
+use exposure_score::{CustomTest, ScoreError, Stored, score};
 use host_io::Shelf;
 use policy_file::Policy;
 use service_facts::facts;
@@ -37,8 +36,8 @@ fn exposure_of(
 ) -> Result<u32, FleetError>
     requires accepted { refusal_of unit.now calls.now site.now ≡ None }
     requires are_settings { AreSettings unit.now calls.now site.now made.now }
-    requires weighs { 0 < weight_of calls.now (stored_by (λ test. test.id) (λ test. test.range) (λ test. ⟦<Box<dyn Fn(&Facts) -> u32> as Fn(&Facts) -> u32>⟧.post test.check) tests.now) policy.now }
-    ensures exposes { IfOk result (HasExposure calls.now site.now policy.now (stored_by (λ test. test.id) (λ test. test.range) (λ test. ⟦<Box<dyn Fn(&Facts) -> u32> as Fn(&Facts) -> u32>⟧.post test.check) tests.now) unit.now) }
+    requires weighs { 0 < weight_of calls.now (⟦<CustomTest as Stored>⟧.stored tests.now) policy.now }
+    ensures exposes { IfOk result (HasExposure calls.now site.now policy.now (⟦<CustomTest as Stored>⟧.stored tests.now) unit.now) }
     ensures only_memory_fails { IfErr result (λ error. error ≡ Memory) }
 {
     let known = facts(alloc, unit, calls, site, made)?;
@@ -58,8 +57,8 @@ fn outcome_of(
     policy: &Policy,
     tests: &[CustomTest],
 ) -> Result<FleetOutcome, FleetError>
-    requires weighs { 0 < weight_of calls.now (stored_by (λ test. test.id) (λ test. test.range) (λ test. ⟦<Box<dyn Fn(&Facts) -> u32> as Fn(&Facts) -> u32>⟧.post test.check) tests.now) policy.now }
-    ensures comes_of_it { IfOk result (IsOutcome calls.now site.now policy.now (stored_by (λ test. test.id) (λ test. test.range) (λ test. ⟦<Box<dyn Fn(&Facts) -> u32> as Fn(&Facts) -> u32>⟧.post test.check) tests.now) (Ok unit.now)) }
+    requires weighs { 0 < weight_of calls.now (⟦<CustomTest as Stored>⟧.stored tests.now) policy.now }
+    ensures comes_of_it { IfOk result (IsOutcome calls.now site.now policy.now (⟦<CustomTest as Stored>⟧.stored tests.now) (Ok unit.now)) }
     ensures tells_no_fault { IfOk result TellsNoFault }
     ensures only_memory_fails { IfErr result (λ error. error ≡ Memory) }
 {
@@ -83,8 +82,8 @@ fn outcome_by_files<S: Shelf>(
     policy: &Policy,
     tests: &[CustomTest],
 ) -> Result<FleetOutcome, FleetError>
-    requires weighs { 0 < weight_of calls.now (stored_by (λ test. test.id) (λ test. test.range) (λ test. ⟦<Box<dyn Fn(&Facts) -> u32> as Fn(&Facts) -> u32>⟧.post test.check) tests.now) policy.now }
-    ensures comes_of_its_files { IfSome (S.told shelf.old) (λ files. IfOk result (IsOutcome calls.now site.now policy.now (stored_by (λ test. test.id) (λ test. test.range) (λ test. ⟦<Box<dyn Fn(&Facts) -> u32> as Fn(&Facts) -> u32>⟧.post test.check) tests.now) (resolved_of files (text_of name.now)))) }
+    requires weighs { 0 < weight_of calls.now (⟦<CustomTest as Stored>⟧.stored tests.now) policy.now }
+    ensures comes_of_its_files { IfSome (S.told shelf.old) (λ files. IfOk result (IsOutcome calls.now site.now policy.now (⟦<CustomTest as Stored>⟧.stored tests.now) (resolved_of files (text_of name.now)))) }
     ensures tells_no_fault { IfOk result TellsNoFault }
     ensures asks_in_order { IfSome (S.told shelf.old) (λ files. Went S.asks shelf.old shelf.new (row_asks files name.now) (course result)) }
     ensures map_stays { S.told shelf.new ≡ S.told shelf.old }
@@ -109,9 +108,9 @@ pub fn row_of<S: Shelf>(
     policy: &Policy,
     tests: &[CustomTest],
 ) -> Result<FleetRow, FleetError>
-    requires weighs { 0 < weight_of calls.now (stored_by (λ test. test.id) (λ test. test.range) (λ test. ⟦<Box<dyn Fn(&Facts) -> u32> as Fn(&Facts) -> u32>⟧.post test.check) tests.now) policy.now }
+    requires weighs { 0 < weight_of calls.now (⟦<CustomTest as Stored>⟧.stored tests.now) policy.now }
     ensures same_name { IfOk result (λ row. row.name ≡ name.now) }
-    ensures is_the_row { IfSome (S.told shelf.old) (λ files. IfOk result (IsRowOf files calls.now site.now policy.now (stored_by (λ test. test.id) (λ test. test.range) (λ test. ⟦<Box<dyn Fn(&Facts) -> u32> as Fn(&Facts) -> u32>⟧.post test.check) tests.now))) }
+    ensures is_the_row { IfSome (S.told shelf.old) (λ files. IfOk result (IsRowOf files calls.now site.now policy.now (⟦<CustomTest as Stored>⟧.stored tests.now))) }
     ensures tells_no_fault { IfOk result (λ row. TellsNoFault row.outcome) }
     ensures asks_in_order { IfSome (S.told shelf.old) (λ files. Went S.asks shelf.old shelf.new (row_asks files name.now) (course result)) }
     ensures map_stays { S.told shelf.new ≡ S.told shelf.old }

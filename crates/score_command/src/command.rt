@@ -1,6 +1,5 @@
 //! The command `score`, the name of a unit and the path of a policy.
 ghost use Rattle.std.specs.Prelude.{IfOk};
-ghost use Rattle.exposure_score.specs.StoredTests.{stored_by};
 ghost use Rattle.command_answers.specs.Asking.{course};
 ghost use Rattle.command_answers.specs.Laws.{IsAdmitted, laws_over};
 ghost use Rattle.service_facts.specs.Facts.{AreFacts};
@@ -13,7 +12,7 @@ use crate::preparing::{Prepared, read_all};
 use crate::ready::Scored;
 use crate::weighing::weigh;
 use command_answers::Stop;
-use exposure_score::{CustomTest, Facts};
+use exposure_score::{CustomTest, Facts, Stored};
 use host_io::Shelf;
 use service_facts::facts;
 use std::alloc::{AllocError, Global};
@@ -45,7 +44,7 @@ pub fn prepare<S: Shelf>(
     threshold: u32,
     tests: &[CustomTest],
 ) -> Result<Scored, Stop>
-    ensures prepares { IsAdmitted (laws_over (S.told shelf.old) (score_laws unit.now policy.now threshold (stored_by (λ test. test.id) (λ test. test.range) (λ test. ⟦<Box<dyn Fn(&Facts) -> u32> as Fn(&Facts) -> u32>⟧.post test.check) tests.now))) ending_of scored_text result }
+    ensures prepares { IsAdmitted (laws_over (S.told shelf.old) (score_laws unit.now policy.now threshold (⟦<CustomTest as Stored>⟧.stored tests.now))) ending_of scored_text result }
     ensures asks_in_order { AsksInOrder S.asks (S.told shelf.old) (λ files. asks_with_file files unit.now policy.now) shelf.old shelf.new (course result) }
     ensures reads_for_the_unit { ReadsFor S.told S.faults unit.now shelf.old shelf.new result }
 {

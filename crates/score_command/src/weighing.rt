@@ -1,13 +1,12 @@
 //! What a policy weighs of a service.
 ghost use Rattle.std.specs.Prelude.{◌∷◌, [], IsErrOf};
 ghost use Rattle.exposure_score.specs.Rows.{counted_weight};
-ghost use Rattle.exposure_score.specs.StoredTests.{stored_by};
 ghost use Rattle.command_answers.specs.Stops.{Prepares};
 ghost use Rattle.score_command.specs.Weighed.{IsScoreOf};
 ghost use Rattle.score_command.specs.Weights.{weight_refusal};
 
 use command_answers::{Stop, refuse, refused_line};
-use exposure_score::{CustomTest, Facts, Score, ScoreError, score};
+use exposure_score::{CustomTest, Facts, Score, ScoreError, Stored, score};
 use policy_file::Policy;
 use std::alloc::Global;
 
@@ -19,7 +18,7 @@ pub fn weigh(
     facts: &Facts,
     tests: &[CustomTest],
 ) -> Result<Score, Stop>
-    ensures weighs { Prepares (IsScoreOf (stored_by (λ test. test.id) (λ test. test.range) (λ test. ⟦<Box<dyn Fn(&Facts) -> u32> as Fn(&Facts) -> u32>⟧.post test.check) tests.now) facts.now policy.now)
+    ensures weighs { Prepares (IsScoreOf (⟦<CustomTest as Stored>⟧.stored tests.now) facts.now policy.now)
         (weight_refusal path.now (counted_weight (λ test. test.id) facts.now.tests tests.now policy.now) ∷ []) result }
     ensures reads_nothing { IsErrOf result Stop.ReadFault → ⊥ }
 {
