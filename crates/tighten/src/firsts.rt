@@ -5,9 +5,8 @@ ghost use Rattle.std.specs.List.{All};
 ghost use Rattle.asked_service.specs.Asked.{IsBounded};
 ghost use Rattle.kernel_laws.specs.Questions.{questions};
 ghost use Rattle.tighten.specs.Tried.{Finds, IsGranted, IsKept, IsShut};
-ghost use Rattle.tighten.specs.Wishes.{wishes_by};
 
-use crate::wishes::{StoredWish, Test};
+use crate::wishes::{StoredWish, Wished};
 use asked_service::{Bounded, VerdictRow};
 use question_types::Question;
 
@@ -31,7 +30,7 @@ pub fn first_denied(bounded: &Bounded<'_>, keep: &[Question]) -> Option<u64>
 
 /// The first of these wishes that answers false, counted from 1.
 pub fn first_refused(rows: &[VerdictRow], wishes: &[StoredWish]) -> Option<u64>
-    ensures first_that_answers_false { let all = wishes_by (λ wish. wish.must_open) (λ wish. Test.post wish.test) wishes.now in
+    ensures first_that_answers_false { let all = ⟦<StoredWish as Wished>⟧.wished wishes.now in
         Finds (IsGranted all rows.now) (λ wish. all.Answers rows.now wish false) wishes.now result }
 {
     let mut before: u64 = 0;

@@ -18,4 +18,4 @@ mod wishes;
 pub use items::{drop_in, line};
 pub use tight::{Items, Tight, TightenError};
 pub use tightening::tighten;
-pub use wishes::{Questions, StoredWish, Test};
+pub use wishes::{Questions, StoredWish, Test, Wished};

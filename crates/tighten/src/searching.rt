@@ -2,11 +2,10 @@
 
 ghost use Rattle.std.specs.Prelude.{◌≡◌, ◌≤◌, ◌∷◌, IfOk};
 ghost use Rattle.tighten.specs.Searching.{CanBeTried, IsHeld, IsMost, TriesItem, TriesItems, tried_of};
-ghost use Rattle.tighten.specs.Wishes.{wishes_by};
 
 use crate::items::has;
 use crate::trial::Trial;
-use crate::wishes::{StoredWish, Test};
+use crate::wishes::{StoredWish, Wished};
 use asked_service::Bounded;
 use std::alloc::{AllocError, Global};
 
@@ -39,10 +38,10 @@ impl<'a> Trial<'a> {
         item: u8,
     ) -> Result<Held<'a>, AllocError>
         requires can_be_tried { CanBeTried self.now }
-        requires holds { IsHeld (tried_of self.now (wishes_by (λ wish. wish.must_open) (λ wish. Test.post wish.test) wishes.now)) held }
+        requires holds { IsHeld (tried_of self.now (⟦<StoredWish as Wished>⟧.wished wishes.now)) held }
         requires from_1 { 1 ≤ item }
         requires to_17 { item ≤ 17 }
-        ensures { IfOk result (TriesItem (tried_of self.now (wishes_by (λ wish. wish.must_open) (λ wish. Test.post wish.test) wishes.now)) held.entry.set.items item) }
+        ensures { IfOk result (TriesItem (tried_of self.now (⟦<StoredWish as Wished>⟧.wished wishes.now)) held.entry.set.items item) }
     {
         if has(&held.set, item) {
             return Ok(held);
@@ -65,8 +64,8 @@ impl<'a> Trial<'a> {
         held: Held<'a>,
     ) -> Result<Held<'a>, AllocError>
         requires can_be_tried { CanBeTried self.now }
-        requires holds { IsHeld (tried_of self.now (wishes_by (λ wish. wish.must_open) (λ wish. Test.post wish.test) wishes.now)) held }
-        ensures { IfOk result (TriesItems (tried_of self.now (wishes_by (λ wish. wish.must_open) (λ wish. Test.post wish.test) wishes.now)) held.entry.set.items 17) }
+        requires holds { IsHeld (tried_of self.now (⟦<StoredWish as Wished>⟧.wished wishes.now)) held }
+        ensures { IfOk result (TriesItems (tried_of self.now (⟦<StoredWish as Wished>⟧.wished wishes.now)) held.entry.set.items 17) }
     {
         let mut kept = held;
         for count in 0..17u8 {
@@ -84,8 +83,8 @@ impl<'a> Trial<'a> {
         held: Held<'a>,
     ) -> Result<Held<'a>, AllocError>
         requires can_be_tried { CanBeTried self.now }
-        requires holds { IsHeld (tried_of self.now (wishes_by (λ wish. wish.must_open) (λ wish. Test.post wish.test) wishes.now)) held }
-        ensures none_can_be_added { IfOk result (IsMost (tried_of self.now (wishes_by (λ wish. wish.must_open) (λ wish. Test.post wish.test) wishes.now))) }
+        requires holds { IsHeld (tried_of self.now (⟦<StoredWish as Wished>⟧.wished wishes.now)) held }
+        ensures none_can_be_added { IfOk result (IsMost (tried_of self.now (⟦<StoredWish as Wished>⟧.wished wishes.now))) }
     {
         let few = held.set.len();
         let kept = self.try_items(alloc, wishes, held)?;

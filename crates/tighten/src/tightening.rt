@@ -6,13 +6,12 @@ ghost use Rattle.kernel_laws.specs.Questions.{questions};
 ghost use Rattle.tighten.specs.Searching.{CanBeTried, IsServing, tried_of};
 ghost use Rattle.tighten.specs.Tight.{IsTight, Tightens};
 ghost use Rattle.tighten.specs.Tried.{tried_with};
-ghost use Rattle.tighten.specs.Wishes.{wishes_by};
 
 use crate::items::in_order;
 use crate::searching::Held;
 use crate::tight::{Items, Tight, TightenError};
 use crate::trial::{Lack, Trial};
-use crate::wishes::{StoredWish, Test};
+use crate::wishes::{StoredWish, Wished};
 use asked_service::{Bounded, bound, count_open};
 use call_table::CallTable;
 use dropin_merge::Resolved;
@@ -31,8 +30,8 @@ fn tight_from<'a>(
     own: Bounded<'a>,
 ) -> Result<Tight, AllocError>
     requires can_be_tried { CanBeTried trial.now }
-    requires serves { IsServing (tried_of trial.now (wishes_by (λ wish. wish.must_open) (λ wish. Test.post wish.test) wishes.now)) [] own }
-    ensures { IfOk result (IsTight (tried_of trial.now (wishes_by (λ wish. wish.must_open) (λ wish. Test.post wish.test) wishes.now))) }
+    requires serves { IsServing (tried_of trial.now (⟦<StoredWish as Wished>⟧.wished wishes.now)) [] own }
+    ensures { IfOk result (IsTight (tried_of trial.now (⟦<StoredWish as Wished>⟧.wished wishes.now))) }
 {
     // Why the counts are those of what is denied.
     openness();
@@ -60,7 +59,7 @@ fn tighten_trial<'a>(
     wishes: &[StoredWish],
 ) -> Result<Tight, TightenError>
     requires can_be_tried { CanBeTried trial.now }
-    ensures { Tightens (tried_of trial.now (wishes_by (λ wish. wish.must_open) (λ wish. Test.post wish.test) wishes.now)) result }
+    ensures { Tightens (tried_of trial.now (⟦<StoredWish as Wished>⟧.wished wishes.now)) result }
 {
     let service = launch_whole(alloc, trial.unit, trial.calls, trial.site)?;
     let own = bound(alloc, service)?;
@@ -89,7 +88,7 @@ pub fn tighten(
     wishes: &[StoredWish],
 ) -> Result<Tight, TightenError>
     requires listed { All (λ question. Contains (questions calls.now site.now) question) keep.now }
-    ensures tightens { Tightens (tried_with unit.now calls.now site.now keep.now (wishes_by (λ wish. wish.must_open) (λ wish. Test.post wish.test) wishes.now)) result }
+    ensures tightens { Tightens (tried_with unit.now calls.now site.now keep.now (⟦<StoredWish as Wished>⟧.wished wishes.now)) result }
 {
     let list = questions(alloc, calls, site)?;
     let trial = Trial {

@@ -6,11 +6,10 @@ ghost use Rattle.launched_units.specs.declared.refusal.UnitRefusal.TheVariants.{
 ghost use Rattle.tighten.specs.Items.{in_order};
 ghost use Rattle.tighten.specs.Searching.{CanBeTried, IsOver, Lacks, Pleasing, Tells, tried_of};
 ghost use Rattle.tighten.specs.Tried.{IsKept};
-ghost use Rattle.tighten.specs.Wishes.{wishes_by};
 
 use crate::firsts::{first_denied, first_refused};
 use crate::items::tightened;
-use crate::wishes::{StoredWish, Test};
+use crate::wishes::{StoredWish, Wished};
 use asked_service::{Bounded, bound, verdict_rows};
 use call_table::CallTable;
 use dropin_merge::Resolved;
@@ -63,9 +62,9 @@ impl<'a> Trial<'a> {
         bounded: &Bounded<'_>,
     ) -> Result<Option<Lack>, AllocError>
         requires can_be_tried { CanBeTried self.now }
-        requires over_the_tables { IsOver (tried_of self.now (wishes_by (λ wish. wish.must_open) (λ wish. Test.post wish.test) wishes.now)) bounded.now }
+        requires over_the_tables { IsOver (tried_of self.now (⟦<StoredWish as Wished>⟧.wished wishes.now)) bounded.now }
         requires keeps { All (IsKept bounded.now.service.world) self.now.keep.now }
-        ensures { IfOk result (Lacks (tried_of self.now (wishes_by (λ wish. wish.must_open) (λ wish. Test.post wish.test) wishes.now)) bounded.now.service.world) }
+        ensures { IfOk result (Lacks (tried_of self.now (⟦<StoredWish as Wished>⟧.wished wishes.now)) bounded.now.service.world) }
     {
         // Why a service that no wish looks at has verdicts too.
         openness();
@@ -87,8 +86,8 @@ impl<'a> Trial<'a> {
         bounded: &Bounded<'_>,
     ) -> Result<Option<Lack>, AllocError>
         requires can_be_tried { CanBeTried self.now }
-        requires over_the_tables { IsOver (tried_of self.now (wishes_by (λ wish. wish.must_open) (λ wish. Test.post wish.test) wishes.now)) bounded.now }
-        ensures first_lack { IfOk result (Lacks (tried_of self.now (wishes_by (λ wish. wish.must_open) (λ wish. Test.post wish.test) wishes.now)) bounded.now.service.world) }
+        requires over_the_tables { IsOver (tried_of self.now (⟦<StoredWish as Wished>⟧.wished wishes.now)) bounded.now }
+        ensures first_lack { IfOk result (Lacks (tried_of self.now (⟦<StoredWish as Wished>⟧.wished wishes.now)) bounded.now.service.world) }
     {
         match first_denied(bounded, self.keep) {
             Some(number) => Ok(Some(Lack::Keep(number))),
@@ -104,8 +103,8 @@ impl<'a> Trial<'a> {
         bounded: Bounded<'a>,
     ) -> Result<Option<Bounded<'a>>, AllocError>
         requires can_be_tried { CanBeTried self.now }
-        requires over_the_tables { IsOver (tried_of self.now (wishes_by (λ wish. wish.must_open) (λ wish. Test.post wish.test) wishes.now)) bounded }
-        ensures { IfOk result (Pleasing (tried_of self.now (wishes_by (λ wish. wish.must_open) (λ wish. Test.post wish.test) wishes.now)) bounded.entry) }
+        requires over_the_tables { IsOver (tried_of self.now (⟦<StoredWish as Wished>⟧.wished wishes.now)) bounded }
+        ensures { IfOk result (Pleasing (tried_of self.now (⟦<StoredWish as Wished>⟧.wished wishes.now)) bounded.entry) }
     {
         match self.lack(alloc, wishes, &bounded)? {
             Some(_) => Ok(None),
@@ -122,7 +121,7 @@ impl<'a> Trial<'a> {
     ) -> Result<Option<Bounded<'a>>, AllocError>
         requires can_be_tried { CanBeTried self.now }
         requires some { 0 < length (in_order set.now) }
-        ensures tells_whether_they_serve { IfOk result (Tells (tried_of self.now (wishes_by (λ wish. wish.must_open) (λ wish. Test.post wish.test) wishes.now)) set.now) }
+        ensures tells_whether_they_serve { IfOk result (Tells (tried_of self.now (⟦<StoredWish as Wished>⟧.wished wishes.now)) set.now) }
     {
         let unit = tightened(alloc, self.unit, set)?;
         match launch_whole(alloc, &unit, self.calls, self.site) {

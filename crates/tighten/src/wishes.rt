@@ -1,7 +1,8 @@
 //! Wishes: what a tightened service is still to be able to do.
 
-ghost use Rattle.std.specs.Prelude.{◌≡◌, true, string_bytes};
+ghost use Rattle.std.specs.Prelude.{◌≡◌, List, true, string_bytes};
 ghost use Rattle.tighten.specs.Open.{AreOpenIn};
+ghost use Rattle.tighten.specs.Wishes.{Wishes, wishes_by};
 
 use asked_service::VerdictRow;
 use item_list::ItemList;
@@ -51,4 +52,13 @@ impl StoredWish {
     {
         (self.test)(rows)
     }
+}
+
+/// Wishes that are handed in, as contracts see them.
+pub trait Wished {
+    ghost wished: { List Self → Wishes };
+}
+
+impl Wished for StoredWish {
+    ghost wished = { wishes_by (λ wish. wish.must_open) (λ wish. Test.post wish.test) };
 }

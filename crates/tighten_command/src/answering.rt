@@ -3,7 +3,6 @@ ghost use Rattle.std.specs.Prelude.{◌≡◌, ◌≤◌, Contains, IsErrOf};
 ghost use Rattle.std.specs.List.{All};
 ghost use Rattle.kernel_laws.specs.Questions.{questions};
 ghost use Rattle.tighten.specs.Tried.{tried_with};
-ghost use Rattle.tighten.specs.Wishes.{wishes_by};
 ghost use Rattle.tighten_command.specs.Telling.{IsTold, TellsError, TellsTight};
 ghost use Rattle.tighten_command.specs.Lines.{tight_text};
 ghost use Rattle.unit_launch.specs.Refusals.{refusal_line};
@@ -11,7 +10,6 @@ ghost use Rattle.command_answers.specs.declared.ending.Ending.TheVariants.{Done,
 
 use crate::hardening::Hardening;
 use crate::lines::{keep_line, tight_text, wish_line};
-use asked_service::VerdictRow;
 use call_table::CallTable;
 use command_answers::{Ending, Stop, refuse};
 use dropin_merge::Resolved;
@@ -19,7 +17,7 @@ use plan_command::plan_line;
 use question_types::Question;
 use site_table::SiteTable;
 use std::alloc::Global;
-use tighten::{StoredWish, Tight, TightenError, tighten};
+use tighten::{StoredWish, Tight, TightenError, Wished, tighten};
 use unit_inputs::settings_line;
 use unit_launch::{LaunchRefusal, refusal_line};
 
@@ -69,7 +67,7 @@ pub fn answer(
     wishes: &[StoredWish],
 ) -> Result<Hardening, Stop>
     requires listed { All (λ question. Contains (questions calls.now site.now) question) keep.now }
-    ensures answers { IsTold (TellsTight name.now (tried_with unit.now calls.now site.now keep.now (wishes_by (λ wish. wish.must_open) (λ wish. ⟦<Box<dyn Fn(&[VerdictRow]) -> bool> as Fn(&[VerdictRow]) -> bool>⟧.post wish.test) wishes.now))) result }
+    ensures answers { IsTold (TellsTight name.now (tried_with unit.now calls.now site.now keep.now (⟦<StoredWish as Wished>⟧.wished wishes.now))) result }
     ensures reads_nothing { IsErrOf result Stop.ReadFault → ⊥ }
 {
     match tighten(alloc, unit, calls, site, keep, wishes) {

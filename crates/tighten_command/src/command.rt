@@ -1,7 +1,6 @@
 //! The command `tighten`, the name of a unit and the path of what is to be kept.
 ghost use Rattle.command_answers.specs.Asking.{course};
 ghost use Rattle.command_answers.specs.Laws.{IsAdmitted};
-ghost use Rattle.tighten.specs.Wishes.{wishes_by};
 ghost use Rattle.unit_inputs.specs.Asking.{AsksInOrder, asks_with_file};
 ghost use Rattle.unit_inputs.specs.ReadsFor.{ReadsFor};
 ghost use Rattle.tighten_command.specs.Prints.{ending_of, text_of, tighten_laws};
@@ -9,11 +8,10 @@ ghost use Rattle.tighten_command.specs.Prints.{ending_of, text_of, tighten_laws}
 use crate::answering::answer;
 use crate::hardening::Hardening;
 use crate::keep_file::read_keep;
-use asked_service::VerdictRow;
 use command_answers::Stop;
 use host_io::Shelf;
 use std::alloc::Global;
-use tighten::StoredWish;
+use tighten::{StoredWish, Wished};
 use unit_inputs::read_inputs;
 
 /// Prepares `tighten`, the name of a unit and the path of a file of questions: reads the unit, calls.txt, site.toml and the file,
@@ -25,7 +23,7 @@ pub fn prepare<S: Shelf>(
     path: &str,
     wishes: &[StoredWish],
 ) -> Result<Hardening, Stop>
-    ensures prepares { IsAdmitted (tighten_laws (S.told shelf.old) unit.now path.now (wishes_by (λ wish. wish.must_open) (λ wish. ⟦<Box<dyn Fn(&[VerdictRow]) -> bool> as Fn(&[VerdictRow]) -> bool>⟧.post wish.test) wishes.now)) ending_of text_of result }
+    ensures prepares { IsAdmitted (tighten_laws (S.told shelf.old) unit.now path.now (⟦<StoredWish as Wished>⟧.wished wishes.now)) ending_of text_of result }
     ensures asks_in_order { AsksInOrder S.asks (S.told shelf.old) (λ files. asks_with_file files unit.now path.now) shelf.old shelf.new (course result) }
     ensures reads_for_the_unit { ReadsFor S.told S.faults unit.now shelf.old shelf.new result }
 {
