@@ -3,14 +3,16 @@ use Rattle.std.specs.Prelude.{◌≡◌, ◌⊎◌, ℕ, List, [], drop, map, st
 use Rattle.std.specs.Process.{exit_status}
 use Rattle.std.specs.declared.alloc.Global.{Global}
 use Rattle.std.specs.declared.process.ExitCode.{ExitCode}
+use Rattle.host_io.specs.Calls.{ShelfCall}
 use Rattle.host_io.specs.Files.{Files}
 use Rattle.exposure_score.specs.StoredTests.{StoredTests}
 use Rattle.tighten.specs.Wishes.{Wishes}
 use Rattle.command_answers.specs.Endings.{code_of}
-use Rattle.command_answers.specs.Runs.{IsRun, Outside}
+use Rattle.command_answers.specs.Runs.{Outside}
 use Rattle.command_answers.specs.declared.ending.Ending.{Ending}
 use Rattle.command_answers.specs.declared.ending.Ending.TheVariants.{OutOfMemory}
-use Rattle.top_call.specs.Asked.{Asked, ReadsFiles, laws_of}
+use Rattle.top_call.specs.Asked.{Asked}
+use Rattle.top_call.specs.Promise.{DoesWhatIsAsked}
 
 -- the words behind the program's name, in their order; none where the arguments are not to be had
 abbrev pub words_behind : {E : Type 0} → Result (Vec (String Global) Global) E → List (List ℕ)
@@ -21,14 +23,10 @@ words_behind (Err error) = []
 abbrev pub asked_by : List (List ℕ) → Option Files → StoredTests → Wishes → Asked
 asked_by words told stored wishes = record { words = words; told = told; stored = stored; wishes = wishes }
 
--- it ran to this ending; where no files are read for it, the shelf is untouched
-pub record RunsWords (asked : Asked) (outside : Outside) (untouched : Type 0) (ending : Ending) : Type 0 where
-  pub runs : IsRun (laws_of asked) ending outside
-  pub reads_only_for_a_command : (ReadsFiles asked → ⊥) → untouched
-
--- or there was no memory for as much as the words, and nothing was read or written
-abbrev pub EndsWords : Asked → Outside → Type 0 → Type 0 → Ending → Type 0
-EndsWords asked outside untouched unwritten ending = RunsWords asked outside untouched ending ⊎ ((ending ≡ OutOfMemory) × untouched × unwritten)
+-- it does what is asked; or there was no memory for as much as the words, and nothing was read or written
+abbrev pub EndsWords : {S K : Type 0} → (S → ShelfCall → S → Type 0) → Asked → Outside → S → S → K → K → Ending → Type 0
+EndsWords asks asked outside shelf_before shelf_after sink_before sink_after ending =
+    DoesWhatIsAsked asks asked outside shelf_before shelf_after ending ⊎ ((ending ≡ OutOfMemory) × (shelf_after ≡ shelf_before) × (sink_after ≡ sink_before))
 
 -- the exit status is that of an ending
 abbrev pub ExitsBy : (Ending → Type 0) → ExitCode → Type 0

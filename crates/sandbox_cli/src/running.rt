@@ -1,9 +1,7 @@
 //! A run of the program's arguments, over any files and any output.
 ghost use Rattle.std.specs.Prelude.{◌≡◌, IfOk, drop, map, string_bytes};
 ghost use Rattle.std.specs.Process.{exit_status};
-ghost use Rattle.exposure_score.specs.StoredTests.{stored_by};
 ghost use Rattle.command_answers.specs.Endings.{code_of};
-ghost use Rattle.tighten.specs.Wishes.{wishes_by};
 ghost use Rattle.top_call.specs.Around.{around};
 ghost use Rattle.sandbox_cli.specs.Running.{EndsWords, ExitsBy, asked_by, words_behind};
 ghost use Rattle.sandbox_cli.specs.Tests.{AreProgramTests};
@@ -11,12 +9,12 @@ ghost use Rattle.sandbox_cli.specs.Wishes.{AreProgramWishes};
 
 use asked_service::VerdictRow;
 use command_answers::Ending;
-use exposure_score::{CustomTest, Facts};
+use exposure_score::{CustomTest, Facts, Stored};
 use host_io::{Shelf, Sink};
 use std::alloc::{AllocError, Global};
 use std::io;
 use std::process::ExitCode;
-use tighten::StoredWish;
+use tighten::{StoredWish, Wished};
 use top_call::{Status, run};
 
 // The words behind the program's name, which is the first argument.
@@ -56,12 +54,10 @@ fn run_words<S: Shelf, K: Sink>(
     shelf: &mut S,
     out: &mut K,
 ) -> Status
-    ensures ends_as_the_words_run { let stored = stored_by (λ test. test.id) (λ test. test.range) (λ test. ⟦<Box<dyn Fn(&Facts) -> u32> as Fn(&Facts) -> u32>⟧.post test.check) tests.items in
-        let granted = wishes_by (λ wish. wish.must_open) (λ wish. ⟦<Box<dyn Fn(&[VerdictRow]) -> bool> as Fn(&[VerdictRow]) -> bool>⟧.post wish.test) wishes.items in
-        EndsWords
-        (asked_by (map string_bytes words.now) (S.told shelf.old) stored granted)
+    ensures ends_as_the_words_run { EndsWords S.asks
+        (asked_by (map string_bytes words.now) (S.told shelf.old) (⟦<CustomTest as Stored>⟧.stored tests.items) (⟦<StoredWish as Wished>⟧.wished wishes.items))
         (around S.faults K.faults K.taken shelf.old shelf.new out.old out.new)
-        (shelf.new ≡ shelf.old) (out.new ≡ out.old) result }
+        shelf.old shelf.new out.old out.new result }
     ensures map_stays { S.told shelf.new ≡ S.told shelf.old }
 {
     match texts_of(alloc, words) {
@@ -79,12 +75,10 @@ fn run_arguments<S: Shelf, K: Sink>(
     shelf: &mut S,
     out: &mut K,
 ) -> Status
-    ensures ends_as_the_words_run { let stored = stored_by (λ test. test.id) (λ test. test.range) (λ test. ⟦<Box<dyn Fn(&Facts) -> u32> as Fn(&Facts) -> u32>⟧.post test.check) tests.items in
-        let granted = wishes_by (λ wish. wish.must_open) (λ wish. ⟦<Box<dyn Fn(&[VerdictRow]) -> bool> as Fn(&[VerdictRow]) -> bool>⟧.post wish.test) wishes.items in
-        EndsWords
-        (asked_by (words_behind arguments.now) (S.told shelf.old) stored granted)
+    ensures ends_as_the_words_run { EndsWords S.asks
+        (asked_by (words_behind arguments.now) (S.told shelf.old) (⟦<CustomTest as Stored>⟧.stored tests.items) (⟦<StoredWish as Wished>⟧.wished wishes.items))
         (around S.faults K.faults K.taken shelf.old shelf.new out.old out.new)
-        (shelf.new ≡ shelf.old) (out.new ≡ out.old) result }
+        shelf.old shelf.new out.old out.new result }
     ensures map_stays { S.told shelf.new ≡ S.told shelf.old }
 {
     match arguments {
@@ -108,12 +102,10 @@ pub fn run_here<S: Shelf, K: Sink>(
 ) -> ExitCode
     requires the_programs_tests { AreProgramTests (λ test. test.id) (λ test. test.range) (λ test. ⟦<Box<dyn Fn(&Facts) -> u32> as Fn(&Facts) -> u32>⟧.post test.check) tests.items }
     requires the_programs_wishes { AreProgramWishes (λ wish. string_bytes wish.id) (λ wish. wish.must_open) (λ wish. ⟦<Box<dyn Fn(&[VerdictRow]) -> bool> as Fn(&[VerdictRow]) -> bool>⟧.post wish.test) wishes.items }
-    ensures exits_as_the_words_run { let stored = stored_by (λ test. test.id) (λ test. test.range) (λ test. ⟦<Box<dyn Fn(&Facts) -> u32> as Fn(&Facts) -> u32>⟧.post test.check) tests.items in
-        let granted = wishes_by (λ wish. wish.must_open) (λ wish. ⟦<Box<dyn Fn(&[VerdictRow]) -> bool> as Fn(&[VerdictRow]) -> bool>⟧.post wish.test) wishes.items in
-        ExitsBy (EndsWords
-        (asked_by (words_behind arguments.now) (S.told shelf.old) stored granted)
+    ensures exits_as_the_words_run { ExitsBy (EndsWords S.asks
+        (asked_by (words_behind arguments.now) (S.told shelf.old) (⟦<CustomTest as Stored>⟧.stored tests.items) (⟦<StoredWish as Wished>⟧.wished wishes.items))
         (around S.faults K.faults K.taken shelf.old shelf.new out.old out.new)
-        (shelf.new ≡ shelf.old) (out.new ≡ out.old)) result }
+        shelf.old shelf.new out.old out.new) result }
     ensures map_stays { S.told shelf.new ≡ S.told shelf.old }
 {
     exit_code(run_arguments(alloc, arguments, tests, wishes, shelf, out))

@@ -1,8 +1,10 @@
--- Texts that are printed as they stand.
+-- Texts that are printed as they stand, and what is done for words.
 use Rattle.std.proofs.Common.{◌≡◌, ℕ, List, Ok, Option, subst, sym}
 use Rattle.std.specs.Prelude.{IsTrue}
+use Rattle.host_io.specs.Calls.{ShelfCall}
 use Rattle.host_io.specs.Files.{Files}
 use Rattle.exposure_score.specs.StoredTests.{StoredTests}
+use Rattle.command_answers.specs.Asking.{course_of_run}
 use Rattle.command_answers.specs.Endings.{is_answer, is_whole}
 use Rattle.command_answers.specs.Laws.{fixed_laws}
 use Rattle.command_answers.specs.Printing.{Finishes}
@@ -12,7 +14,9 @@ use Rattle.command_answers.proofs.FileCommands.{fixed_go_together}
 use Rattle.command_answers.proofs.Refusing.{quiet}
 use Rattle.command_answers.proofs.Runs.{ran}
 use Rattle.tighten.specs.Wishes.{Wishes}
-use Rattle.top_call.specs.Asked.{laws_by, laws_of}
+use Rattle.unit_inputs.specs.Asking.{AsksInOrder}
+use Rattle.top_call.specs.Asked.{Asked, asks_by, asks_of, laws_by, laws_of}
+use Rattle.top_call.specs.Promise.{DoesWhatIsAsked}
 use Rattle.top_call.specs.Requests.{Request, request_in}
 use Rattle.top_call.specs.Texts.{ending_of, text_of}
 use Rattle.top_call.specs.declared.texts.Fixed.{Fixed}
@@ -22,12 +26,33 @@ ran_fixed fixed only line accepted outside ended whole answers ends is same fini
     ran (fixed_laws only line accepted) (fixed_go_together only line accepted whole answers) outside ending_of text_of (Ok fixed) ended
     (ends, is) (λ e. cc) (quiet outside.shelf_before outside.shelf_after (Ok fixed) same (λ e. cc)) finished
 
--- a run for a request is one for the words that ask for it, with the tests and wishes that are lent
-pub of_words : {T W : Type 0} (request : Option Request) (words : List (List ℕ)) (told : Option Files) (stored : List T → StoredTests) (granted : List W → Wishes) (lent tests : List T) (lent_wishes wishes : List W) (ended status : Ending) (outside : Outside)
-    → request ≡ request_in words → lent ≡ tests → lent_wishes ≡ wishes → status ≡ ended → IsRun (laws_by request told (stored lent) (granted lent_wishes)) ended outside
-    → IsRun (laws_of (record { words = words; told = told; stored = stored tests; wishes = granted wishes })) status outside
-of_words request words told stored granted lent tests lent_wishes wishes ended status outside asks lends lends_wishes same run =
-    subst (λ ending. IsRun (laws_by (request_in words) told (stored tests) (granted wishes)) ending outside) (sym same)
-    (subst (λ these. IsRun (laws_by (request_in words) told (stored tests) (granted these)) ended outside) lends_wishes
-    (subst (λ these. IsRun (laws_by (request_in words) told (stored these) (granted lent_wishes)) ended outside) lends
-    (subst (λ own. IsRun (laws_by own told (stored lent) (granted lent_wishes)) ended outside) asks run)))
+-- What was done for a request was done for the words that ask for it, with the tests and wishes that are lent.
+module _ {S T W : Type 0} (asks : S → ShelfCall → S → Type 0) (told : Option Files) (stored : List T → StoredTests) (wished : List W → Wishes) (outside : Outside) (before after : S) where
+  pub does_for_words : (request : Option Request) (words : List (List ℕ)) (lent tests : List T) (lent_wishes wishes : List W) (ended status : Ending)
+      → request ≡ request_in words → lent ≡ tests → lent_wishes ≡ wishes → status ≡ ended
+      → IsRun (laws_by request told (stored lent) (wished lent_wishes)) ended outside
+      → AsksInOrder asks told (asks_by request (stored lent)) before after (course_of_run ended)
+      → (((laws_by request told (stored lent) (wished lent_wishes)).reads → ⊥) → after ≡ before)
+      → DoesWhatIsAsked asks (record { words = words; told = told; stored = stored tests; wishes = wished wishes }) outside before after status
+  does_for_words request words lent tests lent_wishes wishes ended status is lends lends_wishes same run in_order quiet =
+      let asked : Asked = record { words = words; told = told; stored = stored tests; wishes = wished wishes } in
+      let ran : IsRun (laws_of asked) status outside =
+      subst (λ ending. IsRun (laws_of asked) ending outside) (sym same)
+      (subst (λ these. IsRun (laws_by (request_in words) told (stored tests) (wished these)) ended outside) lends_wishes
+      (subst (λ these. IsRun (laws_by (request_in words) told (stored these) (wished lent_wishes)) ended outside) lends
+      (subst (λ own. IsRun (laws_by own told (stored lent) (wished lent_wishes)) ended outside) is run))) in
+      record {
+        prints_the_whole_text = ran.prints_the_whole_text;
+        prints_a_prefix = ran.prints_a_prefix;
+        ends_by_the_inputs = ran.ends_by_the_inputs;
+        faults_have_causes = ran.faults_have_causes;
+        completes = ran.completes;
+        reads_in_order =
+            subst (λ ending. AsksInOrder asks told (asks_of asked) before after (course_of_run ending)) (sym same)
+            (subst (λ these. AsksInOrder asks told (asks_by (request_in words) (stored these)) before after (course_of_run ended)) lends
+            (subst (λ own. AsksInOrder asks told (asks_by own (stored lent)) before after (course_of_run ended)) is in_order));
+        reads_only_for_a_command =
+            subst (λ these. ((laws_by (request_in words) told (stored tests) (wished these)).reads → ⊥) → after ≡ before) lends_wishes
+            (subst (λ these. ((laws_by (request_in words) told (stored these) (wished lent_wishes)).reads → ⊥) → after ≡ before) lends
+            (subst (λ own. ((laws_by own told (stored lent) (wished lent_wishes)).reads → ⊥) → after ≡ before) is quiet));
+      }

@@ -1,25 +1,22 @@
 //! The top call.
-ghost use Rattle.std.specs.Prelude.{◌≡◌, IfSome, IsTrue};
+ghost use Rattle.std.specs.Prelude.{◌≡◌, IfSome};
 ghost use Rattle.std.specs.Option.{option_map};
-ghost use Rattle.exposure_score.specs.StoredTests.{stored_by};
 ghost use Rattle.command_answers.specs.Asking.{course_of_run};
-ghost use Rattle.command_answers.specs.Endings.{is_whole};
-ghost use Rattle.command_answers.specs.Runs.{Completes, EndsBy, HasFaultCause, IsRun, WroteWhole, WrotePrefix};
-ghost use Rattle.tighten.specs.Wishes.{wishes_by};
+ghost use Rattle.command_answers.specs.Runs.{IsRun};
 ghost use Rattle.unit_inputs.specs.Asking.{AsksInOrder};
 ghost use Rattle.top_call.specs.Around.{around};
-ghost use Rattle.top_call.specs.Asked.{Accepts, Prints, ReadsFiles, asked, asks_by, asks_for, asks_of, laws_by, laws_for, laws_of};
+ghost use Rattle.top_call.specs.Asked.{asked, asks_by, asks_for, laws_by, laws_for};
+ghost use Rattle.top_call.specs.Promise.{DoesWhatIsAsked};
 ghost use Rattle.top_call.specs.Requests.{IsNumbered, request_of};
 
 use crate::request::{Request, parse};
 use crate::status::Status;
 use crate::texts;
-use asked_service::VerdictRow;
 use command_answers::{Ending, finish};
-use exposure_score::{CustomTest, Facts};
+use exposure_score::{CustomTest, Stored};
 use host_io::{Shelf, Sink};
 use std::alloc::Global;
-use tighten::StoredWish;
+use tighten::{StoredWish, Wished};
 
 // Prepares what is requested, and prints it.
 fn answer_request<S: Shelf, K: Sink>(
@@ -31,14 +28,12 @@ fn answer_request<S: Shelf, K: Sink>(
     wishes: &[StoredWish],
 ) -> Ending
     requires numbered { IsNumbered request }
-    ensures runs { let stored = stored_by (λ test. test.id) (λ test. test.range) (λ test. ⟦<Box<dyn Fn(&Facts) -> u32> as Fn(&Facts) -> u32>⟧.post test.check) tests.now in
-        let granted = wishes_by (λ wish. wish.must_open) (λ wish. ⟦<Box<dyn Fn(&[VerdictRow]) -> bool> as Fn(&[VerdictRow]) -> bool>⟧.post wish.test) wishes.now in
-        IsRun (laws_for (request_of request.entry) (S.told shelf.old) stored granted) result (around S.faults K.faults K.taken shelf.old shelf.new out.old out.new) }
-    ensures reads_in_order { let stored = stored_by (λ test. test.id) (λ test. test.range) (λ test. ⟦<Box<dyn Fn(&Facts) -> u32> as Fn(&Facts) -> u32>⟧.post test.check) tests.now in
-        AsksInOrder S.asks (S.told shelf.old) (asks_for (request_of request.entry) stored) shelf.old shelf.new (course_of_run result) }
-    ensures reads_only_for_it { let stored = stored_by (λ test. test.id) (λ test. test.range) (λ test. ⟦<Box<dyn Fn(&Facts) -> u32> as Fn(&Facts) -> u32>⟧.post test.check) tests.now in
-        let granted = wishes_by (λ wish. wish.must_open) (λ wish. ⟦<Box<dyn Fn(&[VerdictRow]) -> bool> as Fn(&[VerdictRow]) -> bool>⟧.post wish.test) wishes.now in
-        ((laws_for (request_of request.entry) (S.told shelf.old) stored granted).reads → ⊥) → shelf.new ≡ shelf.old }
+    ensures runs { IsRun (laws_for (request_of request.entry) (S.told shelf.old) (⟦<CustomTest as Stored>⟧.stored tests.now) (⟦<StoredWish as Wished>⟧.wished wishes.now))
+        result (around S.faults K.faults K.taken shelf.old shelf.new out.old out.new) }
+    ensures reads_in_order { AsksInOrder S.asks (S.told shelf.old) (asks_for (request_of request.entry) (⟦<CustomTest as Stored>⟧.stored tests.now))
+        shelf.old shelf.new (course_of_run result) }
+    ensures reads_only_for_it { ((laws_for (request_of request.entry) (S.told shelf.old) (⟦<CustomTest as Stored>⟧.stored tests.now) (⟦<StoredWish as Wished>⟧.wished wishes.now)).reads → ⊥)
+        → shelf.new ≡ shelf.old }
     ensures map_stays { S.told shelf.new ≡ S.told shelf.old }
 {
     match request {
@@ -95,14 +90,12 @@ fn answer<S: Shelf, K: Sink>(
     wishes: &[StoredWish],
 ) -> Ending
     requires numbered { IfSome request IsNumbered }
-    ensures runs { let stored = stored_by (λ test. test.id) (λ test. test.range) (λ test. ⟦<Box<dyn Fn(&Facts) -> u32> as Fn(&Facts) -> u32>⟧.post test.check) tests.now in
-        let granted = wishes_by (λ wish. wish.must_open) (λ wish. ⟦<Box<dyn Fn(&[VerdictRow]) -> bool> as Fn(&[VerdictRow]) -> bool>⟧.post wish.test) wishes.now in
-        IsRun (laws_by (option_map request_of request.entry) (S.told shelf.old) stored granted) result (around S.faults K.faults K.taken shelf.old shelf.new out.old out.new) }
-    ensures reads_in_order { let stored = stored_by (λ test. test.id) (λ test. test.range) (λ test. ⟦<Box<dyn Fn(&Facts) -> u32> as Fn(&Facts) -> u32>⟧.post test.check) tests.now in
-        AsksInOrder S.asks (S.told shelf.old) (asks_by (option_map request_of request.entry) stored) shelf.old shelf.new (course_of_run result) }
-    ensures reads_only_for_it { let stored = stored_by (λ test. test.id) (λ test. test.range) (λ test. ⟦<Box<dyn Fn(&Facts) -> u32> as Fn(&Facts) -> u32>⟧.post test.check) tests.now in
-        let granted = wishes_by (λ wish. wish.must_open) (λ wish. ⟦<Box<dyn Fn(&[VerdictRow]) -> bool> as Fn(&[VerdictRow]) -> bool>⟧.post wish.test) wishes.now in
-        ((laws_by (option_map request_of request.entry) (S.told shelf.old) stored granted).reads → ⊥) → shelf.new ≡ shelf.old }
+    ensures runs { IsRun (laws_by (option_map request_of request.entry) (S.told shelf.old) (⟦<CustomTest as Stored>⟧.stored tests.now) (⟦<StoredWish as Wished>⟧.wished wishes.now))
+        result (around S.faults K.faults K.taken shelf.old shelf.new out.old out.new) }
+    ensures reads_in_order { AsksInOrder S.asks (S.told shelf.old) (asks_by (option_map request_of request.entry) (⟦<CustomTest as Stored>⟧.stored tests.now))
+        shelf.old shelf.new (course_of_run result) }
+    ensures reads_only_for_it { ((laws_by (option_map request_of request.entry) (S.told shelf.old) (⟦<CustomTest as Stored>⟧.stored tests.now) (⟦<StoredWish as Wished>⟧.wished wishes.now)).reads → ⊥)
+        → shelf.new ≡ shelf.old }
     ensures map_stays { S.told shelf.new ≡ S.told shelf.old }
 {
     match request {
@@ -127,25 +120,10 @@ pub fn run<S: Shelf, K: Sink>(
     tests: Vec<CustomTest>,
     wishes: Vec<StoredWish>,
 ) -> Status
-    ensures prints_the_whole_text { let stored = stored_by (λ test. test.id) (λ test. test.range) (λ test. ⟦<Box<dyn Fn(&Facts) -> u32> as Fn(&Facts) -> u32>⟧.post test.check) tests.items in
-        let granted = wishes_by (λ wish. wish.must_open) (λ wish. ⟦<Box<dyn Fn(&[VerdictRow]) -> bool> as Fn(&[VerdictRow]) -> bool>⟧.post wish.test) wishes.items in
-        IsTrue (is_whole result) → WroteWhole (Prints (asked words.now (S.told shelf.old) stored granted) result) (K.taken out.old) (K.taken out.new) }
-    ensures prints_a_prefix { let stored = stored_by (λ test. test.id) (λ test. test.range) (λ test. ⟦<Box<dyn Fn(&Facts) -> u32> as Fn(&Facts) -> u32>⟧.post test.check) tests.items in
-        let granted = wishes_by (λ wish. wish.must_open) (λ wish. ⟦<Box<dyn Fn(&[VerdictRow]) -> bool> as Fn(&[VerdictRow]) -> bool>⟧.post wish.test) wishes.items in
-        WrotePrefix (Prints (asked words.now (S.told shelf.old) stored granted)) (K.taken out.old) (K.taken out.new) }
-    ensures ends_by_the_inputs { let stored = stored_by (λ test. test.id) (λ test. test.range) (λ test. ⟦<Box<dyn Fn(&Facts) -> u32> as Fn(&Facts) -> u32>⟧.post test.check) tests.items in
-        let granted = wishes_by (λ wish. wish.must_open) (λ wish. ⟦<Box<dyn Fn(&[VerdictRow]) -> bool> as Fn(&[VerdictRow]) -> bool>⟧.post wish.test) wishes.items in
-        EndsBy (laws_of (asked words.now (S.told shelf.old) stored granted)) result }
-    ensures faults_have_causes { HasFaultCause result (around S.faults K.faults K.taken shelf.old shelf.new out.old out.new) }
-    ensures completes { let stored = stored_by (λ test. test.id) (λ test. test.range) (λ test. ⟦<Box<dyn Fn(&Facts) -> u32> as Fn(&Facts) -> u32>⟧.post test.check) tests.items in
-        let granted = wishes_by (λ wish. wish.must_open) (λ wish. ⟦<Box<dyn Fn(&[VerdictRow]) -> bool> as Fn(&[VerdictRow]) -> bool>⟧.post wish.test) wishes.items in
-        Completes (Accepts (asked words.now (S.told shelf.old) stored granted)) result (around S.faults K.faults K.taken shelf.old shelf.new out.old out.new) }
-    ensures reads_in_order { let stored = stored_by (λ test. test.id) (λ test. test.range) (λ test. ⟦<Box<dyn Fn(&Facts) -> u32> as Fn(&Facts) -> u32>⟧.post test.check) tests.items in
-        let granted = wishes_by (λ wish. wish.must_open) (λ wish. ⟦<Box<dyn Fn(&[VerdictRow]) -> bool> as Fn(&[VerdictRow]) -> bool>⟧.post wish.test) wishes.items in
-        AsksInOrder S.asks (S.told shelf.old) (asks_of (asked words.now (S.told shelf.old) stored granted)) shelf.old shelf.new (course_of_run result) }
-    ensures reads_only_for_a_command { let stored = stored_by (λ test. test.id) (λ test. test.range) (λ test. ⟦<Box<dyn Fn(&Facts) -> u32> as Fn(&Facts) -> u32>⟧.post test.check) tests.items in
-        let granted = wishes_by (λ wish. wish.must_open) (λ wish. ⟦<Box<dyn Fn(&[VerdictRow]) -> bool> as Fn(&[VerdictRow]) -> bool>⟧.post wish.test) wishes.items in
-        (ReadsFiles (asked words.now (S.told shelf.old) stored granted) → ⊥) → shelf.new ≡ shelf.old }
+    ensures does_what_is_asked { DoesWhatIsAsked S.asks
+        (asked words.now (S.told shelf.old) (⟦<CustomTest as Stored>⟧.stored tests.items) (⟦<StoredWish as Wished>⟧.wished wishes.items))
+        (around S.faults K.faults K.taken shelf.old shelf.new out.old out.new)
+        shelf.old shelf.new result }
     ensures map_stays { S.told shelf.new ≡ S.told shelf.old }
 {
     Status::of(answer(alloc, parse(words), shelf, out, &tests, &wishes))

@@ -1,0 +1,22 @@
+-- What is promised of a run: it does what is asked, or its status says why not.
+use Rattle.std.specs.Prelude.{◌≡◌, IsTrue}
+use Rattle.host_io.specs.Calls.{ShelfCall}
+use Rattle.command_answers.specs.Asking.{course_of_run}
+use Rattle.command_answers.specs.Endings.{is_whole}
+use Rattle.command_answers.specs.Runs.{Completes, EndsBy, HasFaultCause, Outside, WrotePrefix, WroteWhole}
+use Rattle.command_answers.specs.declared.ending.Ending.{Ending}
+use Rattle.unit_inputs.specs.Asking.{AsksInOrder}
+use Rattle.top_call.specs.Asked.{Accepts, Asked, Prints, ReadsFiles, asks_of, laws_of}
+
+-- A run of what is asked, with the shelf and the sink around it, that ended with this status. Where the status stands for a whole
+-- text, the sink took one that is admitted; at any status what it took is nothing, or goes on to one. The inputs decide how it ends,
+-- no fault comes without its cause, and accepted inputs without a fault are answered. The shelf's calls are those that the files want,
+-- in their order, and none where no files are read for it.
+pub record DoesWhatIsAsked {S : Type 0} (asks : S → ShelfCall → S → Type 0) (asked : Asked) (outside : Outside) (before after : S) (status : Ending) : Type 0 where
+  pub prints_the_whole_text : IsTrue (is_whole status) → WroteWhole (Prints asked status) outside.sink.taken_before outside.sink.taken_after
+  pub prints_a_prefix : WrotePrefix (Prints asked) outside.sink.taken_before outside.sink.taken_after
+  pub ends_by_the_inputs : EndsBy (laws_of asked) status
+  pub faults_have_causes : HasFaultCause status outside
+  pub completes : Completes (Accepts asked) status outside
+  pub reads_in_order : AsksInOrder asks asked.told (asks_of asked) before after (course_of_run status)
+  pub reads_only_for_a_command : (ReadsFiles asked → ⊥) → after ≡ before
