@@ -66,12 +66,12 @@ module _ (told : Option Files) (unit : List ℕ) (words : List (List ℕ)) (inpu
 
   -- the words are no question
   pub stops_at_question : (calls : Table) (site : Site) (why : Stop) → calls ≡ (inputs_view inputs).calls → site ≡ (inputs_view inputs).site
-      → IsAnswer {T = Question} (Err why) (question_in calls site words) → IsAdmitted (laws_over told (why_laws unit words)) ending_of text_of (Err why)
+      → IsAnswer (λ (question : Question). question) (Err why) (question_in calls site words) → IsAdmitted (laws_over told (why_laws unit words)) ending_of text_of (Err why)
   stops_at_question calls site why one two is =
       stops_behind (λ made. Unit {0}) (refusals_behind unit words (inputs_view inputs)) why refl
-      (stops (λ (made : Why). Unit {0}) (question_in (inputs_view inputs).calls (inputs_view inputs).site words) why (start_refusals unit (inputs_view inputs))
-      (subst (λ (own : Site). IsAnswer {T = Question} (Err why) (question_in (inputs_view inputs).calls own words)) two
-      (subst (λ (own : Table). IsAnswer {T = Question} (Err why) (question_in own site words)) one is)))
+      (stops (λ (question : Question). question) (λ (made : Why). Unit {0}) (question_in (inputs_view inputs).calls (inputs_view inputs).site words) why (start_refusals unit (inputs_view inputs))
+      (subst (λ (own : Site). IsAnswer (λ (question : Question). question) (Err why) (question_in (inputs_view inputs).calls own words)) two
+      (subst (λ (own : Table). IsAnswer (λ (question : Question). question) (Err why) (question_in own site words)) one is)))
 
   -- behind a question
   module _ (question : Question) (question_is : question_in (inputs_view inputs).calls (inputs_view inputs).site words ≡ Ok question) where
@@ -116,9 +116,9 @@ as_any stop.Memory nothing e = cc
 
 -- the line of words that are no question
 pub refused_tells : (line : Result (Vec ℕ Global) AllocError) (told : Stop) → told ≡ stop_of line → IfOk line (λ l. l.items ≡ refused_question) → (wanted : Result Question (List ℕ)) → wanted ≡ Err refused_question
-    → IsAnswer {T = Question} (Err told) wanted
-refused_tells (Ok line) told is holds wanted same = subst (λ one. IsAnswer {T = Question} (Err one) wanted) (sym is) (same ∙ ap Err (sym holds))
-refused_tells (Err none) told is holds wanted same = subst (λ one. IsAnswer {T = Question} (Err one) wanted) (sym is) tt
+    → IsAnswer (λ (question : Question). question) (Err told) wanted
+refused_tells (Ok line) told is holds wanted same = subst (λ one. IsAnswer (λ (question : Question). question) (Err one) wanted) (sym is) (same ∙ ap Err (sym holds))
+refused_tells (Err none) told is holds wanted same = subst (λ one. IsAnswer (λ (question : Question). question) (Err one) wanted) (sym is) tt
 
 -- also of the tables as they are lent
 pub listed_as : (table other : Table) (site own : Site) → table ≡ other → site ≡ own → (question : Question) → Contains (asked.questions table site) question → Contains (asked.questions other own) question

@@ -63,7 +63,7 @@ pub fn asked_question(
     calls: &CallTable,
     site: &SiteTable,
 ) -> Result<Question, Stop>
-    ensures asks { IsAnswer result (question_in calls.now site.now (map (λ word. word.now) words.now)) }
+    ensures asks { IsAnswer (λ question. question) result (question_in calls.now site.now (map (λ word. word.now) words.now)) }
     ensures listed { IfOk result (λ question. Contains (questions calls.now site.now) question) }
     ensures reads_nothing { IsErrOf result Stop.ReadFault → ⊥ }
 {

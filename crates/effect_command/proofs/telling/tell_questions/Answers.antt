@@ -1,8 +1,9 @@
 use Rattle.std.proofs.Common.{◌∙◌, ◌++◌, ap}
 use Rattle.std.specs.Prelude.{flat_map, map}
-use Rattle.asked_service.proofs.Listed.{listed_at}
+use Rattle.asked_service.proofs.Listed.{listed_at, some_question}
 use Rattle.effect_command.specs.Lines.{kind_of}
 use Rattle.effect_command.specs.Told.{changes_at, lines_in}
+use Rattle.effect_command.proofs.Flattened.{told_more}
 use Rattle.std.proofs.lemmas.List.{take_all}
 use Rattle.effect_command.proofs.telling.tell_questions.Goals as goal
 
@@ -14,6 +15,16 @@ tell_question-requires c = record {
   same_calls = c.requires.same_calls;
   same_site = c.requires.same_site;
   listed = listed_at c.args.after.now.bounded.service.world.calls c.args.after.now.bounded.service.world.site c.args.list.now c.loop-question.question-index c.loop-question-test.true c.requires.all;
+}
+
+pub loop-question-preserved : goal.loop-question-preserved
+loop-question-preserved c = record {
+  told =
+      told_more (λ question. lines_in c.args.after.now (changes_at c.args.before.now c.args.after.now question)) c.args.text.now.items c.loop-question.text.items c.tell_question.new.text.items c.args.list.now c.loop-question.question-index some_question
+      c.loop-question-test.true c.loop-question.invariant.told c.in_ok-tell_question.ensures.tells;
+  counted =
+      told_more (λ question. map kind_of (changes_at c.args.before.now c.args.after.now question)) c.args.kinds.now.items c.loop-question.kinds.items c.tell_question.new.kinds.items c.args.list.now c.loop-question.question-index some_question
+      c.loop-question-test.true c.loop-question.invariant.counted c.in_ok-tell_question.ensures.counts;
 }
 
 pub returns-clause-tells : goal.returns-clause-tells

@@ -1,4 +1,4 @@
-use Rattle.std.proofs.Common.{◌≡◌, ◌⊎◌, inl, inr, ap, arith}
+use Rattle.std.proofs.Common.{◌≡◌, ◌⊎◌, arith}
 use Rattle.question_types.specs.declared.power.Power.TheVariants.{None as Nowise, Unmount as Unmounting}
 use Rattle.kern_mounts.specs.Mounts.{steps_of}
 use Rattle.open_calls.proofs.Leading.{below_proc, leads_by}
@@ -11,6 +11,6 @@ below_proc-requires c =
 
 pub shown_at-requires : goal.shown_at-requires
 shown_at-requires c =
-    let weak : (c.args.aim.now.power ≡ Nowise) ⊎ (c.args.aim.now.power ≡ Unmounting) = elim c.in-None.is [ inl e ↦ inl (ap e) | inr e ↦ inr (ap e) ] in
+    let weak : (c.args.aim.now.power ≡ Nowise) ⊎ (c.args.aim.now.power ≡ Unmounting) = c.in-None.is in
     let x = leads_by c.args.self.now.world.now c.requires.served c.args.aim.now.row.now c.requires.aimed.known c.args.aim.now.wish c.args.aim.now.power weak c.requires.aimed.reached (steps_of c.launched_table.result.now) c.args.aim.now.at c.launched_table.ensures.its_own c.requires.aimed.number in
     record { in_range = x.in_range; leads = x.leads }
