@@ -19,3 +19,4 @@ mod telling;
 
 pub use command::prepare;
 pub use effect::Effect;
+pub use lines::question_line;
