@@ -38,7 +38,7 @@ impl Model for AbsPath {
 impl AbsPath {
     /// The root, `/`.
     pub fn root(alloc: Global) -> AbsPath
-        ensures { result ≡ [] }
+        ensures has_no_parts { result ≡ [] }
     {
         AbsPath {
             tail: String::new(alloc),

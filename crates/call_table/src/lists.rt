@@ -208,7 +208,7 @@ fn add_group(
 impl Lists {
     /// The lists of no line behind the first abi line.
     pub fn new(alloc: Global, name: Name, arch: u32) -> Lists
-        ensures { made result ≡ record { name = name; arch = arch; calls = []; families = []; groups = []; second = None } }
+        ensures has_no_lines { made result ≡ record { name = name; arch = arch; calls = []; families = []; groups = []; second = None } }
     {
         Lists {
             name,

@@ -34,7 +34,7 @@ impl fmt::Display for Name {
 impl Name {
     /// A copy of a text.
     pub fn new(alloc: Global, text: &str) -> Result<Name, AllocError>
-        ensures { IfOk result (λ name. name ≡ text.now) }
+        ensures same_text { IfOk result (λ name. name ≡ text.now) }
     {
         Ok(Name {
             text: String::from_str(alloc, text)?,
@@ -43,7 +43,7 @@ impl Name {
 
     /// The text of the name.
     pub fn as_str(&self) -> &str
-        ensures { result.now ≡ self.now }
+        ensures same_text { result.now ≡ self.now }
     {
         self.text.as_str()
     }

@@ -24,7 +24,7 @@ fn are_lower_hex(digits: &str) -> bool
 /// The architecture of eight hex digits in lower case.
 #[tactic(auto, unfolding(crate::specs::Numbers::arch_of))]
 pub fn read_arch(digits: &str) -> Option<u32>
-    ensures { result ≡ arch_of digits.now }
+    ensures its_arch { result ≡ arch_of digits.now }
 {
     if digits.len() == 8 && are_lower_hex(digits) {
         u32::from_str_radix(digits, 16).ok()

@@ -80,7 +80,7 @@ pub fn push_abi(out: &mut Vec<u8>, table: &CallTable, abi: u8) -> Result<(), All
 
 /// A call that is spelled for an ABI of the table is read back.
 pub fn is_read_back(table: &CallTable)
-    ensures { IsReadBack table.now }
+    ensures is_read_back { IsReadBack table.now }
 {
     let _ = table.abis();
 }

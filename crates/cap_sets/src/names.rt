@@ -26,7 +26,7 @@ impl CapSet {
     /// The name of the capability of this number, at most 40, as `CAP_CHOWN`.
     pub fn name(cap: u8) -> &'static str
         requires { cap ≤ 40 }
-        ensures { result.now ≡ name_of cap }
+        ensures its_name { result.now ≡ name_of cap }
     {
         let flags: &'static [Flag<Bits>] = Bits::flags();
         flags[cap as usize].name

@@ -15,7 +15,7 @@ const LOCATIONS: [&str; 3] = [
 
 /// The path of a name directly in a folder.
 pub fn path_below(alloc: Global, folder: &str, name: &str) -> Result<String, AllocError>
-    ensures { IfOk result (λ path. string_bytes path ≡ below folder.now name.now) }
+    ensures joined { IfOk result (λ path. string_bytes path ≡ below folder.now name.now) }
 {
     format!(in alloc; "{folder}/{name}")
 }
@@ -44,7 +44,7 @@ fn push_locations(alloc: Global, paths: &mut Vec<String>, name: &str) -> Result<
 
 /// Where the fragment of a unit is looked for, in this order.
 pub fn fragment_paths(alloc: Global, unit: &UnitName) -> Result<Vec<String>, AllocError>
-    ensures { IfOk result (λ paths. map string_bytes paths.items ≡ fragment_paths unit.now) }
+    ensures in_order { IfOk result (λ paths. map string_bytes paths.items ≡ fragment_paths unit.now) }
 {
     let mut paths = Vec::new(alloc);
     push_locations(alloc, &mut paths, unit.text())?;
@@ -56,7 +56,7 @@ pub fn fragment_paths(alloc: Global, unit: &UnitName) -> Result<Vec<String>, All
 
 /// The folders of a unit's drop-ins in the locations, by their rank.
 pub fn dropin_places(alloc: Global, unit: &UnitName) -> Result<Vec<String>, AllocError>
-    ensures { IfOk result (λ places. map string_bytes places.items ≡ dropin_places unit.now) }
+    ensures in_order { IfOk result (λ places. map string_bytes places.items ≡ dropin_places unit.now) }
 {
     let folders = dropin_folders(alloc, unit)?;
     let mut places = Vec::new(alloc);

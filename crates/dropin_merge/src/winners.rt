@@ -88,7 +88,7 @@ pub fn collect_winners<S: Shelf>(
 
 /// The paths that win, in byte order of file names.
 pub fn winning_paths(alloc: Global, winners: Winners) -> Result<Vec<String>, AllocError>
-    ensures { IfOk result (λ paths. paths.items ≡ values_of winners.entries) }
+    ensures by_their_names { IfOk result (λ paths. paths.items ≡ values_of winners.entries) }
 {
     winners.into_values().collect(alloc)
 }

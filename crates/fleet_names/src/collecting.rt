@@ -86,7 +86,7 @@ pub fn collect_all<S: Shelf>(alloc: Global, shelf: &mut S) -> Result<Units, Name
 
 /// The units alone, in byte order of their texts.
 pub fn in_byte_order(alloc: Global, units: Units) -> Result<Vec<UnitName>, AllocError>
-    ensures { IfOk result (λ names. names.items ≡ values_of units.entries) }
+    ensures by_their_names { IfOk result (λ names. names.items ≡ values_of units.entries) }
 {
     units.into_values().collect(alloc)
 }

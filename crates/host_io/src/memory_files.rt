@@ -37,7 +37,7 @@ impl Model for MemShelf {
 
 /// Whether these can be the files of a shelf: no path begins with a slash or stands twice.
 pub fn are_files(files: &[(String, Vec<u8>)]) -> bool
-    ensures { result ≡ is_file_map (map file_of files.now) }
+    ensures make_a_map { result ≡ is_file_map (map file_of files.now) }
 {
     match files {
         [] => true,

@@ -35,7 +35,7 @@ impl<T: Held> HeldList<T> {
     /// These items, of which the fact holds.
     pub fn new(items: Vec<T>) -> Self
         requires { T.AreHeld items.items }
-        ensures { result ≡ items.items }
+        ensures holds_them { result ≡ items.items }
     {
         HeldList { items }
     }

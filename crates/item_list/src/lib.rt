@@ -31,14 +31,14 @@ impl<T> Model for ItemList<T> {
 impl<T> ItemList<T> {
     /// These items.
     pub fn new(items: Vec<T>) -> Self
-        ensures { result ≡ items.items }
+        ensures holds_them { result ≡ items.items }
     {
         ItemList { items }
     }
 
     /// No items, for which memory comes from here.
     pub fn empty(alloc: Global) -> Self
-        ensures { result ≡ [] }
+        ensures holds_nothing { result ≡ [] }
     {
         ItemList {
             items: Vec::new(alloc),
@@ -47,7 +47,7 @@ impl<T> ItemList<T> {
 
     /// The items in their order.
     pub fn list(&self) -> &[T]
-        ensures { result.now ≡ self.now }
+        ensures all_in_order { result.now ≡ self.now }
     {
         &self.items
     }
@@ -79,7 +79,7 @@ impl<T: Drop> ItemList<T> {
 impl<T: Copy> ItemList<T> {
     /// The same items once more.
     pub fn copy(&self, alloc: Global) -> Result<ItemList<T>, AllocError>
-        ensures { IfOk result (λ copy. copy ≡ self.now) }
+        ensures same { IfOk result (λ copy. copy ≡ self.now) }
     {
         let mut items = Vec::new(alloc);
         for item in &self.items {
@@ -92,7 +92,7 @@ impl<T: Copy> ItemList<T> {
 impl ItemList<u32> {
     /// Whether the number is among them.
     pub fn contains(&self, number: u32) -> bool
-        ensures { result ≡ list_any (λ own. number == own) self.now }
+        ensures is_among { result ≡ list_any (λ own. number == own) self.now }
     {
         self.items.iter().any(|own| number == *own)
     }

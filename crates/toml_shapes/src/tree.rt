@@ -46,7 +46,7 @@ pub fn elements_of(value: &Value) -> &[Value]
 
 /// The elements of the array at a key; none where there is no array.
 pub fn elements_at<'a>(value: &'a Value, key: &str) -> &'a [Value]
-    ensures { map view result.now ≡ elements_at key.now (view value.now) }
+    ensures all_in_order { map view result.now ≡ elements_at key.now (view value.now) }
 {
     match at(value, key) {
         Some(found) => elements_of(found),

@@ -41,7 +41,7 @@ pub fn extend_open(
     text: &str,
 ) -> Result<Line, AllocError>
     requires { continues text.now ≡ true }
-    ensures { IfOk result (λ line. line ≡ extended begun (opened (record { number = number; text = text.now }))) }
+    ensures goes_on { IfOk result (λ line. line ≡ extended begun (opened (record { number = number; text = text.now }))) }
 {
     let mut line = extend(alloc, begun, number, without_backslash(text))?;
     line.text.push(" ")?;

@@ -86,7 +86,7 @@ fn kind_of_trimmed(line: &str) -> Kind<'_>
 
 /// What the line is.
 pub fn kind_of_line(line: &str) -> Kind<'_>
-    ensures { seen result ≡ kind_of line.now }
+    ensures its_kind { seen result ≡ kind_of line.now }
 {
     kind_of_trimmed(trimmed(line))
 }

@@ -55,7 +55,7 @@ pub fn trimmed(text: &str) -> &str
 
 /// Whether a line goes on in the next.
 pub fn continues_line(line: &str) -> bool
-    ensures { result ≡ continues line.now }
+    ensures ends_open { result ≡ continues line.now }
 {
     trailing_backslashes(line.as_bytes()) % 2 == 1
 }

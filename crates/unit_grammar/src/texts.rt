@@ -35,7 +35,7 @@ impl From<String> for Text {
 impl Text {
     /// A copy of a text.
     pub fn new(alloc: Global, text: &str) -> Result<Text, AllocError>
-        ensures { IfOk result (λ made. made ≡ text.now) }
+        ensures same_text { IfOk result (λ made. made ≡ text.now) }
     {
         Ok(Text {
             inner: String::from_str(alloc, text)?,
@@ -44,7 +44,7 @@ impl Text {
 
     /// The text.
     pub fn as_str(&self) -> &str
-        ensures { result.now ≡ self.now }
+        ensures same_text { result.now ≡ self.now }
     {
         self.inner.as_str()
     }

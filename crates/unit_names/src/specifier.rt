@@ -90,7 +90,7 @@ impl Specifier {
 
     /// The text that it stands for, before it is unescaped.
     pub fn text<'a>(self, name: &'a UnitName) -> &'a str
-        ensures { result.now ≡ specified_text name.now self }
+        ensures its_text { result.now ≡ specified_text name.now self }
     {
         match self {
             Specifier::Percent => "%",

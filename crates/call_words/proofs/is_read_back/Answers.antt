@@ -2,4 +2,4 @@ use Rattle.call_words.proofs.Back.{has_other_name, read_back}
 use Rattle.call_words.proofs.is_read_back.Goals as goal
 
 pub returns : goal.returns
-returns c = read_back c.args.table.now (has_other_name c.args.table.now c.abis.ensures.whole.sound)
+returns c = record { is_read_back = read_back c.args.table.now (has_other_name c.args.table.now c.abis.ensures.whole.sound) }

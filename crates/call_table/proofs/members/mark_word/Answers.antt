@@ -12,7 +12,7 @@ pub mark_all-requires : goal.mark_all-requires
 mark_all-requires c = λ k d lt.
     let group : GroupLine = c.in-Some-get.group.now in
     let members : HasMembers (length (c.args.calls.now ++ lines_seen c.args.more)) group = found_holds (HasMembers (length (c.args.calls.now ++ lines_seen c.args.more))) (has_group c.in-Some.name.now) c.args.groups.now group c.requires.groups.members (sym c.in-Some-get.ensures.by_name) in
-    let shown = c.list.ensures in
+    let shown = c.list.ensures.all_in_order in
     let low : k < length group.members = omega (arith, ap length shown, lt) in
     omega (arith, members.below k d low, ap (λ ps. get_or ps k d) shown, c.requires.as_many)
 

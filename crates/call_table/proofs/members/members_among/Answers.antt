@@ -13,7 +13,7 @@ returns-in_ok-marked c =
     let known = list_all-map (is_known (c.args.calls.now ++ lines_seen c.args.more) c.args.groups.now) (λ (word : Bor (List ℕ)). word.now) words ∙ sym c.mark_words.ensures.known ∙ c.if-mark_words.true in
     let names = map (λ (word : Bor (List ℕ)). word.now) words in
     let marks : Marks (c.args.calls.now ++ lines_seen c.args.more) (is_member (c.args.calls.now ++ lines_seen c.args.more) c.args.groups.now names) c.args.marks.now c.mark_words.new.marks = c.if-mark_words.ensures.marks refl in
-    (known, c.new.ensures ∙ c.in_ok-marked.ensures ∙ marked_members (c.args.calls.now ++ lines_seen c.args.more) c.args.groups.now names c.args.marks.now c.mark_words.new.marks c.requires.unmarked marks)
+    (known, c.new.ensures.holds_them ∙ c.in_ok-marked.ensures ∙ marked_members (c.args.calls.now ++ lines_seen c.args.more) c.args.groups.now names c.args.marks.now c.mark_words.new.marks c.requires.unmarked marks)
 
 pub returns-else-mark_words : goal.returns-else-mark_words
 returns-else-mark_words c =

@@ -13,5 +13,7 @@ returns-then-are_lower_hex c =
     let digits = c.args.digits.now in
     let lower : list_all is_lower_hex digits ≡ true = sym c.are_lower_hex.ensures ∙ c.if-are_lower_hex.true in
     let eight : length digits == 8 ≡ true = search rules in
-    c.ok.ensures.value ∙ arch_read digits _ c.from_str_radix.ensures.value (eqb-true _ _ eight) lower
-    ∙ ap (λ b. cond b (Some (digits_value 16 digits)) None) (sym (and_from _ _ eight lower))
+    record {
+      its_arch = c.ok.ensures.value ∙ arch_read digits _ c.from_str_radix.ensures.value (eqb-true _ _ eight) lower
+          ∙ ap (λ b. cond b (Some (digits_value 16 digits)) None) (sym (and_from _ _ eight lower));
+    }

@@ -34,4 +34,4 @@ loop-line-preserved c =
     c.in_ok-take.ensures.steps.0 c.in_ok-take.ensures.steps.1 c.in_ok-take.ensures.sound)
 
 pub loop-line-init : goal.loop-line-init
-loop-line-init c = begins c.args.two c.args.name c.args.arch (made c.new-lists.result) c.new-lists.ensures
+loop-line-init c = begins c.args.two c.args.name c.args.arch (made c.new-lists.result) c.new-lists.ensures.has_no_lines

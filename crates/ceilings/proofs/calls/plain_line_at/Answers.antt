@@ -21,7 +21,7 @@ returns c =
     record {
       first_that_passes =
           c.plain_among.ensures
-          ∙ ap (λ name. find (λ other. bytes_eq name other.name && plain other) c.calls_in.result.now) c.as_str-2.ensures
+          ∙ ap (λ name. find (λ other. bytes_eq name other.name && plain other) c.calls_in.result.now) c.as_str-2.ensures.same_text
           ∙ ap (find (λ other. bytes_eq c.args.line.now.name other.name && plain other)) (c.calls_in.ensures.lists ∙ ap (λ (t : Table). calls_in t 1) c.call_table-table.ensures.told)
           ∙ other_found plain c.call_table-table.result.now c.args.world.now.calls c.call_table-table.ensures.told
           c.calls.result.now c.calls.ensures.lists c.args.at c.args.line.now c.calls.ensures.names_and_numbers_once.once c.if-at-calls.false c.requires.its_line

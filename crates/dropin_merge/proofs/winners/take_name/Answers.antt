@@ -10,11 +10,11 @@ returns-in_ok-insert c = record {
       c.in_ok-from_str.ensures.ok
       (sym c.counts.ensures ∙ c.if-counts.true)
       (sym c.contains_key.ensures ∙ c.if-not-contains_key.true)
-      c.in_ok-path.ensures
+      c.in_ok-path.ensures.joined
       c.in_ok-insert.ensures.updates;
   keeps_to_places =
       insert_keeps c.args.winners.now c.insert.new.self c.args.place.now c.args.name.now c.in_ok-from_str.field-0 c.in_ok-path.path
       (sym c.counts.ensures ∙ c.if-counts.true)
-      c.in_ok-path.ensures
+      c.in_ok-path.ensures.joined
       c.in_ok-insert.ensures.entries;
 }

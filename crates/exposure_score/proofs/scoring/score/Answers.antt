@@ -31,7 +31,7 @@ pub returns-clause-weighs_each_test : goal.returns-clause-weighs_each_test
 returns-clause-weighs_each_test g c =
     let made = totals _ _ _ _ c.args.policy.now c.list.result.now c.in-Ok.rows.items c.list.ensures.all_in_order c.list.ensures.as_held c.in-Ok.ensures in
     is_score _ _ _ _ _ _ c.deref.result.now made c.deref.ensures.value c.sum_of_terms.result c.sum_of_weights-weights.result c.deref-2.result.now c.deref-2.ensures.value c.sum_of_weights-weights.ensures c.sum_of_terms.ensures
-    c.new.result c.exposure-exposure.result c.new.ensures c.exposure-exposure.ensures
+    c.new.result c.exposure-exposure.result c.new.ensures.holds_them c.exposure-exposure.ensures
 
 pub returns-clause-some_weight : goal.returns-clause-some_weight
 returns-clause-some_weight g c =

@@ -24,5 +24,5 @@ returns c =
           subst (λ arch. AreRulesOf filter settings table abi (record { arch = arch; calls = c.new.result; rest = c.unnamed_action.result; other = c.other_action.result })) (sym c.arch_of.ensures.by_position)
           (subst (λ rest. AreRulesOf filter settings table abi (record { arch = arch_of table abi; calls = c.new.result; rest = rest; other = c.other_action.result })) (sym c.unnamed_action.ensures)
           (subst (λ other. AreRulesOf filter settings table abi (record { arch = arch_of table abi; calls = c.new.result; rest = unnamed_action filter settings; other = other })) (sym c.other_action.ensures)
-          (subst (λ calls. AreRulesOf filter settings table abi (record { arch = arch_of table abi; calls = calls; rest = unnamed_action filter settings; other = other_action table.second })) (sym (c.new.ensures ∙ c.in_ok-rules.ensures)) are)));
+          (subst (λ calls. AreRulesOf filter settings table abi (record { arch = arch_of table abi; calls = calls; rest = unnamed_action filter settings; other = other_action table.second })) (sym (c.new.ensures.holds_them ∙ c.in_ok-rules.ensures)) are)));
     }

@@ -7,5 +7,5 @@ use Rattle.judge.proofs.ids.is_uid_open.Goals as goal
 -- where not every uid can be taken, those of the list are all
 pub returns-else-top : goal.returns-else-top
 returns-else-top c = λ launch own.
-    c.contains.ensures ∙ own.uids c.args.id
+    c.contains.ensures.is_among ∙ own.uids c.args.id
     ∙ sym (uid_either launch c.args.id ∙ ap (λ any. any || uids_of launch c.args.id) (sym own.any_uid ∙ c.if-top.false))

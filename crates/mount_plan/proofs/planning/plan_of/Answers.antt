@@ -21,5 +21,5 @@ pub returns : goal.returns
 returns c = (
   c.in_ok-kept.kept.items,
   c.in_ok-kept.ensures,
-  c.new.ensures ∙ c.in_ok-steps.ensures ∙ ap (table_of (host_of c.args.site.now)) c.deref.ensures.value,
+  c.new.ensures.holds_them ∙ c.in_ok-steps.ensures ∙ ap (table_of (host_of c.args.site.now)) c.deref.ensures.value,
 )

@@ -26,6 +26,6 @@ new-requires c =
 pub returns-clause-in_order_of_assignments : goal.returns-clause-in_order_of_assignments
 unfolding unit_written
 returns-clause-in_order_of_assignments c =
-    c.new.ensures
+    c.new.ensures.holds_them
     ∙ sym (c.loop-place.invariant.means ∙ ap (λ ones. after c.loop-place.paths.items (filter_map (assigned_by c.args.unit.now.name) ones)) c.in-None.ensures.steps.0)
     ∙ written_is (assigned_of c.args.unit.now)

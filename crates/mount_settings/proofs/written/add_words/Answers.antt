@@ -16,8 +16,8 @@ loop-word-preserved c =
     record {
       added =
           added_by_some (path_in key) words i word c.args.paths.now.items _ _ below c.word-item.is c.loop-word.invariant.added
-          (c.in_ok-add_word.ensures.added ∙ ap (λ w. c.loop-word.paths.items ++ cons_option (path_in key w) []) c.as_str.ensures);
+          (c.in_ok-add_word.ensures.added ∙ ap (λ w. c.loop-word.paths.items ++ cons_option (path_in key w) []) c.as_str.ensures.same_text);
       noted =
           added_by_all (word_notes key value) words i word c.args.notes.now.items _ _ below c.word-item.is c.loop-word.invariant.noted
-          (c.in_ok-add_word.ensures.noted ∙ ap (λ w. c.loop-word.notes.items ++ word_notes key value w) c.as_str.ensures);
+          (c.in_ok-add_word.ensures.noted ∙ ap (λ w. c.loop-word.notes.items ++ word_notes key value w) c.as_str.ensures.same_text);
     }

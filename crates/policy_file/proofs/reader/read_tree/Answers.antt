@@ -20,4 +20,4 @@ returns c =
     let entries = c.in-Some.members.now.entries in
     sym (ap policy_of_object c.in-Some.ensures)
     ∙ all_read (read_members entries) false c.in_ok-tests.ensures.0 (few_enough entries c.len.result c.len.ensures.len c.if-len-gt-MOST_TESTS.false)
-    ∙ ap Ok (sym c.in_ok-tests.ensures.1) ∙ ap Ok (sym c.new.ensures)
+    ∙ ap Ok (sym c.in_ok-tests.ensures.1) ∙ ap Ok (sym c.new.ensures.holds_them)

@@ -45,7 +45,7 @@ returns-clause-prepares g c =
 pub returns-clause-can_be_started : goal.returns-clause-can_be_started
 returns-clause-can_be_started g c =
     can_start c.in_ok-inputs.inputs c.in_ok-one.one c.in_ok-made.made c.list.result.now c.deref-2.result.now.mentions c.deref-3.result.now c.in_ok-plan.plan
-    c.in_ok-one.ensures.settles.1.0 c.in_ok-one.ensures.settles.1.1 c.deref-3.ensures c.in_ok-plan.ensures.plan_or_first_refusal.1 c.list.ensures c.calls_fit.ensures
+    c.in_ok-one.ensures.settles.1.0 c.in_ok-one.ensures.settles.1.1 c.deref-3.ensures c.in_ok-plan.ensures.plan_or_first_refusal.1 c.list.ensures.all_in_order c.calls_fit.ensures
 
 pub returns-in_err-inputs-clause-asks_in_order : goal.returns-in_err-inputs-clause-asks_in_order
 returns-in_err-inputs-clause-asks_in_order g c =

@@ -33,4 +33,4 @@ returns-clause-takes_the_text g c =
     (text_then _ _ _ lines (count_line (length c.args.script.now)) c.put_line-2.result
     c.in_ok-replay.ensures.takes_the_lines
     (c.put_line-2.ensures.takes_the_line (count_line (length c.args.script.now))
-    (subst (λ own. IfOk c.count_line.result (λ put. put.items ≡ count_line (length own))) c.list.ensures c.count_line.ensures.counts)))
+    (subst (λ own. IfOk c.count_line.result (λ put. put.items ≡ count_line (length own))) c.list.ensures.all_in_order c.count_line.ensures.counts)))

@@ -13,11 +13,11 @@ returns-in_err-number-clause-number c =
 pub returns-then-eq-clause-number : goal.returns-then-eq-clause-number
 returns-then-eq-clause-number c =
     the_cap c.args.name.now c.in_ok-number.number c.in_ok-number.ensures.in_range
-    (sym c.name.ensures ∙ same_part c.name.result.now c.args.name.now (sym c.eq.ensures ∙ c.if-eq.true))
+    (sym c.name.ensures.its_name ∙ same_part c.name.result.now c.args.name.now (sym c.eq.ensures ∙ c.if-eq.true))
 
 pub returns-else-eq-clause-number : goal.returns-else-eq-clause-number
 returns-else-eq-clause-number c =
     no_cap c.args.name.now (λ k small e.
     let found = (c.in_ok-number.ensures.named k small).1 (ap in_lower_case e) in
     let same : c.in_ok-number.number ≡ k = cc in
-    false≢true (sym c.if-eq.false ∙ c.eq.ensures ∙ part_itself c.name.result.now c.args.name.now (c.name.ensures ∙ ap name_of same ∙ e)))
+    false≢true (sym c.if-eq.false ∙ c.eq.ensures ∙ part_itself c.name.result.now c.args.name.now (c.name.ensures.its_name ∙ ap name_of same ∙ e)))

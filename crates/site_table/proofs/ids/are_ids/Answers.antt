@@ -9,4 +9,4 @@ use Rattle.site_table.proofs.ids.are_ids.Goals as goal
 pub returns : goal.returns
 returns c =
     c.all_ids.ensures ∙ sym (list_all-map (λ value. is_some (as_id value)) view c.elements_at.result.now)
-    ∙ ap (list_all (λ value. is_some (as_id value))) c.elements_at.ensures
+    ∙ ap (list_all (λ value. is_some (as_id value))) c.elements_at.ensures.all_in_order

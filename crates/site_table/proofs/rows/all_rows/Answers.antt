@@ -10,7 +10,7 @@ use Rattle.site_table.proofs.RowsRead.{rows_none, row_more, row_stops, place_sto
 use Rattle.site_table.proofs.rows.all_rows.Goals as goal
 
 pub loop-at-init : goal.loop-at-init
-loop-at-init c = rows_none (map view c.args.rows.now) c.new-ordered.result (c.new-ordered.ensures ∙ c.new.ensures.items)
+loop-at-init c = rows_none (map view c.args.rows.now) c.new-ordered.result (c.new-ordered.ensures.holds_them ∙ c.new.ensures.items)
 
 pub loop-at-preserved : goal.loop-at-preserved
 loop-at-preserved c =

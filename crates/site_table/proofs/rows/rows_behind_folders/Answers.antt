@@ -10,7 +10,7 @@ use Rattle.site_table.proofs.rows.rows_behind_folders.Goals as goal
 
 pub loop-value-init : goal.loop-value-init
 loop-value-init c =
-    let empty = c.new-ordered.ensures ∙ c.new.ensures.items in
+    let empty = c.new-ordered.ensures.holds_them ∙ c.new.ensures.items in
     behind_none (map view c.args.rows.now) c.new-ordered.result empty (rows_none (map view c.args.rows.now) c.new-ordered.result empty)
 
 pub loop-value-preserved : goal.loop-value-preserved

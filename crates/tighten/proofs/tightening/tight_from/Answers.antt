@@ -33,6 +33,6 @@ pub returns : goal.returns
 returns g c =
     let tried = tried_of c.args.trial.now (wishes_by (λ wish. wish.must_open) (λ wish shown answer. (goal.Fn-dyn g).post (wish.test.vtable, wish.test.value) (shown, tt) answer) c.args.wishes.now) in
     tight_is tried c.openness.ensures.each_listed c.args.trial.now.questions.now c.requires.can_be_tried.all c.args.own c.in_ok-most.most _ c.requires.serves c.in_ok-most.ensures.none_can_be_added
-    (c.new-2.ensures ∙ c.in_ok-in_order.ensures.in_order ∙ ap in_order c.deref.ensures.value)
+    (c.new-2.ensures.holds_them ∙ c.in_ok-in_order.ensures.in_order ∙ ap in_order c.deref.ensures.value)
     c.count_open-open_before.ensures.counts refl
     c.count_open-open_after.ensures.counts refl

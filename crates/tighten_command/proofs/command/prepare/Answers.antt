@@ -32,7 +32,7 @@ returns-clause-prepares g c =
     let wishes = wishes_by (λ wish. wish.must_open) (λ wish shown answer. (goal.Fn-dyn g).post (wish.test.vtable, wish.test.value) (shown, tt) answer) c.args.wishes.now in
     answered_as c.args.unit.now c.args.path.now wishes (λ (keep : List Question). keep) (g.S.Shelf.told c.args.shelf.now) (g.S.Shelf.told c.read_inputs.new.shelf) c.in_ok-inputs.inputs c.deref.result.now c.deref-2.result.now c.in_ok-keep.keep
     c.in_ok-inputs.ensures.reads_for_the_unit.map_stays c.deref.ensures c.deref-2.ensures c.in_ok-inputs.ensures.reads_by_the_files c.in_ok-keep.ensures.reads_what_is_kept
-    c.deref-3.result.now c.deref-4.result.now c.deref-5.result.now c.list.result.now c.answer.result c.deref-3.ensures c.deref-4.ensures c.deref-5.ensures c.list.ensures c.answer.ensures.answers
+    c.deref-3.result.now c.deref-4.result.now c.deref-5.result.now c.list.result.now c.answer.result c.deref-3.ensures c.deref-4.ensures c.deref-5.ensures c.list.ensures.all_in_order c.answer.ensures.answers
 
 pub returns-clause-reads_for_the_unit : goal.returns-clause-reads_for_the_unit
 returns-clause-reads_for_the_unit g c =
@@ -43,7 +43,7 @@ pub answer-requires : goal.answer-requires
 answer-requires g c = record {
   listed =
       lent_listed c.deref.result.now c.deref-4.result.now c.deref-2.result.now c.deref-5.result.now c.in_ok-keep.keep c.list.result.now
-      (c.deref.ensures ∙ sym c.deref-4.ensures) (c.deref-2.ensures ∙ sym c.deref-5.ensures) c.list.ensures c.in_ok-keep.ensures.listed;
+      (c.deref.ensures ∙ sym c.deref-4.ensures) (c.deref-2.ensures ∙ sym c.deref-5.ensures) c.list.ensures.all_in_order c.in_ok-keep.ensures.listed;
 }
 
 pub returns-in_err-inputs-clause-asks_in_order : goal.returns-in_err-inputs-clause-asks_in_order

@@ -43,5 +43,5 @@ loop-line-preserved c =
 
 pub returns : goal.returns
 returns c = record {
-  reads = all_read c.args.calls.now c.args.site.now c.args.lines.now c.loop-line.keep.items c.new.result c.loop-line.line-index c.loop-line-test.false c.loop-line.invariant.counted c.loop-line.invariant.few c.new.ensures c.loop-line.invariant.are;
+  reads = all_read c.args.calls.now c.args.site.now c.args.lines.now c.loop-line.keep.items c.new.result c.loop-line.line-index c.loop-line-test.false c.loop-line.invariant.counted c.loop-line.invariant.few c.new.ensures.holds_them c.loop-line.invariant.are;
 }

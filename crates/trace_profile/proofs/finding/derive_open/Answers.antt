@@ -11,10 +11,10 @@ returns-in_err-service c =
 pub begin-requires-clause-serving : goal.begin-requires-clause-serving
 begin-requires-clause-serving c =
     every_serve c.args.unit.now c.args.calls.now c.args.site.now c.args.script.now c.in_ok-open.open c.in_ok-every.every.items c.deref.result.now c.in_ok-every.ensures.all_of_the_table c.deref.ensures.value c.in_ok-open.ensures.drop_in_stands_last
-    c.in_ok-service.service c.in_ok-service.ensures.launches c.in_ok-said.said.items c.deref-2.result.now c.list.result.now c.list-2.result.now c.in_ok-said.ensures.replies c.list.ensures c.list-2.ensures c.deref-2.ensures.value
+    c.in_ok-service.service c.in_ok-service.ensures.launches c.in_ok-said.said.items c.deref-2.result.now c.list.result.now c.list-2.result.now c.in_ok-said.ensures.replies c.list.ensures.all_in_order c.list-2.ensures.all_in_order c.deref-2.ensures.value
 
 pub returns : goal.returns
 returns c =
     derived_is c.args.unit.now c.args.calls.now c.args.site.now c.args.script.now c.in_ok-open.open c.in_ok-every.every.items c.deref.result.now c.in_ok-every.ensures.all_of_the_table c.deref.ensures.value c.in_ok-open.ensures.drop_in_stands_last
-    c.in_ok-service.service c.in_ok-service.ensures.launches c.in_ok-said.said.items c.deref-2.result.now c.list.result.now c.list-2.result.now c.in_ok-said.ensures.replies c.list.ensures c.list-2.ensures c.deref-2.ensures.value
-    c.in_ok-names.names.items c.new.result c.new.ensures c.in_ok-names.ensures.none_can_be_left_out
+    c.in_ok-service.service c.in_ok-service.ensures.launches c.in_ok-said.said.items c.deref-2.result.now c.list.result.now c.list-2.result.now c.in_ok-said.ensures.replies c.list.ensures.all_in_order c.list-2.ensures.all_in_order c.deref-2.ensures.value
+    c.in_ok-names.names.items c.new.result c.new.ensures.holds_them c.in_ok-names.ensures.none_can_be_left_out

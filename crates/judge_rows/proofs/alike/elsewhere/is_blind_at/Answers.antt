@@ -7,7 +7,7 @@ pub returns-clause-same_there : goal.returns-clause-same_there
 returns-clause-same_there c =
     let asked = c.args.asked.now in
     let service = c.args.service.now in
-    let programs : given_bytes c.list.result.now ≡ given_bytes service.filters = ap given_bytes c.list.ensures in
+    let programs : given_bytes c.list.result.now ≡ given_bytes service.filters = ap given_bytes c.list.ensures.all_in_order in
     λ is agree.
     subst (λ (bytes : List (List ℕ)). IsAlike asked.unit.now asked.calls.now asked.other.now c.args.settings.now c.args.plan.now bytes service.world service.steps) programs
     (c.know_alike.ensures.whichever_programs service.world service.steps
