@@ -1,7 +1,7 @@
 //! Small forms of text: numbers, booleans, errno names, words of a list, escaped words.
 //!
 //! The rules are those of systemd.syntax(7) in the profile that the judge takes.
-//! The crate rests on `linux_numbers`; `read_u64("0x10")` is `Some(16)`.
+//! The crate rests on `linux_numbers`, and on `itoa` for the digits of numbers; `read_u64("0x10")` is `Some(16)`.
 #![tactic(auto)]
 
 mod booleans;

@@ -4,6 +4,7 @@ ghost use Rattle.std.specs.Prelude.{◌≡◌, ◌≤◌, ◌++◌, OnOk, OnErr,
 ghost use Rattle.std.specs.List.{starts_with};
 ghost use Rattle.text_forms.specs.Numbers.{numeral_value, decimal_value, hex_digits, number_value};
 
+use itoa::Buffer;
 use std::alloc::AllocError;
 
 fn has_plus(digits: &str) -> bool
@@ -57,6 +58,6 @@ pub fn push_u64(out: &mut Vec<u8>, n: u64) -> Result<(), AllocError>
     ensures appends_decimal { OnOk result (out.new.items ≡ out.old.items ++ decimal n) }
     ensures unchanged_on_error { OnErr result (out.new.items ≡ out.old.items) }
 {
-    let text = n.to_string(*out.allocator())?;
-    out.extend_from_slice(text.as_bytes())
+    let mut digits = Buffer::new();
+    out.extend_from_slice(digits.format(n).as_bytes())
 }
