@@ -94,7 +94,7 @@ fn alu(op: AluOp, regs: &mut Regs, n: u32) -> Effect
 /// Performs an instruction that has no fault and whose code stands for this operation.
 pub fn perform(op: Op, insn: Insn, regs: &mut Regs, input: &CallData) -> Effect
     requires { (left : ℕ) × (op_fault op insn left ≡ None) }
-    ensures { (result, regs.new) ≡ effect_of op insn regs.old input.now }
+    ensures by_the_effect { (result, regs.new) ≡ effect_of op insn regs.old input.now }
 {
     match op {
         Op::LoadWord => regs.a = word(input, insn.k / 4),

@@ -60,7 +60,7 @@ fn fault(insn: Insn, left: usize) -> Option<Fault>
 
 /// The place and the fault of the first instruction that has one.
 pub fn first_fault(insns: &[Insn]) -> Option<(usize, Fault)>
-    ensures { MatchOption result (AreFine insns.now) (λ found. IsFirstFault insns.now found.0 found.1) }
+    ensures the_first { MatchOption result (AreFine insns.now) (λ found. IsFirstFault insns.now found.0 found.1) }
 {
     for (place, insn) in insns.iter().enumerate() {
         if let Some(fault) = fault(*insn, insns.len() - place - 1) {
@@ -79,7 +79,7 @@ fn is_end(insn: Insn) -> bool
 
 /// Whether the last instruction ends the program.
 pub fn ends(insns: &[Insn]) -> bool
-    ensures { result ≡ ends_in_return insns.now }
+    ensures in_a_return { result ≡ ends_in_return insns.now }
 {
     match insns.last() {
         None => false,

@@ -48,7 +48,7 @@ pub fn insns_from_bytes(alloc: Global, bytes: &[u8]) -> Result<Vec<Insn>, AllocE
 /// The bytes that are these instructions.
 pub fn bytes_from_insns(alloc: Global, insns: &[Insn]) -> Result<Vec<u8>, AllocError>
     requires { length insns.now ≤ 4096 }
-    ensures { IfOk result (λ bytes. bytes.items ≡ bytes_of insns.now) }
+    ensures of_the_instructions { IfOk result (λ bytes. bytes.items ≡ bytes_of insns.now) }
 {
     let mut bytes = Vec::with_capacity(alloc, INSN_LEN * insns.len())?;
     for insn in insns {

@@ -4,20 +4,20 @@ ghost use Rattle.bpf_code.specs.Tied.{AcceptsByFunction, DecidesByFunction, Fitt
 
 /// Newer programs do not let through what older ones refuse.
 pub fn refusals_stand()
-    ensures { RefusalsStand }
+    ensures stand { RefusalsStand }
 {}
 
 /// Instructions are a program exactly where their numbers fit and they are accepted.
 pub fn programs_fit()
-    ensures { FittingPrograms }
+    ensures fit_and_accepted { FittingPrograms }
 {}
 
 /// The function that gives the program of bytes gives what is accepted.
 pub fn accepted_by_function()
-    ensures { AcceptsByFunction }
+    ensures gives_what_is_accepted { AcceptsByFunction }
 {}
 
 /// The function that gives the decision of programs gives what is decided.
 pub fn decided_by_function()
-    ensures { DecidesByFunction }
+    ensures gives_what_is_decided { DecidesByFunction }
 {}

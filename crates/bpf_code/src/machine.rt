@@ -54,7 +54,7 @@ pub enum Effect {
 impl Regs {
     /// All zero, as a program finds them.
     pub fn new() -> Self
-        ensures { result ≡ start_regs }
+        ensures all_zero { result ≡ start_regs }
     {
         Regs {
             a: 0,

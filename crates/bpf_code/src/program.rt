@@ -88,7 +88,7 @@ impl From<AllocError> for ProgramError {
 impl Fault {
     /// The refusal for this fault of the instruction at a place.
     pub fn at(self, place: u32) -> ProgramError
-        ensures { result ≡ refusal_of self place }
+        ensures of_the_fault { result ≡ refusal_of self place }
     {
         match self {
             Fault::Opcode => ProgramError::Opcode(place),
@@ -189,7 +189,7 @@ impl Program {
     /// The program of these instructions, whose bytes are accepted.
     pub fn made(insns: Vec<Insn>) -> Self
         requires { IsProgram insns.items }
-        ensures { result ≡ insns.items }
+        ensures of_the_instructions { result ≡ insns.items }
     {
         Program { insns }
     }
@@ -204,7 +204,7 @@ impl Program {
 
     /// An equal program.
     pub fn copy(&self) -> Result<Program, AllocError>
-        ensures { IfOk result (λ program. program ≡ self.now) }
+        ensures same { IfOk result (λ program. program ≡ self.now) }
     {
         Ok(Program {
             insns: self.insns.clone()?,

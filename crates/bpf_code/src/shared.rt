@@ -27,7 +27,7 @@ impl Model for SharedProgram {
 impl SharedProgram {
     /// The program, with nobody else who has it.
     pub fn new(alloc: Global, program: Program) -> Result<Self, AllocError>
-        ensures { IfOk result (λ shared. shared ≡ program) }
+        ensures of_the_program { IfOk result (λ shared. shared ≡ program) }
     {
         match Rc::new(alloc, program) {
             Ok(program) => Ok(SharedProgram { program }),
@@ -37,7 +37,7 @@ impl SharedProgram {
 
     /// The same program, for one more who has it.
     pub fn share(&self) -> Result<Self, AllocError>
-        ensures { IfOk result (λ shared. shared ≡ self.now) }
+        ensures same { IfOk result (λ shared. shared ≡ self.now) }
     {
         Ok(SharedProgram {
             program: self.program.clone()?,
@@ -46,7 +46,7 @@ impl SharedProgram {
 
     /// How many instructions it has.
     pub fn len(&self) -> usize
-        ensures { result ≡ length self.now }
+        ensures counts { result ≡ length self.now }
     {
         self.program.insns().len()
     }

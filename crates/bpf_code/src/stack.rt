@@ -91,7 +91,7 @@ fn shares(alloc: Global, programs: &[SharedProgram]) -> Result<Vec<SharedProgram
 impl Stack {
     /// A stack with no programs.
     pub fn new(alloc: Global) -> Self
-        ensures { result ≡ [] }
+        ensures empty { result ≡ [] }
     {
         Stack {
             programs: Vec::new(alloc),
@@ -100,7 +100,7 @@ impl Stack {
 
     /// An equal stack, which shares its programs with this one.
     pub fn copy(&self) -> Result<Stack, AllocError>
-        ensures { IfOk result (λ stack. stack ≡ self.now) }
+        ensures same { IfOk result (λ stack. stack ≡ self.now) }
     {
         Ok(Stack {
             programs: shares(*self.programs.allocator(), &self.programs)?,

@@ -101,7 +101,7 @@ fn first_marked(insns: &[Insn], marks: &mut [Words]) -> Option<usize>
 pub fn first_unstored(alloc: Global, insns: &[Insn]) -> Result<Option<usize>, AllocError>
     requires fine { AreFine insns.now }
     requires short { length insns.now ≤ 4096 }
-    ensures { IfOk result (λ place. MatchOption place (NoUnstored insns.now) (IsFirstUnstored insns.now)) }
+    ensures the_first { IfOk result (λ place. MatchOption place (NoUnstored insns.now) (IsFirstUnstored insns.now)) }
 {
     let mut marks = vec![in alloc; NONE; insns.len()]?;
     Ok(first_marked(insns, &mut marks))

@@ -6,7 +6,7 @@ pub loop-place-init : goal.loop-place-init
 loop-place-init c = fine_before_none c.args.insns.now
 
 pub returns-in-Some : goal.returns-in-Some
-returns-in-Some c = read_faulty _ _ _ _ _ c.loop-place-test.true refl c.in-Some.ensures c.loop-place.invariant
+returns-in-Some c = record { the_first = read_faulty _ _ _ _ _ c.loop-place-test.true refl c.in-Some.ensures c.loop-place.invariant }
 
 pub loop-place-preserved : goal.loop-place-preserved
 loop-place-preserved c = read_fine c.args.insns.now c.loop-place.place _ _ c.loop-place-test.true refl c.in_default.ensures c.loop-place.invariant
@@ -14,4 +14,4 @@ loop-place-preserved c = read_fine c.args.insns.now c.loop-place.place _ _ c.loo
 pub returns : goal.returns
 returns c =
     let all : c.loop-place.place ≡ length c.args.insns.now = omega arith in
-    fine_before_all c.args.insns.now (subst (FineBefore c.args.insns.now) all c.loop-place.invariant)
+    record { the_first = fine_before_all c.args.insns.now (subst (FineBefore c.args.insns.now) all c.loop-place.invariant) }

@@ -4,7 +4,7 @@ use Rattle.bpf_code.proofs.Runs.{remains_whole, remains_more, remains_ends}
 use Rattle.bpf_code.proofs.interpreter.run.Goals as goal
 
 pub loop-insn-init : goal.loop-insn-init
-loop-insn-init c = rw (c.insns-code.ensures.insns, c.new-regs.ensures) (remains_whole c.args.program.now c.args.input.now c.insns-code.ensures.program.accepted)
+loop-insn-init c = rw (c.insns-code.ensures.insns, c.new-regs.ensures.all_zero) (remains_whole c.args.program.now c.args.input.now c.insns-code.ensures.program.accepted)
 
 pub returns-in-End : goal.returns-in-End
 returns-in-End c =
