@@ -19,7 +19,7 @@ impl Action {
     /// The 32-bit word that a filter returns for it: SECCOMP_RET_KILL_PROCESS, SECCOMP_RET_ERRNO with the number in
     /// its low 16 bits, or SECCOMP_RET_ALLOW.
     pub fn word(self) -> u32
-        ensures { result ≡ word_of self }
+        ensures the_word { result ≡ word_of self }
     {
         match self {
             Action::KillProcess => KILL_PROCESS,

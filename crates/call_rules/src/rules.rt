@@ -32,7 +32,7 @@ impl Test {
     /// The test of argument `arg`, which a call has.
     pub fn new(arg: u8, mask: u32, value: u32) -> Self
         requires { arg ≤ 5 }
-        ensures { result ≡ record { arg = arg; mask = mask; value = value } }
+        ensures as_given { result ≡ record { arg = arg; mask = mask; value = value } }
     {
         Test { arg, mask, value }
     }
@@ -71,7 +71,7 @@ pub type CallRules = HeldList<CallRule>;
 
 /// Whether the numbers of these rules ascend strictly.
 pub fn are_ascending(calls: &[CallRule]) -> bool
-    ensures { IsTrue result ↔ IsStrictlyIncreasing (map (λ call. call.number) calls.now) }
+    ensures strictly { IsTrue result ↔ IsStrictlyIncreasing (map (λ call. call.number) calls.now) }
 {
     for at in 1..calls.len() {
         if calls[at - 1].number >= calls[at].number {

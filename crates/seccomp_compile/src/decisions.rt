@@ -73,7 +73,7 @@ fn for_arch(alloc: Global, arch: u32, other: Action, tree: Tree) -> Result<Tree,
 /// The rules as a tree: the architecture is looked at first, then the number.
 pub fn rules_tree(alloc: Global, rules: &RuleSet) -> Result<Tree, AllocError>
     requires { CanCompile rules.now }
-    ensures { IfOk result (λ tree. DecidesRules rules.now (decision_of tree)) }
+    ensures decides_the_rules { IfOk result (λ tree. DecidesRules rules.now (decision_of tree)) }
 {
     let numbers = numbers_tree(alloc, rules.calls.list(), rules.rest)?;
     let by_number = look_at(alloc, NUMBER_OFFSET, numbers)?;

@@ -16,7 +16,7 @@ fn asks_for_a_bit(test: Test) -> bool
 /// The mask of the word that is compared: where a test asks for one bit, the whole word is compared by that bit, and
 /// the tests behind it can compare the same word.
 pub fn mask_for(test: Test) -> u32
-    ensures { result ≡ mask_of test }
+    ensures of_the_test { result ≡ mask_of test }
 {
     if asks_for_a_bit(test) {
         WHOLE_WORD
@@ -27,7 +27,7 @@ pub fn mask_for(test: Test) -> u32
 
 /// How the word is compared with the value of the test.
 pub fn comparison_for(test: Test) -> Comparison
-    ensures { result ≡ comparison_of test }
+    ensures of_the_test { result ≡ comparison_of test }
 {
     if asks_for_a_bit(test) {
         Comparison::AnyBit

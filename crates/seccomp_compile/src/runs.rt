@@ -194,7 +194,7 @@ fn join(alloc: Global, runs: &mut Vec<Run>, count: usize) -> Result<Run, AllocEr
 
 /// The tree of all numbers, of which those below the runs end with the rest.
 pub fn close(alloc: Global, mut runs: Vec<Run>, rest: Action) -> Result<Tree, AllocError>
-    ensures { IfOk result (λ tree. Closes runs.items rest (decision_of tree)) }
+    ensures closes { IfOk result (λ tree. Closes runs.items rest (decision_of tree)) }
 {
     fill(alloc, &mut runs, 0, rest)?;
     let count = runs.len();

@@ -90,7 +90,7 @@ impl Tree {
         action: Action,
         otherwise: Tree,
     ) -> Result<Tree, AllocError>
-        ensures { IfOk result (λ tree. decision_of tree ≡ splits comparison value (decision_of otherwise) (ends action)) }
+        ensures splits { IfOk result (λ tree. decision_of tree ≡ splits comparison value (decision_of otherwise) (ends action)) }
     {
         Ok(Tree::Split {
             comparison,

@@ -134,7 +134,7 @@ fn values_by_tree(alloc: Global, cases: &[Case], rest: Action) -> Result<Tree, A
 
 /// A tree that finds the value of a word: the action of the first case with the value, and the rest where none has it.
 pub fn values_tree(alloc: Global, cases: &[Case], rest: Action) -> Result<Tree, AllocError>
-    ensures { IfOk result (λ tree. DecidesValues cases.now rest (decision_of tree)) }
+    ensures decides_the_values { IfOk result (λ tree. DecidesValues cases.now rest (decision_of tree)) }
 {
     if cases.len() <= MOST_IN_TURN {
         return values_in_turn(alloc, cases, rest);

@@ -80,7 +80,7 @@ fn add_meeting(found: &mut Vec<Cube>, cube: Cube, condition: Condition) -> Resul
 
 /// The words of these cubes that meet the condition.
 pub fn narrow(alloc: Global, cubes: &[Cube], condition: Condition) -> Result<Vec<Cube>, AllocError>
-    ensures { IfOk result (λ some. (word : ℕ) → word < 2 ^ 32 → is_in_any some.items word ≡ (is_in_any cubes.now word && meets condition word)) }
+    ensures those_that_meet { IfOk result (λ some. (word : ℕ) → word < 2 ^ 32 → is_in_any some.items word ≡ (is_in_any cubes.now word && meets condition word)) }
 {
     let mut found = Vec::new(alloc);
     for cube in cubes {

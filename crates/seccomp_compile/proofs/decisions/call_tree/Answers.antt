@@ -12,8 +12,8 @@ returns-in_ok-values-in-Some c =
     let values = decision_of c.in_ok-values-in-Some.values in
     if_ok (λ tree. decision_of tree ≡ looks c.arg_offset.result whole_word values) (λ tree. DecidesCall c.args.call.now (decision_of tree)) c.look_at.result
     (λ tree e. call_by_values c.args.call.now c.in-Some.arg values (decision_of tree) c.requires are.0 are.1 are.2
-    (subst (λ cases. DecidesValues cases c.args.call.now.rest values) c.list-cases.ensures.all_in_order c.in_ok-values-in-Some.ensures)
-    (e ∙ ap (λ offset. looks offset whole_word values) c.arg_offset.ensures))
+    (subst (λ cases. DecidesValues cases c.args.call.now.rest values) c.list-cases.ensures.all_in_order c.in_ok-values-in-Some.ensures.decides_the_values)
+    (e ∙ ap (λ offset. looks offset whole_word values) c.arg_offset.ensures.of_the_argument))
     c.look_at.ensures
 
 pub returns-in-None : goal.returns-in-None

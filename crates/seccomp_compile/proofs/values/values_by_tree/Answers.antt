@@ -28,4 +28,4 @@ returns c =
     if_ok (λ tree. Closes c.loop-value.runs.items c.args.rest (decision_of tree)) (λ tree. DecidesValues c.args.cases.now c.args.rest (decision_of tree)) c.close.result
     (λ tree closed. values_closed c.args.cases.now c.args.rest c.loop-value.runs.items (decision_of tree) c.requires
     (subst (λ left. Valued c.args.cases.now c.args.rest left c.loop-value.runs.items) none c.loop-value.invariant.valued) closed)
-    c.close.ensures
+    c.close.ensures.closes
