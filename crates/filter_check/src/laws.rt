@@ -3,5 +3,5 @@ ghost use Rattle.filter_check.specs.Finding.{OneFinding};
 
 /// A comparison has one answer, but for want of memory.
 pub fn one_finding()
-    ensures { OneFinding }
+    ensures only_one { OneFinding }
 {}

@@ -69,7 +69,7 @@ fn pieces(alloc: Global, text: &str) -> Result<Vec<&str>, AllocError>
 
 /// The lines of a text: what stands before each line feed.
 pub fn lines_in(alloc: Global, text: &str) -> Result<Vec<&str>, AllocError>
-    ensures { IfOk result (λ lines. map (λ line. line.now) lines.items ≡ lines_in text.now) }
+    ensures the_lines { IfOk result (λ lines. map (λ line. line.now) lines.items ≡ lines_in text.now) }
 {
     let mut lines = pieces(alloc, text)?;
     lines.pop();

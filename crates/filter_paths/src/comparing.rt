@@ -9,7 +9,7 @@ use word_sets::{Condition, Orders};
 
 /// The condition on a word under which a comparison holds where A is the word under a mask.
 pub fn condition_of(insn: Insn, mask: u32) -> Condition
-    ensures { (word : ℕ) → meets result word ≡ compares insn (bit_and word mask) }
+    ensures by_the_masked_word { (word : ℕ) → meets result word ≡ compares insn (bit_and word mask) }
 {
     if insn.code == JMP_JEQ_K {
         return Condition {

@@ -19,7 +19,7 @@ fn is_of_form(insn: Insn) -> bool
 
 /// The place of the first instruction whose code is not of the form.
 pub fn first_foreign(insns: &[Insn]) -> Option<usize>
-    ensures { MatchOption result (AreOfForm insns.now) (IsFirstForeign insns.now) }
+    ensures the_first { MatchOption result (AreOfForm insns.now) (IsFirstForeign insns.now) }
 {
     for (place, insn) in insns.iter().enumerate() {
         if !is_of_form(*insn) {

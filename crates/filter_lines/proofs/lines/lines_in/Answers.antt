@@ -7,5 +7,8 @@ use Rattle.filter_lines.proofs.lines.lines_in.Goals as goal
 pub returns : goal.returns
 returns c =
     let old = c.in_ok-lines.lines in
-    ap (map (λ line. line.now)) c.pop.ensures.rest
-    ∙ lines_cut (λ line. line.now) old.items (slice_split (λ byte. byte == 10) c.args.text.now) (vec_len old) (omega (arith, old.ok.0)) c.in_ok-lines.ensures
+    record {
+      the_lines =
+          ap (map (λ line. line.now)) c.pop.ensures.rest
+          ∙ lines_cut (λ line. line.now) old.items (slice_split (λ byte. byte == 10) c.args.text.now) (vec_len old) (omega (arith, old.ok.0)) c.in_ok-lines.ensures;
+    }

@@ -21,4 +21,4 @@ by_set insn a x y z =
     ∙ ap (λ t. cond t (nat_le insn.k a) (not (bit_and a insn.k == 0))) (ne_eqb insn.code 53 z)
 
 pub returns : goal.returns
-returns c = λ word. above_zero (bit_and word (bit_and c.args.mask c.args.insn.k)) ∙ ap (λ n. not (n == 0)) (sym (and_assoc c.args.insn.k word c.args.mask)) ∙ sym (by_set c.args.insn (bit_and word c.args.mask) c.if-insn-eq-JMP_JEQ_K.false c.if-insn-eq-JMP_JGT_K.false c.if-insn-eq-JMP_JGE_K.false)
+returns c = record { by_the_masked_word = λ word. above_zero (bit_and word (bit_and c.args.mask c.args.insn.k)) ∙ ap (λ n. not (n == 0)) (sym (and_assoc c.args.insn.k word c.args.mask)) ∙ sym (by_set c.args.insn (bit_and word c.args.mask) c.if-insn-eq-JMP_JEQ_K.false c.if-insn-eq-JMP_JGT_K.false c.if-insn-eq-JMP_JGE_K.false) }

@@ -11,7 +11,7 @@ returns-then-branch c =
     let adds = subst (λ old. AddsEnds code c.start.result c.args.most old new.items c.in_ok-add_ends.field-0) c.new-found.ensures.items c.in_ok-add_ends.ensures.adds in
     record {
       tells_paths = tells_all code c.start.result c.args.most new record { first = c.start.ensures.first; nothing = c.start.ensures.nothing }
-          (λ input fits. subst (λ region. IsWithin region input) (sym c.start.ensures.region) (c.in_ok-all.ensures input fits))
+          (λ input fits. subst (λ region. IsWithin region input) (sym c.start.ensures.region) (c.in_ok-all.ensures.every_call input fits))
           c.in_ok-add_ends.ensures.few
           (subst (AddsEnds code c.start.result c.args.most [] new.items) c.if-branch.true adds);
     }
