@@ -41,7 +41,7 @@ pub enum FilterName {
 impl FilterName {
     /// The name as it is printed.
     pub fn text(self) -> &'static str
-        ensures { result.now ≡ text_of self }
+        ensures as_printed { result.now ≡ text_of self }
     {
         match self {
             FilterName::Families => "families",

@@ -15,7 +15,7 @@ fn count_in_force(all: &[Listed]) -> usize
 
 /// The lines behind the last empty value, which resets what was listed before it.
 pub fn in_force(all: &[Listed]) -> &[Listed]
-    ensures { result.now ≡ in_force all.now }
+    ensures behind_the_last_reset { result.now ≡ in_force all.now }
 {
     &all[all.len() - count_in_force(all)..]
 }
