@@ -47,7 +47,7 @@ fn log_caps() -> CapSet
 /// PrivateDevices= CAP_MKNOD and CAP_SYS_RAWIO, ProtectKernelModules= CAP_SYS_MODULE, ProtectKernelLogs= CAP_SYSLOG.
 #[tactic(auto, unfolding(crate::specs::Bounding::taken_caps))]
 pub fn taken_caps(settings: &FilterSettings) -> CapSet
-    ensures { result ≡ taken_caps settings.now }
+    ensures by_the_settings { result ≡ taken_caps settings.now }
 {
     let protected = only_if(settings.protect_clock, clock_caps()).union(only_if(
         settings.private_devices,

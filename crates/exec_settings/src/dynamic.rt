@@ -23,7 +23,7 @@ pub fn is_dynamic(
 
 /// What the keys of the filters come to: with a dynamic user RestrictSUIDSGID= is on, whatever it says itself.
 pub fn with_dynamic_user(is_dynamic: bool, said: FilterSettings) -> FilterSettings
-    ensures { result ≡ with_dynamic_user is_dynamic said }
+    ensures as_the_user_implies { result ≡ with_dynamic_user is_dynamic said }
 {
     FilterSettings {
         restrict_suid_sgid: said.restrict_suid_sgid || is_dynamic,

@@ -17,9 +17,9 @@ fn is_named(rows: &[(&str, Meaning)], key: &str) -> bool
     rows.iter().any(|row| row.0 == key)
 }
 
-// Whether a key is a setting here, or refuses the unit.
-fn is_judged(key: &str) -> bool
-    ensures { result ≡ is_judged key.now }
+/// Whether a key is a setting here, or refuses the unit.
+pub fn is_judged(key: &str) -> bool
+    ensures by_the_keys { result ≡ is_judged key.now }
 {
     is_named(keys(), key)
 }

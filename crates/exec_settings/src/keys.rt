@@ -27,7 +27,7 @@ pub enum Meaning {
 /// The keys with what they mean, in byte order. Every other key of `[Service]` is noted, and passed over.
 #[tactic(auto, unfolding(crate::specs::Keys::keys))]
 pub fn keys() -> &'static [(&'static str, Meaning)]
-    ensures { map (λ row. (row.0.now, row.1)) result.now ≡ keys }
+    ensures all_that_are_judged { map (λ row. (row.0.now, row.1)) result.now ≡ keys }
 {
     &[
         ("AmbientCapabilities", Credentials),

@@ -27,5 +27,6 @@ mod reading;
 mod service;
 
 pub use errors::SettingsError;
+pub use judged::is_judged;
 pub use reading::settings;
 pub use service::Settings;

@@ -41,7 +41,7 @@ fn add_grammar_notes(unit: &Resolved, notes: &mut Vec<FileNote>) -> Result<(), A
 /// What is noted of the text of a unit: by the grammar, and of keys that are not judged.
 #[tactic(auto, unfolding(crate::specs::Notes::text_notes))]
 pub fn text_notes(alloc: Global, unit: &Resolved) -> Result<Vec<FileNote>, AllocError>
-    ensures { IfOk result (λ notes. notes.items ≡ text_notes unit.now) }
+    ensures of_the_unit { IfOk result (λ notes. notes.items ≡ text_notes unit.now) }
 {
     let mut notes = Vec::new(alloc);
     add_grammar_notes(unit, &mut notes)?;

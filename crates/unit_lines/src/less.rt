@@ -5,8 +5,8 @@ ghost use Rattle.std.specs.Str.{bytes_eq};
 ghost use Rattle.unit_lines.specs.Lines.{is_in_force};
 ghost use Rattle.unit_lines.specs.Without.{file_without, is_among, is_place, is_taken, kept_of, left_of, without};
 
-use crate::keys::is_judged;
 use dropin_merge::{Resolved, UnitFile, UnitFiles};
+use exec_settings::is_judged;
 use std::alloc::{AllocError, Global};
 use unit_grammar::{Assignment, Assignments, Text, UnitText};
 use unit_values::Place;

@@ -7,7 +7,6 @@
 //! `without(alloc, &unit, &[lines(alloc, &unit)?[0].place])?` is the same unit, whose files lack its first line in force.
 #![tactic(auto)]
 
-mod keys;
 mod less;
 mod line;
 mod listing;

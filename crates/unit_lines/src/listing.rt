@@ -3,9 +3,9 @@ ghost use Rattle.std.specs.Prelude.{◌≡◌, ◌++◌, [], IfOk, OnOk};
 ghost use Rattle.std.specs.List.{cons_option};
 ghost use Rattle.unit_lines.specs.Lines.{line_at, lines_of};
 
-use crate::keys::is_judged;
 use crate::line::UnitLine;
 use dropin_merge::Resolved;
+use exec_settings::is_judged;
 use std::alloc::{AllocError, Global};
 use unit_grammar::{Assignment, Text};
 use unit_values::{Place, service_assignments};

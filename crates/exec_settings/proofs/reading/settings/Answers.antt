@@ -48,7 +48,7 @@ returns-clause-settles c =
       paths_are_short = c.in_ok-mentions.ensures.short;
       all_notes_in_order =
           in_order _ _ _
-          (key_by_key unit table _ _ _ _ _ _ c.in_ok-notes.ensures
+          (key_by_key unit table _ _ _ _ _ _ c.in_ok-notes.ensures.of_the_unit
           (c.in_ok-paths.ensures.notes_behind ∙ ap (λ notes. c.in_ok-notes.notes.items ++ notes) c.in_ok-written_paths.ensures.notes_the_unread)
           c.in_ok-program.ensures.notes_the_others c.in_ok-own.ensures.noted c.in_ok-made.ensures.noted c.in_ok-mentions.ensures.noted)
           c.in_ok-put_in_order.ensures.the_same c.in_ok-put_in_order.ensures.by_files_and_lines c.in_ok-put_in_order.ensures.as_they_stood;
