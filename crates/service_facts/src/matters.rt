@@ -10,7 +10,7 @@ use mount_settings::{HomeProtection, SystemProtection};
 
 /// 1 where this is so.
 pub fn one_if(bad: bool) -> u32
-    ensures { result ≡ one_if bad }
+    ensures counts_what_is_bad { result ≡ one_if bad }
 {
     u32::from(bad)
 }

@@ -18,7 +18,7 @@ fn allows_place(calls: &CallTable, filters: &FilterSettings, place: usize) -> bo
 
 /// Whether SystemCallFilter= is off, or allows a member of the group.
 pub fn lets_through(calls: &CallTable, filters: &FilterSettings, group: &GroupLine) -> bool
-    ensures { result ≡ lets_through calls.now filters.now group.now }
+    ensures by_the_filters { result ≡ lets_through calls.now filters.now group.now }
 {
     filters.calls.is_none()
         || group

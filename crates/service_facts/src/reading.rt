@@ -88,7 +88,7 @@ pub fn read_sandbox(
     paths: &WrittenPaths,
 ) -> Result<Sandbox, AllocError>
     requires few_paths { length paths.now ≤ 128 }
-    ensures { IfOk result (λ sandbox. sandbox ≡ sandbox_of unit.now calls.now settings.now) }
+    ensures of_the_unit { IfOk result (λ sandbox. sandbox ≡ sandbox_of unit.now calls.now settings.now) }
 {
     let is_dynamic = is_dynamic(alloc, unit)?;
     Ok(Sandbox {

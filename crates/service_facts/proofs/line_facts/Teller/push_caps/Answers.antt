@@ -12,7 +12,7 @@ loop-cap-preserved c =
     (told c.loop-cap.facts.items) (told c.push_fact.new.facts.items) c.loop-cap.invariant
     (c.in_ok-push_fact.ensures
     ∙ (ap (λ name. told c.loop-cap.facts.items ++ behind c.args.self.now.front.now (name, c.one_if-badness.result) ∷ []) c.name.ensures.its_name
-    ∙ ap (λ badness. told c.loop-cap.facts.items ++ behind c.args.self.now.front.now (name_of c.loop-cap.cap, badness) ∷ []) (c.one_if-badness.ensures ∙ ap one_if c.contains.ensures.has)))
+    ∙ ap (λ badness. told c.loop-cap.facts.items ++ behind c.args.self.now.front.now (name_of c.loop-cap.cap, badness) ∷ []) (c.one_if-badness.ensures.counts_what_is_bad ∙ ap one_if c.contains.ensures.has)))
 
 pub returns : goal.returns
 returns c =
