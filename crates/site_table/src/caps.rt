@@ -36,7 +36,7 @@ fn all_caps(values: &[Value]) -> bool
 
 /// Whether each value is the name of a capability.
 pub fn are_caps(values: &[Value]) -> bool
-    ensures { result ≡ are_caps (map view values.now) }
+    ensures all_are_caps { result ≡ are_caps (map view values.now) }
 {
     all_caps(values)
 }

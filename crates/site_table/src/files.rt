@@ -49,7 +49,7 @@ pub fn is_dir(row: &Value) -> bool
 /// Whether the text is that of `/` or `/proc`, which are directories whether or not they are listed.
 /// The text of `/` is here the empty one.
 pub fn is_always_dir_text(text: &str) -> bool
-    ensures { result ≡ is_always_dir_text text.now }
+    ensures root_or_proc { result ≡ is_always_dir_text text.now }
 {
     text == "" || text == "/proc"
 }
@@ -162,7 +162,7 @@ fn read_file(path: AbsPath, row: &Value) -> Result<Row, RowCause>
 
 /// What the row of this number says, or the first cause by which it is wrong by itself.
 pub fn read_row(alloc: Global, number: u64, row: &Value) -> Result<Row, SiteError>
-    ensures { SaysRow number (view row.now) result }
+    ensures says_the_row { SaysRow number (view row.now) result }
 {
     if !has_keys(&ROW_KEYS, row) {
         return Err(SiteError::Row(number, RowCause::Key));

@@ -49,7 +49,7 @@ fn ends_before(rows: &[Row], front: &str, rest: &str) -> bool
 /// where such a row would go. Rows that come in their order are placed at once.
 pub fn search_text(rows: &[Row], front: &str, rest: &str) -> Result<usize, usize>
     requires { AreOrdered rows.now }
-    ensures { Searches rows.now (front.now ++ rest.now) result }
+    ensures searches { Searches rows.now (front.now ++ rest.now) result }
 {
     if ends_before(rows, front, rest) {
         return Err(rows.len());

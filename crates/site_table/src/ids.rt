@@ -84,7 +84,7 @@ fn all_ids(values: &[Value]) -> bool
 
 /// The ids of the array at a key.
 pub fn ids_at(alloc: Global, value: &Value, key: &str) -> Result<Ids, AllocError>
-    ensures { IfOk result (λ ids. ids ≡ ids_at key.now (view value.now)) }
+    ensures listed_ids { IfOk result (λ ids. ids ≡ ids_at key.now (view value.now)) }
 {
     let ids = ids(alloc, elements_at(value, key))?;
     Ok(Ids::new(ids))
@@ -92,7 +92,7 @@ pub fn ids_at(alloc: Global, value: &Value, key: &str) -> Result<Ids, AllocError
 
 /// Whether each element of the array at a key is an id.
 pub fn are_ids(value: &Value, key: &str) -> bool
-    ensures { result ≡ are_ids key.now (view value.now) }
+    ensures all_are_ids { result ≡ are_ids key.now (view value.now) }
 {
     all_ids(elements_at(value, key))
 }

@@ -58,7 +58,7 @@ pub type OrderedRows = HeldList<Row>;
 
 /// Where a row of this path goes; None where one stands there.
 pub fn place_for(ordered: &OrderedRows, path: &AbsPath) -> Option<usize>
-    ensures { MatchOption result (has_row ordered.now path.now ≡ true) (GoesAt ordered.now path.now) }
+    ensures where_it_goes { MatchOption result (has_row ordered.now path.now ≡ true) (GoesAt ordered.now path.now) }
 {
     search(ordered.list(), path, "").err()
 }

@@ -143,7 +143,7 @@ fn read_owners<O: Owner>(
 
 /// The users that the elements of the tree describe, or the first that is wrong.
 pub fn read_users(alloc: Global, users: &[Value]) -> Result<NameTable<User>, SiteError>
-    ensures { IsUnlessMemory (λ read. read) result
+    ensures reads_the_users { IsUnlessMemory (λ read. read) result
         (unless_fault (user_faults (map view users.now)) (map user_of (map view users.now))) }
 {
     read_owners(alloc, OwnerKind::User, users)
@@ -151,7 +151,7 @@ pub fn read_users(alloc: Global, users: &[Value]) -> Result<NameTable<User>, Sit
 
 /// The groups that the elements of the tree describe, or the first that is wrong.
 pub fn read_groups(alloc: Global, groups: &[Value]) -> Result<NameTable<Group>, SiteError>
-    ensures { IsUnlessMemory (λ read. read) result
+    ensures reads_the_groups { IsUnlessMemory (λ read. read) result
         (unless_fault (group_faults (map view groups.now)) (map group_of (map view groups.now))) }
 {
     read_owners(alloc, OwnerKind::Group, groups)

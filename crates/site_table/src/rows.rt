@@ -155,7 +155,7 @@ fn complete(alloc: Global, mut ordered: OrderedRows) -> Result<Vec<Row>, AllocEr
 /// The rows that the elements of the tree describe, in byte order of their paths, with `/` and `/proc`
 /// among them; or the first fault of the first row that has one.
 pub fn read_rows(alloc: Global, rows: &[Value]) -> Result<Vec<Row>, SiteError>
-    ensures { IsUnlessMemory (λ read. read.items) result
+    ensures reads_the_rows { IsUnlessMemory (λ read. read.items) result
         (unless_fault (row_faults (map view rows.now))
         (rows_in_order (with_fixed (map row_of (map view rows.now))))) }
 {

@@ -25,7 +25,7 @@ impl Model for Seen {
 impl Seen {
     /// No text.
     pub fn new(alloc: Global) -> Seen
-        ensures { result ≡ [] }
+        ensures empty { result ≡ [] }
     {
         Seen {
             texts: BTreeSet::new(alloc),
@@ -34,14 +34,14 @@ impl Seen {
 
     /// Whether the text is among them.
     pub fn has(&self, text: &str) -> bool
-        ensures { result ≡ has_text self.now text.now }
+        ensures has_it { result ≡ has_text self.now text.now }
     {
         self.texts.contains(text)
     }
 
     /// Takes a text up.
     pub fn add(&mut self, alloc: Global, text: &str) -> Result<(), AllocError>
-        ensures { OnOk result ((other : List ℕ)
+        ensures takes_it_up { OnOk result ((other : List ℕ)
             → has_text self.new other ≡ (has_text self.old other || bytes_eq other text.now)) }
     {
         let copy = String::from_str(alloc, text)?;

@@ -113,7 +113,7 @@ impl SiteTable {
     /// The row at the front with the rest behind it, as `AbsPath::rest` answers it.
     pub fn row_behind(&self, front: &AbsPath, rest: &str) -> Option<&Row>
         requires { IsRest rest.now }
-        ensures { option_map (λ row. row.now) result ≡ row_at self.now.rows (front.now ++ parts_of rest.now) }
+        ensures the_row { option_map (λ row. row.now) result ≡ row_at self.now.rows (front.now ++ parts_of rest.now) }
     {
         match self.find(front, rest) {
             None => None,

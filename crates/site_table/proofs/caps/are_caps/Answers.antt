@@ -6,4 +6,4 @@ use Rattle.site_table.specs.Caps.{as_cap}
 use Rattle.site_table.proofs.caps.are_caps.Goals as goal
 
 pub returns : goal.returns
-returns c = c.all_caps.ensures ∙ sym (list_all-map (λ value. is_some (as_cap value)) view c.args.values.now)
+returns c = record { all_are_caps = c.all_caps.ensures ∙ sym (list_all-map (λ value. is_some (as_cap value)) view c.args.values.now) }

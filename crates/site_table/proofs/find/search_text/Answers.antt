@@ -10,5 +10,8 @@ pub returns : goal.returns
 returns c =
     let facts = c.binary_search_by.ensures in
     let text = c.args.front.now ++ c.args.rest.now in
-    searched c.args.rows.now text c.binary_search_by.result c.requires.ascending facts.bound
-    (facts.position (λ (row : Row). slice_cmp nat_cmp (tail_of row.path) text) (always_returns_same _ _ _ (λ a r f called. (search rules, search rules))))
+    record {
+      searches =
+          searched c.args.rows.now text c.binary_search_by.result c.requires.ascending facts.bound
+          (facts.position (λ (row : Row). slice_cmp nat_cmp (tail_of row.path) text) (always_returns_same _ _ _ (λ a r f called. (search rules, search rules))));
+    }

@@ -7,6 +7,8 @@ use Rattle.site_table.specs.Ids.{as_id}
 use Rattle.site_table.proofs.ids.are_ids.Goals as goal
 
 pub returns : goal.returns
-returns c =
-    c.all_ids.ensures ∙ sym (list_all-map (λ value. is_some (as_id value)) view c.elements_at.result.now)
-    ∙ ap (list_all (λ value. is_some (as_id value))) c.elements_at.ensures.all_in_order
+returns c = record {
+  all_are_ids =
+      c.all_ids.ensures ∙ sym (list_all-map (λ value. is_some (as_id value)) view c.elements_at.result.now)
+      ∙ ap (list_all (λ value. is_some (as_id value))) c.elements_at.ensures.all_in_order;
+}

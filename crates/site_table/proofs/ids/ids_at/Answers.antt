@@ -9,6 +9,8 @@ filter_map-map f g [] = refl
 filter_map-map f g (x ∷ xs) = ap (cons_option (f (g x))) (filter_map-map f g xs)
 
 pub returns : goal.returns
-returns c =
-    c.new.ensures.holds_them ∙ c.in_ok-ids.ensures ∙ filter_map-map as_id view c.elements_at.result.now
-    ∙ ap (filter_map as_id) c.elements_at.ensures.all_in_order
+returns c = record {
+  listed_ids =
+      c.new.ensures.holds_them ∙ c.in_ok-ids.ensures ∙ filter_map-map as_id view c.elements_at.result.now
+      ∙ ap (filter_map as_id) c.elements_at.ensures.all_in_order;
+}

@@ -8,7 +8,7 @@ use Rattle.site_table.proofs.RowsRead.{folders_more}
 use Rattle.site_table.proofs.rows.listed_folders.Goals as goal
 
 pub loop-row-init : goal.loop-row-init
-loop-row-init c = λ text. ap (λ texts. has_text texts text) c.new-folders.ensures
+loop-row-init c = λ text. ap (λ texts. has_text texts text) c.new-folders.ensures.empty
 
 pub loop-row-preserved : goal.loop-row-preserved
 loop-row-preserved c =

@@ -15,13 +15,19 @@ pub returns-in_err-ordered : goal.returns-in_err-ordered
 returns-in_err-ordered c =
     let p = err_from_is_err_and c.from_residual.result c.from_residual.ensures.1 in
     let rows = map view c.args.rows.now in
-    rw (p.1, p.2)
-    (stops_also (λ (ordered : List Row). ordered) (λ (read : Vec Row Global). read.items) (row_faults rows) (rows_in_order (map row_of rows)) (rows_in_order (with_fixed (map row_of rows)))
-    c.in_err-ordered.field-0.0 c.in_err-ordered.ensures)
+    record {
+      reads_the_rows =
+          rw (p.1, p.2)
+          (stops_also (λ (ordered : List Row). ordered) (λ (read : Vec Row Global). read.items) (row_faults rows) (rows_in_order (map row_of rows)) (rows_in_order (with_fixed (map row_of rows)))
+          c.in_err-ordered.field-0.0 c.in_err-ordered.ensures);
+    }
 
 pub returns : goal.returns
 returns c =
     let rows = map view c.args.rows.now in
     let said = accepted (row_faults rows) (rows_in_order (map row_of rows)) c.in_ok-ordered.ordered c.in_ok-ordered.ensures in
-    ap (λ faults. unless_fault faults (rows_in_order (with_fixed (map row_of rows)))) said.0
-    ∙ ap Ok (sym (fixed_is (map row_of rows) (listed_normal rows said.0)) ∙ ap fixed_placed said.1 ∙ sym c.in_ok-complete.ensures)
+    record {
+      reads_the_rows =
+          ap (λ faults. unless_fault faults (rows_in_order (with_fixed (map row_of rows)))) said.0
+          ∙ ap Ok (sym (fixed_is (map row_of rows) (listed_normal rows said.0)) ∙ ap fixed_placed said.1 ∙ sym c.in_ok-complete.ensures);
+    }
