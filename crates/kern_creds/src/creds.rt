@@ -28,7 +28,7 @@ pub struct Creds {
 impl Creds {
     /// The credentials of the first process: all ids 0, no groups, and the permitted, effective and bounding sets full.
     pub fn start(alloc: Global) -> Creds
-        ensures { result ≡ start }
+        ensures as_at_the_start { result ≡ start }
     {
         Creds {
             uids: Ids::all_of(0),
@@ -46,7 +46,7 @@ impl Creds {
 
     /// Equal credentials.
     pub fn copy(&self) -> Result<Creds, AllocError>
-        ensures { IfOk result (λ creds. creds ≡ self.now) }
+        ensures same { IfOk result (λ creds. creds ≡ self.now) }
     {
         Ok(Creds {
             uids: self.uids,
@@ -96,7 +96,7 @@ impl Creds {
 
     /// The effective set: what the kernel asks for.
     pub fn effective(&self) -> CapSet
-        ensures { result ≡ self.now.effective }
+        ensures as_held { result ≡ self.now.effective }
     {
         self.effective
     }
@@ -139,7 +139,7 @@ impl Creds {
     /// The process enters a user namespace of its own, user_namespaces(7): the permitted, effective and bounding sets are full, the
     /// inheritable and ambient ones empty, and keepcaps is cleared. The ids, the groups and no_new_privs stay.
     pub fn enter(&mut self)
-        ensures { self.new ≡ entered self.old }
+        ensures entered { self.new ≡ entered self.old }
     {
         self.permitted = CapSet::full();
         self.effective = CapSet::full();

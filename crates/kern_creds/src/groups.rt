@@ -29,7 +29,7 @@ impl Model for Groups {
 impl Groups {
     /// No groups.
     pub fn new(alloc: Global) -> Groups
-        ensures { result ≡ [] }
+        ensures empty { result ≡ [] }
     {
         Groups { alloc, ids: None }
     }
@@ -56,7 +56,7 @@ impl Groups {
 
     /// Equal groups, which these and the new ones share.
     pub fn copy(&self) -> Result<Groups, AllocError>
-        ensures { IfOk result (λ groups. groups ≡ self.now) }
+        ensures same { IfOk result (λ groups. groups ≡ self.now) }
     {
         Ok(Groups {
             alloc: self.alloc,

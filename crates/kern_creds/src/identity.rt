@@ -71,7 +71,7 @@ impl Creds {
     ///
     /// EPERM without CAP_SETUID, where one of them is none of the three old ones.
     pub fn setresuid(&mut self, real: u32, effective: u32, saved: u32) -> Result<(), u32>
-        ensures { Becomes self.old self.new result (after_setresuid self.old real effective saved) }
+        ensures by_the_rule { Becomes self.old self.new result (after_setresuid self.old real effective saved) }
     {
         let privileged = self.effective.contains(CAP_SETUID);
         let uids = self.uids.set_all(privileged, real, effective, saved)?;

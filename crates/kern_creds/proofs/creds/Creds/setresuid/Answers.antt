@@ -8,6 +8,9 @@ use Rattle.kern_creds.proofs.creds.Creds.setresuid.Goals as goal
 pub returns : goal.returns
 returns c =
     let old = c.args.self.now in
-    ids_made (with_uids old) (has old.effective 7) old.uids c.args.real c.args.effective c.args.saved c.in_ok-uids.uids
-    (c.in_ok-uids.ensures ∙ ap (λ b. set_all_ids (λ i. i) b old.uids c.args.real c.args.effective c.args.saved) c.contains-privileged.ensures.has)
-    ∙ ap Ok (sym c.take_uids.ensures)
+    record {
+      by_the_rule =
+          ids_made (with_uids old) (has old.effective 7) old.uids c.args.real c.args.effective c.args.saved c.in_ok-uids.uids
+          (c.in_ok-uids.ensures ∙ ap (λ b. set_all_ids (λ i. i) b old.uids c.args.real c.args.effective c.args.saved) c.contains-privileged.ensures.has)
+          ∙ ap Ok (sym c.take_uids.ensures);
+    }
