@@ -100,9 +100,6 @@ impl AbsPath {
         requires short { length (tail_of (onto.now ++ rest_of front.now self.now)) ≤ 512 }
         ensures moved { IfOk result (λ path. path ≡ onto.now ++ rest_of front.now self.now) }
     {
-        match front.rest(self) {
-            None => unreachable!(),
-            Some(rest) => onto.with_rest(alloc, rest),
-        }
+        onto.with_rest(alloc, front.rest(self).unwrap())
     }
 }
