@@ -26,6 +26,10 @@ is_root (part ∷ path) = false
 abbrev pub is_idle : List ℕ → Bool
 is_idle part = bytes_eq part [] || bytes_eq part (codes ".")
 
+-- the folder of the processes, proc(5)
+abbrev pub proc : Path
+proc = codes "proc" ∷ []
+
 -- what stands between the slashes of a text
 abbrev pub pieces_of : List ℕ → List (List ℕ)
 pieces_of text = slice_split (λ byte. byte == ascii "/") text

@@ -6,7 +6,7 @@ mod prefix;
 mod read;
 
 ghost use Rattle.std.specs.Prelude.{◌≡◌, ◌≤◌, IsTrue, IfOk, length, []};
-ghost use Rattle.abs_path.specs.Paths.{text_of, tail_of, is_root, is_normal};
+ghost use Rattle.abs_path.specs.Paths.{text_of, tail_of, is_root, is_normal, proc};
 ghost use Rattle.std.specs.Ordering.{nat_cmp};
 ghost use Rattle.std.specs.Cmp.Lexicographic.{slice_cmp};
 
@@ -43,6 +43,14 @@ impl AbsPath {
         AbsPath {
             tail: String::new(alloc),
         }
+    }
+
+    /// The folder of the processes, `/proc` of proc(5).
+    pub fn proc(alloc: Global) -> Result<AbsPath, AllocError>
+        ensures of_the_processes { IfOk result (λ path. path ≡ proc) }
+    {
+        let tail = String::from_str(alloc, "/proc")?;
+        Ok(AbsPath { tail })
     }
 
     /// The text: a lone slash for the root, else the parts, each behind a slash.
