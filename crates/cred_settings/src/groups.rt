@@ -7,7 +7,7 @@ use site_table::SiteTable;
 
 /// The group that a word names: a group of the site by its name, else a number.
 pub fn gid_meant(site: &SiteTable, word: &str) -> Option<u32>
-    ensures { result ≡ gid_meant site.now word.now }
+    ensures gid_or_none { result ≡ gid_meant site.now word.now }
 {
     match site.group(word) {
         Some(group) => Some(group.gid),

@@ -17,7 +17,7 @@ pub fn term(badness: u32, range: u32, weight: u32) -> u32
 /// The sum of the weights.
 pub fn sum_of_weights(rows: &[ScoreRow]) -> u64
     requires { length rows.now ≤ 512 }
-    ensures { result ≡ sum_by (λ row. row.weight) rows.now }
+    ensures the_sum { result ≡ sum_by (λ row. row.weight) rows.now }
 {
     rows.iter().map(|row| u64::from(row.weight)).sum()
 }
@@ -25,7 +25,7 @@ pub fn sum_of_weights(rows: &[ScoreRow]) -> u64
 /// The sum of the terms.
 pub fn sum_of_terms(rows: &[ScoreRow]) -> u64
     requires { length rows.now ≤ 512 }
-    ensures { result ≡ sum_by (λ row. row.term) rows.now }
+    ensures the_sum { result ≡ sum_by (λ row. row.term) rows.now }
 {
     rows.iter().map(|row| u64::from(row.term)).sum()
 }
@@ -35,7 +35,7 @@ pub fn exposure(terms: u64, weights: u64) -> u32
     requires part { terms ≤ weights }
     requires some { 0 < weights }
     requires fits { weights ≤ 512000000 }
-    ensures { result ≡ exposure terms weights }
+    ensures in_hundredths { result ≡ exposure terms weights }
 {
     (100 * terms).div_ceil(weights) as u32
 }

@@ -34,7 +34,7 @@ fn stored_of<'a>(tests: &'a [CustomTest], id: &str) -> Option<&'a CustomTest>
 /// The badness of the test of an identifier: by the facts, else by the first stored test of it; None where
 /// there is neither.
 pub fn badness_of(id: &str, facts: &Facts, tests: &[CustomTest]) -> Option<u32>
-    ensures { HasBadness (λ test. test.id) (λ test. Gives (Check.post test.check) test.range facts.now)
+    ensures by_fact_or_test { HasBadness (λ test. test.id) (λ test. Gives (Check.post test.check) test.range facts.now)
         facts.now.tests tests.now id.now result }
 {
     match fact_of(facts, id) {

@@ -29,7 +29,7 @@ pub fn at_path<'a>(
     mentions: &'a [Mention],
     path: &AbsPath,
 ) -> Result<Vec<&'a Mention>, AllocError>
-    ensures { IfOk result (λ found.
+    ensures those_at_the_path { IfOk result (λ found.
         map (λ mention. mention.now) found.items ≡ at_path path.now mentions.now) }
 {
     mentions
@@ -67,7 +67,7 @@ fn is_beaten(here: &[&Mention], later: &[&Mention], kind: &Kind) -> bool
 
 /// Those of the mentions at one path that no other beats.
 pub fn unbeaten<'a>(alloc: Global, here: &[&'a Mention]) -> Result<Vec<&'a Mention>, AllocError>
-    ensures { IfOk result (λ found. map (λ mention. mention.now) found.items
+    ensures none_is_beaten { IfOk result (λ found. map (λ mention. mention.now) found.items
         ≡ unbeaten (map (λ mention. mention.now) here.now)) }
 {
     let mut found = Vec::new(alloc);
@@ -121,7 +121,7 @@ fn puts(site: &SiteTable, beneath: Beneath, mention: &Mention) -> bool
 
 /// Whether an empty file system or a bind is kept at the path of these mentions.
 pub fn is_put(site: &SiteTable, beneath: Beneath, here: &[&Mention]) -> bool
-    ensures { result ≡ list_any (puts (host_of site.now) beneath) (map (λ mention. mention.now) here.now) }
+    ensures some_is_put { result ≡ list_any (puts (host_of site.now) beneath) (map (λ mention. mention.now) here.now) }
 {
     here.iter().any(|mention| puts(site, beneath, mention))
 }

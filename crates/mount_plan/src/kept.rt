@@ -43,7 +43,7 @@ fn beneath_mention(site: &SiteTable, mention: &Mention, path: &AbsPath) -> Benea
 
 /// What the longest kept mention above the path that says what stands there gives at the path.
 pub fn beneath_at(site: &SiteTable, kept: &[Mention], path: &AbsPath) -> Beneath
-    ensures { result ≡ beneath_at (host_of site.now) kept.now path.now }
+    ensures by_the_longest_above { result ≡ beneath_at (host_of site.now) kept.now path.now }
 {
     match origin_above(kept, path) {
         None => beneath_row(row_at(site, path)),
@@ -160,7 +160,7 @@ pub fn kept_at_all(
     mentions: &[Mention],
     paths: &[AbsPath],
 ) -> Result<Vec<Mention>, PlanError>
-    ensures { Keeps (kept_from (host_of site.now) mentions.now paths.now []) result }
+    ensures kept_or_refused { Keeps (kept_from (host_of site.now) mentions.now paths.now []) result }
 {
     let mut kept = Vec::new(alloc);
     for path in paths {

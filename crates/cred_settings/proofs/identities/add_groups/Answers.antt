@@ -14,7 +14,7 @@ returns-in-None-clause-refused c =
     let word = c.word-item.result in
     let found =
     first_found (names_no_group site) words c.loop-word.word-index word c.loop-word-test.true c.word-item.is c.loop-word.invariant.none_is_bad
-    (names_none site word (c.in-None.ensures ∙ ap (gid_meant site) c.as_str.ensures.same_text)) in
+    (names_none site word (c.in-None.ensures.gid_or_none ∙ ap (gid_meant site) c.as_str.ensures.same_text)) in
     subst (λ bad. IsOfGroup bad c.no_such_group.result) (ap Some c.as_str-in-None.ensures.same_text ∙ sym found) c.no_such_group.ensures
 
 pub loop-word-preserved : goal.loop-word-preserved
@@ -22,7 +22,7 @@ loop-word-preserved c =
     let site = c.args.site.now in
     let words = c.args.words.now in
     let word = c.word-item.result in
-    let named = c.in-Some.ensures ∙ ap (gid_meant site) c.as_str.ensures.same_text in
+    let named = c.in-Some.ensures.gid_or_none ∙ ap (gid_meant site) c.as_str.ensures.same_text in
     record {
       added =
           added_by_some (gid_meant site) words c.loop-word.word-index word c.args.groups.now _ _ c.loop-word-test.true c.word-item.is c.loop-word.invariant.added

@@ -7,4 +7,7 @@ returns-in_ok-stored_of-in-None g c =
     let f = c.in-None.ensures in
     let s = c.in_ok-stored_of-in-None.ensures in
     let a = c.answer.ensures in
-    by_stored _ _ _ c.in_ok-stored_of-in-None.field-0.now c.answer.result (sym f) (sym s) (record { shown = c.args.facts; shows = refl; says = a.says; within_range = a.within_range })
+    record {
+      by_fact_or_test =
+          by_stored _ _ _ c.in_ok-stored_of-in-None.field-0.now c.answer.result (sym f) (sym s) (record { shown = c.args.facts; shows = refl; says = a.says; within_range = a.within_range });
+    }

@@ -8,8 +8,8 @@ use Rattle.mount_plan.proofs.kept.keep_at.Goals as goal
 pub returns : goal.returns
 returns c =
     let row_at = host_of c.args.site.now in
-    let beneath = c.beneath_at-beneath.ensures ∙ ap (λ kept. beneath_at row_at kept c.args.path.now) c.deref.ensures.value in
-    let here = ap (map (λ mention. mention.now)) c.deref-3.ensures.value ∙ c.in_ok-here-2.ensures ∙ ap unbeaten (ap (map (λ mention. mention.now)) c.deref-2.ensures.value ∙ c.in_ok-here.ensures) in
+    let beneath = c.beneath_at-beneath.ensures.by_the_longest_above ∙ ap (λ kept. beneath_at row_at kept c.args.path.now) c.deref.ensures.value in
+    let here = ap (map (λ mention. mention.now)) c.deref-3.ensures.value ∙ c.in_ok-here-2.ensures.none_is_beaten ∙ ap unbeaten (ap (map (λ mention. mention.now)) c.deref-2.ensures.value ∙ c.in_ok-here.ensures.those_at_the_path) in
     subst (λ (found : Result (List Mention) Refusal). AddsKept found c.args.kept.now.items c.keep.new.kept.items c.keep.result)
     (ap (λ b. kept_among row_at b (map (λ mention. mention.now) c.deref-3.result.now)) beneath ∙ ap (kept_among row_at (beneath_at row_at c.args.kept.now.items c.args.path.now)) here)
     c.keep.ensures
