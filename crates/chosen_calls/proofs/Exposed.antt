@@ -2,7 +2,7 @@
 use Rattle.std.proofs.Common.{◌≡◌, ℕ, true, false, List, ◌∷◌, ◌++◌, Option, Some, None, refl, ap, ◌∙◌, sym, subst, arith, ◌<◌, length, inl, inr}
 use Rattle.std.specs.Prelude.{◌^◌, ◌+◌, drop, slice_get, unwrap_or, is_some}
 use Rattle.std.specs.List.{AllByRecursion}
-use Rattle.abs_path.specs.Paths.{Path}
+use Rattle.abs_path.specs.Paths.{Path, proc}
 use Rattle.abs_path.specs.Prefix.{rest_of}
 use Rattle.call_names.specs.declared.rule.CallRule.TheVariants as known
 use Rattle.cap_sets.specs.Sets.{has}
@@ -11,7 +11,7 @@ use Rattle.site_table.specs.Table.{row_at}
 use Rattle.kern_creds.specs.declared.creds.Creds.{Creds}
 use Rattle.kern_mounts.specs.Entry.{leads_to, entry_of}
 use Rattle.kern_mounts.specs.Finds.{found_at, found_by, row_or_nothing}
-use Rattle.kern_mounts.specs.Launch.{HasShortPlace, IsNotNoSuid, proc}
+use Rattle.kern_mounts.specs.Launch.{HasShortPlace, IsNotNoSuid}
 use Rattle.kern_mounts.specs.Split.{Table}
 use Rattle.kern_mounts.specs.Unmounts as u
 use Rattle.kern_mounts.specs.Unmounts.{Unmounts}

@@ -1,9 +1,8 @@
 -- The path by which a row of the host is named, and the calls that expose it there, by how far mount tables can be changed (mount(2),
 -- umount2(2)).
 use Rattle.std.specs.Prelude.{◌≡◌, ◌≤◌, ℕ, ◌+◌, true, List, [], ◌++◌, length, drop, slice_get, Option, Some, None, unwrap_or}
-use Rattle.abs_path.specs.Paths.{Path, tail_of}
+use Rattle.abs_path.specs.Paths.{Path, tail_of, proc}
 use Rattle.abs_path.specs.Prefix.{is_prefix, rest_of}
-use Rattle.kern_mounts.specs.Launch.{proc}
 use Rattle.kern_mounts.specs.Split.{Table}
 use Rattle.kern_mounts.specs.declared.step.MountStep.{MountStep}
 use Rattle.kern_mounts.specs.declared.step.What.{What}

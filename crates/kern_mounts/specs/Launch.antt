@@ -1,8 +1,8 @@
 -- What a launch asks of a table of mounts, and what it makes of one: each step adds an entry at a place of its own, and none
 -- is refused (mount(2), mount_namespaces(7)).
-use Rattle.std.specs.Prelude.{◌≡◌, ◌≢◌, ◌≤◌, ◌⊎◌, ⊤, Bool, true, false, codes, List, [], ◌∷◌, ◌++◌, length, map, Option, Some}
+use Rattle.std.specs.Prelude.{◌≡◌, ◌≢◌, ◌≤◌, ◌⊎◌, ⊤, Bool, true, false, List, [], ◌∷◌, ◌++◌, length, map, Option, Some}
 use Rattle.std.specs.List.{AllByRecursion}
-use Rattle.abs_path.specs.Paths.{Path, text_of, is_normal}
+use Rattle.abs_path.specs.Paths.{Path, text_of, is_normal, proc}
 use Rattle.abs_path.specs.ByteOrder.{AreAscending}
 use Rattle.kern_mounts.specs.declared.step.Flags.{Flags}
 use Rattle.kern_mounts.specs.declared.step.What.{What}
@@ -45,10 +45,6 @@ IsDirectory (nothing errno) = ⊥
 -- the path is the place of a hidden directory, and belongs to that entry
 abbrev pub IsHiddenDirectory : List MountStep → Path → Type 0
 IsHiddenDirectory table path = (step : MountStep) × (entry_of table path ≡ Some step) × (step.place ≡ path) × (step.what ≡ Hidden true)
-
--- the folder of the processes, proc(5)
-abbrev pub proc : Path
-proc = codes "proc" ∷ []
 
 -- it is found as a directory, or is the place of a hidden one; the rows of a site say whether they are directories
 abbrev pub FindsProc : (Path → Option Bool) → List MountStep → Type 0

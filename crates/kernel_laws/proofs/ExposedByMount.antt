@@ -3,7 +3,7 @@ use Rattle.std.proofs.Common.{◌≡◌, ℕ, true, false, [], ◌∷◌, ◌++�
 use Rattle.std.specs.Prelude.{option_and_then, codes, nat_lt, ◌+◌}
 use Rattle.std.specs.List.{AllByRecursion}
 use Rattle.std.proofs.lemmas.Bool.Decides.{nat_tests}
-use Rattle.abs_path.specs.Paths.{Path, is_root}
+use Rattle.abs_path.specs.Paths.{Path, is_root, proc}
 use Rattle.abs_path.specs.Prefix.{is_prefix, rest_of}
 use Rattle.abs_path.proofs.Prefixes.{prefix-append}
 use Rattle.site_table.specs.declared.row.Row.{Row}
@@ -11,7 +11,6 @@ use Rattle.kern_mounts.specs.Entry.{leads_to, entry_of}
 use Rattle.kern_mounts.specs.Finds.{finds, found_at, found_by, row_or_nothing, host_place, host_place_by}
 use Rattle.kern_mounts.specs.declared.step.What.TheVariants.{Host}
 use Rattle.kern_mounts.specs.declared.step.MountStep.{MountStep}
-use Rattle.kern_mounts.specs.Launch.{proc}
 use Rattle.kern_mounts.proofs.Entries.{entry_push}
 use Rattle.kernel_laws.specs.Blind.{SeesBelow, ExposedByMount}
 use Rattle.kern_mounts.specs.Split.{Table, split_at}

@@ -2,13 +2,13 @@
 use Rattle.std.specs.Prelude.{◌≡◌, ◌≤◌, ◌<◌, Bool, true, false, ◌&&◌, ◌||◌, not, [], ◌∷◌, ◌++◌, length, Option, Some, Ok}
 use Rattle.std.specs.List.{list_any, AllByRecursion}
 use Rattle.linux_numbers.specs.Limits.{mount_max}
-use Rattle.abs_path.specs.Paths.{Path, text_of, is_normal, is_root}
+use Rattle.abs_path.specs.Paths.{Path, text_of, is_normal, is_root, proc}
 use Rattle.abs_path.specs.Prefix.{is_prefix, is_below, rest_of}
 use Rattle.site_table.specs.Kinds.{is_dir}
 use Rattle.site_table.specs.declared.row.Row.{Row}
 use Rattle.kern_mounts.specs.Entry.{leads_to}
 use Rattle.kern_mounts.specs.Finds.{host_place}
-use Rattle.kern_mounts.specs.Launch.{HasShortPlace, proc}
+use Rattle.kern_mounts.specs.Launch.{HasShortPlace}
 use Rattle.kern_mounts.specs.Split.{Table}
 use Rattle.kern_mounts.specs.Unmounts.{Unmounts, IsOrdered}
 use Rattle.kern_mounts.specs.declared.step.What.{What}

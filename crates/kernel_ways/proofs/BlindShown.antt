@@ -6,7 +6,7 @@ use Rattle.std.proofs.lemmas.Bool.{and_from, not-false}
 use Rattle.std.proofs.lemmas.List.Folds.{list_all-append}
 use Rattle.linux_numbers.specs.Errnos.{enospc, enotdir}
 use Rattle.linux_numbers.specs.Limits.{mount_max}
-use Rattle.abs_path.specs.Paths.{Path, tail_of, text_of, is_part}
+use Rattle.abs_path.specs.Paths.{Path, tail_of, text_of, is_part, proc}
 use Rattle.abs_path.specs.Prefix.{is_prefix, is_below, rest_of}
 use Rattle.abs_path.proofs.ByteOrder.{tail-append}
 use Rattle.abs_path.proofs.Prefixes.{prefix-append}
@@ -17,7 +17,7 @@ use Rattle.kern_creds.specs.declared.creds.Creds.{Creds}
 use Rattle.kern_mounts.specs.Bind.{bound, bound_entry, object_at, after_bind}
 use Rattle.kern_mounts.specs.Entry.{leads_to, entry_of}
 use Rattle.kern_mounts.specs.Finds.{finds, host_place, host_place_by}
-use Rattle.kern_mounts.specs.Launch.{BeginsAtRoot, HasShortPlace, proc}
+use Rattle.kern_mounts.specs.Launch.{BeginsAtRoot, HasShortPlace}
 use Rattle.kern_mounts.specs.Mounts.{steps_of}
 use Rattle.kern_mounts.proofs.Plain.{steps_plain}
 use Rattle.kern_mounts.specs.Split.{Table, Split, split_at}

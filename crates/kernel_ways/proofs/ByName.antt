@@ -2,7 +2,7 @@
 use Rattle.std.proofs.Common.{◌≡◌, map, ℕ, true, List, [], ◌∷◌, ◌++◌, Some, None, Ok, refl, cond, ap, ◌∙◌, sym, subst, arith, ◌<◌}
 use Rattle.std.specs.Prelude.{◌^◌, ◌%◌, ◌-◌, slice_get}
 use Rattle.std.specs.List.{AllByRecursion}
-use Rattle.abs_path.specs.Paths.{Path}
+use Rattle.abs_path.specs.Paths.{Path, proc}
 use Rattle.abs_path.specs.Prefix.{rest_of}
 use Rattle.abs_path.proofs.Prefixes.{prefix-append, rest-append}
 use Rattle.linux_numbers.specs.Errnos.{eperm}
@@ -12,7 +12,7 @@ use Rattle.site_table.specs.Table.{Site, row_at}
 use Rattle.kern_creds.specs.declared.creds.Creds.{Creds}
 use Rattle.kern_mounts.specs.Entry.{leads_to, entry_of}
 use Rattle.kern_mounts.specs.Finds.{found_at, found_by, row_or_nothing}
-use Rattle.kern_mounts.specs.Launch.{HasShortPlace, proc}
+use Rattle.kern_mounts.specs.Launch.{HasShortPlace}
 use Rattle.kern_mounts.specs.Answer.{plain_answer}
 use Rattle.kern_mounts.specs.Mounts.{plain, steps_of}
 use Rattle.kern_mounts.proofs.Plain.{steps_plain}

@@ -2,13 +2,13 @@
 use Rattle.std.proofs.Common.{◌≡◌, ℕ, Bool, true, false, List, [], ◌∷◌, ◌++◌, Option, Some, None, refl, ap, ◌∙◌, sym, subst, arith, ◌<◌, ◌⊎◌, inl, inr}
 use Rattle.std.specs.Prelude.{◌^◌}
 use Rattle.std.specs.List.{AllByRecursion}
-use Rattle.abs_path.specs.Paths.{Path}
+use Rattle.abs_path.specs.Paths.{Path, proc}
 use Rattle.cap_sets.specs.Sets.{has}
 use Rattle.site_table.specs.declared.row.Row.{Row}
 use Rattle.site_table.specs.Table.{row_at}
 use Rattle.kern_creds.specs.declared.creds.Creds.{Creds}
 use Rattle.kern_mounts.specs.Entry.{leads_to, entry_of}
-use Rattle.kern_mounts.specs.Launch.{HasShortPlace, IsNotNoSuid, proc}
+use Rattle.kern_mounts.specs.Launch.{HasShortPlace, IsNotNoSuid}
 use Rattle.kern_mounts.specs.Split.{Table}
 use Rattle.kern_mounts.specs.Table.{StartsAtRoot}
 use Rattle.kern_mounts.specs.Unmounts.{Unmounts, still, then_one}

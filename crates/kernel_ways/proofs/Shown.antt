@@ -3,7 +3,7 @@ use Rattle.std.proofs.Common.{◌≡◌, ℕ, Bool, true, false, List, [], ◌�
 use Rattle.std.specs.Prelude.{slice_get, not, nat_lt, ◌&&◌, ◌||◌}
 use Rattle.std.proofs.lemmas.Slice.Eq.{bytes_eq-Decides}
 use Rattle.std.proofs.lemmas.Bool.{and_parts, or_cases, not-true, eq-eqb}
-use Rattle.abs_path.specs.Paths.{Path}
+use Rattle.abs_path.specs.Paths.{Path, proc}
 use Rattle.cap_sets.specs.Sets.{has, within}
 use Rattle.call_table.specs.declared.listed.CallLine.{CallLine}
 use Rattle.call_table.specs.Lookups.{numbered}
@@ -38,7 +38,6 @@ use Rattle.kernel_laws.specs.Launched.{Launch, IsLaunched, launch_of, lets, lets
 use Rattle.site_table.specs.Kinds.{is_dir, is_exe}
 use Rattle.kern_mounts.specs.Split.{Table}
 use Rattle.reach_paths.specs.Finding.{FindsRow}
-use Rattle.kern_mounts.specs.Launch.{proc}
 use Rattle.kernel_laws.specs.Reach.{fits, reaches}
 use Rattle.kernel_calls.specs.Rules.{rule_of}
 use Rattle.kernel_model.specs.World.{World}

@@ -1,6 +1,6 @@
 -- What a process that has CAP_SYS_ADMIN exposes, call by call: rows that mounts cover, and with mount(2) every row.
 use Rattle.std.specs.Prelude.{◌≡◌, ℕ, ◌<◌, ◌^◌, true, false, List, ◌++◌, Option, Some}
-use Rattle.abs_path.specs.Paths.{Path}
+use Rattle.abs_path.specs.Paths.{Path, proc}
 use Rattle.call_names.specs.declared.rule.CallRule.{CallRule}
 use Rattle.call_names.specs.declared.rule.CallRule.TheVariants.{Mount, Umount}
 use Rattle.cap_sets.specs.Sets.{has}
@@ -9,7 +9,6 @@ use Rattle.site_table.specs.declared.row.Row.{Row}
 use Rattle.site_table.specs.Table.{row_at}
 use Rattle.kern_creds.specs.declared.creds.Creds.{Creds}
 use Rattle.kern_mounts.specs.Finds.{row, finds}
-use Rattle.kern_mounts.specs.Launch.{proc}
 use Rattle.kern_mounts.specs.Split.{Table}
 use Rattle.kern_files.specs.Bits.{has_all}
 use Rattle.kern_files.specs.Looking.{flags_at}

@@ -1,8 +1,7 @@
 -- The calls that expose a row of the host by name: umount2(2) of each mount that covers a path to it, or two calls of mount(2).
 use Rattle.std.specs.Prelude.{◌≡◌, ℕ, true, List, [], ◌∷◌, ◌++◌, map, Some, Ok}
-use Rattle.abs_path.specs.Paths.{Path}
+use Rattle.abs_path.specs.Paths.{Path, proc}
 use Rattle.kern_mounts.specs.Entry.{leads_to}
-use Rattle.kern_mounts.specs.Launch.{proc}
 use Rattle.kern_mounts.specs.Split.{Table, Split, split_at}
 use Rattle.kern_mounts.specs.Umount.{after_umount}
 use Rattle.kern_files.specs.MountCall.{ms_bind}

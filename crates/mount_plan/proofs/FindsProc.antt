@@ -3,10 +3,9 @@ use Rattle.std.proofs.Common.{◌≡◌, ◌⊎◌, inl, inr, ℕ, Bool, true, f
 use Rattle.std.specs.Prelude.{not, codes}
 use Rattle.std.specs.List.{AllByRecursion, enumerate_from}
 use Rattle.std.proofs.lemmas.Bool.{false≢true, and_parts}
-use Rattle.abs_path.specs.Paths.{Path, is_normal}
+use Rattle.abs_path.specs.Paths.{Path, is_normal, proc}
 use Rattle.abs_path.specs.Prefix.{is_prefix, is_same, rest_of, is_below}
 use Rattle.abs_path.proofs.Prefixes.{same_part, same_itself}
-use Rattle.site_table.specs.Paths.{proc}
 use Rattle.path_settings.specs.declared.mentions.Kind.{Kind}
 use Rattle.path_settings.specs.declared.mentions.Kind.TheVariants.{Hide, Tmp, Bind}
 use Rattle.path_settings.specs.declared.mentions.Mention.{Mention}

@@ -4,9 +4,8 @@ use Rattle.std.specs.Prelude.{IfOk, nat_le}
 use Rattle.std.specs.List.{AllByRecursion, list_all}
 use Rattle.std.proofs.lemmas.Bool.{and_parts}
 use Rattle.std.proofs.lemmas.Bool.Decides.{nat_tests}
-use Rattle.abs_path.specs.Paths.{is_normal, text_of}
+use Rattle.abs_path.specs.Paths.{is_normal, text_of, proc}
 use Rattle.abs_path.specs.ByteOrder.{AreAscending}
-use Rattle.site_table.specs.Paths.{proc}
 use Rattle.std.specs.Prelude.{Some}
 use Rattle.path_settings.specs.declared.mentions.Mention.{Mention}
 use Rattle.path_settings.specs.Short.{is_short_path, has_short_source, is_short, AreShort}

@@ -1,9 +1,8 @@
 //! The path that names a row of the site, the calls that expose it there (mount(2), umount2(2)), and the call behind them.
 
 ghost use Rattle.std.specs.Prelude.{◌≡◌, ◌≤◌, ◌<◌, ◌++◌, [], true, drop, length, IfOk, OnOk, Some};
-ghost use Rattle.abs_path.specs.Paths.{Path, tail_of};
+ghost use Rattle.abs_path.specs.Paths.{Path, tail_of, proc};
 ghost use Rattle.abs_path.specs.Prefix.{is_prefix, rest_of};
-ghost use Rattle.kern_mounts.specs.Launch.{proc};
 ghost use Rattle.kern_mounts.specs.Split.{Table};
 ghost use Rattle.site_table.specs.Table.{row_at};
 ghost use Rattle.chosen_calls.specs.Chosen.{doing_calls, inside_calls};
@@ -26,7 +25,7 @@ ghost use Rattle.open_calls.specs.Firsts.{place_in};
 
 use crate::first::FirstCall;
 use crate::service::{Made, Service};
-use abs_path::{AbsPath, PathError};
+use abs_path::AbsPath;
 use ceilings::launched_table;
 use kern_mounts::{MountTable, What};
 use kernel_calls::{Call, Payload};
@@ -34,7 +33,7 @@ use kernel_model::World;
 use question_types::{CallKind, Power, Wish};
 use reach_paths::reach;
 use site_table::Row;
-use std::alloc::{AllocError, Global};
+use std::alloc::Global;
 
 /// MNT_DETACH of umount2(2).
 const MNT_DETACH: u64 = 2;
@@ -74,26 +73,12 @@ fn shown_at(alloc: Global, table: &MountTable, row: &AbsPath, at: usize) -> Made
     }
 }
 
-// The folder of the processes, proc(5).
-fn proc_path(alloc: Global) -> Made<AbsPath>
-    ensures { IfOk result (λ path. path ≡ proc) }
-{
-    match AbsPath::read(alloc, "/proc") {
-        Ok(path) => Ok(path),
-        Err(PathError::Memory) => Err(AllocError),
-        Err(PathError::TooLong) => unreachable!(),
-        Err(PathError::HasNul) => unreachable!(),
-        Err(PathError::Relative) => unreachable!(),
-        Err(PathError::DotDot) => unreachable!(),
-    }
-}
-
 // The row's path below that folder.
 fn below_proc(alloc: Global, row: &AbsPath) -> Made<AbsPath>
     requires short { length (tail_of (proc ++ row.now)) ≤ 512 }
     ensures { IfOk result (λ path. path ≡ proc ++ row.now) }
 {
-    let proc = proc_path(alloc)?;
+    let proc = AbsPath::proc(alloc)?;
     row.moved(alloc, &AbsPath::root(alloc), &proc)
 }
 
@@ -135,7 +120,7 @@ fn umount_call(alloc: Global, first: FirstCall, place: &AbsPath) -> Made<Call>
 fn mount_call(alloc: Global, first: FirstCall, flags: u64) -> Made<Call>
     ensures { IfOk result (λ call. call ≡ mount_call (place_in first) [] proc flags) }
 {
-    let payload = Payload::TwoPaths(AbsPath::root(alloc), proc_path(alloc)?);
+    let payload = Payload::TwoPaths(AbsPath::root(alloc), AbsPath::proc(alloc)?);
     Ok(first.with([0, 0, 0, flags, 0, 0], payload))
 }
 

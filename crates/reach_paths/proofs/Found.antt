@@ -2,13 +2,13 @@
 use Rattle.std.proofs.Common.{◌≡◌, ◌∙◌, ℕ, true, [], ◌∷◌, ◌++◌, Option, Some, refl, ap, sym, subst, arith}
 use Rattle.std.specs.Prelude.{is_some, IsSome}
 use Rattle.std.specs.List.{AllByRecursion}
-use Rattle.abs_path.specs.Paths.{Path}
+use Rattle.abs_path.specs.Paths.{Path, proc}
 use Rattle.abs_path.specs.Prefix.{rest_of}
 use Rattle.site_table.specs.declared.row.Row.{Row}
 use Rattle.site_table.specs.Table.{Site, IsSite, IsRowOf, row_at}
 use Rattle.kern_mounts.specs.Entry.{leads_to, entry_of}
 use Rattle.kern_mounts.specs.Finds.{found_at, found_by, row_or_nothing}
-use Rattle.kern_mounts.specs.Launch.{HasShortPlace, CanBeMounted, proc}
+use Rattle.kern_mounts.specs.Launch.{HasShortPlace, CanBeMounted}
 use Rattle.kern_mounts.specs.declared.step.MountStep.{MountStep}
 use Rattle.kern_mounts.specs.Split.{Table}
 use Rattle.kern_mounts.specs.Table.{StartsAtRoot}

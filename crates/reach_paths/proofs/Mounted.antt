@@ -4,7 +4,7 @@ use Rattle.std.specs.Prelude.{map, nat_lt, ◌+◌, option_map}
 use Rattle.std.specs.List.{AllByRecursion}
 use Rattle.std.proofs.lemmas.Bool.{false≢true}
 use Rattle.std.proofs.lemmas.Bool.Decides.{nat_tests}
-use Rattle.abs_path.specs.Paths.{Path, is_root}
+use Rattle.abs_path.specs.Paths.{Path, is_root, proc}
 use Rattle.abs_path.specs.Prefix.{is_prefix, is_same, rest_of}
 use Rattle.abs_path.specs.ByteOrder.{AreAscending, is_before}
 use Rattle.abs_path.proofs.ByteOrder.{not_before_itself}
@@ -14,7 +14,7 @@ use Rattle.site_table.specs.Kinds.{is_dir}
 use Rattle.site_table.specs.Table.{Site, IsSite, row_at}
 use Rattle.kern_mounts.specs.Entry.{leads_to, entry_of}
 use Rattle.kern_mounts.specs.Finds.{empty_directory, nothing, finds, found_at, found_by, row_or_nothing}
-use Rattle.kern_mounts.specs.Launch.{BeginsAtRoot, CanBeMounted, IsDirectory, FindsProc, proc}
+use Rattle.kern_mounts.specs.Launch.{BeginsAtRoot, CanBeMounted, IsDirectory, FindsProc}
 use Rattle.kern_mounts.specs.declared.step.Flags.{Flags}
 use Rattle.kern_mounts.specs.declared.step.What.{What}
 use Rattle.kern_mounts.specs.declared.step.What.TheVariants.{Host, Empty, Hidden}

@@ -2,9 +2,9 @@
 use Rattle.std.proofs.Common.{◌≡◌, ◌∙◌, ℕ, zero, suc, Bool, true, false, List, [], ◌∷◌, ◌++◌, Some, Ok, refl, cond, ap, sym, subst, arith, map}
 use Rattle.std.specs.Prelude.{slice_get, slice_set, ◌-◌}
 use Rattle.std.specs.List.{AllByRecursion}
-use Rattle.abs_path.specs.Paths.{Path}
+use Rattle.abs_path.specs.Paths.{Path, proc}
 use Rattle.site_table.specs.Table.{row_at}
-use Rattle.kern_mounts.specs.Launch.{HasShortPlace, proc}
+use Rattle.kern_mounts.specs.Launch.{HasShortPlace}
 use Rattle.kern_mounts.specs.Answer.{plain_answer}
 use Rattle.kern_mounts.specs.Mounts.{Mounts, plain}
 use Rattle.kern_mounts.specs.Split.{Table}

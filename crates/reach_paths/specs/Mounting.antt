@@ -1,7 +1,8 @@
 -- How calls of mount(2) show the whole host: a bind of `/`, and a remount of it with other flags.
 use Rattle.std.specs.Prelude.{◌≡◌, ℕ, true, false, [], ◌++◌, Some, Ok}
 use Rattle.kern_mounts.specs.Finds.{row, finds}
-use Rattle.kern_mounts.specs.Launch.{CanBeMounted, proc}
+use Rattle.abs_path.specs.Paths.{proc}
+use Rattle.kern_mounts.specs.Launch.{CanBeMounted}
 use Rattle.kern_mounts.specs.Split.{Table}
 use Rattle.site_table.specs.declared.row.Row.{Row}
 use Rattle.site_table.specs.Table.{Site, IsSite, row_at}

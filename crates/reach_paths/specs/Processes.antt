@@ -1,12 +1,12 @@
 -- What a process that may mount makes of its mount table, call by call, capabilities(7), CAP_SYS_ADMIN.
 use Rattle.std.specs.Prelude.{◌≡◌, ℕ, Bool, true, false, List, [], ◌∷◌, Some, map, ◌==◌}
-use Rattle.abs_path.specs.Paths.{Path}
+use Rattle.abs_path.specs.Paths.{Path, proc}
 use Rattle.bpf_code.specs.declared.decision.Decision.TheVariants.{Pass}
 use Rattle.cap_sets.specs.Sets.{has}
 use Rattle.linux_numbers.specs.Capabilities.{cap_sys_admin}
 use Rattle.site_table.specs.declared.row.Row.{Row}
 use Rattle.site_table.specs.Table.{IsSite, row_at}
-use Rattle.kern_mounts.specs.Launch.{CanBeMounted, proc}
+use Rattle.kern_mounts.specs.Launch.{CanBeMounted}
 use Rattle.kern_mounts.specs.Mounts.{plain}
 use Rattle.kern_mounts.specs.Split.{Table}
 use Rattle.kern_mounts.specs.Unmounts.{Unmounts}

@@ -7,13 +7,13 @@ use Rattle.std.proofs.lemmas.Bool.{false≢true, false_from_ne_true}
 use Rattle.std.proofs.lemmas.List.{length-map, get_or-map}
 use Rattle.std.proofs.lemmas.List.Folds.{list_any_at}
 use Rattle.toml.specs.Data.{Data, Members, table}
-use Rattle.abs_path.specs.Paths.{Path, is_normal}
+use Rattle.abs_path.specs.Paths.{Path, is_normal, proc}
 use Rattle.abs_path.specs.Prefix.{is_same}
 use Rattle.abs_path.proofs.Prefixes.{same_path, same_itself}
 use Rattle.site_table.specs.declared.row.Row.{Row}
 use Rattle.site_table.specs.Exact.{AreExactly}
 use Rattle.site_table.specs.Order.{has_row, row_placed, rows_in_order, plain_dir, with_fixed}
-use Rattle.site_table.specs.Paths.{root, proc}
+use Rattle.site_table.specs.Paths.{root}
 use Rattle.site_table.specs.Reading.{rows_in, row_faults, faults_of, site_in, site_of, site_of_tree, tree_of}
 use Rattle.site_table.specs.RowSteps.{dir_placed, fixed_placed}
 use Rattle.site_table.specs.Rows.{path_of, is_row_at, is_always_dir, row_of}

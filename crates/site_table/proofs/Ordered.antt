@@ -2,12 +2,12 @@
 use Rattle.std.proofs.Common.{◌≡◌, true, refl, sym, ap, ◌∙◌, subst}
 use Rattle.std.specs.Prelude.{◌||◌, codes}
 use Rattle.std.specs.Str.{bytes_eq}
-use Rattle.abs_path.specs.Paths.{Path, tail_of, is_normal}
+use Rattle.abs_path.specs.Paths.{Path, tail_of, is_normal, proc}
 use Rattle.abs_path.specs.Prefix.{is_same}
 use Rattle.abs_path.proofs.Prefixes.{same_part, part_itself, same_path, same_itself}
 use Rattle.abs_path.proofs.Texts.{same_tail}
 use Rattle.site_table.proofs.SeenTexts.{same_test, bytes_eq-swap}
-use Rattle.site_table.specs.Paths.{root, proc}
+use Rattle.site_table.specs.Paths.{root}
 use Rattle.site_table.specs.Rows.{is_always_dir}
 use Rattle.site_table.specs.RowSteps.{is_always_dir_text}
 

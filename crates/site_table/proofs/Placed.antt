@@ -4,7 +4,7 @@ use Rattle.std.specs.Prelude.{not, filter, fold, option_map}
 use Rattle.std.specs.List.{AllByRecursion}
 use Rattle.std.proofs.lemmas.List.{length-append}
 use Rattle.std.proofs.lemmas.Bool.{or_parts, or_from, false≢true}
-use Rattle.abs_path.specs.Paths.{Path, is_normal}
+use Rattle.abs_path.specs.Paths.{Path, is_normal, proc}
 use Rattle.abs_path.specs.Prefix.{is_same}
 use Rattle.abs_path.specs.ByteOrder.{is_before, placed, AreAscending}
 use Rattle.abs_path.proofs.Prefixes.{same_path, same_itself}
@@ -12,7 +12,7 @@ use Rattle.abs_path.proofs.Placed.{in_byte_order_ascending}
 use Rattle.site_table.specs.declared.row.Row.{Row}
 use Rattle.site_table.specs.declared.kinds.RowKind.TheVariants.{Dir}
 use Rattle.site_table.specs.Order.{has_row, row_placed, rows_in_order, plain_dir, with_fixed}
-use Rattle.site_table.specs.Paths.{root, proc}
+use Rattle.site_table.specs.Paths.{root}
 use Rattle.site_table.specs.RowSteps.{dir_placed, fixed_placed}
 use Rattle.site_table.specs.Table.{row_at, kind_at, AreNormal}
 use Rattle.site_table.proofs.Placing.{one_path, all_placed, has_placed, has_in_order, normal_in_order}

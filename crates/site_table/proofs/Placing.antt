@@ -3,13 +3,13 @@ use Rattle.std.proofs.Common.{◌≡◌, Bool, true, false, cond, List, [], ◌�
 use Rattle.std.specs.Prelude.{◌||◌, not, filter, fold}
 use Rattle.std.specs.List.{AllByRecursion}
 use Rattle.std.proofs.lemmas.List.Sums.{fold-append}
-use Rattle.abs_path.specs.Paths.{Path, is_normal}
+use Rattle.abs_path.specs.Paths.{Path, is_normal, proc}
 use Rattle.abs_path.specs.Prefix.{is_same}
 use Rattle.abs_path.specs.ByteOrder.{is_before}
 use Rattle.abs_path.proofs.Placed.{neither_before}
 use Rattle.site_table.specs.declared.row.Row.{Row}
 use Rattle.site_table.specs.Order.{has_row, row_placed, rows_in_order, plain_dir, with_fixed}
-use Rattle.site_table.specs.Paths.{root, proc}
+use Rattle.site_table.specs.Paths.{root}
 use Rattle.site_table.specs.RowSteps.{dir_placed, fixed_placed}
 use Rattle.site_table.specs.Table.{AreNormal}
 

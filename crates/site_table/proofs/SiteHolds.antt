@@ -9,7 +9,7 @@ use Rattle.std.proofs.lemmas.List.{length-map}
 use Rattle.std.proofs.lemmas.List.Folds.{list_any-append}
 use Rattle.toml.specs.Data.{Data, as_integer}
 use Rattle.toml_shapes.specs.Tree.{number_at}
-use Rattle.abs_path.specs.Paths.{Path, text_of, is_normal}
+use Rattle.abs_path.specs.Paths.{Path, text_of, is_normal, proc}
 use Rattle.abs_path.specs.Prefix.{is_same}
 use Rattle.cap_sets.specs.Sets.{all}
 use Rattle.cap_sets.proofs.Members.{has_all, none_within}
@@ -29,7 +29,7 @@ use Rattle.site_table.specs.Ids.{id_at, as_id, greatest_id, count_by, most_space
 use Rattle.site_table.specs.Kinds.{is_dir}
 use Rattle.site_table.specs.Order.{has_row, plain_dir, rows_in_order, with_fixed}
 use Rattle.site_table.specs.Owners.{name_of, has_doubled_name, is_wrong, user_of, group_of}
-use Rattle.site_table.specs.Paths.{parent_of, root, proc}
+use Rattle.site_table.specs.Paths.{parent_of, root}
 use Rattle.site_table.specs.Reading.{rows_in, users_in, groups_in, row_faults, user_faults, group_faults, owner_faults, is_too_large, size_faults, top_faults, faults_of, site_in}
 use Rattle.site_table.specs.RowSteps.{fixed_placed}
 use Rattle.site_table.specs.Rows.{path_of, kind_of, is_row_at, is_duplicate, is_dir_at, is_folder, is_always_dir, has_parent, own_causes, place_causes, first_of, cause_of, row_of}

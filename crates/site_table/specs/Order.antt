@@ -4,13 +4,13 @@ use Rattle.std.specs.List.{list_any, fold}
 use Rattle.std.specs.Ordering.{nat_cmp}
 use Rattle.std.specs.declared.cmp.Ordering.TheVariants.{Less, Greater}
 use Rattle.std.specs.Cmp.Lexicographic.{slice_cmp}
-use Rattle.abs_path.specs.Paths.{Path, tail_of, is_normal}
+use Rattle.abs_path.specs.Paths.{Path, tail_of, is_normal, proc}
 use Rattle.abs_path.specs.Prefix.{is_same}
 use Rattle.abs_path.specs.ByteOrder.{is_before, AreAscending}
 use Rattle.cap_sets.specs.Sets.{none}
 use Rattle.site_table.specs.declared.row.Row.{Row}
 use Rattle.site_table.specs.declared.kinds.RowKind.TheVariants.{Dir}
-use Rattle.site_table.specs.Paths.{root, proc}
+use Rattle.site_table.specs.Paths.{root}
 use Rattle.site_table.specs.Table.{AreNormal}
 
 -- a directory of which nothing else is said

@@ -1,5 +1,5 @@
 -- The paths of rows.
-use Rattle.std.specs.Prelude.{ℕ, nat_le, ◌&&◌, cond, is_none, codes, List, [], ◌∷◌, length, take, Option, Some, None}
+use Rattle.std.specs.Prelude.{ℕ, nat_le, ◌&&◌, cond, is_none, List, [], ◌∷◌, length, take, Option, Some, None}
 use Rattle.abs_path.specs.Paths.{Path, text_of, parts_of}
 use Rattle.abs_path.specs.Read.{fault_of}
 
@@ -14,7 +14,3 @@ parent_of (part ∷ parts) = Some (take (length parts) (part ∷ parts))
 
 abbrev pub root : Path
 root = []
-
--- the folder of the processes (proc(5))
-abbrev pub proc : Path
-proc = codes "proc" ∷ []

@@ -7,13 +7,13 @@ use Rattle.site_table.specs.Kinds.{is_dir}
 use Rattle.toml.specs.Data.{Data}
 use Rattle.cap_sets.specs.Sets.{none}
 use Rattle.site_table.specs.declared.kinds.RowKind.{RowKind}
-use Rattle.abs_path.specs.Paths.{Path, tail_of}
+use Rattle.abs_path.specs.Paths.{Path, tail_of, proc}
 use Rattle.site_table.specs.declared.row.Row.{Row}
 use Rattle.site_table.specs.declared.error.RowCause.{RowCause}
 use Rattle.site_table.specs.declared.error.RowCause.TheVariants.{Duplicate, NoParent}
 use Rattle.site_table.specs.declared.error.SiteError.{SiteError}
 use Rattle.site_table.specs.declared.error.SiteError.TheVariants.{NotToml, Top, TooMany, Row as BadRow, User as BadUser, Group as BadGroup, Memory}
-use Rattle.site_table.specs.Paths.{parent_of, root, proc}
+use Rattle.site_table.specs.Paths.{parent_of, root}
 use Rattle.site_table.specs.Rows.{first_of, own_causes, row_of, kind_of, path_of}
 use Rattle.site_table.specs.Order.{has_row, row_placed, plain_dir}
 use Rattle.site_table.specs.Texts.{has_text}

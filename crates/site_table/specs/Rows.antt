@@ -3,7 +3,7 @@ use Rattle.std.specs.Prelude.{ℕ, Bool, true, false, not, ◌&&◌, ◌||◌, c
 use Rattle.std.specs.List.{list_any}
 use Rattle.std.specs.Option.{option_map_or}
 use Rattle.toml.specs.Data.{Data, get}
-use Rattle.abs_path.specs.Paths.{Path}
+use Rattle.abs_path.specs.Paths.{Path, proc}
 use Rattle.abs_path.specs.Prefix.{is_same}
 use Rattle.site_table.specs.declared.kinds.RowKind.{RowKind}
 use Rattle.site_table.specs.declared.kinds.RowKind.TheVariants.{Dir}
@@ -16,7 +16,7 @@ use Rattle.site_table.specs.Keys.{row_keys}
 use Rattle.site_table.specs.Kinds.{kind_named, is_dir, is_exe}
 use Rattle.site_table.specs.Ids.{id_at, is_out_of_range}
 use Rattle.site_table.specs.Caps.{are_caps, caps_of}
-use Rattle.site_table.specs.Paths.{short_path, parent_of, root, proc}
+use Rattle.site_table.specs.Paths.{short_path, parent_of, root}
 
 abbrev pub path_of : Data → Option Path
 path_of row = option_and_then short_path (text_at (codes "path") row)

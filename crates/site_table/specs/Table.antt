@@ -2,7 +2,7 @@
 use Rattle.std.specs.Prelude.{◌≡◌, ◌≢◌, ◌≤◌, ℕ, true, false, List, [], ◌∷◌, map, length, find, position, Option, Some, None, option_map, IfSome, IsSome, ◌==◌}
 use Rattle.std.specs.List.{AllByRecursion}
 use Rattle.std.specs.Str.{bytes_eq}
-use Rattle.abs_path.specs.Paths.{Path, tail_of, text_of, is_normal}
+use Rattle.abs_path.specs.Paths.{Path, tail_of, text_of, is_normal, proc}
 use Rattle.abs_path.specs.Prefix.{is_same}
 use Rattle.abs_path.specs.ByteOrder.{AreAscending}
 use Rattle.cap_sets.specs.Sets.{none, all, IsWithin}
@@ -12,7 +12,7 @@ use Rattle.site_table.specs.declared.row.Row.{Row}
 use Rattle.site_table.specs.declared.accounts.User.{User}
 use Rattle.site_table.specs.declared.accounts.Group.{Group}
 use Rattle.site_table.specs.Ids.{greatest_id, most_spaces}
-use Rattle.site_table.specs.Paths.{parent_of, root, proc}
+use Rattle.site_table.specs.Paths.{parent_of, root}
 
 pub record Site : Type 0 where
   pub dynamic_uid : ℕ

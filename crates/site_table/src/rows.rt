@@ -2,7 +2,7 @@
 
 ghost use Rattle.std.specs.Prelude.{◌≡◌, ◌||◌, ℕ, List, map, Ok, OnOk, IfOk, IfSome};
 ghost use Rattle.toml.specs.View.{view};
-ghost use Rattle.site_table.specs.Paths.{proc};
+ghost use Rattle.abs_path.specs.Paths.{proc};
 ghost use Rattle.site_table.specs.Order.{with_fixed, rows_in_order};
 ghost use Rattle.site_table.specs.Reading.{IsUnlessMemory, unless_fault, row_faults};
 ghost use Rattle.site_table.specs.Rows.{row_of};
@@ -15,7 +15,7 @@ use crate::order::{OrderedRows, folder_of, place_for, put, put_dir};
 use crate::paths::{parent, path_of, tail};
 use crate::row::Row;
 use crate::seen::Seen;
-use abs_path::{AbsPath, PathError};
+use abs_path::AbsPath;
 use std::alloc::{AllocError, Global};
 use toml::Value;
 
@@ -132,23 +132,12 @@ fn listed_rows(alloc: Global, rows: &[Value]) -> Result<OrderedRows, SiteError>
     }
 }
 
-// the folder of the processes (proc(5))
-fn proc_path(alloc: Global) -> Result<AbsPath, AllocError>
-    ensures { IfOk result (λ path. path ≡ proc) }
-{
-    match AbsPath::read(alloc, "/proc") {
-        Ok(path) => Ok(path),
-        Err(PathError::Memory) => Err(AllocError),
-        Err(_) => unreachable!(),
-    }
-}
-
 // the rows, with `/` and `/proc` among them
 fn complete(alloc: Global, mut ordered: OrderedRows) -> Result<Vec<Row>, AllocError>
     ensures { IfOk result (λ rows. rows.items ≡ fixed_placed ordered) }
 {
     put_dir(&mut ordered, AbsPath::root(alloc))?;
-    put_dir(&mut ordered, proc_path(alloc)?)?;
+    put_dir(&mut ordered, AbsPath::proc(alloc)?)?;
     Ok(ordered.into_items())
 }
 
