@@ -123,10 +123,7 @@ fn is_long(onto: &AbsPath, front: &AbsPath, path: &AbsPath) -> bool
     requires leads { is_prefix front.now path.now ≡ true }
     ensures { result ≡ is_long (onto.now ++ rest_of front.now path.now) }
 {
-    match front.rest(path) {
-        None => unreachable!(),
-        Some(rest) => onto.tail_len() + rest.len() > LONGEST,
-    }
+    onto.tail_len() + front.rest(path).unwrap().len() > LONGEST
 }
 
 // Whether what the entry shows at the source can be bound.
