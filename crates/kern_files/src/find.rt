@@ -53,7 +53,7 @@ pub fn entry_of<'a>(table: &'a MountTable, path: &AbsPath) -> &'a MountStep
 
 /// What the path finds, by the entry that it belongs to.
 pub fn find<'a>(table: &MountTable, site: &'a SiteTable, path: &AbsPath) -> Found<'a>
-    ensures { shown result ≡ finds (row_at site.now.rows) (steps_of table.now) path.now }
+    ensures by_the_entry { shown result ≡ finds (row_at site.now.rows) (steps_of table.now) path.now }
 {
     found_by(site, entry_of(table, path), path)
 }

@@ -104,7 +104,7 @@ impl State {
     /// What the programs of the process at this place decide about a call.
     pub fn decide(&self, place: usize, input: &CallData) -> Decision
         requires there { place < length self.now.processes }
-        ensures { AtPlace self.now place (λ pid process. result ≡ decision_on process.stack input.now) }
+        ensures by_its_programs { AtPlace self.now place (λ pid process. result ≡ decision_on process.stack input.now) }
     {
         self.processes[place].stack.decide(input)
     }
@@ -112,7 +112,7 @@ impl State {
     /// Ends the process at this place.
     pub fn end(&mut self, place: usize)
         requires there { place < length self.old.processes }
-        ensures { AtPlace self.old place (λ pid process. self.new ≡ record self.old { processes = put_number self.old.processes pid (ended process) }) }
+        ensures has_ended { AtPlace self.old place (λ pid process. self.new ≡ record self.old { processes = put_number self.old.processes pid (ended process) }) }
     {
         self.processes[place].alive = false;
     }

@@ -101,7 +101,7 @@ fn lines_line(alloc: Global, count: usize) -> Result<Vec<u8>, AllocError>
 
 /// The assignments in force of a unit at some places, in the order of files and lines, and how many they are.
 pub fn lines_text(alloc: Global, unit: &Resolved, places: &[Place]) -> Result<Vec<u8>, AllocError>
-    ensures { IfOk result (λ text. text.items ≡ lines_text unit.now places.now) }
+    ensures lines_and_count { IfOk result (λ text. text.items ≡ lines_text unit.now places.now) }
 {
     let all = lines(alloc, unit)?;
     let mut text = by_lines(alloc, unit.files.list(), places, &all)?;

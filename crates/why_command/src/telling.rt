@@ -27,7 +27,7 @@ pub fn open_text(
     site: &SiteTable,
 ) -> Result<Vec<u8>, AllocError>
     requires asked { Contains (questions calls.now site.now) question.now }
-    ensures { IfOk result (λ text. text.items ≡ verdict_line calls.now site.now question.now verdict.Open ++ flat_map (call_line calls.now) list.now) }
+    ensures verdict_and_calls { IfOk result (λ text. text.items ≡ verdict_line calls.now site.now question.now verdict.Open ++ flat_map (call_line calls.now) list.now) }
 {
     let mut text = verdict_line(alloc, question, Verdict::Open, calls, site)?;
     push_call_lines(alloc, &mut text, list, calls)?;
@@ -59,7 +59,7 @@ pub fn denied_text(
     site: &SiteTable,
 ) -> Result<Vec<u8>, AllocError>
     requires asked { Contains (questions calls.now site.now) question.now }
-    ensures { IfOk result (λ text. text.items ≡ verdict_line calls.now site.now question.now verdict.Denied ++ reason_text unit.now reason.now) }
+    ensures verdict_and_reason { IfOk result (λ text. text.items ≡ verdict_line calls.now site.now question.now verdict.Denied ++ reason_text unit.now reason.now) }
 {
     let mut text = verdict_line(alloc, question, Verdict::Denied, calls, site)?;
     let told = reason_text(alloc, unit, reason)?;
