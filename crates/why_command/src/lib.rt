@@ -15,4 +15,5 @@ mod telling;
 mod why;
 
 pub use command::prepare;
+pub use lines::push_assignment;
 pub use why::Why;

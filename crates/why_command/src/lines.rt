@@ -2,7 +2,7 @@
 ghost use Rattle.std.specs.Prelude.{◌≡◌, ◌++◌, filter, flat_map, length, IfOk, OnOk};
 ghost use Rattle.report_text.specs.Notes.{path_at};
 ghost use Rattle.unit_lines.specs.Without.{is_among, is_place};
-ghost use Rattle.why_command.specs.Lines.{by_line, by_lines, lines_at, lines_line, lines_text, told_unless};
+ghost use Rattle.why_command.specs.Lines.{by_line, by_lines, lines_at, lines_line, lines_text, place_words, told_unless};
 
 use dropin_merge::{Resolved, UnitFile};
 use std::alloc::{AllocError, Global};
@@ -32,18 +32,31 @@ fn is_among(places: &[Place], place: Place) -> bool
     places.iter().any(|one| is_place(*one, place))
 }
 
-// The line of an assignment: the file, the line, and what it assigns, as written.
+/// Tells an assignment in force: the file, the line, and what it assigns, each an escaped word.
+pub fn push_assignment(
+    alloc: Global,
+    text: &mut Vec<u8>,
+    files: &[UnitFile],
+    line: &UnitLine,
+) -> Result<(), AllocError>
+    ensures tells_where_and_what { OnOk result (text.new.items ≡ text.old.items ++ place_words files.now line.now) }
+{
+    push_word(text, path_at(files, line.place.file))?;
+    let number = line.place.line;
+    let middle = format!(in alloc; " {number} ")?;
+    text.extend_from_slice(middle.as_bytes())?;
+    push_word(text, line.key.as_str())?;
+    text.push(b'=')?;
+    push_word(text, line.value.as_str())?;
+    Ok(())
+}
+
+// The line of an assignment.
 fn by_line(alloc: Global, files: &[UnitFile], line: &UnitLine) -> Result<Vec<u8>, AllocError>
     ensures { IfOk result (λ told. told.items ≡ by_line files.now line.now) }
 {
     let mut told = b"by ".to_vec(alloc)?;
-    push_word(&mut told, path_at(files, line.place.file))?;
-    let number = line.place.line;
-    let middle = format!(in alloc; " {number} ")?;
-    told.extend_from_slice(middle.as_bytes())?;
-    told.extend_from_slice(line.key.as_str().as_bytes())?;
-    told.push(b'=')?;
-    told.extend_from_slice(line.value.as_str().as_bytes())?;
+    push_assignment(alloc, &mut told, files, line)?;
     told.push(b'\n')?;
     Ok(told)
 }

@@ -1,10 +1,10 @@
-//! What is told of a question, ready to be printed.
+//! What is told of a question or of the lines of a unit, ready to be printed.
 
 use command_answers::{Ending, Ready, put_piece};
 use host_io::{Sink, SinkError};
 use std::alloc::Global;
 
-/// The answer to a question and what denies it, or the line of a launch that is refused.
+/// The answer to a question and what denies it, or what each line denies; or the line of a launch that is refused.
 #[derive(Drop)]
 pub struct Why {
     pub text: Vec<u8>,
