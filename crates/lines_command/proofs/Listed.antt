@@ -1,0 +1,33 @@
+-- What lines open is among the questions of the tables.
+use Rattle.std.proofs.Common.{ℕ, List}
+use Rattle.std.specs.Prelude.{Contains}
+use Rattle.std.specs.List.{All, AllByRecursion}
+use Rattle.std.proofs.lemmas.List.Elements.{All-contains_itself, All-from_recursion, All-weaker, recursion_from_All}
+use Rattle.call_table.specs.Table as calls
+use Rattle.kernel_laws.specs.Questions.{questions}
+use Rattle.kernel_model.specs.World.{World}
+use Rattle.opening_lines.specs.Opening.{IsAlone, OpensOf, is_opened, no_question, stays_denied, was_open}
+use Rattle.opening_lines.specs.declared.alone.Alone.{Alone}
+use Rattle.opening_lines.specs.declared.alone.Alone.TheVariants.{Opens, Needed}
+use Rattle.opening_lines.specs.declared.each.LineAlone.{LineAlone}
+use Rattle.question_types.specs.declared.question.Question.{Question}
+use Rattle.unit_inputs.specs.Inputs.{Inputs}
+use Rattle.unit_values.specs.declared.value.Place.{Place}
+use Rattle.lines_command.specs.Lines.{IsListed}
+
+among : {before after : World} {list opened : List Question} (P : Question → Type 0) → OpensOf before after list opened → AllByRecursion P list → AllByRecursion P opened
+among P no_question all = tt
+among P (was_open question rest opened was more) all = among P more all.1
+among P (stays_denied question rest opened was is more) all = among P more all.1
+among P (is_opened question rest opened was is more) all = (all.0, among P more all.1)
+
+module _ (name : List ℕ) (inputs : Inputs) (before : World) where
+  listed : (place : Place) (alone : Alone) → IsAlone name inputs before place alone → IsListed inputs.calls inputs.site alone
+  listed place (Opens opened) is =
+      let all = questions inputs.calls inputs.site in
+      All-from_recursion (Contains all) opened.items (among (Contains all) is.exactly (recursion_from_All (Contains all) all (All-contains_itself all)))
+  listed place Needed is = tt
+
+  pub all_listed : (told : List LineAlone) → All (λ one. IsAlone name inputs before one.line.now.place one.alone) told → All (λ one. IsListed inputs.calls inputs.site one.alone) told
+  all_listed told all =
+      All-weaker (λ (one : LineAlone). IsAlone name inputs before one.line.now.place one.alone) (λ (one : LineAlone). IsListed inputs.calls inputs.site one.alone) (λ one is. listed one.line.now.place one.alone is) told all
