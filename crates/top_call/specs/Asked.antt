@@ -15,13 +15,14 @@ use Rattle.derive_command.specs.Prints.{derive_laws}
 use Rattle.effect_command.specs.Prints.{effect_laws}
 use Rattle.tighten_command.specs.Prints.{tighten_laws}
 use Rattle.why_command.specs.Prints.{why_laws}
+use Rattle.lines_command.specs.Prints.{lines_laws}
 use Rattle.score_command.specs.Prints.{score_laws}
 use Rattle.check_command.specs.Prints.{check_laws}
 use Rattle.unit_inputs.specs.Asking.{asks_with_file, input_asks}
 use Rattle.fleet_command.specs.Asking.{fleet_asks}
 use Rattle.fleet_command.specs.Prints.{fleet_laws}
 use Rattle.sample_command.specs.Prints.{sample_laws}
-use Rattle.top_call.specs.Requests.{Request, HelpAlone, VersionAlone, FilterOf, PlanOf, JudgeOf, ReplayOf, DeriveOf, EffectOf, TightenOf, WhyOf, ScoreOf, CheckOf, FleetOf, SampleOf, request_in}
+use Rattle.top_call.specs.Requests.{Request, HelpAlone, VersionAlone, FilterOf, PlanOf, JudgeOf, ReplayOf, DeriveOf, EffectOf, TightenOf, WhyOf, LinesOf, ScoreOf, CheckOf, FleetOf, SampleOf, request_in}
 use Rattle.top_call.specs.Texts.{help_text, version_text, words_line}
 use denote.Ref.{Bor}
 
@@ -47,6 +48,7 @@ laws_for (DeriveOf unit script) told stored wishes = laws_over told (derive_laws
 laws_for (EffectOf unit dropin) told stored wishes = laws_over told (effect_laws unit dropin)
 laws_for (TightenOf unit keep) told stored wishes = tighten_laws told unit keep wishes
 laws_for (WhyOf unit words) told stored wishes = laws_over told (why_laws unit words)
+laws_for (LinesOf unit) told stored wishes = laws_over told (lines_laws unit)
 laws_for (ScoreOf unit policy threshold) told stored wishes = laws_over told (score_laws unit policy threshold stored)
 laws_for (CheckOf unit filter path) told stored wishes = check_laws told unit filter path
 laws_for (FleetOf policy) told stored wishes = laws_over told (fleet_laws policy stored)
@@ -85,6 +87,7 @@ asks_for (DeriveOf unit script) stored = λ files. asks_with_file files unit scr
 asks_for (EffectOf unit dropin) stored = λ files. asks_with_file files unit dropin
 asks_for (TightenOf unit keep) stored = λ files. asks_with_file files unit keep
 asks_for (WhyOf unit words) stored = λ files. input_asks files unit
+asks_for (LinesOf unit) stored = λ files. input_asks files unit
 asks_for (ScoreOf unit policy threshold) stored = λ files. asks_with_file files unit policy
 asks_for (CheckOf unit filter path) stored = λ files. asks_with_file files unit path
 asks_for (FleetOf policy) stored = λ files. fleet_asks files policy stored

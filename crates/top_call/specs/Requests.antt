@@ -3,7 +3,7 @@ use Rattle.std.specs.Prelude.{List, [], ◌∷◌, ℕ, ◌≤◌, nat_le, codes
 use Rattle.std.specs.Str.{bytes_eq}
 use Rattle.text_forms.specs.Numbers.{decimal_value}
 use Rattle.top_call.specs.declared.request.Request.{Request as Code}
-use Rattle.top_call.specs.declared.request.Request.TheVariants.{Help, Version, Filter, Plan, Judge, Replay, Derive, Effect, Tighten, Why, Score, Check, Fleet, Sample}
+use Rattle.top_call.specs.declared.request.Request.TheVariants.{Help, Version, Filter, Plan, Judge, Replay, Derive, Effect, Tighten, Why, Lines, Score, Check, Fleet, Sample}
 
 -- what is asked for
 pub data Request : Type 0 where
@@ -17,6 +17,7 @@ pub data Request : Type 0 where
   EffectOf : (unit dropin : List ℕ) → Request
   TightenOf : (unit keep : List ℕ) → Request
   WhyOf : (unit : List ℕ) (words : List (List ℕ)) → Request
+  LinesOf : (unit : List ℕ) → Request
   ScoreOf : (unit policy : List ℕ) (threshold : ℕ) → Request
   CheckOf : (unit filter path : List ℕ) → Request
   FleetOf : (policy : List ℕ) → Request
@@ -38,8 +39,9 @@ request_on word what =
     cond (bytes_eq word (codes "filter")) (Some (FilterOf what))
     (cond (bytes_eq word (codes "plan")) (Some (PlanOf what))
     (cond (bytes_eq word (codes "judge")) (Some (JudgeOf what))
+    (cond (bytes_eq word (codes "why")) (Some (LinesOf what))
     (cond (bytes_eq word (codes "fleet")) (Some (FleetOf what))
-    (cond (bytes_eq word (codes "sample")) (option_map SampleOf (number_to what 999)) None))))
+    (cond (bytes_eq word (codes "sample")) (option_map SampleOf (number_to what 999)) None)))))
 
 -- a word, a unit, and the path of a script, of a drop-in, of what is to be kept or of a policy; without a threshold no exposure is above it
 abbrev pub request_with : List ℕ → List ℕ → List ℕ → Option Request
@@ -89,6 +91,7 @@ request_of (Derive unit script) = DeriveOf unit.now script.now
 request_of (Effect unit dropin) = EffectOf unit.now dropin.now
 request_of (Tighten unit keep) = TightenOf unit.now keep.now
 request_of (Why unit words) = WhyOf unit.now (map (λ word. word.now) words.now)
+request_of (Lines unit) = LinesOf unit.now
 request_of (Score unit policy threshold) = ScoreOf unit.now policy.now threshold
 request_of (Check unit filter path) = CheckOf unit.now filter.now path.now
 request_of (Fleet policy) = FleetOf policy.now
@@ -106,6 +109,7 @@ IsNumbered (Derive unit script) = Unit {0}
 IsNumbered (Effect unit dropin) = Unit {0}
 IsNumbered (Tighten unit keep) = Unit {0}
 IsNumbered (Why unit words) = Unit {0}
+IsNumbered (Lines unit) = Unit {0}
 IsNumbered (Score unit policy threshold) = Unit {0}
 IsNumbered (Check unit filter path) = Unit {0}
 IsNumbered (Fleet policy) = Unit {0}

@@ -34,8 +34,9 @@ help_lines =
     codes "                 print what DROPIN, applied last, would close and open" ∷
     codes "  tighten UNIT KEEP" ∷
     codes "                 print the settings that can be added while all of KEEP stays open" ∷
-    codes "  why UNIT QUESTION" ∷
-    codes "                 print which lines of UNIT deny QUESTION, as judge words it" ∷
+    codes "  why UNIT [QUESTION]" ∷
+    codes "                 print which lines of UNIT deny QUESTION, as judge words it," ∷
+    codes "                 or without one what each line denies by itself" ∷
     codes "  score UNIT POLICY [THRESHOLD]" ∷
     codes "                 weigh what its sandbox leaves open, 0 to 100 in all" ∷
     codes "  check UNIT NAME FILE" ∷

@@ -28,6 +28,8 @@ pub enum Request<'a> {
     Tighten(&'a str, &'a str),
     /// What lines of a unit deny a question, of which these are the words.
     Why(&'a str, &'a [&'a str]),
+    /// What each line of a unit denies by itself.
+    Lines(&'a str),
     /// The exposure of a unit, the first, by a policy, the second, and the threshold that it is held against.
     Score(&'a str, &'a str, u32),
     /// Whether the program of a file, the third, decides every call as a filter, the second, of a unit, the first.
@@ -90,6 +92,7 @@ fn request_on<'a>(word: &str, what: &'a str) -> Option<Request<'a>>
         "filter" => Some(Request::Filter(what)),
         "plan" => Some(Request::Plan(what)),
         "judge" => Some(Request::Judge(what)),
+        "why" => Some(Request::Lines(what)),
         "fleet" => Some(Request::Fleet(what)),
         "sample" => Some(Request::Sample(sample_of(what)?)),
         _ => None,

@@ -61,6 +61,7 @@ fn answer_request<S: Shelf, K: Sink>(
         Request::Why(unit, words) => {
             finish(alloc, why_command::prepare(alloc, shelf, unit, words), out)
         }
+        Request::Lines(unit) => finish(alloc, lines_command::prepare(alloc, shelf, unit), out),
         Request::Score(unit, policy, threshold) => finish(
             alloc,
             score_command::prepare(alloc, shelf, unit, policy, threshold, tests),

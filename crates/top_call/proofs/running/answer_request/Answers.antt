@@ -15,6 +15,8 @@ use Rattle.tighten_command.specs.Prints.{tighten_laws, ending_of as tighten_endi
 use Rattle.tighten_command.proofs.Prepared.{together as tighten_together}
 use Rattle.why_command.specs.Prints.{why_laws, ending_of as why_ending, text_of as why_text}
 use Rattle.why_command.proofs.Prepared.{together as why_together}
+use Rattle.lines_command.specs.Prints.{lines_laws}
+use Rattle.lines_command.proofs.Prepared.{together as lines_together}
 use Rattle.exposure_score.specs.StoredTests.{stored_by}
 use Rattle.score_command.specs.Prints.{score_laws, scored_text, ending_of as score_ending}
 use Rattle.score_command.proofs.Prepared.{together as score_together}
@@ -88,6 +90,12 @@ returns-in-Why-clause-runs g c =
     rw c.in-Why.is
     (ran (laws_over (g.S.Shelf.told c.args.shelf.now) (why_laws c.in-Why.unit.now (map (λ word. word.now) c.in-Why.words.now))) (why_together (g.S.Shelf.told c.args.shelf.now) c.in-Why.unit.now (map (λ word. word.now) c.in-Why.words.now)) _ why_ending why_text c.prepare-in-Why.result c.finish-in-Why.result
     c.prepare-in-Why.ensures.prepares c.prepare-in-Why.ensures.reads_for_the_unit.reads_for_a_name c.prepare-in-Why.ensures.reads_for_the_unit.fault_rose c.finish-in-Why.ensures.finishes)
+
+pub returns-in-Lines-clause-runs : goal.returns-in-Lines-clause-runs
+returns-in-Lines-clause-runs g c =
+    rw c.in-Lines.is
+    (ran (laws_over (g.S.Shelf.told c.args.shelf.now) (lines_laws c.in-Lines.unit.now)) (lines_together (g.S.Shelf.told c.args.shelf.now) c.in-Lines.unit.now) _ why_ending why_text c.prepare-in-Lines.result c.finish-in-Lines.result
+    c.prepare-in-Lines.ensures.prepares c.prepare-in-Lines.ensures.reads_for_the_unit.reads_for_a_name c.prepare-in-Lines.ensures.reads_for_the_unit.fault_rose c.finish-in-Lines.ensures.finishes)
 
 pub returns-in-Score-clause-runs : goal.returns-in-Score-clause-runs
 returns-in-Score-clause-runs g c =
@@ -171,6 +179,12 @@ returns-in-Why-clause-reads_in_order g c =
     rw c.in-Why.is
     (order_finished g.S.Shelf.asks (g.S.Shelf.told c.args.shelf.now) (λ files. input_asks files c.in-Why.unit.now) c.args.shelf.now c.prepare-in-Why.new.shelf (laws_over (g.S.Shelf.told c.args.shelf.now) (why_laws c.in-Why.unit.now (map (λ word. word.now) c.in-Why.words.now))) (why_together (g.S.Shelf.told c.args.shelf.now) c.in-Why.unit.now (map (λ word. word.now) c.in-Why.words.now)) why_ending why_text c.prepare-in-Why.result c.finish-in-Why.result _
     c.prepare-in-Why.ensures.prepares c.finish-in-Why.ensures.finishes c.prepare-in-Why.ensures.asks_in_order)
+
+pub returns-in-Lines-clause-reads_in_order : goal.returns-in-Lines-clause-reads_in_order
+returns-in-Lines-clause-reads_in_order g c =
+    rw c.in-Lines.is
+    (order_finished g.S.Shelf.asks (g.S.Shelf.told c.args.shelf.now) (λ files. input_asks files c.in-Lines.unit.now) c.args.shelf.now c.prepare-in-Lines.new.shelf (laws_over (g.S.Shelf.told c.args.shelf.now) (lines_laws c.in-Lines.unit.now)) (lines_together (g.S.Shelf.told c.args.shelf.now) c.in-Lines.unit.now) why_ending why_text c.prepare-in-Lines.result c.finish-in-Lines.result _
+    c.prepare-in-Lines.ensures.prepares c.finish-in-Lines.ensures.finishes c.prepare-in-Lines.ensures.asks_in_order)
 
 pub returns-in-Score-clause-reads_in_order : goal.returns-in-Score-clause-reads_in_order
 returns-in-Score-clause-reads_in_order g c =
