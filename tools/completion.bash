@@ -31,6 +31,9 @@ _lentsheep() {
         *:check:1)
             mapfile -t COMPREPLY < <(compgen -W 'families mdwe realtime suid namespaces hostname modules logs clock devices personality calls archs' -- "$current")
             ;;
+        *:why:1)
+            mapfile -t COMPREPLY < <(compgen -W 'see read write exec call socket ns map-wx protect-x shm-x realtime personality suid-bit cap uid gid' -- "$current")
+            ;;
         *:0)
             local units=()
             for place in etc run usr/lib; do

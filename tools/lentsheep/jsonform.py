@@ -205,6 +205,7 @@ def _why(why: Why) -> Json:
         "launch": _launch(why.launch), "answer": None if why.answer is None else _answer(why.answer), "nothing": why.nothing,
         "by": [dataclasses.asdict(it) for it in why.by], "count": why.count,
         "without": {"launch": _launch(why.without_launch), "refusal": _refusal(why.without_refusal)},
+        "lines": [dataclasses.asdict(it) | {"opened": [question.text for question in it.opened]} for it in why.each], "idle": why.idle,
     }  # fmt: skip
 
 

@@ -14,7 +14,7 @@ from typing import Callable
 from .calls import Call, read_call
 from .values import (
     SWITCHES, Answer, CallData, Changes, Check, Counts, Derive, Effect, Filter, Filters, Fleet, FleetRow, Instruction, Launch,
-    Launched, LaunchKilled, LaunchPrivileged, LaunchRefused, Mount, Note, Plan, Printed, Question, Refusal, Replay, Reply,
+    Launched, LaunchKilled, LaunchPrivileged, LaunchRefused, LineAlone, Mount, Note, Plan, Printed, Question, Refusal, Replay, Reply,
     Report, Sample, Score, ScoreTest, Tighten, UnitLine, Unknown, Why,
 )  # fmt: skip
 from .words import unescaped
@@ -36,7 +36,8 @@ _TEST = re.compile(r"test ([^ ]+) badness ([0-9]+) range ([0-9]+) weight ([0-9]+
 _EXPOSURE = re.compile(r"exposure ([0-9]+) threshold ([0-9]+)")
 _DIFFERS = re.compile("differs nr N arch N ip N args N N N N N N theirs N ours N".replace("N", "([0-9]+)"))
 _FLEET_ROW = re.compile(r"unit ([^ ]+) exposure ([0-9]+)")
-_BY = re.compile(r"by ([^ ]+) ([0-9]+) (.*)")
+_BY = re.compile(r"by ([^ ]+) ([0-9]+) ([^ ]+)")
+_ALONE = re.compile(r"line ([^ ]+) ([0-9]+) ([^ ]+) (?:opens ([0-9]+)|needed)")
 _FLEET_END = re.compile(r"units ([0-9]+) refused ([0-9]+)")
 
 
@@ -322,6 +323,8 @@ def _why(lines: list[str], cut: bool, refusal: Refusal | None) -> Why:
     nothing = False
     calls: list[Call] = []
     by: list[UnitLine] = []
+    alone: list[tuple[UnitLine, int | None, list[Question]]] = []
+    idle: int | None = None
     unread: list[str] = []
     for line in lines:
         word, _, rest = line.partition(" ")
@@ -331,9 +334,16 @@ def _why(lines: list[str], cut: bool, refusal: Refusal | None) -> Why:
         elif answer is None and (told_answer := _answer(line)):
             answer = told_answer
         elif found := _BY.fullmatch(line):
-            by.append(UnitLine(unescaped(found[1]), int(found[2]), found[3]))
+            by.append(UnitLine(unescaped(found[1]), int(found[2]), unescaped(found[3])))
+        elif found := _ALONE.fullmatch(line):
+            at = UnitLine(unescaped(found[1]), int(found[2]), unescaped(found[3]))
+            alone.append((at, None if found[4] is None else int(found[4]), []))
+        elif word == "opened" and alone and alone[-1][1] is not None and (question := read_question(rest)):
+            alone[-1][2].append(question)
         elif numbers := _numbers(line, "lines"):
             count = numbers[0]
+        elif numbers := _numbers(line, "lines", "idle"):
+            count, idle = numbers
         elif line == "nothing":
             nothing = True
         elif word == "without" and (told := read_launch(rest)):
@@ -347,9 +357,11 @@ def _why(lines: list[str], cut: bool, refusal: Refusal | None) -> Why:
     if answer:
         answer = Answer(answer.question, answer.is_open, tuple(calls))
     told_reason = nothing or any(it is not None for it in (count, without_launch, without_refusal))
-    ended = refusal is not None or launch is not None or (answer is not None and (answer.is_open or told_reason))
+    answered = answer is not None and (answer.is_open or told_reason)
+    ended = refusal is not None or launch is not None or answered or idle is not None
+    each = tuple(LineAlone(at.file, at.line, at.text, many is None, many, tuple(opened)) for at, many, opened in alone)
     return Why(
-        refusal, not cut and ended, tuple(unread), launch, answer, nothing, tuple(by), count, without_launch, without_refusal
+        refusal, not cut and ended, tuple(unread), launch, answer, nothing, tuple(by), count, without_launch, without_refusal, each, idle
     )
 
 
@@ -366,7 +378,7 @@ _FIRST_WORDS = {
     "launch": "replay", "test": "score", "skip": "score", "exposure": "score", "sample": "sample", "same": "check",
     "differs": "check", "units": "fleet", "add": "tighten", "before": "tighten", "[Service]": "derive",
     "closed": "effect", "opened": "effect", "hidden": "effect", "shown": "effect", "effect": "effect", "with": "effect", "denied": "why",
-    "open": "why",
+    "open": "why", "line": "why",
 }  # fmt: skip
 
 

@@ -348,9 +348,19 @@ class UnitLine:
 
 
 @dataclass(frozen=True)
+class LineAlone(UnitLine):
+    """A line of a unit's files with what it denies by itself: how many questions are open without it, and which; none of these where
+    it is needed."""
+
+    needed: bool
+    count: int | None
+    opened: tuple[Question, ...]
+
+
+@dataclass(frozen=True)
 class Why(Printed):
     """The text of `why`: the answer to one question, and of one that is denied the lines that deny it; none where `nothing` does;
-    or why the unit without all lines but ExecStart= has no service."""
+    or why the unit without all lines but ExecStart= has no service. Without a question each line with what it denies by itself."""
 
     command: ClassVar[str] = "why"
     launch: Launch | None = None
@@ -360,6 +370,8 @@ class Why(Printed):
     count: int | None = None
     without_launch: Launch | None = None
     without_refusal: Refusal | None = None
+    each: tuple[LineAlone, ...] = ()
+    idle: int | None = None
 
 
 @dataclass(frozen=True)

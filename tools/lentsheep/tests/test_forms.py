@@ -34,6 +34,7 @@ TEXTS = {
     "derive": "[Service]\nSystemCallFilter=\nSystemCallFilter=@default read\n",
     "effect": "closed see /home\nopened read /tmp\n  1 open /tmp\nhidden /home\nshown /tmp\neffect closed 1 opened 1 hidden 1 shown 1\n",
     "why": "denied cap CAP_SYS_ADMIN\nby etc/a.service 7 User=web\nby etc/a.service 12 CapabilityBoundingSet=\nlines 2\n",
+    "lines": "line etc/a.service 2 ExecStart=/a needed\nline etc/a.service 3 User=web opens 1\nopened uid 0\nlines 2 idle 0\n",
     "other": "what is this\n",
 }
 

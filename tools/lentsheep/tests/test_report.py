@@ -243,14 +243,26 @@ class Others(unittest.TestCase):
         self.assertEqual((values.LaunchKilled(2), None, True), (alone.launch, alone.with_launch, alone.whole))
 
     def test_why(self):
-        text = "denied cap CAP_SYS_ADMIN\nby etc/a%20b.service 7 User=web\nby etc/c.conf 12 CapabilityBoundingSet=\n"
+        text = "denied cap CAP_SYS_ADMIN\nby etc/a%20b.service 7 User=web\nby etc/c.conf 12 CapabilityBoundingSet=CAP_CHOWN%20CAP_KILL\n"
         why = parse(f"{text}lines 2\n")
-        wanted = (values.UnitLine("etc/a b.service", 7, "User=web"), values.UnitLine("etc/c.conf", 12, "CapabilityBoundingSet="))
+        wanted = (values.UnitLine("etc/a b.service", 7, "User=web"), values.UnitLine("etc/c.conf", 12, "CapabilityBoundingSet=CAP_CHOWN CAP_KILL"))
         self.assertEqual(("why", True, (), wanted, 2), (why.command, why.whole, why.unread, why.by, why.count))
         self.assertEqual(("cap CAP_SYS_ADMIN", False), (why.answer.question.text, why.answer.is_open))
         self.assertFalse(parse(text).whole, "no last line")
         opened = parse("open read /a\n  1 open /a\n")
         self.assertEqual((True, ["1 open /a"]), (opened.whole, [call.text for call in opened.answer.calls]))
+
+    def test_why_each_line(self):
+        text = "line etc/a%20b.service 2 ExecStart=/a%20-b needed\nline etc/c.conf 3 User=web opens 2\nopened uid 0\nopened read /a%20b\nline etc/c.conf 4 Group= opens 0\n"
+        why = parse(f"{text}lines 3 idle 1\n")
+        self.assertEqual(("why", True, (), 3, 1), (why.command, why.whole, why.unread, why.count, why.idle))
+        wanted = [
+            ("etc/a b.service", 2, "ExecStart=/a -b", True, None, []), ("etc/c.conf", 3, "User=web", False, 2, ["uid 0", "read /a%20b"]),
+            ("etc/c.conf", 4, "Group=", False, 0, []),
+        ]  # fmt: skip
+        found = [(it.file, it.line, it.text, it.needed, it.count, [question.text for question in it.opened]) for it in why.each]
+        self.assertEqual(wanted, found)
+        self.assertFalse(parse(text).whole, "no last line")
 
     def test_why_without_lines(self):
         nothing = parse("denied ns user\nnothing\n")
