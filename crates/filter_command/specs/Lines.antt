@@ -4,7 +4,7 @@ use Rattle.std.specs.Fmt.{decimal}
 use Rattle.bpf_code.specs.Reading.{bytes_of_insn}
 use Rattle.bpf_code.specs.declared.machine.Insn.{Insn}
 use Rattle.filter_rules.specs.Names.{text_of as name_text}
-use Rattle.filter_command.specs.declared.compiled.Compiled.{Compiled}
+use Rattle.launcher.specs.declared.filters.FilterProgram.{FilterProgram}
 
 abbrev pub hex_digit : ℕ → ℕ
 hex_digit n = cond (nat_lt n 10) (48 + n) (87 + n)
@@ -18,11 +18,11 @@ abbrev pub insn_line : Insn → List ℕ
 insn_line insn = flat_map hex_byte (bytes_of_insn insn) ++ 10 ∷ []
 
 -- the first line of a filter: its name, and how many instructions it has
-abbrev pub head_line : Compiled → List ℕ
+abbrev pub head_line : FilterProgram → List ℕ
 head_line filter = codes "filter " ++ (name_text filter.name ++ (codes " " ++ (decimal (length filter.program) ++ 10 ∷ [])))
 
 -- a filter: its first line, and its instructions
-abbrev pub filter_text : Compiled → List ℕ
+abbrev pub filter_text : FilterProgram → List ℕ
 filter_text filter = head_line filter ++ flat_map insn_line filter.program
 
 -- how many filters there are
@@ -30,5 +30,5 @@ abbrev pub count_line : ℕ → List ℕ
 count_line count = codes "filters " ++ (decimal count ++ 10 ∷ [])
 
 -- all filters, in order, and how many there are
-abbrev pub text_of : List Compiled → List ℕ
+abbrev pub text_of : List FilterProgram → List ℕ
 text_of filters = flat_map filter_text filters ++ count_line (length filters)

@@ -9,7 +9,7 @@ use Rattle.unit_inputs.specs.Inputs.{Inputs, inputs_of}
 use Rattle.unit_names.specs.Cutting.{name_of}
 use Rattle.unit_inputs.specs.Settled.{unit_refusals}
 use Rattle.filter_command.specs.declared.command.Filters.{Filters}
-use Rattle.filter_command.specs.declared.compiled.Compiled.{Compiled}
+use Rattle.launcher.specs.declared.filters.FilterProgram.{FilterProgram}
 use Rattle.filter_command.specs.Compiled.{AreFilters}
 use Rattle.filter_command.specs.Lines.{text_of}
 
@@ -17,7 +17,7 @@ use Rattle.filter_command.specs.Lines.{text_of}
 pub record PrintsFilters (files : Files) (unit text : List ℕ) : Type 0 where
   pub inputs : Inputs
   pub inputs_are : inputs_of files unit ≡ Some inputs
-  pub filters : List Compiled
+  pub filters : List FilterProgram
   pub are_filters : AreFilters (unit_filters inputs.unit inputs.calls) inputs.calls filters
   pub is_their_text : text ≡ text_of filters
 
@@ -32,7 +32,7 @@ filter_laws unit = record {
 
 -- what is ready
 abbrev pub filters_text : Filters → List ℕ
-filters_text filters = text_of filters.programs.items
+filters_text filters = text_of filters.programs
 
 abbrev pub ending_of : Filters → Ending
 ending_of filters = Done

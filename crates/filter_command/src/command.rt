@@ -7,25 +7,26 @@ ghost use Rattle.command_answers.specs.Laws.{IsAdmitted, laws_over};
 ghost use Rattle.command_answers.specs.Stops.{RefusesNothing};
 ghost use Rattle.unit_inputs.specs.Asking.{AsksInOrder, input_asks};
 ghost use Rattle.unit_inputs.specs.ReadsFor.{ReadsFor};
-ghost use Rattle.filter_command.specs.Compiled.{AreCompiled};
+ghost use Rattle.launcher.specs.Answers.{AreProgramsOf};
 ghost use Rattle.filter_command.specs.Prints.{ending_of, filter_laws, filters_text};
 
-use crate::compiled::{Compiled, compile_all};
 use crate::lines::count_line;
 use crate::printing::print_filters;
 use command_answers::{Ending, Ready, Stop, put_line};
 use filter_rules::Filter;
 use host_io::{Shelf, Sink, SinkError};
+use launcher::{FilterPrograms, compile_all};
 use std::alloc::Global;
 use unit_inputs::settle_unit;
 
 /// The compiled filters of a unit, ready to be printed.
 #[derive(Drop)]
 pub struct Filters {
-    pub programs: Vec<Compiled>,
+    pub programs: FilterPrograms,
 }
 
 impl Ready for Filters {
+    ghost use Rattle.launcher.specs.Answers.{AreProgramsOf};
     ghost use Rattle.filter_command.specs.Prints.{ending_of, filters_text};
 
     ghost text = { filters_text };
@@ -33,7 +34,7 @@ impl Ready for Filters {
     ghost ending = { ending_of };
 
     fn print<K: Sink>(&mut self, alloc: Global, out: &mut K) -> Result<(), SinkError> {
-        let filters = self.programs.as_slice();
+        let filters = self.programs.list();
         print_filters(alloc, filters, out)?;
         put_line(out, count_line(alloc, filters.len()))
     }
@@ -46,7 +47,7 @@ impl Ready for Filters {
 // The programs of these filters.
 fn compiled(alloc: Global, filters: &[Filter]) -> Result<Filters, Stop>
     requires can_be_compiled { All (λ one. CanCompile one.rules) filters.now }
-    ensures compiles { IfOk result (λ made. AreCompiled filters.now made.programs.items) }
+    ensures compiles { IfOk result (λ made. AreProgramsOf filters.now made.programs) }
     ensures refuses_nothing { RefusesNothing result }
     ensures reads_nothing { IsErrOf result Stop.ReadFault → ⊥ }
 {

@@ -2,8 +2,8 @@
 ghost use Rattle.std.specs.Prelude.{◌≡◌, ◌<◌, ◌++◌, flat_map, IfOk, OnOk};
 ghost use Rattle.filter_command.specs.Lines.{count_line, head_line, hex_byte, hex_digit, insn_line};
 
-use crate::compiled::Compiled;
 use bpf_code::Insn;
+use launcher::FilterProgram;
 use std::alloc::{AllocError, Global};
 
 fn lower_digit(n: u8) -> u8
@@ -44,7 +44,7 @@ pub fn insn_line(alloc: Global, insn: &Insn) -> Result<Vec<u8>, AllocError>
 }
 
 /// The first line of a filter.
-pub fn head_line(alloc: Global, filter: &Compiled) -> Result<Vec<u8>, AllocError>
+pub fn head_line(alloc: Global, filter: &FilterProgram) -> Result<Vec<u8>, AllocError>
     ensures tells_the_filter { IfOk result (λ line. line.items ≡ head_line filter.now) }
 {
     let name = filter.name.text();

@@ -3,11 +3,11 @@ ghost use Rattle.std.specs.Prelude.{flat_map};
 ghost use Rattle.command_answers.specs.Printing.{HasWriteCause, TakesText};
 ghost use Rattle.filter_command.specs.Lines.{filter_text, insn_line};
 
-use crate::compiled::Compiled;
 use crate::lines::{head_line, insn_line};
 use bpf_code::Insn;
 use command_answers::put_line;
 use host_io::{Sink, SinkError};
+use launcher::FilterProgram;
 use std::alloc::Global;
 
 // Prints instructions.
@@ -22,7 +22,11 @@ fn print_insns<K: Sink>(alloc: Global, insns: &[Insn], out: &mut K) -> Result<()
 }
 
 // Prints a filter.
-fn print_filter<K: Sink>(alloc: Global, filter: &Compiled, out: &mut K) -> Result<(), SinkError>
+fn print_filter<K: Sink>(
+    alloc: Global,
+    filter: &FilterProgram,
+    out: &mut K,
+) -> Result<(), SinkError>
     ensures takes_the_text { TakesText (K.taken out.old) (K.taken out.new) (filter_text filter.now) result }
     ensures fault_rose { HasWriteCause (K.faults out.old) (K.faults out.new) result }
 {
@@ -33,7 +37,7 @@ fn print_filter<K: Sink>(alloc: Global, filter: &Compiled, out: &mut K) -> Resul
 /// Prints filters, one behind the other: of each its name and length, and its instructions.
 pub fn print_filters<K: Sink>(
     alloc: Global,
-    filters: &[Compiled],
+    filters: &[FilterProgram],
     out: &mut K,
 ) -> Result<(), SinkError>
     ensures takes_the_text { TakesText (K.taken out.old) (K.taken out.new) (flat_map filter_text filters.now) result }

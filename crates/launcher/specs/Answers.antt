@@ -6,6 +6,8 @@ use Rattle.call_table.specs.Table as calls
 use Rattle.filter_rules.specs.declared.installed.Filter.{Filter}
 use Rattle.exec_settings.specs.declared.service.Settings.{Settings}
 use Rattle.kern_mounts.specs.Split.{Table}
+use Rattle.seccomp_compile.specs.Compiled.{DecidesWithin, longest_path}
+use Rattle.seccomp_compile.specs.ShortCases.{HaveShortCases}
 use Rattle.site_table.specs.Table.{Site}
 use Rattle.launcher.specs.declared.error.LaunchError.{LaunchError}
 use Rattle.launcher.specs.declared.error.LaunchError.TheVariants as error
@@ -28,11 +30,13 @@ wanted_of settings programs = record {
   programs = programs;
 }
 
--- a program of the filter: it has its name and matches it, and seccomp(2) takes its bytes
+-- a program of the filter: it has its name and matches it, decides after few instructions where the rules have short cases, and seccomp(2)
+-- takes its bytes
 pub record IsProgramOf (filter : Filter) (one : FilterProgram) : Type 0 where
   pub named : one.name ≡ filter.name
   pub own_abi : one.abi ≡ filter.abi
   pub matches : IsMatch filter one.program
+  pub decides_soon : HaveShortCases filter.rules → DecidesWithin longest_path one.program filter.rules
   pub taken : IsProgram one.program
 
 -- one for each filter, in their order

@@ -19,6 +19,6 @@ mod running;
 mod steps;
 
 pub use error::LaunchError;
-pub use filters::{FilterProgram, FilterPrograms};
+pub use filters::{FilterProgram, FilterPrograms, compile_all};
 pub use launched::Launched;
 pub use launching::launch;
