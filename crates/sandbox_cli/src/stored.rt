@@ -40,7 +40,7 @@ pub fn run_with_tests<S: Shelf, K: Sink>(
     let executes = Box::new(
         alloc,
         |rows: &[VerdictRow]|
-            ensures { result ≡ can_execute rows.now }
+            ensures by_the_verdicts { result ≡ can_execute rows.now }
         { can_execute(rows) },
     )?;
     let mut tests = Vec::new(alloc);
