@@ -1,9 +1,7 @@
 -- Where launches by two lists of programs end well, the launch by a list that answers each call as one of the two does too.
-use Rattle.std.proofs.Common.{◌≡◌, ℕ, suc, Bool, true, false, cond, codes, List, [], ◌∷◌, ◌++◌, Option, Some, None, ◌⊎◌, inl, inr, refl, ap, ◌∙◌, sym, subst, length, arith}
-use Rattle.std.specs.Prelude.{nat_le, ◌+◌, ◌<◌, ◌≤◌, ◌^◌, ◌||◌, not, All}
-use Rattle.std.specs.Option.{option_map_or}
+use Rattle.std.proofs.Common.{◌≡◌, ℕ, Bool, true, false, cond, codes, List, [], ◌∷◌, ◌++◌, Option, Some, ◌⊎◌, inl, inr, refl, ap, ◌∙◌, sym, subst, length, arith}
+use Rattle.std.specs.Prelude.{nat_le, ◌+◌, ◌<◌, ◌≤◌, ◌^◌, ◌||◌, not}
 use Rattle.std.proofs.lemmas.Bool.Decides.{nat_tests}
-use Rattle.std.proofs.lemmas.List.Elements.{All-from_recursion}
 use Rattle.std.proofs.lemmas.List.Sums.{sum_by-append, sum_by-cons}
 use Rattle.abs_path.specs.Paths.{Path}
 use Rattle.bpf_code.specs.declared.machine.Insn.{Insn}
@@ -14,11 +12,8 @@ use Rattle.bpf_code.specs.Meaning.{IsCallData}
 use Rattle.bpf_code.specs.ProgramOf.{program_of}
 use Rattle.bpf_code.specs.Stack.{answer_of, decision_on, room_of}
 use Rattle.cap_sets.specs.Sets.{has}
-use Rattle.call_table.specs.declared.listed.CallLine.{CallLine}
 use Rattle.call_table.specs.Facts.{IsWhole}
-use Rattle.call_table.specs.Lookups.{IsInRange, has_name, named}
 use Rattle.call_table.specs.Table as calls
-use Rattle.call_table.proofs.Places.{found_holds}
 use Rattle.site_table.specs.Table.{Site, row_at}
 use Rattle.kern_creds.specs.declared.creds.Creds.{Creds}
 use Rattle.kern_mounts.specs.Finds.{finds}
@@ -41,18 +36,18 @@ use Rattle.linux_numbers.specs.Errnos.{eacces, enomem}
 use Rattle.linux_numbers.specs.Limits.{max_insns_per_path}
 use Rattle.mount_plan.specs.Host.{host_of as site_host}
 use Rattle.launcher.specs.Alike.{HasWordArchs, above}
-use Rattle.launcher.specs.Launch.{LaunchStep, Ending, Launched, PrivilegedProgram, Wanted, first_call, number_of, launch_step, launch_steps, launch_from, launch_on, is_privileged_row, mount_steps, with_unshare, identity_steps, filter_steps, program_steps}
+use Rattle.launcher.specs.Launch.{LaunchStep, Launched, PrivilegedProgram, Wanted, first_call, number_of, launch_step, launch_steps, launch_from, is_privileged_row, mount_steps, with_unshare, identity_steps, filter_steps, program_steps}
 use Rattle.launcher.specs.Launches.{HasLaunchCalls, AreRead}
-use Rattle.launcher.specs.LaunchesAlike.{AreInstalled}
 use Rattle.launcher.proofs.Alike.{own_step, lifted, step_above}
 use Rattle.launcher.proofs.CallsMade.{done_on}
 use Rattle.launcher.proofs.HostRoot.{begins_at_host}
+use Rattle.launcher.proofs.CallData.{fits}
 use Rattle.launcher.proofs.LaunchCalls.{launch_calls}
 use Rattle.launcher.proofs.LaunchWorld.{ready_at}
 use Rattle.launcher.proofs.Leading.{Leads, append_assoc, append_none, append_split, launched_leads, leads_parts}
 use Rattle.launcher.proofs.Solo.{solo, only}
 use Rattle.allow_laws.specs.Either.{AnswerSame, AnswersAsEither}
-use Rattle.allow_laws.specs.Launches.{EitherLaunches, LaunchAsEither, LaunchesBy, launch_by}
+use Rattle.allow_laws.specs.Launches.{EitherLaunches, launch_by}
 use Rattle.allow_laws.proofs.Same.{as_one, both_done, same_decision}
 
 -- ---- steps that are all done
@@ -70,14 +65,7 @@ leads_launched world (step ∷ steps) last count l =
     let more = leads_launched (launch_step world step).1 steps last (count + 1) l.1 in
     (more.0, done_on (launch_step world step).0 (count + 1) (launch_from (launch_step world step).1 steps (count + 1)) l.0 ∙ more.1)
 
--- ---- numbers, and data of calls
-number_small : (lines : List CallLine) (name : List ℕ) → All IsInRange lines → number_of lines name < 2 ^ 32
-number_small lines name in_range = by (named name lines) refl
-  where
-    by : (o : Option CallLine) → named name lines ≡ o → option_map_or (λ line. line.number) o 0 < 2 ^ 32
-    by None is = omega arith
-    by (Some line) is = let r = found_holds IsInRange (has_name name) lines line in_range is in let n = r.number in omega arith
-
+-- ---- lists of programs that answer the same
 pushed_same : (input : CallData) (one other : List (List Insn)) (code own : List Insn) → AnswerSame input one other → answer_of code input ≡ answer_of own input → AnswerSame input (one ++ code ∷ []) (other ++ own ∷ [])
 pushed_same input [] [] code own same last = (last, tt)
 pushed_same input [] (y ∷ other) code own same last = absurd same
@@ -109,15 +97,6 @@ then_by both one other input (inr same) = inr (tt, same)
 module _ (table : calls.Table) (site : Site) (whole : IsWhole table) (arch : HasWordArchs table) where
   calls' : HasLaunchCalls table.calls
   calls' = launch_calls table whole
-
-  fits : (name : List ℕ) (one : ℕ) → one < 2 ^ 64 → IsCallData (record { nr = number_of table.calls name; arch = table.arch; ip = 0; args = one ∷ 0 ∷ 0 ∷ 0 ∷ 0 ∷ 0 ∷ [] })
-  fits name one small = record {
-    nr = number_small table.calls name whole.sound.calls.in_range;
-    arch = arch 0;
-    ip = omega arith;
-    count = refl;
-    args = All-from_recursion (λ arg. arg < 2 ^ 64) (one ∷ 0 ∷ 0 ∷ 0 ∷ 0 ∷ 0 ∷ []) (small, (omega arith, (omega arith, (omega arith, (omega arith, (omega arith, tt))))));
-  }
 
   module _ (creds : Creds) (namespace : ℕ) (tables : List MountList) where
     abbrev with_stack : List (List Insn) → World
@@ -193,7 +172,7 @@ module _ (table : calls.Table) (site : Site) (whole : IsWhole table) (arch : Has
           let did : IsDone (own_step one (with_stack []) call).0 = subst (λ (out : Reply × World). IsDone out.0) (stepped one) l.0 in
           let does : IsDone (own_step other (with_stack []) call).0 = subst (λ (out : Reply × World). IsDone out.0) (stepped other) m.0 in
           let same = both_done one other (with_stack []) call nothing did does in
-          let own = as_one both one other (with_stack []) call nothing like (fits (codes "execve") 0 (omega arith)) same in
+          let own = as_one both one other (with_stack []) call nothing like (fits table whole arch (codes "execve") 0 (omega arith)) same in
           let together : step (with_stack both) call ≡ lifted both (own_step one (with_stack []) call) = stepped both ∙ ap (lifted both) own in
           record {
             base = (own_step one (with_stack []) call).1;
@@ -262,7 +241,7 @@ module _ (table : calls.Table) (site : Site) (whole : IsWhole table) (arch : Has
           let e2 = sum_by-cons F code2 [] in
           let p = passes one bytes1 (decision_on one input) l.0 in
           let q = passes other bytes2 (decision_on other input) m.0 in
-          let passing = passes_too both one other (now_by both one other (code ∷ both') (code1 ∷ one') (code2 ∷ other') input (goes input (fits (codes "seccomp") 1 (omega arith)))) p.0 q.0 in
+          let passing = passes_too both one other (now_by both one other (code ∷ both') (code1 ∷ one') (code2 ∷ other') input (goes input (fits table whole arch (codes "seccomp") 1 (omega arith)))) p.0 q.0 in
           let fit : room_of both + length code ≤ max_insns_per_path = omega arith in
           let fit1 : room_of one + length code1 ≤ max_insns_per_path = omega arith in
           let fit2 : room_of other + length code2 ≤ max_insns_per_path = omega arith in

@@ -1,6 +1,6 @@
 -- A process enters a user namespace of its own, and what it can do there.
 use Rattle.std.proofs.Common.{◌≡◌, ℕ, Bool, true, false, List, [], ◌∷◌, ◌++◌, Option, Some, Result, Ok, Err, refl, ap, ◌∙◌, sym, subst, cond, arith, ◌<◌, map}
-use Rattle.std.specs.Prelude.{◌^◌, ◌&&◌, not, nat_lt, slice_get}
+use Rattle.std.specs.Prelude.{◌^◌, ◌&&◌, not, nat_lt, slice_get, length}
 use Rattle.abs_path.specs.Paths.{Path}
 use Rattle.call_names.specs.declared.rule.CallRule.TheVariants as known
 use Rattle.cap_sets.specs.Sets.{has, all, within, IsWithin}
@@ -29,8 +29,8 @@ use Rattle.kernel_calls.specs.declared.rule.Rule.TheVariants as rule
 use Rattle.kernel_model.specs.Effects as f
 use Rattle.kernel_model.specs.Effects.{Effect, SetCreds, creds_effect, effect_of}
 use Rattle.kernel_model.specs.Runs.{IsDone}
-use Rattle.kernel_model.specs.Step.{step, applied, moved_in, child_in}
-use Rattle.kernel_model.specs.World.{World, with_process, with_child, with_user, entered_by}
+use Rattle.kernel_model.specs.Step.{step, applied, moved_in, child_in, most_namespaces, most_processes}
+use Rattle.kernel_model.specs.World.{World, living_of, mounts_of, with_process, with_child, with_user, entered_by}
 use Rattle.kernel_model.specs.declared.process.Process.{Process}
 use Rattle.kernel_model.specs.declared.reply.Reply.{Reply}
 use Rattle.kernel_model.specs.declared.reply.Reply.TheVariants as reply
@@ -48,24 +48,12 @@ use Rattle.kernel_ways.specs.Entering.{pid_in, IsEntered, MakesIn, newer_at}
 use Rattle.kernel_ways.specs.Showing.{IsDoable}
 use Rattle.kernel_ways.specs.Ways.{CallAt, IsCallAt, IsSolo, Makes, host_at, caller_at, passes_at, place_of, rule_there, solo_world, solo_process}
 use Rattle.kernel_ways.proofs.Choices as choices
-use Rattle.kernel_ways.proofs.Lines.{Line, choice_of, make, six, zeros, first_by}
+use Rattle.kernel_ways.proofs.Lines.{Line, choice_of, flag_words, make, zeros, first_by}
 use Rattle.kernel_ways.proofs.Solo.{steps, mounts_are}
 
 -- every capability is had there
 admin_inside : has all 21 ≡ true
 admin_inside = has_all 21
-
-flag_words : (space : NamespaceType) → AreWords (flag_of space ∷ 0 ∷ 0 ∷ 0 ∷ 0 ∷ 0 ∷ [])
-flag_words space = six (flag_of space) 0 0 0 (by space) (omega arith) (omega arith) (omega arith)
-  where
-    by : (space : NamespaceType) → flag_of space < 2 ^ 32
-    by namespace.Cgroup = omega arith
-    by namespace.Ipc = omega arith
-    by namespace.Net = omega arith
-    by namespace.Mnt = omega arith
-    by namespace.Pid = omega arith
-    by namespace.User = omega arith
-    by namespace.Uts = omega arith
 
 -- ---- entering
 module _ (launch : Launch) (some : nat_lt 0 launch.site.user_namespaces ≡ true) (creds : Creds) (table : Table) where
@@ -83,6 +71,22 @@ module _ (launch : Launch) (some : nat_lt 0 launch.site.user_namespaces ≡ true
   abbrev After : ℕ → Reply × World → Type 0
   After pid out = IsDone out.0 × IsEntered launch (entered creds) table pid out.1
 
+  -- the process that entered it lives there
+  is_inside : (pid namespace : ℕ) {world : World} → world.calls ≡ launch.calls → world.site ≡ launch.site → living_of world pid ≡ Some (entered_by (solo_process launch creds namespace) 0) → mounts_of world namespace ≡ map plain table
+      → nat_lt (length world.tables) most_namespaces ≡ true → nat_lt (length world.processes) most_processes ≡ true → IsEntered launch (entered creds) table pid world
+  is_inside pid namespace calls site lives own few fewer = record {
+    calls = calls;
+    site = site;
+    process = entered_by (solo_process launch creds namespace) 0;
+    lives = lives;
+    has = refl;
+    stack = refl;
+    newer = refl;
+    own = own;
+    few = few;
+    fewer = fewer;
+  }
+
   by_unshare : (call : Call) → Makes launch creds table (d.Unshare (flag_of namespace.User)) call (f.OwnUser false) → (after : World) → IsSolo launch creds table after → After 1 (step after call)
   by_unshare call m after s =
       let own = solo_world launch creds s.namespace s.tables s.owners in
@@ -90,21 +94,7 @@ module _ (launch : Launch) (some : nat_lt 0 launch.site.user_namespaces ≡ true
       let Q : Reply × World → Type 0 = λ out. After 1 out in
       let R : Bool → Type 0 = λ b. After 1 (cond {A = Reply × World} b (moved_in own (with_user own) 1 (entered_by (solo_process launch creds s.namespace) 0) false) (reply.Refused 28, own)) in
       subst P (sym s.is) (subst Q (sym (steps launch creds table s.namespace s.tables s.owners s.numbered s.own s.home s.few (d.Unshare (flag_of namespace.User)) call (f.OwnUser false) m))
-      (subst R (sym some) (
-        tt,
-        record {
-          calls = refl;
-          site = refl;
-          process = entered_by (solo_process launch creds s.namespace) 0;
-          lives = refl;
-          has = refl;
-          stack = refl;
-          newer = refl;
-          own = mounts_are launch creds table s.namespace s.tables s.owners s.numbered s.own s.home s.few (d.Unshare (flag_of namespace.User)) call (f.OwnUser false) m;
-          few = s.few;
-          fewer = refl;
-        },
-      )))
+      (subst R (sym some) (tt, is_inside 1 s.namespace refl refl refl (mounts_are launch creds table s.namespace s.tables s.owners s.numbered s.own s.home s.few (d.Unshare (flag_of namespace.User)) call (f.OwnUser false) m) s.few refl)))
 
   by_clone : (call : Call) → Makes launch creds table (d.Clone (flag_of namespace.User)) call (f.UserChild false) → (after : World) → IsSolo launch creds table after → After 2 (step after call)
   by_clone call m after s =
@@ -113,21 +103,7 @@ module _ (launch : Launch) (some : nat_lt 0 launch.site.user_namespaces ≡ true
       let Q : Reply × World → Type 0 = λ out. After 2 out in
       let R : Bool → Type 0 = λ b. After 2 (cond {A = Reply × World} b (child_in own (with_user own) (entered_by (solo_process launch creds s.namespace) 0) false) (reply.Refused 28, own)) in
       subst P (sym s.is) (subst Q (sym (steps launch creds table s.namespace s.tables s.owners s.numbered s.own s.home s.few (d.Clone (flag_of namespace.User)) call (f.UserChild false) m))
-      (subst R (sym some) (
-        tt,
-        record {
-          calls = refl;
-          site = refl;
-          process = entered_by (solo_process launch creds s.namespace) 0;
-          lives = refl;
-          has = refl;
-          stack = refl;
-          newer = refl;
-          own = mounts_are launch creds table s.namespace s.tables s.owners s.numbered s.own s.home s.few (d.Clone (flag_of namespace.User)) call (f.UserChild false) m;
-          few = s.few;
-          fewer = refl;
-        },
-      )))
+      (subst R (sym some) (tt, is_inside 2 s.namespace refl refl refl (mounts_are launch creds table s.namespace s.tables s.owners s.numbered s.own s.home s.few (d.Clone (flag_of namespace.User)) call (f.UserChild false) m) s.few refl)))
 
   enters_by : {own : Rule} {args : List ℕ} → (nr : CallAt) → IsCallAt nr → rule_there launch nr ≡ Some own → passes_at launch nr args → choices.Choice (k.ForNamespace namespace.User) own args → Enters own (first_by nr args pay.Nothing)
   enters_by nr n at t (choices.unshare _) =

@@ -23,6 +23,9 @@ use Rattle.kernel_calls.specs.Doing.{Doing, doing_by, asked_by, asked_if}
 use Rattle.kernel_model.specs.Effects.{Effect, effect_of}
 use Rattle.question_types.specs.declared.kind.CallKind.{CallKind}
 use Rattle.kernel_laws.specs.Kinds.{words, no_words, AreWords}
+use Rattle.filter_rules.specs.declared.namespace_types.NamespaceType.{NamespaceType}
+use Rattle.filter_rules.specs.declared.namespace_types.NamespaceType.TheVariants as namespace
+use Rattle.kernel_laws.specs.Questions.{flag_of}
 use Rattle.kernel_laws.specs.Launched.{Launch, IsLaunched, data_at, passes, is_pass, lets_words, lets_rule, lets_line, lets}
 use Rattle.kern_mounts.specs.Split.{Table}
 use Rattle.kernel_laws.proofs.Filters.{at_position, slice_all}
@@ -136,6 +139,18 @@ six a b c d ha hb hc hd = record {
 
 pub zeros : AreWords no_words
 zeros = six 0 0 0 0 (omega arith) (omega arith) (omega arith) (omega arith)
+
+pub flag_words : (space : NamespaceType) → AreWords (flag_of space ∷ 0 ∷ 0 ∷ 0 ∷ 0 ∷ 0 ∷ [])
+flag_words space = six (flag_of space) 0 0 0 (by space) (omega arith) (omega arith) (omega arith)
+  where
+    by : (space : NamespaceType) → IsWord (flag_of space)
+    by namespace.Cgroup = omega arith
+    by namespace.Ipc = omega arith
+    by namespace.Net = omega arith
+    by namespace.Mnt = omega arith
+    by namespace.Pid = omega arith
+    by namespace.User = omega arith
+    by namespace.Uts = omega arith
 
 -- ---- a call of process 1
 abbrev pub first_by : CallAt → List ℕ → Payload → Call

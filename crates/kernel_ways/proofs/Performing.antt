@@ -30,7 +30,7 @@ use Rattle.kernel_laws.specs.Questions.{flag_of}
 use Rattle.kernel_ways.specs.Ways.{effect_on, host_at, caller_at, CallAt, IsCallAt, rule_there, passes_at, place_of}
 use Rattle.kernel_ways.proofs.Choices as choices
 use Rattle.kernel_ways.proofs.Doings.{Performed}
-use Rattle.kernel_ways.proofs.Lines.{Line, choice_of, make, six, zeros, first_by}
+use Rattle.kernel_ways.proofs.Lines.{Line, choice_of, flag_words, make, six, zeros, first_by}
 use Rattle.kernel_ways.specs.Showing.{IsDoable}
 
 -- the capability is effective, if there is one
@@ -131,18 +131,6 @@ module _ (launch : Launch) (creds : Creds) (table : Table) where
   module _ (admin : has creds.effective 21 ≡ true) where
     admits : (effect : Effect) → cond (has creds.effective 21) effect (f.Refuse eperm) ≡ effect
     admits effect = ap (λ b. cond b effect (f.Refuse eperm)) admin
-
-    flag_words : (space : NamespaceType) → AreWords (flag_of space ∷ 0 ∷ 0 ∷ 0 ∷ 0 ∷ 0 ∷ [])
-    flag_words space = six (flag_of space) 0 0 0 (by space) (omega arith) (omega arith) (omega arith)
-      where
-        by : (space : NamespaceType) → flag_of space < 2 ^ 32
-        by namespace.Cgroup = omega arith
-        by namespace.Ipc = omega arith
-        by namespace.Net = omega arith
-        by namespace.Mnt = omega arith
-        by namespace.Pid = omega arith
-        by namespace.User = omega arith
-        by namespace.Uts = omega arith
 
     unshared : (space : NamespaceType) (effect : Effect) (nr : CallAt) → IsCallAt nr → rule_there launch nr ≡ Some (rule.Known known.Unshare) → passes_at launch nr (one_word 0 (flag_of space)) → d.doing_by (rule.Known known.Unshare) (one_word 0 (flag_of space)) pay.Nothing ≡ Some (d.Unshare (flag_of space))
         → effect_on (host_at launch) (caller_at launch creds table) table (d.Unshare (flag_of space)) ≡ effect → IsDoable effect → asks_space space (d.Unshare (flag_of space)) ≡ true → Performed launch creds table (asks_space space) (first_by nr (one_word 0 (flag_of space)) pay.Nothing)

@@ -1,9 +1,7 @@
 -- How a launch ends does not rest on which programs the filters are.
-use Rattle.std.proofs.Common.{◌≡◌, ℕ, suc, Bool, true, false, cond, codes, List, [], ◌∷◌, ◌++◌, Option, Some, None, ◌⊎◌, inl, inr, refl, ap, ◌∙◌, sym, subst, length, arith}
-use Rattle.std.specs.Prelude.{nat_le, ◌+◌, ◌<◌, ◌≤◌, ◌^◌, ◌||◌, not, All}
-use Rattle.std.specs.Option.{option_map_or}
+use Rattle.std.proofs.Common.{◌≡◌, ℕ, suc, Bool, true, false, cond, codes, List, [], ◌∷◌, ◌++◌, Option, Some, ◌⊎◌, inl, inr, refl, ap, ◌∙◌, sym, subst, length, arith}
+use Rattle.std.specs.Prelude.{nat_le, ◌+◌, ◌<◌, ◌≤◌, ◌^◌, ◌||◌, not}
 use Rattle.std.proofs.lemmas.Bool.Decides.{nat_tests}
-use Rattle.std.proofs.lemmas.List.Elements.{All-from_recursion}
 use Rattle.std.proofs.lemmas.List.Sums.{sum_by-append, sum_by-cons}
 use Rattle.abs_path.specs.Paths.{Path}
 use Rattle.bpf_code.specs.declared.machine.Insn.{Insn}
@@ -14,11 +12,8 @@ use Rattle.bpf_code.specs.Meaning.{IsCallData}
 use Rattle.bpf_code.specs.ProgramOf.{program_of}
 use Rattle.bpf_code.specs.Stack.{answer_of, decision_by, deciding, decision_on, room_of}
 use Rattle.cap_sets.specs.Sets.{has}
-use Rattle.call_table.specs.declared.listed.CallLine.{CallLine}
 use Rattle.call_table.specs.Facts.{IsWhole}
-use Rattle.call_table.specs.Lookups.{IsInRange, has_name, named}
 use Rattle.call_table.specs.Table as calls
-use Rattle.call_table.proofs.Places.{found_holds}
 use Rattle.site_table.specs.Table.{Site, row_at}
 use Rattle.kern_creds.specs.declared.creds.Creds.{Creds}
 use Rattle.kern_mounts.specs.Finds.{finds}
@@ -28,7 +23,7 @@ use Rattle.kernel_calls.specs.declared.rule.Rule.{Rule}
 use Rattle.kernel_calls.specs.Doing as d
 use Rattle.kernel_calls.specs.Doing.{Asked, Does, asked_of, asked_by}
 use Rattle.kernel_model.specs.Effects as f
-use Rattle.kernel_model.specs.Effects.{Effect, push_effect, seccomp_effect}
+use Rattle.kernel_model.specs.Effects.{Effect, push_effect}
 use Rattle.launcher.specs.Launch.{LaunchStep, Ending, Launched, StepRefused, StepKilled, PrivilegedProgram, first_call, number_of, launch_step, launch_steps, launch_on, launch_from, is_privileged_row, mount_steps, with_unshare, identity_steps, filter_steps, program_steps}
 use Rattle.kern_mounts.specs.Mounts.{Mounts as MountList}
 use Rattle.kern_mounts.specs.Split.{Table}
@@ -41,6 +36,7 @@ use Rattle.launcher.specs.Alike.{HasWordArchs, AnswerAlike, above}
 use Rattle.launcher.specs.Launches.{HasLaunchCalls, AreRead}
 use Rattle.launcher.specs.LaunchesAlike.{EndAlike, LaunchesAlike}
 use Rattle.launcher.proofs.Solo.{solo, only}
+use Rattle.launcher.proofs.CallData.{fits}
 use Rattle.launcher.proofs.LaunchCalls.{launch_calls}
 use Rattle.launcher.proofs.Leading.{Leads, append_assoc, append_none, append_split}
 use Rattle.launcher.proofs.LaunchWorld.{ready_at}
@@ -81,14 +77,6 @@ same_end one one' other other' x y e e' h = subst (λ (s : List (List Insn)). En
 same_ends : (one other : List (List Insn)) (x x' y y' : Ending) → x ≡ x' → y ≡ y' → EndAlike one other x' y' → EndAlike one other x y
 same_ends one other x x' y y' e e' h = subst (λ (z : Ending). EndAlike one other z y) (sym e) (subst (λ (z : Ending). EndAlike one other x' z) (sym e') h)
 
--- the numbers of calls are small
-number_small : (lines : List CallLine) (name : List ℕ) → All IsInRange lines → number_of lines name < 2 ^ 32
-number_small lines name in_range = by (named name lines) refl
-  where
-    by : (o : Option CallLine) → named name lines ≡ o → option_map_or (λ line. line.number) o 0 < 2 ^ 32
-    by None is = omega arith
-    by (Some line) is = let r = found_holds IsInRange (has_name name) lines line in_range is in let n = r.number in omega arith
-
 pushed_alike : (one other : List (List Insn)) (code own : List Insn) → AnswerAlike one other → ((input : CallData) → IsCallData input → answer_of code input ≡ answer_of own input) → AnswerAlike (one ++ code ∷ []) (other ++ own ∷ [])
 pushed_alike [] [] code own alike same = (same, tt)
 pushed_alike [] (x ∷ other) code own alike same = absurd alike
@@ -98,15 +86,6 @@ pushed_alike (x ∷ one) (y ∷ other) code own alike same = (alike.0, pushed_al
 module _ (table : calls.Table) (site : Site) (whole : IsWhole table) (arch : HasWordArchs table) where
   calls' : HasLaunchCalls table.calls
   calls' = launch_calls table whole
-
-  fits : (name : List ℕ) (one : ℕ) → one < 2 ^ 64 → IsCallData (record { nr = number_of table.calls name; arch = table.arch; ip = 0; args = one ∷ 0 ∷ 0 ∷ 0 ∷ 0 ∷ 0 ∷ [] })
-  fits name one small = record {
-    nr = number_small table.calls name whole.sound.calls.in_range;
-    arch = arch 0;
-    ip = omega arith;
-    count = refl;
-    args = All-from_recursion (λ arg. arg < 2 ^ 64) (one ∷ 0 ∷ 0 ∷ 0 ∷ 0 ∷ 0 ∷ []) (small, (omega arith, (omega arith, (omega arith, (omega arith, (omega arith, tt))))));
-  }
 
   module _ (creds : Creds) (namespace : ℕ) (tables : List MountList) where
     abbrev with_stack : List (List Insn) → World
@@ -155,7 +134,7 @@ module _ (table : calls.Table) (site : Site) (whole : IsWhole table) (arch : Has
       steps_alike : AnswerAlike one other → Out (step (with_stack one) (call_of bytes)) (step (with_stack other) (call_of bytes'))
       steps_alike alike =
           let input : CallData = record { nr = number_of table.calls (codes "seccomp"); arch = table.arch; ip = 0; args = 1 ∷ 0 ∷ 0 ∷ 0 ∷ 0 ∷ 0 ∷ [] } in
-          let same : decision_on one input ≡ decision_on other input = ap (λ (ns : List ℕ). decision_by (deciding ns)) (same_answers one other input alike (fits (codes "seccomp") 1 (omega arith))) in
+          let same : decision_on one input ≡ decision_on other input = ap (λ (ns : List ℕ). decision_by (deciding ns)) (same_answers one other input alike (fits table whole arch (codes "seccomp") 1 (omega arith))) in
           subst (λ (c : Decision). Out (decided (with_stack one) (call_of bytes) (only table site creds one namespace) (decision_on one input)) (decided (with_stack other) (call_of bytes') (only table site creds other namespace) c)) same
           (decided_both (decision_on one input))
 
@@ -167,7 +146,7 @@ module _ (table : calls.Table) (site : Site) (whole : IsWhole table) (arch : Has
         let asks : asked_of table call ≡ Does (d.Execve program) = ap (λ (o : Option Rule). asked_by o call) calls'.execve in
         let whole' : (stack : List (List Insn)) → above stack base ≡ with_stack stack = λ stack. ap (λ (s : List (List Insn)). with_stack s) (append_none stack) in
         let stepped : (stack : List (List Insn)) → step (with_stack stack) call ≡ lifted stack (own_step stack base call) = λ stack. ap (λ (v : World). step v call) (sym (whole' stack)) ∙ step_above stack base call in
-        by call asks (own_step one base call) refl (own_alike one other base call alike (fits (codes "execve") 0 (omega arith))) (stepped one) (stepped other)
+        by call asks (own_step one base call) refl (own_alike one other base call alike (fits table whole arch (codes "execve") 0 (omega arith))) (stepped one) (stepped other)
       where
         E : Reply × World → Reply × World → Type 0
         E x y = EndAlike one other (launch_on x.0 (count + 1) (Launched x.1 (count + 1))) (launch_on y.0 (count + 1) (Launched y.1 (count + 1)))

@@ -1,3 +1,4 @@
+pub mod CallData
 pub mod Leading
 pub mod HostRoot
 pub mod Solo
