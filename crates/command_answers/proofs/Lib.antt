@@ -1,6 +1,7 @@
 pub mod Asking
 pub mod Ended
 pub mod FileCommands
+pub mod ReadyTexts
 pub mod Refusing
 pub mod Texts
 pub mod Runs

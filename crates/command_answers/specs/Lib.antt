@@ -3,6 +3,7 @@ pub mod Endings
 pub mod Laws
 pub mod Printing
 pub mod ReadFiles
+pub mod ReadyTexts
 pub mod Refusals
 pub mod Runs
 pub mod Stops

@@ -1,7 +1,7 @@
 //! What a command does, whatever it is: it is prepared, and then printed.
 //!
 //! Preparing reads files of a `host_io` shelf and finds every refusal; what is `Ready` then is printed line by line, each
-//! line one piece for the sink. The crates of the commands stand on it. A command whose text is made while it is printed, as a
+//! line one piece for the sink; `ReadyText` is ready as a whole. The crates of the commands stand on it. A command whose text is made while it is printed, as a
 //! report is, is no `Ready`: it answers its ending itself, by `finish_stop` and `ending_after`.
 //!
 //! `put_line(out, line_of(alloc, item))?` prints a line; `Stop::Refused(refused_line(alloc, "calls.txt", b"missing")?)`
@@ -13,6 +13,7 @@ mod files;
 mod finishing;
 mod printing;
 mod ready;
+mod ready_text;
 mod refusals;
 mod stop;
 
@@ -21,5 +22,6 @@ pub use files::{FileRead, TABLE_PATH, read_file};
 pub use finishing::{ending_after, finish, finish_stop};
 pub use printing::{put_line, put_piece};
 pub use ready::Ready;
+pub use ready_text::ReadyText;
 pub use refusals::refused_line;
 pub use stop::{Stop, boxed, refuse};

@@ -38,10 +38,11 @@ use Rattle.unit_inputs.specs.SettingsRefusals.{settings_line}
 use Rattle.unit_inputs.specs.Settled.{refusals_by}
 use Rattle.unit_inputs.proofs.Steps as steps
 use Rattle.unit_inputs.proofs.Steps.{AreRead, refusals_with}
-use Rattle.derive_command.specs.Prints.{PrintsAnswer, PrintsDerived, derived, refused, derive_laws, ending_of, text_of}
+use Rattle.command_answers.specs.ReadyTexts.{ending_of, text_of}
+use Rattle.derive_command.specs.Prints.{PrintsAnswer, PrintsDerived, derived, refused, derive_laws}
 use Rattle.derive_command.specs.Refusals.{derive_refusals, opened, refusals_behind, refusals_behind_script, refusals_by_script, seccomp_line}
 use Rattle.derive_command.specs.Telling.{AnswersCalls, allowed, not_launched}
-use Rattle.derive_command.specs.declared.answering.Allowing.{Allowing}
+use Rattle.command_answers.specs.declared.ready_text.ReadyText.{ReadyText}
 use Rattle.derive_command.proofs.PlainInputs.{inputs_are_plain}
 
 -- ---- behind the script
@@ -80,7 +81,7 @@ module _ (unit path : List ℕ) (inputs : Inputs) (script : List Call) where
       ap (λ found. first_refusal (refusals_from found)) none ∙ (started.planned unit (open_unit inputs.unit inputs.calls) inputs.calls inputs.site table accepted planned fits).0
 
   -- the list is derived
-  pub answers_derived : (names : List ℕ) (allowing : Allowing) → first_seccomp inputs.calls script ≡ None → IsDerived inputs.unit inputs.calls inputs.site script names
+  pub answers_derived : (names : List ℕ) (allowing : ReadyText) → first_seccomp inputs.calls script ≡ None → IsDerived inputs.unit inputs.calls inputs.site script names
       → (HasPlainNames inputs.calls → IsOnlyOne inputs.unit inputs.calls inputs.site script names)
       → allowing.text.items ≡ drop_in_text inputs.calls names → allowing.ending ≡ Done
       → (first_refusal (refusals_behind_script unit path inputs script) ≡ None) × AnswersCalls inputs script (ending_of allowing) (text_of allowing)
@@ -90,7 +91,7 @@ module _ (unit path : List ℕ) (inputs : Inputs) (script : List Call) where
   )
 
   -- the launch is refused
-  pub answers_refused : (refusal : LaunchRefusal) (allowing : Allowing) → first_seccomp inputs.calls script ≡ None → IsRefusedUnit (open_unit inputs.unit inputs.calls) inputs.calls inputs.site refusal
+  pub answers_refused : (refusal : LaunchRefusal) (allowing : ReadyText) → first_seccomp inputs.calls script ≡ None → IsRefusedUnit (open_unit inputs.unit inputs.calls) inputs.calls inputs.site refusal
       → allowing.text.items ≡ refusal_line refusal → allowing.ending ≡ LaunchRefused
       → (first_refusal (refusals_behind_script unit path inputs script) ≡ None) × AnswersCalls inputs script (ending_of allowing) (text_of allowing)
   answers_refused refusal allowing none is text ending = (
@@ -116,15 +117,15 @@ module _ (told : Option Files) (unit path : List ℕ) where
 -- an input is refused
 pub stops_at_inputs : (P : Files → UnitInputs → Type 0) (told : Option Files) (unit path : List ℕ) (stop : Stop) → IfSome told (λ files. Prepares (P files) (input_refusals files unit) (Err stop)) → IsAdmitted (laws_over told (derive_laws unit path)) ending_of text_of (Err stop)
 stops_at_inputs P told unit path stop said =
-    stop_is_admitted (derive_laws unit path) ending_of text_of (λ (allowing : Allowing). Unit {0}) told stop
-    (steps.stops_at_inputs P (λ files (allowing : Allowing). Unit {0}) told unit (λ files. refusals_by (refusals_behind files unit path) (inputs_of files unit)) stop said)
+    stop_is_admitted (derive_laws unit path) ending_of text_of (λ (allowing : ReadyText). Unit {0}) told stop
+    (steps.stops_at_inputs P (λ files (allowing : ReadyText). Unit {0}) told unit (λ files. refusals_by (refusals_behind files unit path) (inputs_of files unit)) stop said)
 
 -- behind inputs that are read
 behind_inputs : (files : Files) (unit path : List ℕ) (inputs : UnitInputs) → AreRead files unit inputs → first_refusal (derive_refusals files unit path) ≡ first_refusal (refusals_by_script unit path (inputs_view inputs) (script_in files path (inputs_view inputs).calls))
 behind_inputs files unit path inputs read = refusals_with files unit (input_refusals files unit) (refusals_behind files unit path) (inputs_view inputs) read.0 read.1
 
 -- the script is refused
-refused_script : (unit path : List ℕ) (inputs : Inputs) (found : Result (List Call) (List ℕ)) (stop : Stop) → IsAnswer {T = List Call} (λ script. script) (Err stop) found → Prepares (λ (allowing : Allowing). Unit {0}) (refusals_by_script unit path inputs found) (Err stop)
+refused_script : (unit path : List ℕ) (inputs : Inputs) (found : Result (List Call) (List ℕ)) (stop : Stop) → IsAnswer {T = List Call} (λ script. script) (Err stop) found → Prepares (λ (allowing : ReadyText). Unit {0}) (refusals_by_script unit path inputs found) (Err stop)
 refused_script unit path inputs found (stop.Refused line) is = ap (λ one. first_refusal (refusals_by_script unit path inputs one)) is
 refused_script unit path inputs found stop.ReadFault is = tt
 refused_script unit path inputs found stop.Memory is = tt
@@ -133,12 +134,12 @@ pub stops_at_script : (told now : Option Files) (unit path : List ℕ) (inputs :
     → IfSome told (λ files. AreRead files unit inputs)
     → IfSome now (λ files. IsAnswer {T = List Call} (λ script. script) (Err stop) (script_in files path table))
     → IsAdmitted (laws_over told (derive_laws unit path)) ending_of text_of (Err stop)
-stops_at_script told now unit path inputs table stop same by read said = stop_is_admitted (derive_laws unit path) ending_of text_of (λ (allowing : Allowing). Unit {0}) told stop (at_script told same read)
+stops_at_script told now unit path inputs table stop same by read said = stop_is_admitted (derive_laws unit path) ending_of text_of (λ (allowing : ReadyText). Unit {0}) told stop (at_script told same read)
   where
-    at_script : (told : Option Files) → now ≡ told → IfSome told (λ files. AreRead files unit inputs) → IfSome told (λ files. Prepares (λ (allowing : Allowing). Unit {0}) (derive_refusals files unit path) (Err stop))
+    at_script : (told : Option Files) → now ≡ told → IfSome told (λ files. AreRead files unit inputs) → IfSome told (λ files. Prepares (λ (allowing : ReadyText). Unit {0}) (derive_refusals files unit path) (Err stop))
     at_script None same read = tt
     at_script (Some files) same read =
-        stops_as (λ (allowing : Allowing). Unit {0}) stop (refusals_by_script unit path (inputs_view inputs) (script_in files path (inputs_view inputs).calls)) (derive_refusals files unit path) (behind_inputs files unit path inputs read)
+        stops_as (λ (allowing : ReadyText). Unit {0}) stop (refusals_by_script unit path (inputs_view inputs) (script_in files path (inputs_view inputs).calls)) (derive_refusals files unit path) (behind_inputs files unit path inputs read)
         (refused_script unit path (inputs_view inputs) (script_in files path (inputs_view inputs).calls) stop
         (subst (λ own. IsAnswer {T = List Call} (λ script. script) (Err stop) (script_in files path own)) by
         (subst (λ own. IfSome own (λ files. IsAnswer {T = List Call} (λ script. script) (Err stop) (script_in files path table))) same said)))
@@ -160,7 +161,7 @@ module _ (told now : Option Files) (unit path : List ℕ) (inputs : UnitInputs) 
       ∙ ap (λ one. first_refusal (refusals_by_script unit path (inputs_view inputs) one)) (script_is files e)
 
   -- what is answered is admitted
-  admitted : (result : Result Allowing Stop) → Prepares (λ allowing. AnswersCalls (inputs_view inputs) script (ending_of allowing) (text_of allowing)) (refusals_behind_script unit path (inputs_view inputs) script) result
+  admitted : (result : Result ReadyText Stop) → Prepares (λ allowing. AnswersCalls (inputs_view inputs) script (ending_of allowing) (text_of allowing)) (refusals_behind_script unit path (inputs_view inputs) script) result
       → IsAdmitted (laws_over told (derive_laws unit path)) ending_of text_of result
   admitted (Err stop) answers = stop_is_admitted (derive_laws unit path) ending_of text_of (λ allowing. AnswersCalls (inputs_view inputs) script (ending_of allowing) (text_of allowing)) told stop (at_stop told refl)
     where
@@ -187,7 +188,7 @@ module _ (told now : Option Files) (unit path : List ℕ) (inputs : UnitInputs) 
       )
 
   -- also where the inputs are lent
-  pub admitted_as : (own : Inputs) (lent : List Call) (result : Result Allowing Stop) → own ≡ inputs_view inputs → lent ≡ script
+  pub admitted_as : (own : Inputs) (lent : List Call) (result : Result ReadyText Stop) → own ≡ inputs_view inputs → lent ≡ script
       → Prepares (λ allowing. AnswersCalls own lent (ending_of allowing) (text_of allowing)) (refusals_behind_script unit path own lent) result
       → IsAdmitted (laws_over told (derive_laws unit path)) ending_of text_of result
   admitted_as own lent result is lends answers =

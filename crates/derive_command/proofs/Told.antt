@@ -16,32 +16,32 @@ use Rattle.trace_profile.specs.declared.derived.DeriveError.{DeriveError}
 use Rattle.trace_profile.specs.declared.derived.DeriveError.TheVariants.{Seccomp, Settings, Plan, Launch, Memory}
 use Rattle.trace_profile.specs.declared.derived.Derived.{Derived}
 use Rattle.started_units.specs.Starting.{given}
-use Rattle.derive_command.specs.Prints.{ending_of, text_of}
+use Rattle.command_answers.specs.ReadyTexts.{ending_of, text_of}
 use Rattle.derive_command.specs.Refusals.{refusals_behind_script}
 use Rattle.derive_command.specs.Telling.{AnswersCalls, IsOutOfMemory, IsReady, StopsWith, Tells}
-use Rattle.derive_command.specs.declared.answering.Allowing.{Allowing}
+use Rattle.command_answers.specs.declared.ready_text.ReadyText.{ReadyText}
 use Rattle.derive_command.proofs.Prepared.{answers_derived, answers_refused, at_paths, at_seccomp, at_settings}
 
 -- nothing was read
-pub ready_reads_nothing : (text : List ℕ) (ending : Ending) (result : Result Allowing Stop) → IsReady text ending result → IsErrOf result stop.ReadFault → ⊥
+pub ready_reads_nothing : (text : List ℕ) (ending : Ending) (result : Result ReadyText Stop) → IsReady text ending result → IsErrOf result stop.ReadFault → ⊥
 ready_reads_nothing text ending (Ok allowing) ready e = cc
 ready_reads_nothing text ending (Err (stop.Refused told)) ready e = absurd ready
 ready_reads_nothing text ending (Err stop.ReadFault) ready e = absurd ready
 ready_reads_nothing text ending (Err stop.Memory) ready e = cc
 
-stop_reads_nothing : (line : List ℕ) (result : Result Allowing Stop) → StopsWith line result → IsErrOf result stop.ReadFault → ⊥
+stop_reads_nothing : (line : List ℕ) (result : Result ReadyText Stop) → StopsWith line result → IsErrOf result stop.ReadFault → ⊥
 stop_reads_nothing line (Ok allowing) stops e = absurd stops
 stop_reads_nothing line (Err (stop.Refused told)) stops e = cc
 stop_reads_nothing line (Err stop.ReadFault) stops e = absurd stops
 stop_reads_nothing line (Err stop.Memory) stops e = cc
 
-out_reads_nothing : (result : Result Allowing Stop) → IsOutOfMemory result → IsErrOf result stop.ReadFault → ⊥
+out_reads_nothing : (result : Result ReadyText Stop) → IsOutOfMemory result → IsErrOf result stop.ReadFault → ⊥
 out_reads_nothing (Ok allowing) out e = absurd out
 out_reads_nothing (Err (stop.Refused told)) out e = absurd out
 out_reads_nothing (Err stop.ReadFault) out e = absurd out
 out_reads_nothing (Err stop.Memory) out e = cc
 
-pub telling_reads_nothing : (name path : List ℕ) (error : DeriveError) (result : Result Allowing Stop) → Tells name path error result → IsErrOf result stop.ReadFault → ⊥
+pub telling_reads_nothing : (name path : List ℕ) (error : DeriveError) (result : Result ReadyText Stop) → Tells name path error result → IsErrOf result stop.ReadFault → ⊥
 telling_reads_nothing name path (Seccomp number) result tells = stop_reads_nothing _ result tells
 telling_reads_nothing name path (Settings error) result tells = stop_reads_nothing _ result tells
 telling_reads_nothing name path (Plan error) result tells = stop_reads_nothing _ result tells
@@ -49,24 +49,24 @@ telling_reads_nothing name path (Launch refusal) result tells = ready_reads_noth
 telling_reads_nothing name path Memory result tells = out_reads_nothing result tells
 
 module _ (name path : List ℕ) (unit : Resolved) (table : Table) (site : Site) (script : List Call) where
-  abbrev Answers : Result Allowing Stop → Type 0
+  abbrev Answers : Result ReadyText Stop → Type 0
   Answers result = Prepares (λ made. AnswersCalls (given unit table site) script (ending_of made) (text_of made)) (refusals_behind_script name path (given unit table site) script) result
 
   -- a line that is the first refusal answers
-  by_line : (line : List ℕ) (result : Result Allowing Stop) → first_refusal (refusals_behind_script name path (given unit table site) script) ≡ Some line → StopsWith line result → Answers result
+  by_line : (line : List ℕ) (result : Result ReadyText Stop) → first_refusal (refusals_behind_script name path (given unit table site) script) ≡ Some line → StopsWith line result → Answers result
   by_line line (Ok allowing) first stops = absurd stops
   by_line line (Err (stop.Refused told)) first stops = first ∙ ap Some (sym stops)
   by_line line (Err stop.ReadFault) first stops = tt
   by_line line (Err stop.Memory) first stops = tt
 
-  by_memory : (result : Result Allowing Stop) → IsOutOfMemory result → Answers result
+  by_memory : (result : Result ReadyText Stop) → IsOutOfMemory result → Answers result
   by_memory (Ok allowing) out = absurd out
   by_memory (Err (stop.Refused told)) out = absurd out
   by_memory (Err stop.ReadFault) out = absurd out
   by_memory (Err stop.Memory) out = tt
 
   -- what is told of an error answers
-  pub error_answers : (error : DeriveError) (result : Result Allowing Stop) → Derives unit table site script (Err error) → Tells name path error result → Answers result
+  pub error_answers : (error : DeriveError) (result : Result ReadyText Stop) → Derives unit table site script (Err error) → Tells name path error result → Answers result
   error_answers (Seccomp number) result derives tells = by_line _ result (at_seccomp name path (given unit table site) script number derives) tells
   error_answers (Settings error) result derives tells = by_line _ result (at_settings name path (given unit table site) script error derives.0 derives.1) tells
   error_answers (Plan error) result derives tells = by_line _ result (at_paths name path (given unit table site) script error derives.0 derives.1.0 derives.1.1) tells
@@ -77,7 +77,7 @@ module _ (name path : List ℕ) (unit : Resolved) (table : Table) (site : Site) 
   error_answers Memory result derives tells = by_memory result tells
 
   -- and so does the drop-in of what is derived
-  pub derived_answers : (derived : Derived) (lent : List ℕ) (result : Result Allowing Stop) → Derives unit table site script (Ok derived) → lent ≡ derived.names → IsReady (drop_in_text table lent) Done result → Answers result
+  pub derived_answers : (derived : Derived) (lent : List ℕ) (result : Result ReadyText Stop) → Derives unit table site script (Ok derived) → lent ≡ derived.names → IsReady (drop_in_text table lent) Done result → Answers result
   derived_answers derived lent (Ok allowing) derives lends ready = answers_derived name path (given unit table site) script derived.names allowing derives.0 derives.1 derives.2 (ready.0 ∙ ap (drop_in_text table) lends) ready.1
   derived_answers derived lent (Err (stop.Refused told)) derives lends ready = absurd ready
   derived_answers derived lent (Err stop.ReadFault) derives lends ready = tt

@@ -14,7 +14,6 @@ use Rattle.unit_launch.specs.Refusals.{refusal_line}
 use Rattle.unit_launch.specs.declared.refusal.LaunchRefusal.{LaunchRefusal}
 use Rattle.unit_names.specs.Cutting.{name_of}
 use Rattle.derive_command.specs.Refusals.{derive_refusals}
-use Rattle.derive_command.specs.declared.answering.Allowing.{Allowing}
 
 -- the drop-in that allows the least list, which is the only one; or the line of the launch that is refused though every call is allowed
 pub data PrintsAnswer (inputs : Inputs) (script : List Call) : Ending → List ℕ → Type 0 where
@@ -38,10 +37,3 @@ derive_laws unit path = record {
   may_end = λ ending. (ending ≡ Done) ⊎ (ending ≡ LaunchRefused);
   reads = IsSome (name_of unit);
 }
-
--- what is ready
-abbrev pub text_of : Allowing → List ℕ
-text_of allowing = allowing.text.items
-
-abbrev pub ending_of : Allowing → Ending
-ending_of allowing = allowing.ending

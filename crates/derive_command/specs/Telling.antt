@@ -17,31 +17,31 @@ use Rattle.unit_launch.specs.Refusals.{refusal_line}
 use Rattle.unit_launch.specs.declared.refusal.LaunchRefusal.{LaunchRefusal}
 use Rattle.unit_inputs.specs.SettingsRefusals.{settings_line}
 use Rattle.derive_command.specs.Refusals.{seccomp_line}
-use Rattle.derive_command.specs.declared.answering.Allowing.{Allowing}
+use Rattle.command_answers.specs.declared.ready_text.ReadyText.{ReadyText}
 
 -- a refusal with this line
-abbrev pub StopsWith : List ℕ → Result Allowing Stop → Type 0
+abbrev pub StopsWith : List ℕ → Result ReadyText Stop → Type 0
 StopsWith line (Ok allowing) = ⊥
 StopsWith line (Err (stop.Refused told)) = told.items ≡ line
 StopsWith line (Err stop.ReadFault) = ⊥
 StopsWith line (Err stop.Memory) = Unit {0}
 
 -- this text is ready, and the ending behind it
-abbrev pub IsReady : List ℕ → Ending → Result Allowing Stop → Type 0
+abbrev pub IsReady : List ℕ → Ending → Result ReadyText Stop → Type 0
 IsReady text ending (Ok allowing) = (allowing.text.items ≡ text) × (allowing.ending ≡ ending)
 IsReady text ending (Err (stop.Refused told)) = ⊥
 IsReady text ending (Err stop.ReadFault) = ⊥
 IsReady text ending (Err stop.Memory) = Unit {0}
 
 -- nothing is told
-abbrev pub IsOutOfMemory : Result Allowing Stop → Type 0
+abbrev pub IsOutOfMemory : Result ReadyText Stop → Type 0
 IsOutOfMemory (Ok allowing) = ⊥
 IsOutOfMemory (Err (stop.Refused told)) = ⊥
 IsOutOfMemory (Err stop.ReadFault) = ⊥
 IsOutOfMemory (Err stop.Memory) = Unit {0}
 
 -- why nothing is derived: the line of what is refused, of the script or of the unit; a launch that is refused is the text
-abbrev pub Tells : List ℕ → List ℕ → DeriveError → Result Allowing Stop → Type 0
+abbrev pub Tells : List ℕ → List ℕ → DeriveError → Result ReadyText Stop → Type 0
 Tells name path (Seccomp number) result = StopsWith (seccomp_line path number) result
 Tells name path (Settings error) result = StopsWith (settings_line name error) result
 Tells name path (Plan error) result = StopsWith (error_line name error) result

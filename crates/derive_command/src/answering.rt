@@ -7,14 +7,13 @@ ghost use Rattle.trace_profile.specs.Extended.{drop_in_text};
 ghost use Rattle.command_answers.specs.declared.ending.Ending.TheVariants.{Done, LaunchRefused};
 ghost use Rattle.started_units.specs.Starting.{given};
 ghost use Rattle.derive_command.specs.Telling.{AnswersCalls, IsReady, Tells};
-ghost use Rattle.derive_command.specs.Prints.{ending_of, text_of};
+ghost use Rattle.command_answers.specs.ReadyTexts.{ending_of, text_of};
 ghost use Rattle.derive_command.specs.Refusals.{refusals_behind_script};
 
 use crate::refusals::seccomp_line;
 use call_table::CallTable;
-use command_answers::{Ending, Ready, Stop, put_piece, refuse};
+use command_answers::{Ending, ReadyText, Stop, refuse};
 use dropin_merge::Resolved;
-use host_io::{Sink, SinkError};
 use plan_command::plan_line;
 use script_text::Script;
 use site_table::SiteTable;
@@ -23,51 +22,28 @@ use trace_profile::{DeriveError, derive, drop_in};
 use unit_inputs::settings_line;
 use unit_launch::{LaunchRefusal, refusal_line};
 
-/// A drop-in that allows a list of calls, or the line of a launch that is refused, ready to be printed.
-#[derive(Drop)]
-pub struct Allowing {
-    pub text: Vec<u8>,
-    pub ending: Ending,
-}
-
-impl Ready for Allowing {
-    ghost use Rattle.derive_command.specs.Prints.{ending_of, text_of};
-
-    ghost text = { text_of };
-
-    ghost ending = { ending_of };
-
-    fn ending(&self) -> Ending {
-        self.ending
-    }
-
-    fn print<K: Sink>(&mut self, _alloc: Global, out: &mut K) -> Result<(), SinkError> {
-        put_piece(out, self.text.as_slice())
-    }
-}
-
 // The drop-in that allows these names.
-fn allow_names(alloc: Global, calls: &CallTable, names: &[u32]) -> Result<Allowing, Stop>
+fn allow_names(alloc: Global, calls: &CallTable, names: &[u32]) -> Result<ReadyText, Stop>
     ensures { IsReady (drop_in_text calls.now names.now) Done result }
 {
-    Ok(Allowing {
+    Ok(ReadyText {
         text: drop_in(alloc, calls, names)?,
         ending: Ending::Done,
     })
 }
 
 // The line of a launch that is refused.
-fn refuse_launch(alloc: Global, refusal: &LaunchRefusal) -> Result<Allowing, Stop>
+fn refuse_launch(alloc: Global, refusal: &LaunchRefusal) -> Result<ReadyText, Stop>
     ensures { IsReady (refusal_line refusal.now) LaunchRefused result }
 {
-    Ok(Allowing {
+    Ok(ReadyText {
         text: refusal_line(alloc, refusal)?,
         ending: Ending::LaunchRefused,
     })
 }
 
 // Why nothing is derived, as it is told.
-fn tell(alloc: Global, name: &str, path: &str, error: DeriveError) -> Result<Allowing, Stop>
+fn tell(alloc: Global, name: &str, path: &str, error: DeriveError) -> Result<ReadyText, Stop>
     ensures { Tells name.now path.now error result }
 {
     match error {
@@ -89,7 +65,7 @@ pub fn answer(
     calls: &CallTable,
     site: &SiteTable,
     script: &Script,
-) -> Result<Allowing, Stop>
+) -> Result<ReadyText, Stop>
     ensures answers { Prepares (λ made. AnswersCalls (given unit.now calls.now site.now) script.now (ending_of made) (text_of made)) (refusals_behind_script name.now path.now (given unit.now calls.now site.now) script.now) result }
     ensures reads_nothing { IsErrOf result Stop.ReadFault → ⊥ }
 {

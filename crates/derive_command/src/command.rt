@@ -4,10 +4,11 @@ ghost use Rattle.command_answers.specs.Asking.{course};
 ghost use Rattle.command_answers.specs.Laws.{IsAdmitted, laws_over};
 ghost use Rattle.unit_inputs.specs.Asking.{AsksInOrder, asks_with_file};
 ghost use Rattle.unit_inputs.specs.ReadsFor.{ReadsFor};
-ghost use Rattle.derive_command.specs.Prints.{derive_laws, ending_of, text_of};
+ghost use Rattle.command_answers.specs.ReadyTexts.{ending_of, text_of};
+ghost use Rattle.derive_command.specs.Prints.{derive_laws};
 
-use crate::answering::{Allowing, answer};
-use command_answers::Stop;
+use crate::answering::answer;
+use command_answers::{ReadyText, Stop};
 use host_io::Shelf;
 use replay_command::read_script;
 use std::alloc::Global;
@@ -20,7 +21,7 @@ pub fn prepare<S: Shelf>(
     shelf: &mut S,
     unit: &str,
     script: &str,
-) -> Result<Allowing, Stop>
+) -> Result<ReadyText, Stop>
     ensures prepares { IsAdmitted (laws_over (S.told shelf.old) (derive_laws unit.now script.now)) ending_of text_of result }
     ensures asks_in_order { AsksInOrder S.asks (S.told shelf.old) (λ files. asks_with_file files unit.now script.now) shelf.old shelf.new (course result) }
     ensures reads_for_the_unit { ReadsFor S.told S.faults unit.now shelf.old shelf.new result }

@@ -10,5 +10,4 @@ mod answering;
 mod command;
 mod refusals;
 
-pub use answering::Allowing;
 pub use command::prepare;

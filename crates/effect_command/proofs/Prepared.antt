@@ -28,14 +28,15 @@ use Rattle.unit_inputs.proofs.Steps.{AreRead, refusals_with}
 use Rattle.effect_command.specs.Lines.{with_line}
 use Rattle.started_units.specs.Starting.{StartsAs, first_start, given, start_refusals}
 use Rattle.effect_command.specs.Longer.{dropin_in, longer_unit, with_dropin}
-use Rattle.effect_command.specs.Prints.{PrintsEffect, TellsBoth, TellsWith, effect_laws, ending_of, text_of}
+use Rattle.command_answers.specs.ReadyTexts.{IsReadyWith, ending_of, text_of}
+use Rattle.effect_command.specs.Prints.{PrintsEffect, TellsBoth, TellsWith, effect_laws}
 use Rattle.effect_command.specs.Refusals.{effect_refusals, refusals_behind, refusals_behind_dropin, refusals_by_dropin}
-use Rattle.effect_command.specs.Stopping.{IsReadyWith, StartsOver}
-use Rattle.effect_command.specs.declared.effect.Effect.{Effect}
+use Rattle.effect_command.specs.Stopping.{StartsOver}
+use Rattle.command_answers.specs.declared.ready_text.ReadyText.{ReadyText}
 
 -- ---- behind the drop-in
 module _ (unit : List ℕ) (inputs : Inputs) (more : UnitText) where
-  abbrev Answers : Result Effect Stop → Type 0
+  abbrev Answers : Result ReadyText Stop → Type 0
   Answers result = Prepares (λ made. TellsWith inputs more (ending_of made) (text_of made)) (refusals_behind_dropin unit inputs more) result
 
   -- the unit is refused
@@ -53,14 +54,14 @@ module _ (unit : List ℕ) (inputs : Inputs) (more : UnitText) where
     answers_refused_with why is = stops_as (λ made. TellsWith inputs more (ending_of made) (text_of made)) why (option_map with_line (first_start unit (with_dropin inputs more)) ∷ []) (refusals_behind_dropin unit inputs more) behind_unit (as_any why is)
       where
         as_any : (why : Stop) → Prepares {T = UnitLaunch} (StartsAs (with_dropin inputs more)) (option_map with_line (first_start unit (with_dropin inputs more)) ∷ []) (Err why)
-            → Prepares (λ (made : Effect). TellsWith inputs more (ending_of made) (text_of made)) (option_map with_line (first_start unit (with_dropin inputs more)) ∷ []) (Err why)
+            → Prepares (λ (made : ReadyText). TellsWith inputs more (ending_of made) (text_of made)) (option_map with_line (first_start unit (with_dropin inputs more)) ∷ []) (Err why)
         as_any (stop.Refused line) is = is
         as_any stop.ReadFault is = tt
         as_any stop.Memory is = tt
 
     -- both start, and are compared
     pub answers_both : (second : UnitLaunch) → Prepares (StartsAs (with_dropin inputs more)) (option_map with_line (first_start unit (with_dropin inputs more)) ∷ []) (Ok second)
-        → (result : Result Effect Stop) → IsReadyWith (TellsBoth inputs.calls inputs.site first second) result → Answers result
+        → (result : Result ReadyText Stop) → IsReadyWith (TellsBoth inputs.calls inputs.site first second) result → Answers result
     answers_both second starts_with (Ok effect) ready = (behind_unit ∙ starts_with.0, record { first = first; starts = starts.1; second = second; starts_with = starts_with.1; tells = ready })
     answers_both second starts_with (Err (stop.Refused line)) ready = absurd ready
     answers_both second starts_with (Err stop.ReadFault) ready = absurd ready
@@ -84,12 +85,6 @@ pub with_longer : (name : List ℕ) (calls : Table) (site : Site) (unit : Resolv
     → Prepares (StartsAs (with_dropin (given unit calls site) more)) (option_map with_line (first_start name (with_dropin (given unit calls site) more)) ∷ []) result
 with_longer name calls site unit more own is result said = subst (λ (these : Resolved). Prepares (StartsAs (given these calls site)) (option_map with_line (first_start name (given these calls site)) ∷ []) result) is said
 
-pub ready_reads_nothing : (P : Ending → List ℕ → Type 0) (result : Result Effect Stop) → IsReadyWith P result → IsErrOf result stop.ReadFault → ⊥
-ready_reads_nothing P (Ok effect) ready e = cc
-ready_reads_nothing P (Err (stop.Refused line)) ready e = cc
-ready_reads_nothing P (Err stop.ReadFault) ready e = absurd ready
-ready_reads_nothing P (Err stop.Memory) ready e = cc
-
 -- each ends as it may
 ends_so : (table : Table) (site : Site) (first second : UnitLaunch) (ending : Ending) (text : List ℕ) → TellsBoth table site first second ending text → (ending ≡ Done) ⊎ (ending ≡ LaunchRefused)
 ends_so table site (Refused refusal) second ending text tells = inr tells.0
@@ -109,15 +104,15 @@ module _ (told : Option Files) (unit path : List ℕ) where
 -- an input is refused
 pub stops_at_inputs : (P : Files → UnitInputs → Type 0) (told : Option Files) (unit path : List ℕ) (stop : Stop) → IfSome told (λ files. Prepares (P files) (input_refusals files unit) (Err stop)) → IsAdmitted (laws_over told (effect_laws unit path)) ending_of text_of (Err stop)
 stops_at_inputs P told unit path stop said =
-    stop_is_admitted (effect_laws unit path) ending_of text_of (λ (made : Effect). Unit {0}) told stop
-    (steps.stops_at_inputs P (λ files (made : Effect). Unit {0}) told unit (λ files. refusals_by (refusals_behind files unit path) (inputs_of files unit)) stop said)
+    stop_is_admitted (effect_laws unit path) ending_of text_of (λ (made : ReadyText). Unit {0}) told stop
+    (steps.stops_at_inputs P (λ files (made : ReadyText). Unit {0}) told unit (λ files. refusals_by (refusals_behind files unit path) (inputs_of files unit)) stop said)
 
 -- behind inputs that are read
 behind_inputs : (files : Files) (unit path : List ℕ) (inputs : UnitInputs) → AreRead files unit inputs → first_refusal (effect_refusals files unit path) ≡ first_refusal (refusals_by_dropin unit (inputs_view inputs) (dropin_in files path))
 behind_inputs files unit path inputs read = refusals_with files unit (input_refusals files unit) (refusals_behind files unit path) (inputs_view inputs) read.0 read.1
 
 -- the drop-in is refused
-refused_dropin : (unit : List ℕ) (inputs : Inputs) (found : Result UnitText (List ℕ)) (stop : Stop) → IsAnswer {T = UnitText} (λ more. more) (Err stop) found → Prepares (λ (made : Effect). Unit {0}) (refusals_by_dropin unit inputs found) (Err stop)
+refused_dropin : (unit : List ℕ) (inputs : Inputs) (found : Result UnitText (List ℕ)) (stop : Stop) → IsAnswer {T = UnitText} (λ more. more) (Err stop) found → Prepares (λ (made : ReadyText). Unit {0}) (refusals_by_dropin unit inputs found) (Err stop)
 refused_dropin unit inputs found (stop.Refused line) is = ap (λ one. first_refusal (refusals_by_dropin unit inputs one)) is
 refused_dropin unit inputs found stop.ReadFault is = tt
 refused_dropin unit inputs found stop.Memory is = tt
@@ -126,12 +121,12 @@ pub stops_at_dropin : (told now : Option Files) (unit path : List ℕ) (inputs :
     → IfSome told (λ files. AreRead files unit inputs)
     → IfSome now (λ files. IsAnswer {T = UnitText} (λ more. more) (Err stop) (dropin_in files path))
     → IsAdmitted (laws_over told (effect_laws unit path)) ending_of text_of (Err stop)
-stops_at_dropin told now unit path inputs stop same read said = stop_is_admitted (effect_laws unit path) ending_of text_of (λ (made : Effect). Unit {0}) told stop (at_dropin told same read)
+stops_at_dropin told now unit path inputs stop same read said = stop_is_admitted (effect_laws unit path) ending_of text_of (λ (made : ReadyText). Unit {0}) told stop (at_dropin told same read)
   where
-    at_dropin : (told : Option Files) → now ≡ told → IfSome told (λ files. AreRead files unit inputs) → IfSome told (λ files. Prepares (λ (made : Effect). Unit {0}) (effect_refusals files unit path) (Err stop))
+    at_dropin : (told : Option Files) → now ≡ told → IfSome told (λ files. AreRead files unit inputs) → IfSome told (λ files. Prepares (λ (made : ReadyText). Unit {0}) (effect_refusals files unit path) (Err stop))
     at_dropin None same read = tt
     at_dropin (Some files) same read =
-        stops_as (λ (made : Effect). Unit {0}) stop (refusals_by_dropin unit (inputs_view inputs) (dropin_in files path)) (effect_refusals files unit path) (behind_inputs files unit path inputs read)
+        stops_as (λ (made : ReadyText). Unit {0}) stop (refusals_by_dropin unit (inputs_view inputs) (dropin_in files path)) (effect_refusals files unit path) (behind_inputs files unit path inputs read)
         (refused_dropin unit (inputs_view inputs) (dropin_in files path) stop
         (subst (λ own. IfSome own (λ files. IsAnswer {T = UnitText} (λ more. more) (Err stop) (dropin_in files path))) same said))
 
@@ -150,7 +145,7 @@ module _ (told now : Option Files) (unit path : List ℕ) (inputs : UnitInputs) 
       ∙ ap (λ one. first_refusal (refusals_by_dropin unit (inputs_view inputs) one)) (dropin_is files e)
 
   -- what is answered is admitted
-  admitted : (result : Result Effect Stop) → Prepares (λ made. TellsWith (inputs_view inputs) more (ending_of made) (text_of made)) (refusals_behind_dropin unit (inputs_view inputs) more) result
+  admitted : (result : Result ReadyText Stop) → Prepares (λ made. TellsWith (inputs_view inputs) more (ending_of made) (text_of made)) (refusals_behind_dropin unit (inputs_view inputs) more) result
       → IsAdmitted (laws_over told (effect_laws unit path)) ending_of text_of result
   admitted (Err stop) answers = stop_is_admitted (effect_laws unit path) ending_of text_of (λ made. TellsWith (inputs_view inputs) more (ending_of made) (text_of made)) told stop (at_stop told refl)
     where
@@ -173,7 +168,7 @@ module _ (told now : Option Files) (unit path : List ℕ) (inputs : UnitInputs) 
       )
 
   -- also where the inputs are lent
-  pub admitted_as : (own : Inputs) (result : Result Effect Stop) → own ≡ inputs_view inputs
+  pub admitted_as : (own : Inputs) (result : Result ReadyText Stop) → own ≡ inputs_view inputs
       → Prepares (λ made. TellsWith own more (ending_of made) (text_of made)) (refusals_behind_dropin unit own more) result
       → IsAdmitted (laws_over told (effect_laws unit path)) ending_of text_of result
   admitted_as own result is answers =

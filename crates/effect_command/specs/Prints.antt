@@ -17,7 +17,6 @@ use Rattle.verdict_changes.specs.Changes.{AreChanges, Change}
 use Rattle.effect_command.specs.Lines.{effect_text, with_line}
 use Rattle.effect_command.specs.Longer.{dropin_in, with_dropin}
 use Rattle.effect_command.specs.Refusals.{effect_refusals}
-use Rattle.effect_command.specs.declared.effect.Effect.{Effect}
 
 -- the launch of the unit is refused; or that of the unit with the drop-in, which stands behind the word `with`; or both are
 -- launched, and exactly what changes from the first service to the second is told, with the counts
@@ -51,10 +50,3 @@ effect_laws unit path = record {
   may_end = λ ending. (ending ≡ Done) ⊎ (ending ≡ LaunchRefused);
   reads = IsSome (name_of unit);
 }
-
--- what is ready
-abbrev pub text_of : Effect → List ℕ
-text_of effect = effect.text.items
-
-abbrev pub ending_of : Effect → Ending
-ending_of effect = effect.ending

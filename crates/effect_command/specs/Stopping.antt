@@ -1,7 +1,6 @@
 -- What the steps of an answer ask of each other.
-use Rattle.std.specs.Prelude.{◌≡◌, ℕ, List, Result, Ok, Err}
+use Rattle.std.specs.Prelude.{◌≡◌, List}
 use Rattle.call_table.specs.Table as calls
-use Rattle.command_answers.specs.declared.ending.Ending.{Ending}
 use Rattle.command_answers.specs.declared.stop.Stop.{Stop}
 use Rattle.command_answers.specs.declared.stop.Stop.TheVariants as stop
 use Rattle.exec_settings.specs.declared.service.Settings.{Settings}
@@ -12,14 +11,6 @@ use Rattle.unit_launch.specs.Launching.{IsLaunched}
 use Rattle.unit_launch.specs.declared.launching.UnitLaunch.{UnitLaunch}
 use Rattle.unit_launch.specs.declared.launching.UnitLaunch.TheVariants.{Launched, Refused}
 use Rattle.effect_command.specs.Lines.{with_line}
-use Rattle.effect_command.specs.declared.effect.Effect.{Effect}
-
--- what is ready is such, or memory ran out
-abbrev pub IsReadyWith : (Ending → List ℕ → Type 0) → Result Effect Stop → Type 0
-IsReadyWith P (Ok effect) = P effect.ending effect.text.items
-IsReadyWith P (Err (stop.Refused line)) = ⊥
-IsReadyWith P (Err stop.ReadFault) = ⊥
-IsReadyWith P (Err stop.Memory) = Unit {0}
 
 -- the same refusal, of the unit with the drop-in, unless memory ran out
 abbrev pub IsBehindWith : Stop → Stop → Type 0

@@ -3,14 +3,14 @@ ghost use Rattle.std.specs.Prelude.{◌≡◌, IfOk, IsErrOf};
 ghost use Rattle.command_answers.specs.Stops.{Prepares};
 ghost use Rattle.started_units.specs.Starting.{given};
 ghost use Rattle.effect_command.specs.Longer.{longer_unit};
-ghost use Rattle.effect_command.specs.Prints.{TellsWith, ending_of, text_of};
+ghost use Rattle.command_answers.specs.ReadyTexts.{ending_of, text_of};
+ghost use Rattle.effect_command.specs.Prints.{TellsWith};
 ghost use Rattle.effect_command.specs.Refusals.{refusals_behind_dropin};
 
 use crate::comparing::compare;
-use crate::effect::Effect;
 use crate::starting::start_with;
 use call_table::CallTable;
-use command_answers::Stop;
+use command_answers::{ReadyText, Stop};
 use dropin_merge::Resolved;
 use site_table::SiteTable;
 use started_units::start;
@@ -33,7 +33,7 @@ pub fn answer(
     more: UnitText,
     calls: &CallTable,
     site: &SiteTable,
-) -> Result<Effect, Stop>
+) -> Result<ReadyText, Stop>
     ensures answers { Prepares (λ made. TellsWith (given unit.now calls.now site.now) more (ending_of made) (text_of made)) (refusals_behind_dropin name.now (given unit.now calls.now site.now) more) result }
     ensures reads_nothing { IsErrOf result Stop.ReadFault → ⊥ }
 {

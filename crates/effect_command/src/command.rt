@@ -4,12 +4,12 @@ ghost use Rattle.command_answers.specs.Asking.{course};
 ghost use Rattle.command_answers.specs.Laws.{IsAdmitted, laws_over};
 ghost use Rattle.unit_inputs.specs.Asking.{AsksInOrder, asks_with_file};
 ghost use Rattle.unit_inputs.specs.ReadsFor.{ReadsFor};
-ghost use Rattle.effect_command.specs.Prints.{effect_laws, ending_of, text_of};
+ghost use Rattle.command_answers.specs.ReadyTexts.{ending_of, text_of};
+ghost use Rattle.effect_command.specs.Prints.{effect_laws};
 
 use crate::answering::answer;
 use crate::dropin::read_dropin;
-use crate::effect::Effect;
-use command_answers::Stop;
+use command_answers::{ReadyText, Stop};
 use host_io::Shelf;
 use std::alloc::Global;
 use unit_inputs::read_inputs;
@@ -22,7 +22,7 @@ pub fn prepare<S: Shelf>(
     shelf: &mut S,
     unit: &str,
     path: &str,
-) -> Result<Effect, Stop>
+) -> Result<ReadyText, Stop>
     ensures prepares { IsAdmitted (laws_over (S.told shelf.old) (effect_laws unit.now path.now)) ending_of text_of result }
     ensures asks_in_order { AsksInOrder S.asks (S.told shelf.old) (λ files. asks_with_file files unit.now path.now) shelf.old shelf.new (course result) }
     ensures reads_for_the_unit { ReadsFor S.told S.faults unit.now shelf.old shelf.new result }

@@ -6,13 +6,13 @@ ghost use Rattle.site_table.specs.Table.{Site};
 ghost use Rattle.unit_launch.specs.Refusals.{refusal_line};
 ghost use Rattle.effect_command.specs.Lines.{with_line};
 ghost use Rattle.effect_command.specs.Prints.{TellsBoth};
-ghost use Rattle.effect_command.specs.Stopping.{AreTogether, IsOver, IsReadyWith, StartTogether, StartsOver};
+ghost use Rattle.command_answers.specs.ReadyTexts.{IsReadyWith};
+ghost use Rattle.effect_command.specs.Stopping.{AreTogether, IsOver, StartTogether, StartsOver};
 ghost use Rattle.unit_launch.specs.declared.launching.UnitLaunch.TheVariants.{Launched as Done};
 
-use crate::effect::Effect;
 use crate::lines::with_line;
 use crate::telling::effect_text;
-use command_answers::{Ending, Stop};
+use command_answers::{Ending, ReadyText, Stop};
 use judge_command::ask;
 use launcher::Launched;
 use std::alloc::Global;
@@ -20,21 +20,21 @@ use unit_launch::{LaunchRefusal, UnitLaunch, refusal_line};
 use verdict_changes::changes_are_true;
 
 // The line of a launch of the unit that is refused.
-fn tell_refused(alloc: Global, refusal: &LaunchRefusal) -> Result<Effect, Stop>
+fn tell_refused(alloc: Global, refusal: &LaunchRefusal) -> Result<ReadyText, Stop>
     ensures { IsReadyWith (λ ending text. (ending ≡ LaunchRefused) × (text ≡ refusal_line refusal.now)) result }
 {
-    Ok(Effect {
+    Ok(ReadyText {
         text: refusal_line(alloc, refusal)?,
         ending: Ending::LaunchRefused,
     })
 }
 
 // That of a launch of the unit with the drop-in.
-fn tell_refused_with(alloc: Global, refusal: &LaunchRefusal) -> Result<Effect, Stop>
+fn tell_refused_with(alloc: Global, refusal: &LaunchRefusal) -> Result<ReadyText, Stop>
     ensures { IsReadyWith (λ ending text. (ending ≡ LaunchRefused) × (text ≡ with_line (refusal_line refusal.now))) result }
 {
     let line = refusal_line(alloc, refusal)?;
-    Ok(Effect {
+    Ok(ReadyText {
         text: with_line(alloc, line.as_slice())?,
         ending: Ending::LaunchRefused,
     })
@@ -45,7 +45,7 @@ fn compare_services(
     alloc: Global,
     before: Launched<'_>,
     after: Launched<'_>,
-) -> Result<Effect, Stop>
+) -> Result<ReadyText, Stop>
     requires together { AreTogether before after }
     ensures { (table : Table) (site : Site) → IsOver table site before.entry → IsOver table site after.entry → IsReadyWith (TellsBoth table site (Done before.entry) (Done after.entry)) result }
 {
@@ -53,14 +53,18 @@ fn compare_services(
     changes_are_true();
     let first = ask(alloc, before)?;
     let second = ask(alloc, after)?;
-    Ok(Effect {
+    Ok(ReadyText {
         text: effect_text(alloc, &first, &second)?,
         ending: Ending::Done,
     })
 }
 
 // The same, where the unit with the drop-in may not be launched.
-fn compare_with(alloc: Global, before: Launched<'_>, second: UnitLaunch<'_>) -> Result<Effect, Stop>
+fn compare_with(
+    alloc: Global,
+    before: Launched<'_>,
+    second: UnitLaunch<'_>,
+) -> Result<ReadyText, Stop>
     requires together { StartTogether (Done before) second }
     ensures { (table : Table) (site : Site) → IsOver table site before.entry → StartsOver table site second.entry → IsReadyWith (TellsBoth table site (Done before.entry) second.entry) result }
 {
@@ -72,7 +76,11 @@ fn compare_with(alloc: Global, before: Launched<'_>, second: UnitLaunch<'_>) -> 
 
 /// Tells what changes from the launch of a unit to that of the unit with the drop-in: the line of the first that is refused, or the
 /// changes from one service to the other.
-pub fn compare(alloc: Global, first: UnitLaunch<'_>, second: UnitLaunch<'_>) -> Result<Effect, Stop>
+pub fn compare(
+    alloc: Global,
+    first: UnitLaunch<'_>,
+    second: UnitLaunch<'_>,
+) -> Result<ReadyText, Stop>
     requires together { StartTogether first second }
     ensures tells { (table : Table) (site : Site) → StartsOver table site first.entry → StartsOver table site second.entry → IsReadyWith (TellsBoth table site first.entry second.entry) result }
 {

@@ -11,12 +11,10 @@ mod answering;
 mod command;
 mod comparing;
 mod dropin;
-mod effect;
 mod kinds;
 mod lines;
 mod starting;
 mod telling;
 
 pub use command::prepare;
-pub use effect::Effect;
 pub use lines::question_line;

@@ -18,8 +18,8 @@ use Rattle.unit_launch.specs.declared.launching.UnitLaunch.TheVariants.{Launched
 use Rattle.unit_inputs.specs.Settled.{refusals_by}
 use Rattle.unit_inputs.proofs.Steps.{AreRead, refusals_with}
 use Rattle.unit_inputs.proofs.Steps as steps
-use Rattle.why_command.specs.Prints.{ending_of, text_of}
-use Rattle.why_command.specs.declared.why.Why.{Why}
+use Rattle.command_answers.specs.ReadyTexts.{ending_of, text_of}
+use Rattle.command_answers.specs.declared.ready_text.ReadyText.{ReadyText}
 use Rattle.lines_command.specs.Prints.{PrintsLines, TellsLaunch, TellsLines, lines_laws, lines_refusals}
 
 -- each ends as it may
@@ -39,8 +39,8 @@ module _ (told : Option Files) (unit : List ℕ) where
 -- an input is refused
 pub stops_at_inputs : (P : Files → UnitInputs → Type 0) (told : Option Files) (unit : List ℕ) (stop : Stop) → IfSome told (λ files. Prepares (P files) (input_refusals files unit) (Err stop)) → IsAdmitted (laws_over told (lines_laws unit)) ending_of text_of (Err stop)
 stops_at_inputs P told unit stop said =
-    stop_is_admitted (lines_laws unit) ending_of text_of (λ (made : Why). Unit {0}) told stop
-    (steps.stops_at_inputs P (λ files (made : Why). Unit {0}) told unit (λ files. refusals_by (start_refusals unit) (inputs_of files unit)) stop said)
+    stop_is_admitted (lines_laws unit) ending_of text_of (λ (made : ReadyText). Unit {0}) told stop
+    (steps.stops_at_inputs P (λ files (made : ReadyText). Unit {0}) told unit (λ files. refusals_by (start_refusals unit) (inputs_of files unit)) stop said)
 
 module _ (told : Option Files) (unit : List ℕ) (inputs : UnitInputs) (are : IfSome told (λ files. AreRead files unit inputs)) where
   read_is : (files : Files) → told ≡ Some files → AreRead files unit inputs
@@ -49,7 +49,7 @@ module _ (told : Option Files) (unit : List ℕ) (inputs : UnitInputs) (are : If
   behind_inputs : (files : Files) → told ≡ Some files → first_refusal (lines_refusals files unit) ≡ first_refusal (start_refusals unit (inputs_view inputs))
   behind_inputs files e = refusals_with files unit (input_refusals files unit) (start_refusals unit) (inputs_view inputs) (read_is files e).0 (read_is files e).1
 
-  admitted : (result : Result Why Stop) → Prepares (λ made. TellsLines unit (inputs_view inputs) (ending_of made) (text_of made)) (start_refusals unit (inputs_view inputs)) result → IsAdmitted (laws_over told (lines_laws unit)) ending_of text_of result
+  admitted : (result : Result ReadyText Stop) → Prepares (λ made. TellsLines unit (inputs_view inputs) (ending_of made) (text_of made)) (start_refusals unit (inputs_view inputs)) result → IsAdmitted (laws_over told (lines_laws unit)) ending_of text_of result
   admitted (Err why) answers = stop_is_admitted (lines_laws unit) ending_of text_of (λ made. TellsLines unit (inputs_view inputs) (ending_of made) (text_of made)) told why (at told refl)
     where
       at : (own : Option Files) → told ≡ own → IfSome own (λ files. Prepares (λ made. TellsLines unit (inputs_view inputs) (ending_of made) (text_of made)) (lines_refusals files unit) (Err why))
@@ -63,7 +63,7 @@ module _ (told : Option Files) (unit : List ℕ) (inputs : UnitInputs) (are : If
       printed (Some files) e = (behind_inputs files e ∙ answers.0, record { inputs = inputs_view inputs; inputs_are = (read_is files e).1; tells = answers.1 })
 
   -- also where the inputs are lent
-  pub admitted_as : (own : Inputs) → own ≡ inputs_view inputs → (result : Result Why Stop) → Prepares (λ made. TellsLines unit own (ending_of made) (text_of made)) (start_refusals unit own) result
+  pub admitted_as : (own : Inputs) → own ≡ inputs_view inputs → (result : Result ReadyText Stop) → Prepares (λ made. TellsLines unit own (ending_of made) (text_of made)) (start_refusals unit own) result
       → IsAdmitted (laws_over told (lines_laws unit)) ending_of text_of result
   admitted_as own same result answers =
       admitted result (subst (λ (these : Inputs). Prepares (λ made. TellsLines unit these (ending_of made) (text_of made)) (start_refusals unit these) result) same answers)

@@ -11,9 +11,8 @@ use Rattle.started_units.specs.Starting.{StartsAs, start_refusals}
 use Rattle.unit_inputs.specs.Inputs.{Inputs}
 use Rattle.unit_launch.specs.declared.launching.UnitLaunch.{UnitLaunch}
 use Rattle.unit_lines.specs.Lines.{lines_of}
-use Rattle.why_command.specs.Prints.{ending_of, text_of}
-use Rattle.why_command.specs.Stopping.{IsReadyWith}
-use Rattle.why_command.specs.declared.why.Why.{Why}
+use Rattle.command_answers.specs.ReadyTexts.{IsReadyWith, ending_of, text_of}
+use Rattle.command_answers.specs.declared.ready_text.ReadyText.{ReadyText}
 use Rattle.lines_command.specs.Lines.{lines_text}
 use Rattle.lines_command.specs.Prints.{TellsLaunch, TellsLines, TellsService}
 
@@ -28,7 +27,7 @@ module _ (name : List ℕ) (inputs : Inputs) where
   }
 
   -- what is ready is the answer
-  pub answers_launch : (launch : UnitLaunch) → Prepares (StartsAs inputs) (start_refusals name inputs) (Ok launch) → (result : Result Why Stop) → IsReadyWith (TellsLaunch name inputs launch) result
+  pub answers_launch : (launch : UnitLaunch) → Prepares (StartsAs inputs) (start_refusals name inputs) (Ok launch) → (result : Result ReadyText Stop) → IsReadyWith (TellsLaunch name inputs launch) result
       → Prepares (λ made. TellsLines name inputs (ending_of made) (text_of made)) (start_refusals name inputs) result
   answers_launch launch starts (Ok made) ready = (starts.0, record { launch = launch; starts = starts.1; tells = ready })
   answers_launch launch starts (Err (stop.Refused line)) ready = absurd ready
@@ -36,7 +35,7 @@ module _ (name : List ℕ) (inputs : Inputs) where
   answers_launch launch starts (Err stop.Memory) ready = tt
 
   pub answers_stop : (why : Stop) → Prepares {T = UnitLaunch} (StartsAs inputs) (start_refusals name inputs) (Err why)
-      → Prepares (λ (made : Why). TellsLines name inputs (ending_of made) (text_of made)) (start_refusals name inputs) (Err why)
+      → Prepares (λ (made : ReadyText). TellsLines name inputs (ending_of made) (text_of made)) (start_refusals name inputs) (Err why)
   answers_stop (stop.Refused line) is = is
   answers_stop stop.ReadFault is = tt
   answers_stop stop.Memory is = tt

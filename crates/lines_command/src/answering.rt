@@ -3,13 +3,12 @@ ghost use Rattle.std.specs.Prelude.{IfOk, IsErrOf};
 ghost use Rattle.command_answers.specs.Stops.{Prepares};
 ghost use Rattle.started_units.specs.Starting.{StartsAs, given, start_refusals};
 ghost use Rattle.unit_launch.specs.declared.launching.UnitLaunch.TheVariants.{Launched as Started};
-ghost use Rattle.why_command.specs.Prints.{ending_of, text_of};
-ghost use Rattle.why_command.specs.Stopping.{IsReadyWith};
+ghost use Rattle.command_answers.specs.ReadyTexts.{IsReadyWith, ending_of, text_of};
 ghost use Rattle.lines_command.specs.Prints.{TellsLaunch, TellsLines, TellsService};
 
 use crate::lines::lines_text;
 use call_table::CallTable;
-use command_answers::{Ending, Stop};
+use command_answers::{Ending, ReadyText, Stop};
 use dropin_merge::Resolved;
 use judge_command::ask;
 use launcher::Launched;
@@ -19,7 +18,6 @@ use started_units::start;
 use std::alloc::{AllocError, Global};
 use unit_launch::{UnitLaunch, refusal_line};
 use unit_lines::lines;
-use why_command::Why;
 
 // What is told of a launched service: each line of the unit with what it denies by itself.
 fn tell_service<'a>(
@@ -54,16 +52,16 @@ fn tell_launch<'a>(
     calls: &'a CallTable,
     site: &'a SiteTable,
     launch: UnitLaunch<'a>,
-) -> Result<Why, Stop>
+) -> Result<ReadyText, Stop>
     requires starts { StartsAs (given unit.now calls.now site.now) launch }
     ensures { IsReadyWith (TellsLaunch name.now (given unit.now calls.now site.now) launch.entry) result }
 {
     match launch {
-        UnitLaunch::Launched(service) => Ok(Why {
+        UnitLaunch::Launched(service) => Ok(ReadyText {
             text: tell_service(alloc, name, unit, calls, site, service)?,
             ending: Ending::Done,
         }),
-        UnitLaunch::Refused(refusal) => Ok(Why {
+        UnitLaunch::Refused(refusal) => Ok(ReadyText {
             text: refusal_line(alloc, &refusal)?,
             ending: Ending::LaunchRefused,
         }),
@@ -78,7 +76,7 @@ pub fn answer(
     unit: &Resolved,
     calls: &CallTable,
     site: &SiteTable,
-) -> Result<Why, Stop>
+) -> Result<ReadyText, Stop>
     ensures answers { Prepares (λ made. TellsLines name.now (given unit.now calls.now site.now) (ending_of made) (text_of made)) (start_refusals name.now (given unit.now calls.now site.now)) result }
     ensures reads_nothing { IsErrOf result Stop.ReadFault → ⊥ }
 {

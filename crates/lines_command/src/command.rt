@@ -3,19 +3,18 @@ ghost use Rattle.command_answers.specs.Asking.{course};
 ghost use Rattle.command_answers.specs.Laws.{IsAdmitted, laws_over};
 ghost use Rattle.unit_inputs.specs.Asking.{AsksInOrder, input_asks};
 ghost use Rattle.unit_inputs.specs.ReadsFor.{ReadsFor};
-ghost use Rattle.why_command.specs.Prints.{ending_of, text_of};
+ghost use Rattle.command_answers.specs.ReadyTexts.{ending_of, text_of};
 ghost use Rattle.lines_command.specs.Prints.{lines_laws};
 
 use crate::answering::answer;
-use command_answers::Stop;
+use command_answers::{ReadyText, Stop};
 use host_io::Shelf;
 use std::alloc::Global;
 use unit_inputs::read_inputs;
-use why_command::Why;
 
 /// Prepares `why` and the name of a unit: reads the unit, calls.txt and site.toml, finds the first refusal of them and of the settings
 /// and paths of the unit, and tells each of its lines with what it denies by itself.
-pub fn prepare<S: Shelf>(alloc: Global, shelf: &mut S, unit: &str) -> Result<Why, Stop>
+pub fn prepare<S: Shelf>(alloc: Global, shelf: &mut S, unit: &str) -> Result<ReadyText, Stop>
     ensures prepares { IsAdmitted (laws_over (S.told shelf.old) (lines_laws unit.now)) ending_of text_of result }
     ensures asks_in_order { AsksInOrder S.asks (S.told shelf.old) (λ files. input_asks files unit.now) shelf.old shelf.new (course result) }
     ensures reads_for_the_unit { ReadsFor S.told S.faults unit.now shelf.old shelf.new result }

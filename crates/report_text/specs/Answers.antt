@@ -1,6 +1,7 @@
 -- The lines of answers to questions, those of blind folders, and the count of all questions.
 use Rattle.std.specs.Prelude.{ℕ, List, [], ◌∷◌, ◌++◌, codes}
 use Rattle.std.specs.Fmt.{decimal}
+use Rattle.std.specs.List.{flat_map}
 use Rattle.abs_path.specs.Paths.{Path, text_of}
 use Rattle.call_table.specs.Table as calls
 use Rattle.site_table.specs.Table.{Site}
@@ -23,6 +24,10 @@ verdict_line table site question verdict = verdict_word verdict ++ (codes " " ++
 -- a call of a list that shows an open question, as a script has it
 abbrev pub call_line : calls.Table → Call → List ℕ
 call_line table call = codes "  " ++ (call_text table call ++ 10 ∷ [])
+
+-- an open question, and the calls of a list that shows it
+abbrev pub open_lines : calls.Table → Site → Question → List Call → List ℕ
+open_lines table site question list = verdict_line table site question Open ++ flat_map (call_line table) list
 
 -- a folder that is blind
 abbrev pub blind_line : Path → List ℕ

@@ -1,7 +1,7 @@
 //! The lines of answers to questions, those of blind folders, and the count of all questions.
 ghost use Rattle.std.specs.Prelude.{◌≡◌, ◌++◌, Contains, IfOk, OnOk, flat_map};
 ghost use Rattle.kernel_laws.specs.Questions.{questions};
-ghost use Rattle.report_text.specs.Answers.{blind_line, call_line, summary_line, verdict_line, verdict_word};
+ghost use Rattle.report_text.specs.Answers.{blind_line, call_line, open_lines, summary_line, verdict_line, verdict_word};
 
 use crate::wording::push_question;
 use abs_path::AbsPath;
@@ -24,11 +24,8 @@ fn verdict_word(verdict: Verdict) -> &'static str
     }
 }
 
-/// Puts the line of a question of the list behind a text: the verdict, and what is asked. Rows go by their paths and calls and
-/// families by their names, each an escaped word; ids go by their numbers, and capabilities by the names of capabilities(7).
-///
-/// The one error is want of memory.
-pub fn push_verdict_line(
+// Puts the line of a question of the list behind a text.
+fn push_verdict_line(
     text: &mut Vec<u8>,
     question: &Question,
     verdict: Verdict,
@@ -47,7 +44,13 @@ pub fn push_verdict_line(
     Ok(())
 }
 
-/// The line of a question of the list, as `push_verdict_line` has it.
+// How much memory the lines of an answer begin with: most need no more.
+const ANSWER_LEN: usize = 128;
+
+/// The line of a question of the list: the verdict, and what is asked. Rows go by their paths and calls and families by their
+/// names, each an escaped word; ids go by their numbers, and capabilities by the names of capabilities(7).
+///
+/// The one error is want of memory.
 pub fn verdict_line(
     alloc: Global,
     question: &Question,
@@ -58,13 +61,13 @@ pub fn verdict_line(
     requires asked { Contains (questions calls.now site.now) question.now }
     ensures tells_the_verdict { IfOk result (λ line. line.items ≡ verdict_line calls.now site.now question.now verdict) }
 {
-    let mut line = Vec::new(alloc);
+    let mut line = Vec::with_capacity(alloc, ANSWER_LEN)?;
     push_verdict_line(&mut line, question, verdict, calls, site)?;
     Ok(line)
 }
 
-/// Puts the line of a call behind a text, below the open question that it leads to: two spaces, and the call as a script has it.
-pub fn push_call_line(
+// Puts the line of a call behind a text.
+fn push_call_line(
     alloc: Global,
     text: &mut Vec<u8>,
     call: &Call,
@@ -78,7 +81,8 @@ pub fn push_call_line(
     Ok(())
 }
 
-/// Puts the lines of these calls behind a text.
+/// Puts the lines of these calls behind a text, below the open question that they lead to: each is two spaces, and the call as a
+/// script has it.
 pub fn push_call_lines(
     alloc: Global,
     text: &mut Vec<u8>,
@@ -91,6 +95,22 @@ pub fn push_call_lines(
         push_call_line(alloc, text, call, calls)?;
     }
     Ok(())
+}
+
+/// The lines of a question of the list that is open: the verdict, and below it these calls, which show it.
+pub fn open_lines(
+    alloc: Global,
+    question: &Question,
+    list: &[Call],
+    calls: &CallTable,
+    site: &SiteTable,
+) -> Result<Vec<u8>, AllocError>
+    requires asked { Contains (questions calls.now site.now) question.now }
+    ensures verdict_and_calls { IfOk result (λ text. text.items ≡ open_lines calls.now site.now question.now list.now) }
+{
+    let mut text = verdict_line(alloc, question, Verdict::Open, calls, site)?;
+    push_call_lines(alloc, &mut text, list, calls)?;
+    Ok(text)
 }
 
 /// Puts the line of a folder that is blind behind a text.

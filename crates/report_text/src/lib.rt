@@ -12,9 +12,7 @@ mod notes;
 mod scores;
 mod wording;
 
-pub use answers::{
-    push_blind_line, push_call_line, push_call_lines, push_verdict_line, summary_line, verdict_line,
-};
+pub use answers::{open_lines, push_blind_line, push_call_lines, summary_line, verdict_line};
 pub use launches::{Launched, killed_line, launched_line, privileged_line, refused_line};
 pub use notes::{note_line, unit_line};
 pub use scores::{exposure_line, score_line};

@@ -24,9 +24,10 @@ use Rattle.unit_inputs.specs.Inputs.{input_refusals, inputs_view}
 use Rattle.unit_inputs.specs.declared.inputs.UnitInputs.{UnitInputs}
 use Rattle.unit_inputs.proofs.Steps.{AreRead}
 use Rattle.tighten_command.specs.KeepFiles.{IsKeepIn, IsKeepOf, no_file, of_file}
-use Rattle.tighten_command.specs.Prints.{Admits, MayEndUntold, an_input, ending_of, refuses, tells, text_of, the_keep, tighten_laws}
+use Rattle.command_answers.specs.ReadyTexts.{ending_of, text_of}
+use Rattle.tighten_command.specs.Prints.{Admits, MayEndUntold, an_input, refuses, tells, the_keep, tighten_laws}
 use Rattle.tighten_command.specs.Telling.{IsTold, TellsTight, denies, no_launch, no_plan, no_settings, refuses_wish, tightened}
-use Rattle.tighten_command.specs.declared.hardening.Hardening.{Hardening}
+use Rattle.command_answers.specs.declared.ready_text.ReadyText.{ReadyText}
 
 -- ---- the file of what is to be kept
 -- the bytes of the file are not there
@@ -126,14 +127,14 @@ module _ (unit path : List ℕ) (wishes : Wishes) where
     admits None e ending text is = told_may unit own_tried ending text is
     admits (Some files) e ending text is = tells (inputs_view inputs) (view value) (subst (λ own. IfSome own (λ files. AreRead files unit inputs)) e read).1 (keep_is files e) ending text is
 
-    answered : (result : Result Hardening Stop) → IsTold (TellsTight unit own_tried) result → IsAdmitted (tighten_laws told unit path wishes) ending_of text_of result
+    answered : (result : Result ReadyText Stop) → IsTold (TellsTight unit own_tried) result → IsAdmitted (tighten_laws told unit path wishes) ending_of text_of result
     answered (Ok hardening) is = admits told refl hardening.ending hardening.text.items is
     answered (Err (stop.Refused line)) is = admits told refl Refused line.items is
     answered (Err stop.ReadFault) is = tt
     answered (Err stop.Memory) is = tt
 
     -- also where its parts are lent
-    pub answered_as : (own : Resolved) (lent_table : Table) (lent_site : Site) (keep : List Question) (result : Result Hardening Stop) → own ≡ (inputs_view inputs).unit → lent_table ≡ (inputs_view inputs).calls → lent_site ≡ (inputs_view inputs).site → keep ≡ view value
+    pub answered_as : (own : Resolved) (lent_table : Table) (lent_site : Site) (keep : List Question) (result : Result ReadyText Stop) → own ≡ (inputs_view inputs).unit → lent_table ≡ (inputs_view inputs).calls → lent_site ≡ (inputs_view inputs).site → keep ≡ view value
         → IsTold (TellsTight unit (tried_with own lent_table lent_site keep wishes)) result → IsAdmitted (tighten_laws told unit path wishes) ending_of text_of result
     answered_as own lent_table lent_site keep result one two three four is =
         answered result

@@ -15,7 +15,7 @@ use Rattle.tighten.specs.declared.tight.TightenError.{TightenError}
 use Rattle.tighten.specs.declared.tight.TightenError.TheVariants as error
 use Rattle.tighten_command.specs.Lines.{tight_text}
 use Rattle.tighten_command.specs.Telling.{IsTold, TellsError, TellsTight, denies, no_launch, no_plan, no_settings, refuses_wish, tightened}
-use Rattle.tighten_command.specs.declared.hardening.Hardening.{Hardening}
+use Rattle.command_answers.specs.declared.ready_text.ReadyText.{ReadyText}
 
 module _ (P : Ending → List ℕ → Type 0) where
   told_line : (line : Result (Vec ℕ Global) AllocError) (text : List ℕ) → IfOk line (λ own. own.items ≡ text) → P Refused text → IsTold P (Err (stop_of line))
@@ -27,14 +27,14 @@ module _ (P : Ending → List ℕ → Type 0) where
   told_refused line text told same is holds = subst (λ own. IsTold P (Err own)) (sym same) (told_line line text is holds)
 
   -- what is told by one relation is told by another
-  pub told_as : (Q : Ending → List ℕ → Type 0) → ((ending : Ending) (text : List ℕ) → P ending text → Q ending text) → (result : Result Hardening Stop) → IsTold P result → IsTold Q result
+  pub told_as : (Q : Ending → List ℕ → Type 0) → ((ending : Ending) (text : List ℕ) → P ending text → Q ending text) → (result : Result ReadyText Stop) → IsTold P result → IsTold Q result
   told_as Q as_other (Ok hardening) told = as_other hardening.ending hardening.text.items told
   told_as Q as_other (Err (stop.Refused line)) told = as_other Refused line.items told
   told_as Q as_other (Err stop.ReadFault) told = absurd told
   told_as Q as_other (Err stop.Memory) told = tt
 
   -- nothing is read for it
-  pub told_reads_nothing : (result : Result Hardening Stop) → IsTold P result → IsErrOf result stop.ReadFault → ⊥
+  pub told_reads_nothing : (result : Result ReadyText Stop) → IsTold P result → IsErrOf result stop.ReadFault → ⊥
   told_reads_nothing (Ok hardening) told is = cc
   told_reads_nothing (Err (stop.Refused line)) told is = cc
   told_reads_nothing (Err stop.ReadFault) told is = told

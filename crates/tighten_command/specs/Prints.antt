@@ -12,7 +12,6 @@ use Rattle.unit_inputs.specs.Inputs.{Inputs, input_refusals, inputs_of}
 use Rattle.unit_names.specs.Cutting.{name_of}
 use Rattle.tighten_command.specs.KeepFiles.{IsKeepIn}
 use Rattle.tighten_command.specs.Telling.{TellsTight}
-use Rattle.tighten_command.specs.declared.hardening.Hardening.{Hardening}
 
 -- what is refused before anything is tried, the first that is: an input of the unit, then what is to be kept
 pub data RefusesBefore (files : Files) (unit path : List ℕ) : List ℕ → Type 0 where
@@ -50,10 +49,3 @@ tighten_laws told unit path wishes = record {
   accepts = accepts_over told unit path wishes;
   reads = IsSome (name_of unit);
 }
-
--- what is ready
-abbrev pub text_of : Hardening → List ℕ
-text_of hardening = hardening.text.items
-
-abbrev pub ending_of : Hardening → Ending
-ending_of hardening = hardening.ending

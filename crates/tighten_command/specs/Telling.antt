@@ -18,7 +18,7 @@ use Rattle.unit_launch.specs.Refusals.{refusal_line}
 use Rattle.unit_launch.specs.declared.refusal.LaunchRefusal.{LaunchRefusal}
 use Rattle.unit_inputs.specs.SettingsRefusals.{settings_line}
 use Rattle.tighten_command.specs.Lines.{keep_line, tight_text, wish_line}
-use Rattle.tighten_command.specs.declared.hardening.Hardening.{Hardening}
+use Rattle.command_answers.specs.declared.ready_text.ReadyText.{ReadyText}
 
 -- A unit is tightened: what can be added is told. Or nothing is added, since the unit itself has no settings, no plan or no launch,
 -- of which the last is told with a status of its own; or denies a question that is to be kept; or does not grant a wish.
@@ -40,7 +40,7 @@ TellsError unit (Wish number) ending text = (ending ≡ Refused) × (text ≡ wi
 TellsError unit Memory ending text = ⊥
 
 -- what is ready, or the line of the refusal, is such, unless memory ran out
-abbrev pub IsTold : (Ending → List ℕ → Type 0) → Result Hardening Stop → Type 0
+abbrev pub IsTold : (Ending → List ℕ → Type 0) → Result ReadyText Stop → Type 0
 IsTold P (Ok hardening) = P hardening.ending hardening.text.items
 IsTold P (Err (stop.Refused line)) = P Refused line.items
 IsTold P (Err stop.ReadFault) = ⊥

@@ -8,10 +8,9 @@ ghost use Rattle.tighten_command.specs.Lines.{tight_text};
 ghost use Rattle.unit_launch.specs.Refusals.{refusal_line};
 ghost use Rattle.command_answers.specs.declared.ending.Ending.TheVariants.{Done, LaunchRefused};
 
-use crate::hardening::Hardening;
 use crate::lines::{keep_line, tight_text, wish_line};
 use call_table::CallTable;
-use command_answers::{Ending, Stop, refuse};
+use command_answers::{Ending, ReadyText, Stop, refuse};
 use dropin_merge::Resolved;
 use plan_command::plan_line;
 use question_types::Question;
@@ -22,28 +21,28 @@ use unit_inputs::settings_line;
 use unit_launch::{LaunchRefusal, refusal_line};
 
 // What can be added.
-fn tell_tight(alloc: Global, tight: &Tight) -> Result<Hardening, Stop>
+fn tell_tight(alloc: Global, tight: &Tight) -> Result<ReadyText, Stop>
     requires are_items { All (λ item. (1 ≤ item) × (item ≤ 17)) tight.now.items }
     ensures { IsTold (λ ending text. (ending ≡ Done) × (text ≡ tight_text tight.now)) result }
 {
-    Ok(Hardening {
+    Ok(ReadyText {
         text: tight_text(alloc, tight)?,
         ending: Ending::Done,
     })
 }
 
 // The line of a launch that is refused.
-fn tell_refused(alloc: Global, refusal: &LaunchRefusal) -> Result<Hardening, Stop>
+fn tell_refused(alloc: Global, refusal: &LaunchRefusal) -> Result<ReadyText, Stop>
     ensures { IsTold (λ ending text. (ending ≡ LaunchRefused) × (text ≡ refusal_line refusal.now)) result }
 {
-    Ok(Hardening {
+    Ok(ReadyText {
         text: refusal_line(alloc, refusal)?,
         ending: Ending::LaunchRefused,
     })
 }
 
 // Why nothing can be added, as it is told.
-fn tell_error(alloc: Global, name: &str, error: TightenError) -> Result<Hardening, Stop>
+fn tell_error(alloc: Global, name: &str, error: TightenError) -> Result<ReadyText, Stop>
     ensures { IsTold (TellsError name.now error) result }
 {
     match error {
@@ -65,7 +64,7 @@ pub fn answer(
     site: &SiteTable,
     keep: &[Question],
     wishes: &[StoredWish],
-) -> Result<Hardening, Stop>
+) -> Result<ReadyText, Stop>
     requires listed { All (λ question. Contains (questions calls.now site.now) question) keep.now }
     ensures answers { IsTold (TellsTight name.now (tried_with unit.now calls.now site.now keep.now (⟦<StoredWish as Wished>⟧.wished wishes.now))) result }
     ensures reads_nothing { IsErrOf result Stop.ReadFault → ⊥ }

@@ -3,12 +3,12 @@ ghost use Rattle.command_answers.specs.Asking.{course};
 ghost use Rattle.command_answers.specs.Laws.{IsAdmitted};
 ghost use Rattle.unit_inputs.specs.Asking.{AsksInOrder, asks_with_file};
 ghost use Rattle.unit_inputs.specs.ReadsFor.{ReadsFor};
-ghost use Rattle.tighten_command.specs.Prints.{ending_of, text_of, tighten_laws};
+ghost use Rattle.command_answers.specs.ReadyTexts.{ending_of, text_of};
+ghost use Rattle.tighten_command.specs.Prints.{tighten_laws};
 
 use crate::answering::answer;
-use crate::hardening::Hardening;
 use crate::keep_file::read_keep;
-use command_answers::Stop;
+use command_answers::{ReadyText, Stop};
 use host_io::Shelf;
 use std::alloc::Global;
 use tighten::{StoredWish, Wished};
@@ -22,7 +22,7 @@ pub fn prepare<S: Shelf>(
     unit: &str,
     path: &str,
     wishes: &[StoredWish],
-) -> Result<Hardening, Stop>
+) -> Result<ReadyText, Stop>
     ensures prepares { IsAdmitted (tighten_laws (S.told shelf.old) unit.now path.now (⟦<StoredWish as Wished>⟧.wished wishes.now)) ending_of text_of result }
     ensures asks_in_order { AsksInOrder S.asks (S.told shelf.old) (λ files. asks_with_file files unit.now path.now) shelf.old shelf.new (course result) }
     ensures reads_for_the_unit { ReadsFor S.told S.faults unit.now shelf.old shelf.new result }

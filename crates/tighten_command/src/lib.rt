@@ -8,10 +8,8 @@
 
 mod answering;
 mod command;
-mod hardening;
 mod keep_file;
 mod keeping;
 mod lines;
 
 pub use command::prepare;
-pub use hardening::Hardening;

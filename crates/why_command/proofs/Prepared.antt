@@ -26,8 +26,9 @@ use Rattle.unit_inputs.specs.Settled.{refusals_by}
 use Rattle.unit_inputs.proofs.Steps as steps
 use Rattle.unit_inputs.proofs.Steps.{AreRead, refusals_with}
 use Rattle.why_command.specs.Asking.{question_in, refused_question}
-use Rattle.why_command.specs.Prints.{PrintsWhy, TellsLaunch, TellsWhy, ending_of, refusals_behind, text_of, why_laws, why_refusals}
-use Rattle.why_command.specs.declared.why.Why.{Why}
+use Rattle.command_answers.specs.ReadyTexts.{ending_of, text_of}
+use Rattle.why_command.specs.Prints.{PrintsWhy, TellsLaunch, TellsWhy, refusals_behind, why_laws, why_refusals}
+use Rattle.command_answers.specs.declared.ready_text.ReadyText.{ReadyText}
 
 -- each ends as it may
 ends_so : (tried : Tried) (launch : UnitLaunch) (ending : Ending) (text : List ℕ) → TellsLaunch tried launch ending text → (ending ≡ Done) ⊎ (ending ≡ LaunchRefused)
@@ -46,8 +47,8 @@ module _ (told : Option Files) (unit : List ℕ) (words : List (List ℕ)) where
 -- an input is refused
 pub stops_at_inputs : (P : Files → UnitInputs → Type 0) (told : Option Files) (unit : List ℕ) (words : List (List ℕ)) (stop : Stop) → IfSome told (λ files. Prepares (P files) (input_refusals files unit) (Err stop)) → IsAdmitted (laws_over told (why_laws unit words)) ending_of text_of (Err stop)
 stops_at_inputs P told unit words stop said =
-    stop_is_admitted (why_laws unit words) ending_of text_of (λ (made : Why). Unit {0}) told stop
-    (steps.stops_at_inputs P (λ files (made : Why). Unit {0}) told unit (λ files. refusals_by (refusals_behind unit words) (inputs_of files unit)) stop said)
+    stop_is_admitted (why_laws unit words) ending_of text_of (λ (made : ReadyText). Unit {0}) told stop
+    (steps.stops_at_inputs P (λ files (made : ReadyText). Unit {0}) told unit (λ files. refusals_by (refusals_behind unit words) (inputs_of files unit)) stop said)
 
 module _ (told : Option Files) (unit : List ℕ) (words : List (List ℕ)) (inputs : UnitInputs) (are : IfSome told (λ files. AreRead files unit inputs)) where
   read_is : (files : Files) → told ≡ Some files → AreRead files unit inputs
@@ -57,7 +58,7 @@ module _ (told : Option Files) (unit : List ℕ) (words : List (List ℕ)) (inpu
   behind_inputs files e = refusals_with files unit (input_refusals files unit) (refusals_behind unit words) (inputs_view inputs) (read_is files e).0 (read_is files e).1
 
   -- what stops behind them is admitted
-  stops_behind : (P : Why → Type 0) (some : List (Option (List ℕ))) (why : Stop) → first_refusal (refusals_behind unit words (inputs_view inputs)) ≡ first_refusal some → Prepares P some (Err why) → IsAdmitted (laws_over told (why_laws unit words)) ending_of text_of (Err why)
+  stops_behind : (P : ReadyText → Type 0) (some : List (Option (List ℕ))) (why : Stop) → first_refusal (refusals_behind unit words (inputs_view inputs)) ≡ first_refusal some → Prepares P some (Err why) → IsAdmitted (laws_over told (why_laws unit words)) ending_of text_of (Err why)
   stops_behind P some why same is = stop_is_admitted (why_laws unit words) ending_of text_of P told why (at told refl)
     where
       at : (own : Option Files) → told ≡ own → IfSome own (λ files. Prepares P (why_refusals files unit words) (Err why))
@@ -69,7 +70,7 @@ module _ (told : Option Files) (unit : List ℕ) (words : List (List ℕ)) (inpu
       → IsAnswer (λ (question : Question). question) (Err why) (question_in calls site words) → IsAdmitted (laws_over told (why_laws unit words)) ending_of text_of (Err why)
   stops_at_question calls site why one two is =
       stops_behind (λ made. Unit {0}) (refusals_behind unit words (inputs_view inputs)) why refl
-      (stops (λ (question : Question). question) (λ (made : Why). Unit {0}) (question_in (inputs_view inputs).calls (inputs_view inputs).site words) why (start_refusals unit (inputs_view inputs))
+      (stops (λ (question : Question). question) (λ (made : ReadyText). Unit {0}) (question_in (inputs_view inputs).calls (inputs_view inputs).site words) why (start_refusals unit (inputs_view inputs))
       (subst (λ (own : Site). IsAnswer (λ (question : Question). question) (Err why) (question_in (inputs_view inputs).calls own words)) two
       (subst (λ (own : Table). IsAnswer (λ (question : Question). question) (Err why) (question_in own site words)) one is)))
 
@@ -81,7 +82,7 @@ module _ (told : Option Files) (unit : List ℕ) (words : List (List ℕ)) (inpu
     behind_question : first_refusal (refusals_behind unit words (inputs_view inputs)) ≡ first_refusal (start_refusals unit (inputs_view inputs))
     behind_question = passes (question_in (inputs_view inputs).calls (inputs_view inputs).site words) question (start_refusals unit (inputs_view inputs)) question_is
 
-    admitted : (result : Result Why Stop) → Prepares (λ made. TellsWhy tried (ending_of made) (text_of made)) (start_refusals unit (inputs_view inputs)) result → IsAdmitted (laws_over told (why_laws unit words)) ending_of text_of result
+    admitted : (result : Result ReadyText Stop) → Prepares (λ made. TellsWhy tried (ending_of made) (text_of made)) (start_refusals unit (inputs_view inputs)) result → IsAdmitted (laws_over told (why_laws unit words)) ending_of text_of result
     admitted (Err why) answers = stops_behind (λ made. TellsWhy tried (ending_of made) (text_of made)) (start_refusals unit (inputs_view inputs)) why behind_question answers
     admitted (Ok made) answers = ready_is_admitted (why_laws unit words) ending_of text_of told made (ends_so tried answers.1.launch (ending_of made) (text_of made) answers.1.tells) (printed told refl)
       where
@@ -100,7 +101,7 @@ module _ (told : Option Files) (unit : List ℕ) (words : List (List ℕ)) (inpu
 
   -- also where the inputs are lent
   pub admitted_as : (calls : Table) (site : Site) (question : Question) → calls ≡ (inputs_view inputs).calls → site ≡ (inputs_view inputs).site
-      → question_in calls site words ≡ Ok question → (own : Inputs) → own ≡ inputs_view inputs → (result : Result Why Stop)
+      → question_in calls site words ≡ Ok question → (own : Inputs) → own ≡ inputs_view inputs → (result : Result ReadyText Stop)
       → Prepares (λ made. TellsWhy (record { name = unit; inputs = own; question = question }) (ending_of made) (text_of made)) (start_refusals unit own) result
       → IsAdmitted (laws_over told (why_laws unit words)) ending_of text_of result
   admitted_as calls site question one two is own same result answers =

@@ -34,9 +34,9 @@ use Rattle.unit_launch.specs.declared.launching.UnitLaunch.{UnitLaunch}
 use Rattle.unit_launch.specs.declared.launching.UnitLaunch.TheVariants.{Launched}
 use Rattle.why_command.specs.Asking.{CanBeAsked}
 use Rattle.why_command.specs.Lines.{reason_text}
-use Rattle.why_command.specs.Prints.{TellsLaunch, TellsService, TellsWhy, denied_by, ending_of, open_by, text_of}
-use Rattle.why_command.specs.Stopping.{IsReadyWith}
-use Rattle.why_command.specs.declared.why.Why.{Why}
+use Rattle.command_answers.specs.ReadyTexts.{IsReadyWith, ending_of, text_of}
+use Rattle.why_command.specs.Prints.{TellsLaunch, TellsService, TellsWhy, denied_by, open_by}
+use Rattle.command_answers.specs.declared.ready_text.ReadyText.{ReadyText}
 
 -- what starts can be asked
 pub can_be_asked : (tried : Tried) (service : Service) (bounded : Bounded) → StartsAs tried.inputs (Launched service) → bounded.service ≡ service → IsBounded bounded → CanBeAsked tried bounded
@@ -100,7 +100,7 @@ pub told_of_it : (tried : Tried) (service : Service) (bounded : Bounded) → bou
 told_of_it tried service bounded same result told = subst (λ (own : Service). IfOk result (λ text. TellsService tried own text.items)) same told
 
 -- what is ready is the answer
-pub answers_launch : (tried : Tried) (launch : UnitLaunch) → Prepares (StartsAs tried.inputs) (start_refusals tried.name tried.inputs) (Ok launch) → (result : Result Why Stop) → IsReadyWith (TellsLaunch tried launch) result
+pub answers_launch : (tried : Tried) (launch : UnitLaunch) → Prepares (StartsAs tried.inputs) (start_refusals tried.name tried.inputs) (Ok launch) → (result : Result ReadyText Stop) → IsReadyWith (TellsLaunch tried launch) result
     → Prepares (λ made. TellsWhy tried (ending_of made) (text_of made)) (start_refusals tried.name tried.inputs) result
 answers_launch tried launch starts (Ok made) ready = (starts.0, record { launch = launch; starts = starts.1; tells = ready })
 answers_launch tried launch starts (Err (stop.Refused line)) ready = absurd ready
@@ -108,13 +108,7 @@ answers_launch tried launch starts (Err stop.ReadFault) ready = absurd ready
 answers_launch tried launch starts (Err stop.Memory) ready = tt
 
 pub answers_stop : (tried : Tried) (why : Stop) → Prepares {T = UnitLaunch} (StartsAs tried.inputs) (start_refusals tried.name tried.inputs) (Err why)
-    → Prepares (λ (made : Why). TellsWhy tried (ending_of made) (text_of made)) (start_refusals tried.name tried.inputs) (Err why)
+    → Prepares (λ (made : ReadyText). TellsWhy tried (ending_of made) (text_of made)) (start_refusals tried.name tried.inputs) (Err why)
 answers_stop tried (stop.Refused line) is = is
 answers_stop tried stop.ReadFault is = tt
 answers_stop tried stop.Memory is = tt
-
-pub ready_reads_nothing : (P : Ending → List ℕ → Type 0) (result : Result Why Stop) → IsReadyWith P result → IsErrOf result stop.ReadFault → ⊥
-ready_reads_nothing P (Ok why) ready e = cc
-ready_reads_nothing P (Err (stop.Refused line)) ready e = cc
-ready_reads_nothing P (Err stop.ReadFault) ready e = absurd ready
-ready_reads_nothing P (Err stop.Memory) ready e = cc

@@ -1,4 +1,3 @@
 pub mod Asking
 pub mod Lines
 pub mod Prints
-pub mod Stopping

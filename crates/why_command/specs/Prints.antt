@@ -22,7 +22,6 @@ use Rattle.unit_names.specs.Cutting.{name_of}
 use Rattle.unit_inputs.specs.Settled.{refusals_by}
 use Rattle.why_command.specs.Asking.{question_in}
 use Rattle.why_command.specs.Lines.{reason_text}
-use Rattle.why_command.specs.declared.why.Why.{Why}
 
 -- the answer of `judge` to the question: open, with calls that show it, or denied, with what denies it
 pub data TellsService (tried : Tried) (service : Service) (text : List ℕ) : Type 0 where
@@ -68,10 +67,3 @@ why_laws unit words = record {
   may_end = λ ending. (ending ≡ Done) ⊎ (ending ≡ LaunchRefused);
   reads = IsSome (name_of unit);
 }
-
--- what is ready
-abbrev pub text_of : Why → List ℕ
-text_of why = why.text.items
-
-abbrev pub ending_of : Why → Ending
-ending_of why = why.ending

@@ -7,16 +7,16 @@ ghost use Rattle.deciding_lines.specs.Tried.{CanBeTried, tried_of};
 ghost use Rattle.started_units.specs.Starting.{StartsAs, start_refusals};
 ghost use Rattle.unit_launch.specs.declared.launching.UnitLaunch.TheVariants.{Launched as Started};
 ghost use Rattle.why_command.specs.Asking.{CanBeAsked};
-ghost use Rattle.why_command.specs.Prints.{TellsLaunch, TellsService, TellsWhy, ending_of, text_of};
-ghost use Rattle.why_command.specs.Stopping.{IsReadyWith};
+ghost use Rattle.command_answers.specs.ReadyTexts.{IsReadyWith, ending_of, text_of};
+ghost use Rattle.why_command.specs.Prints.{TellsLaunch, TellsService, TellsWhy};
 
-use crate::telling::{denied_text, open_text};
-use crate::why::Why;
+use crate::telling::denied_text;
 use asked_service::{Bounded, bound};
-use command_answers::{Ending, Stop};
+use command_answers::{Ending, ReadyText, Stop};
 use deciding_lines::Trial;
 use launcher::Launched;
 use open_calls::{Service, calls};
+use report_text::open_lines;
 use started_units::start;
 use std::alloc::{AllocError, Global};
 use unit_launch::{UnitLaunch, refusal_line};
@@ -31,7 +31,7 @@ fn tell_open(alloc: Global, trial: &Trial<'_>, bounded: &Bounded<'_>) -> Result<
 {
     let service = Service::of(alloc, &bounded.service, &bounded.ceiling)?;
     let list = calls(&service, &trial.question)?;
-    open_text(alloc, &trial.question, &list, trial.calls, trial.site)
+    open_lines(alloc, &trial.question, &list, trial.calls, trial.site)
 }
 
 // A question that is denied, with what denies it.
@@ -74,17 +74,17 @@ fn tell_service(
 }
 
 // What is told of what a unit is launched to.
-fn tell_launch(alloc: Global, trial: &Trial<'_>, launch: UnitLaunch<'_>) -> Result<Why, Stop>
+fn tell_launch(alloc: Global, trial: &Trial<'_>, launch: UnitLaunch<'_>) -> Result<ReadyText, Stop>
     requires can_be_tried { CanBeTried trial.now }
     requires starts { StartsAs (tried_of trial.now).inputs launch }
     ensures { IsReadyWith (TellsLaunch (tried_of trial.now) launch.entry) result }
 {
     match launch {
-        UnitLaunch::Launched(service) => Ok(Why {
+        UnitLaunch::Launched(service) => Ok(ReadyText {
             text: tell_service(alloc, trial, service)?,
             ending: Ending::Done,
         }),
-        UnitLaunch::Refused(refusal) => Ok(Why {
+        UnitLaunch::Refused(refusal) => Ok(ReadyText {
             text: refusal_line(alloc, &refusal)?,
             ending: Ending::LaunchRefused,
         }),
@@ -93,7 +93,7 @@ fn tell_launch(alloc: Global, trial: &Trial<'_>, launch: UnitLaunch<'_>) -> Resu
 
 /// Launches the unit, and tells whether the question is open, with calls that reach it, or denied, with what denies it; or finds
 /// the first refusal of the settings and paths of the unit.
-pub fn answer(alloc: Global, trial: &Trial<'_>) -> Result<Why, Stop>
+pub fn answer(alloc: Global, trial: &Trial<'_>) -> Result<ReadyText, Stop>
     requires can_be_tried { CanBeTried trial.now }
     ensures answers { Prepares (λ made. TellsWhy (tried_of trial.now) (ending_of made) (text_of made)) (start_refusals trial.now.name.now (tried_of trial.now).inputs) result }
     ensures reads_nothing { IsErrOf result Stop.ReadFault → ⊥ }

@@ -4,12 +4,12 @@ ghost use Rattle.command_answers.specs.Asking.{course};
 ghost use Rattle.command_answers.specs.Laws.{IsAdmitted, laws_over};
 ghost use Rattle.unit_inputs.specs.Asking.{AsksInOrder, input_asks};
 ghost use Rattle.unit_inputs.specs.ReadsFor.{ReadsFor};
-ghost use Rattle.why_command.specs.Prints.{ending_of, text_of, why_laws};
+ghost use Rattle.command_answers.specs.ReadyTexts.{ending_of, text_of};
+ghost use Rattle.why_command.specs.Prints.{why_laws};
 
 use crate::answering::answer;
 use crate::asking::asked_question;
-use crate::why::Why;
-use command_answers::Stop;
+use command_answers::{ReadyText, Stop};
 use deciding_lines::Trial;
 use host_io::Shelf;
 use std::alloc::Global;
@@ -22,7 +22,7 @@ pub fn prepare<S: Shelf>(
     shelf: &mut S,
     unit: &str,
     words: &[&str],
-) -> Result<Why, Stop>
+) -> Result<ReadyText, Stop>
     ensures prepares { IsAdmitted (laws_over (S.told shelf.old) (why_laws unit.now (map (λ word. word.now) words.now))) ending_of text_of result }
     ensures asks_in_order { AsksInOrder S.asks (S.told shelf.old) (λ files. input_asks files unit.now) shelf.old shelf.new (course result) }
     ensures reads_for_the_unit { ReadsFor S.told S.faults unit.now shelf.old shelf.new result }

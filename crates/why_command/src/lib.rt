@@ -12,8 +12,6 @@ mod asking;
 mod command;
 mod lines;
 mod telling;
-mod why;
 
 pub use command::prepare;
 pub use lines::push_assignment;
-pub use why::Why;

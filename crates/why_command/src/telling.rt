@@ -1,8 +1,7 @@
 //! What is told of a question.
-ghost use Rattle.std.specs.Prelude.{◌≡◌, ◌++◌, Contains, IfOk, flat_map};
+ghost use Rattle.std.specs.Prelude.{◌≡◌, ◌++◌, Contains, IfOk};
 ghost use Rattle.deciding_lines.specs.Deciding.{IsReason};
 ghost use Rattle.kernel_laws.specs.Questions.{questions};
-ghost use Rattle.report_text.specs.Answers.{call_line};
 ghost use Rattle.judge.specs.declared.answer.Verdict.TheVariants as verdict;
 ghost use Rattle.report_text.specs.Answers.{verdict_line};
 ghost use Rattle.why_command.specs.Lines.{reason_text};
@@ -12,27 +11,10 @@ use call_table::CallTable;
 use deciding_lines::Reason;
 use dropin_merge::Resolved;
 use judge::Verdict;
-use kernel_calls::Call;
 use question_types::Question;
-use report_text::{push_call_lines, verdict_line};
+use report_text::verdict_line;
 use site_table::SiteTable;
 use std::alloc::{AllocError, Global};
-
-/// A question that is open, above the calls that reach it.
-pub fn open_text(
-    alloc: Global,
-    question: &Question,
-    list: &[Call],
-    calls: &CallTable,
-    site: &SiteTable,
-) -> Result<Vec<u8>, AllocError>
-    requires asked { Contains (questions calls.now site.now) question.now }
-    ensures verdict_and_calls { IfOk result (λ text. text.items ≡ verdict_line calls.now site.now question.now verdict.Open ++ flat_map (call_line calls.now) list.now) }
-{
-    let mut text = verdict_line(alloc, question, Verdict::Open, calls, site)?;
-    push_call_lines(alloc, &mut text, list, calls)?;
-    Ok(text)
-}
 
 // What denies it.
 fn reason_text(alloc: Global, unit: &Resolved, reason: &Reason) -> Result<Vec<u8>, AllocError>

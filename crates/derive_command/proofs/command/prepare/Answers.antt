@@ -6,7 +6,8 @@ use Rattle.unit_inputs.specs.Inputs.{inputs_of, inputs_view}
 use Rattle.started_units.specs.Starting.{given}
 use Rattle.started_units.proofs.Given.{same_inputs}
 use Rattle.unit_inputs.proofs.Reading.{named, read_behind}
-use Rattle.derive_command.specs.Prints.{derive_laws, ending_of, text_of}
+use Rattle.command_answers.specs.ReadyTexts.{ending_of, text_of}
+use Rattle.derive_command.specs.Prints.{derive_laws}
 use Rattle.derive_command.proofs.Prepared.{admitted_as, stops_at_inputs, stops_at_script}
 use Rattle.unit_inputs.specs.Asking.{asks_with_file}
 use Rattle.host_io.specs.Calls.{Whole}

@@ -2,9 +2,11 @@ use Rattle.std.proofs.Common.{Err, Ok}
 use Rattle.command_answers.specs.Stops.{Prepares}
 use Rattle.command_answers.proofs.FileCommands.{at_stop}
 use Rattle.started_units.specs.Starting.{given}
-use Rattle.effect_command.specs.Prints.{TellsBoth, TellsWith, ending_of, text_of}
+use Rattle.command_answers.specs.ReadyTexts.{ending_of, text_of}
+use Rattle.effect_command.specs.Prints.{TellsBoth, TellsWith}
 use Rattle.effect_command.specs.Refusals.{refusals_behind_dropin}
-use Rattle.effect_command.proofs.Prepared.{answers_both, answers_refused, answers_refused_with, ready_reads_nothing, starts_over, with_longer}
+use Rattle.command_answers.proofs.ReadyTexts.{ready_reads_nothing}
+use Rattle.effect_command.proofs.Prepared.{answers_both, answers_refused, answers_refused_with, starts_over, with_longer}
 use Rattle.effect_command.proofs.answering.answer.Goals as goal
 
 pub returns-in_err-first-clause-answers : goal.returns-in_err-first-clause-answers

@@ -6,7 +6,8 @@ use Rattle.unit_inputs.specs.Inputs.{inputs_of, inputs_view}
 use Rattle.started_units.specs.Starting.{given}
 use Rattle.started_units.proofs.Given.{same_inputs}
 use Rattle.unit_inputs.proofs.Reading.{named, read_behind}
-use Rattle.effect_command.specs.Prints.{effect_laws, ending_of, text_of}
+use Rattle.command_answers.specs.ReadyTexts.{ending_of, text_of}
+use Rattle.effect_command.specs.Prints.{effect_laws}
 use Rattle.effect_command.proofs.Prepared.{admitted_as, stops_at_dropin, stops_at_inputs}
 use Rattle.unit_inputs.specs.Asking.{asks_with_file}
 use Rattle.host_io.specs.Calls.{Whole}

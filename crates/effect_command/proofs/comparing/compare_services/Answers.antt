@@ -3,7 +3,7 @@ use Rattle.command_answers.specs.declared.stop.Stop.TheVariants as stop
 use Rattle.command_answers.proofs.FileCommands.{at_stop}
 use Rattle.unit_launch.specs.declared.launching.UnitLaunch.TheVariants.{Launched}
 use Rattle.effect_command.specs.Prints.{TellsBoth}
-use Rattle.effect_command.specs.Stopping.{IsReadyWith}
+use Rattle.command_answers.specs.ReadyTexts.{IsReadyWith}
 use Rattle.effect_command.proofs.Compared.{compared, same_calls, same_site}
 use Rattle.effect_command.proofs.comparing.compare_services.Goals as goal
 

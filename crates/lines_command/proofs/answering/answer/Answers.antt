@@ -1,8 +1,8 @@
 use Rattle.command_answers.specs.Stops.{Prepares}
 use Rattle.command_answers.proofs.FileCommands.{at_stop}
 use Rattle.started_units.specs.Starting.{given, start_refusals}
-use Rattle.why_command.proofs.Told.{ready_reads_nothing}
-use Rattle.why_command.specs.Prints.{ending_of, text_of}
+use Rattle.command_answers.proofs.ReadyTexts.{ready_reads_nothing}
+use Rattle.command_answers.specs.ReadyTexts.{ending_of, text_of}
 use Rattle.lines_command.specs.Prints.{TellsLaunch, TellsLines}
 use Rattle.lines_command.proofs.Told.{answers_launch, answers_stop}
 use Rattle.lines_command.proofs.answering.answer.Goals as goal

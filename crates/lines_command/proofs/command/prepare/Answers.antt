@@ -7,7 +7,7 @@ use Rattle.unit_inputs.specs.Inputs.{inputs_of, inputs_view}
 use Rattle.unit_inputs.proofs.Ordering.{order_quiet}
 use Rattle.started_units.proofs.Given.{same_inputs}
 use Rattle.unit_inputs.proofs.Reading.{read_then}
-use Rattle.why_command.specs.Prints.{ending_of, text_of}
+use Rattle.command_answers.specs.ReadyTexts.{ending_of, text_of}
 use Rattle.lines_command.specs.Prints.{lines_laws}
 use Rattle.lines_command.proofs.Prepared.{admitted_as, stops_at_inputs}
 use Rattle.lines_command.proofs.command.prepare.Goals as goal

@@ -10,7 +10,8 @@ use Rattle.unit_inputs.specs.Asking.{asks_with_file}
 use Rattle.unit_inputs.specs.Inputs.{inputs_of, inputs_view}
 use Rattle.unit_inputs.proofs.Ordering.{order_quiet, stops_at_file, stops_before_file, with_file}
 use Rattle.unit_inputs.proofs.Reading.{named, read_behind}
-use Rattle.tighten_command.specs.Prints.{ending_of, text_of, tighten_laws}
+use Rattle.command_answers.specs.ReadyTexts.{ending_of, text_of}
+use Rattle.tighten_command.specs.Prints.{tighten_laws}
 use Rattle.tighten_command.proofs.Prepared.{answered_as, lent_listed, stops_at_inputs, stops_at_keep}
 use Rattle.tighten_command.proofs.command.prepare.Goals as goal
 

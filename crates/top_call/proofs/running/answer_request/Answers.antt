@@ -6,14 +6,15 @@ use Rattle.filter_command.specs.Prints.{filter_laws, filters_text, ending_of as 
 use Rattle.filter_command.proofs.Prepared.{together as filter_together}
 use Rattle.plan_command.specs.Prints.{plan_laws, mounts_text, ending_of as plan_ending}
 use Rattle.plan_command.proofs.Prepared.{together as plan_together}
-use Rattle.derive_command.specs.Prints.{derive_laws, ending_of as derive_ending, text_of as derive_text}
+use Rattle.command_answers.specs.ReadyTexts.{ending_of as ready_ending, text_of as ready_text}
+use Rattle.derive_command.specs.Prints.{derive_laws}
 use Rattle.derive_command.proofs.Prepared.{together as derive_together}
-use Rattle.effect_command.specs.Prints.{effect_laws, ending_of as effect_ending, text_of as effect_text}
+use Rattle.effect_command.specs.Prints.{effect_laws}
 use Rattle.effect_command.proofs.Prepared.{together as effect_together}
 use Rattle.tighten.specs.Wishes.{wishes_by}
-use Rattle.tighten_command.specs.Prints.{tighten_laws, ending_of as tighten_ending, text_of as tighten_text}
+use Rattle.tighten_command.specs.Prints.{tighten_laws}
 use Rattle.tighten_command.proofs.Prepared.{together as tighten_together}
-use Rattle.why_command.specs.Prints.{why_laws, ending_of as why_ending, text_of as why_text}
+use Rattle.why_command.specs.Prints.{why_laws}
 use Rattle.why_command.proofs.Prepared.{together as why_together}
 use Rattle.lines_command.specs.Prints.{lines_laws}
 use Rattle.lines_command.proofs.Prepared.{together as lines_together}
@@ -69,32 +70,32 @@ returns-in-Replay-clause-runs g c = rw c.in-Replay.is c.answer-in-Replay.ensures
 pub returns-in-Derive-clause-runs : goal.returns-in-Derive-clause-runs
 returns-in-Derive-clause-runs g c =
     rw c.in-Derive.is
-    (ran (laws_over (g.S.Shelf.told c.args.shelf.now) (derive_laws c.in-Derive.unit.now c.in-Derive.script.now)) (derive_together (g.S.Shelf.told c.args.shelf.now) c.in-Derive.unit.now c.in-Derive.script.now) _ derive_ending derive_text c.prepare-in-Derive.result c.finish-in-Derive.result
+    (ran (laws_over (g.S.Shelf.told c.args.shelf.now) (derive_laws c.in-Derive.unit.now c.in-Derive.script.now)) (derive_together (g.S.Shelf.told c.args.shelf.now) c.in-Derive.unit.now c.in-Derive.script.now) _ ready_ending ready_text c.prepare-in-Derive.result c.finish-in-Derive.result
     c.prepare-in-Derive.ensures.prepares c.prepare-in-Derive.ensures.reads_for_the_unit.reads_for_a_name c.prepare-in-Derive.ensures.reads_for_the_unit.fault_rose c.finish-in-Derive.ensures.finishes)
 
 pub returns-in-Effect-clause-runs : goal.returns-in-Effect-clause-runs
 returns-in-Effect-clause-runs g c =
     rw c.in-Effect.is
-    (ran (laws_over (g.S.Shelf.told c.args.shelf.now) (effect_laws c.in-Effect.unit.now c.in-Effect.dropin.now)) (effect_together (g.S.Shelf.told c.args.shelf.now) c.in-Effect.unit.now c.in-Effect.dropin.now) _ effect_ending effect_text c.prepare-in-Effect.result c.finish-in-Effect.result
+    (ran (laws_over (g.S.Shelf.told c.args.shelf.now) (effect_laws c.in-Effect.unit.now c.in-Effect.dropin.now)) (effect_together (g.S.Shelf.told c.args.shelf.now) c.in-Effect.unit.now c.in-Effect.dropin.now) _ ready_ending ready_text c.prepare-in-Effect.result c.finish-in-Effect.result
     c.prepare-in-Effect.ensures.prepares c.prepare-in-Effect.ensures.reads_for_the_unit.reads_for_a_name c.prepare-in-Effect.ensures.reads_for_the_unit.fault_rose c.finish-in-Effect.ensures.finishes)
 
 pub returns-in-Tighten-clause-runs : goal.returns-in-Tighten-clause-runs
 returns-in-Tighten-clause-runs g c =
     rw c.in-Tighten.is
     (let wishes = wishes_by (λ wish. wish.must_open) (λ wish shown answer. (goal.dyn-2-members g).post (wish.test.vtable, wish.test.value) (shown, tt) answer) c.args.wishes.now in
-    ran (tighten_laws (g.S.Shelf.told c.args.shelf.now) c.in-Tighten.unit.now c.in-Tighten.keep.now wishes) (tighten_together c.in-Tighten.unit.now c.in-Tighten.keep.now wishes (g.S.Shelf.told c.args.shelf.now)) _ tighten_ending tighten_text c.prepare-in-Tighten.result c.finish-in-Tighten.result
+    ran (tighten_laws (g.S.Shelf.told c.args.shelf.now) c.in-Tighten.unit.now c.in-Tighten.keep.now wishes) (tighten_together c.in-Tighten.unit.now c.in-Tighten.keep.now wishes (g.S.Shelf.told c.args.shelf.now)) _ ready_ending ready_text c.prepare-in-Tighten.result c.finish-in-Tighten.result
     c.prepare-in-Tighten.ensures.prepares c.prepare-in-Tighten.ensures.reads_for_the_unit.reads_for_a_name c.prepare-in-Tighten.ensures.reads_for_the_unit.fault_rose c.finish-in-Tighten.ensures.finishes)
 
 pub returns-in-Why-clause-runs : goal.returns-in-Why-clause-runs
 returns-in-Why-clause-runs g c =
     rw c.in-Why.is
-    (ran (laws_over (g.S.Shelf.told c.args.shelf.now) (why_laws c.in-Why.unit.now (map (λ word. word.now) c.in-Why.words.now))) (why_together (g.S.Shelf.told c.args.shelf.now) c.in-Why.unit.now (map (λ word. word.now) c.in-Why.words.now)) _ why_ending why_text c.prepare-in-Why.result c.finish-in-Why.result
+    (ran (laws_over (g.S.Shelf.told c.args.shelf.now) (why_laws c.in-Why.unit.now (map (λ word. word.now) c.in-Why.words.now))) (why_together (g.S.Shelf.told c.args.shelf.now) c.in-Why.unit.now (map (λ word. word.now) c.in-Why.words.now)) _ ready_ending ready_text c.prepare-in-Why.result c.finish-in-Why.result
     c.prepare-in-Why.ensures.prepares c.prepare-in-Why.ensures.reads_for_the_unit.reads_for_a_name c.prepare-in-Why.ensures.reads_for_the_unit.fault_rose c.finish-in-Why.ensures.finishes)
 
 pub returns-in-Lines-clause-runs : goal.returns-in-Lines-clause-runs
 returns-in-Lines-clause-runs g c =
     rw c.in-Lines.is
-    (ran (laws_over (g.S.Shelf.told c.args.shelf.now) (lines_laws c.in-Lines.unit.now)) (lines_together (g.S.Shelf.told c.args.shelf.now) c.in-Lines.unit.now) _ why_ending why_text c.prepare-in-Lines.result c.finish-in-Lines.result
+    (ran (laws_over (g.S.Shelf.told c.args.shelf.now) (lines_laws c.in-Lines.unit.now)) (lines_together (g.S.Shelf.told c.args.shelf.now) c.in-Lines.unit.now) _ ready_ending ready_text c.prepare-in-Lines.result c.finish-in-Lines.result
     c.prepare-in-Lines.ensures.prepares c.prepare-in-Lines.ensures.reads_for_the_unit.reads_for_a_name c.prepare-in-Lines.ensures.reads_for_the_unit.fault_rose c.finish-in-Lines.ensures.finishes)
 
 pub returns-in-Score-clause-runs : goal.returns-in-Score-clause-runs
@@ -158,32 +159,32 @@ returns-in-Replay-clause-reads_in_order g c =
 pub returns-in-Derive-clause-reads_in_order : goal.returns-in-Derive-clause-reads_in_order
 returns-in-Derive-clause-reads_in_order g c =
     rw c.in-Derive.is
-    (order_finished g.S.Shelf.asks (g.S.Shelf.told c.args.shelf.now) (λ files. asks_with_file files c.in-Derive.unit.now c.in-Derive.script.now) c.args.shelf.now c.prepare-in-Derive.new.shelf (laws_over (g.S.Shelf.told c.args.shelf.now) (derive_laws c.in-Derive.unit.now c.in-Derive.script.now)) (derive_together (g.S.Shelf.told c.args.shelf.now) c.in-Derive.unit.now c.in-Derive.script.now) derive_ending derive_text c.prepare-in-Derive.result c.finish-in-Derive.result _
+    (order_finished g.S.Shelf.asks (g.S.Shelf.told c.args.shelf.now) (λ files. asks_with_file files c.in-Derive.unit.now c.in-Derive.script.now) c.args.shelf.now c.prepare-in-Derive.new.shelf (laws_over (g.S.Shelf.told c.args.shelf.now) (derive_laws c.in-Derive.unit.now c.in-Derive.script.now)) (derive_together (g.S.Shelf.told c.args.shelf.now) c.in-Derive.unit.now c.in-Derive.script.now) ready_ending ready_text c.prepare-in-Derive.result c.finish-in-Derive.result _
     c.prepare-in-Derive.ensures.prepares c.finish-in-Derive.ensures.finishes c.prepare-in-Derive.ensures.asks_in_order)
 
 pub returns-in-Effect-clause-reads_in_order : goal.returns-in-Effect-clause-reads_in_order
 returns-in-Effect-clause-reads_in_order g c =
     rw c.in-Effect.is
-    (order_finished g.S.Shelf.asks (g.S.Shelf.told c.args.shelf.now) (λ files. asks_with_file files c.in-Effect.unit.now c.in-Effect.dropin.now) c.args.shelf.now c.prepare-in-Effect.new.shelf (laws_over (g.S.Shelf.told c.args.shelf.now) (effect_laws c.in-Effect.unit.now c.in-Effect.dropin.now)) (effect_together (g.S.Shelf.told c.args.shelf.now) c.in-Effect.unit.now c.in-Effect.dropin.now) effect_ending effect_text c.prepare-in-Effect.result c.finish-in-Effect.result _
+    (order_finished g.S.Shelf.asks (g.S.Shelf.told c.args.shelf.now) (λ files. asks_with_file files c.in-Effect.unit.now c.in-Effect.dropin.now) c.args.shelf.now c.prepare-in-Effect.new.shelf (laws_over (g.S.Shelf.told c.args.shelf.now) (effect_laws c.in-Effect.unit.now c.in-Effect.dropin.now)) (effect_together (g.S.Shelf.told c.args.shelf.now) c.in-Effect.unit.now c.in-Effect.dropin.now) ready_ending ready_text c.prepare-in-Effect.result c.finish-in-Effect.result _
     c.prepare-in-Effect.ensures.prepares c.finish-in-Effect.ensures.finishes c.prepare-in-Effect.ensures.asks_in_order)
 
 pub returns-in-Tighten-clause-reads_in_order : goal.returns-in-Tighten-clause-reads_in_order
 returns-in-Tighten-clause-reads_in_order g c =
     rw c.in-Tighten.is
     (let wishes = wishes_by (λ wish. wish.must_open) (λ wish shown answer. (goal.dyn-2-members g).post (wish.test.vtable, wish.test.value) (shown, tt) answer) c.args.wishes.now in
-    order_finished g.S.Shelf.asks (g.S.Shelf.told c.args.shelf.now) (λ files. asks_with_file files c.in-Tighten.unit.now c.in-Tighten.keep.now) c.args.shelf.now c.prepare-in-Tighten.new.shelf (tighten_laws (g.S.Shelf.told c.args.shelf.now) c.in-Tighten.unit.now c.in-Tighten.keep.now wishes) (tighten_together c.in-Tighten.unit.now c.in-Tighten.keep.now wishes (g.S.Shelf.told c.args.shelf.now)) tighten_ending tighten_text c.prepare-in-Tighten.result c.finish-in-Tighten.result _
+    order_finished g.S.Shelf.asks (g.S.Shelf.told c.args.shelf.now) (λ files. asks_with_file files c.in-Tighten.unit.now c.in-Tighten.keep.now) c.args.shelf.now c.prepare-in-Tighten.new.shelf (tighten_laws (g.S.Shelf.told c.args.shelf.now) c.in-Tighten.unit.now c.in-Tighten.keep.now wishes) (tighten_together c.in-Tighten.unit.now c.in-Tighten.keep.now wishes (g.S.Shelf.told c.args.shelf.now)) ready_ending ready_text c.prepare-in-Tighten.result c.finish-in-Tighten.result _
     c.prepare-in-Tighten.ensures.prepares c.finish-in-Tighten.ensures.finishes c.prepare-in-Tighten.ensures.asks_in_order)
 
 pub returns-in-Why-clause-reads_in_order : goal.returns-in-Why-clause-reads_in_order
 returns-in-Why-clause-reads_in_order g c =
     rw c.in-Why.is
-    (order_finished g.S.Shelf.asks (g.S.Shelf.told c.args.shelf.now) (λ files. input_asks files c.in-Why.unit.now) c.args.shelf.now c.prepare-in-Why.new.shelf (laws_over (g.S.Shelf.told c.args.shelf.now) (why_laws c.in-Why.unit.now (map (λ word. word.now) c.in-Why.words.now))) (why_together (g.S.Shelf.told c.args.shelf.now) c.in-Why.unit.now (map (λ word. word.now) c.in-Why.words.now)) why_ending why_text c.prepare-in-Why.result c.finish-in-Why.result _
+    (order_finished g.S.Shelf.asks (g.S.Shelf.told c.args.shelf.now) (λ files. input_asks files c.in-Why.unit.now) c.args.shelf.now c.prepare-in-Why.new.shelf (laws_over (g.S.Shelf.told c.args.shelf.now) (why_laws c.in-Why.unit.now (map (λ word. word.now) c.in-Why.words.now))) (why_together (g.S.Shelf.told c.args.shelf.now) c.in-Why.unit.now (map (λ word. word.now) c.in-Why.words.now)) ready_ending ready_text c.prepare-in-Why.result c.finish-in-Why.result _
     c.prepare-in-Why.ensures.prepares c.finish-in-Why.ensures.finishes c.prepare-in-Why.ensures.asks_in_order)
 
 pub returns-in-Lines-clause-reads_in_order : goal.returns-in-Lines-clause-reads_in_order
 returns-in-Lines-clause-reads_in_order g c =
     rw c.in-Lines.is
-    (order_finished g.S.Shelf.asks (g.S.Shelf.told c.args.shelf.now) (λ files. input_asks files c.in-Lines.unit.now) c.args.shelf.now c.prepare-in-Lines.new.shelf (laws_over (g.S.Shelf.told c.args.shelf.now) (lines_laws c.in-Lines.unit.now)) (lines_together (g.S.Shelf.told c.args.shelf.now) c.in-Lines.unit.now) why_ending why_text c.prepare-in-Lines.result c.finish-in-Lines.result _
+    (order_finished g.S.Shelf.asks (g.S.Shelf.told c.args.shelf.now) (λ files. input_asks files c.in-Lines.unit.now) c.args.shelf.now c.prepare-in-Lines.new.shelf (laws_over (g.S.Shelf.told c.args.shelf.now) (lines_laws c.in-Lines.unit.now)) (lines_together (g.S.Shelf.told c.args.shelf.now) c.in-Lines.unit.now) ready_ending ready_text c.prepare-in-Lines.result c.finish-in-Lines.result _
     c.prepare-in-Lines.ensures.prepares c.finish-in-Lines.ensures.finishes c.prepare-in-Lines.ensures.asks_in_order)
 
 pub returns-in-Score-clause-reads_in_order : goal.returns-in-Score-clause-reads_in_order

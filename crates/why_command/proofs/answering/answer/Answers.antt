@@ -2,8 +2,10 @@ use Rattle.command_answers.specs.Stops.{Prepares}
 use Rattle.command_answers.proofs.FileCommands.{at_stop}
 use Rattle.deciding_lines.specs.Tried.{tried_of}
 use Rattle.started_units.specs.Starting.{start_refusals}
-use Rattle.why_command.specs.Prints.{TellsLaunch, TellsWhy, ending_of, text_of}
-use Rattle.why_command.proofs.Told.{answers_launch, answers_stop, ready_reads_nothing}
+use Rattle.command_answers.specs.ReadyTexts.{ending_of, text_of}
+use Rattle.why_command.specs.Prints.{TellsLaunch, TellsWhy}
+use Rattle.command_answers.proofs.ReadyTexts.{ready_reads_nothing}
+use Rattle.why_command.proofs.Told.{answers_launch, answers_stop}
 use Rattle.why_command.proofs.answering.answer.Goals as goal
 
 pub returns-in_err-launch-clause-answers : goal.returns-in_err-launch-clause-answers

@@ -32,5 +32,5 @@ returns c =
     let list = c.in_ok-list.list in
     told_as (TellsService tried bounded.service) (answer_lines tried.inputs.calls tried.inputs.site (Open tried.question list.items))
     (tells_open bounded c.in_ok-service.service c.in_ok-service.ensures.of_the_launch tried c.args.trial.now.question refl c.requires.is_so list.items c.in_ok-list.ensures.shown c.in_ok-list.ensures.made_by_the_service _ refl)
-    c.open_text.result
-    (subst (λ own. IfOk c.open_text.result (λ text. text.items ≡ verdict_line tried.inputs.calls tried.inputs.site tried.question verdict.Open ++ flat_map (call_line tried.inputs.calls) own)) c.deref.ensures.value c.open_text.ensures.verdict_and_calls)
+    c.open_lines.result
+    (subst (λ own. IfOk c.open_lines.result (λ text. text.items ≡ verdict_line tried.inputs.calls tried.inputs.site tried.question verdict.Open ++ flat_map (call_line tried.inputs.calls) own)) c.deref.ensures.value c.open_lines.ensures.verdict_and_calls)

@@ -10,7 +10,8 @@ use Rattle.unit_inputs.specs.Inputs.{inputs_of, inputs_view}
 use Rattle.unit_inputs.proofs.Ordering.{order_quiet, order_quiet_stopped}
 use Rattle.started_units.proofs.Given.{same_inputs}
 use Rattle.unit_inputs.proofs.Reading.{read_then}
-use Rattle.why_command.specs.Prints.{ending_of, text_of, why_laws}
+use Rattle.command_answers.specs.ReadyTexts.{ending_of, text_of}
+use Rattle.why_command.specs.Prints.{why_laws}
 use Rattle.why_command.proofs.Prepared.{admitted_as, as_any, listed_as, stops_at_inputs, stops_at_question}
 use Rattle.why_command.proofs.command.prepare.Goals as goal
 

@@ -1,18 +1,21 @@
-//! What is told of a drop-in, ready to be printed.
-
-use command_answers::{Ending, Ready, put_piece};
+// A text that is ready as a whole.
+use crate::ending::Ending;
+use crate::printing::put_piece;
+use crate::ready::Ready;
 use host_io::{Sink, SinkError};
 use std::alloc::Global;
 
-/// What changes with a drop-in, or the line of a launch that is refused.
+/// A text that is ready as a whole, and how a run ends behind it.
 #[derive(Drop)]
-pub struct Effect {
+pub struct ReadyText {
+    /// The text.
     pub text: Vec<u8>,
+    /// How a run ends behind it.
     pub ending: Ending,
 }
 
-impl Ready for Effect {
-    ghost use Rattle.effect_command.specs.Prints.{ending_of, text_of};
+impl Ready for ReadyText {
+    ghost use Rattle.command_answers.specs.ReadyTexts.{ending_of, text_of};
 
     ghost text = { text_of };
 
