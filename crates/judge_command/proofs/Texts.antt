@@ -14,7 +14,8 @@ use Rattle.chosen_calls.specs.Chosen.{calls_for}
 use Rattle.judge.specs.declared.answer.Verdict.{Verdict}
 use Rattle.kernel_laws.specs.Bound.{is_open}
 use Rattle.judge.specs.declared.answer.Verdict.TheVariants as verdict
-use Rattle.report_text.specs.Answers.{blind_line, call_line, verdict_line}
+use Rattle.kernel_calls.specs.declared.call.Call.{Call}
+use Rattle.report_text.specs.Answers.{blind_line, call_line, open_lines, verdict_line}
 use Rattle.report_text.specs.Launches.{launched_line}
 use Rattle.report_text.specs.declared.launches.Launched.{Launched as Line}
 use Rattle.unit_launch.specs.Told.{told_of}
@@ -71,6 +72,17 @@ module _ (asked : Asked) where
   pub denied_text : (question : Question) → is_open (launch_in asked) question ≡ false
       → verdict_line (world_in asked).calls (world_in asked).site question verdict.Denied ≡ answer_text asked question
   denied_text question e = sym (ap (λ b. answer_lines (world_in asked).calls (world_in asked).site (if b then Open question (calls_for (launch_in asked) asked.bounded.service.program question) else Denied question)) e)
+
+  -- the lines of what is found open, by the tables of the world
+  pub own_lines : (question : Question) (list : List Call) (table : Table) (site : Site) (lines : Result (Vec ℕ Global) AllocError) → table ≡ (world_in asked).calls → site ≡ (world_in asked).site
+      → list ≡ calls_for (launch_in asked) asked.bounded.service.program question → is_open (launch_in asked) question ≡ true
+      → IfOk lines (λ told. told.items ≡ open_lines table site question list) → IfOk lines (λ told. told.items ≡ answer_text asked question)
+  own_lines question list table site lines tables sites lists opens is =
+      let chosen = calls_for (launch_in asked) asked.bounded.service.program question in
+      subst (λ text. IfOk lines (λ told. told.items ≡ text)) (open_text question opens)
+      (subst (λ these. IfOk lines (λ told. told.items ≡ open_lines these (world_in asked).site question chosen)) tables
+      (subst (λ there. IfOk lines (λ told. told.items ≡ open_lines table there question chosen)) sites
+      (subst (λ own. IfOk lines (λ told. told.items ≡ open_lines table site question own)) lists is)))
 
   -- the line of a folder that is blind
   pub named_text : (row : Row) → is_named asked row ≡ true → blind_line row.path ≡ folder_text asked row

@@ -1,5 +1,5 @@
 -- What is asked of a launched service, and what the printed text is.
-use Rattle.std.specs.Prelude.{◌≡◌, ◌↔◌, ℕ, Bool, true, List, [], filter, length, map, not, slice_get, Some, if◌then◌else◌}
+use Rattle.std.specs.Prelude.{◌≡◌, ◌↔◌, ℕ, Bool, true, List, [], filter, length, not, slice_get, Some, if◌then◌else◌}
 use Rattle.site_table.specs.declared.row.Row.{Row}
 use Rattle.kernel_model.specs.World.{World}
 use Rattle.kernel_laws.specs.Bound.{is_open}

@@ -1,50 +1,47 @@
 //! The answers to questions, found and printed one by one.
-ghost use Rattle.std.specs.Prelude.{◌≡◌, Contains, IfOk, OnOk, flat_map, map};
+ghost use Rattle.std.specs.Prelude.{◌≡◌, Contains, IfOk, OnOk, flat_map};
 ghost use Rattle.command_answers.specs.Printing.{HasWriteCause, TakesText};
-ghost use Rattle.judge.specs.declared.answer.Verdict.{Verdict};
 ghost use Rattle.kernel_laws.specs.Questions.{questions};
-ghost use Rattle.report_text.specs.Answers.{call_line};
 ghost use Rattle.judge_command.specs.Asked.{IsAsked, IsVerdict, answer_text, denied_among};
 ghost use Rattle.judge_command.specs.Lent.{IsServiceOf};
 
 use crate::asking::Asked;
 use crate::counting::denied_once;
-use call_table::CallTable;
-use command_answers::put_line;
+use crate::lines::put_lines;
 use host_io::{Sink, SinkError};
 use judge::{Verdict, verdict};
-use kernel_calls::Call;
 use open_calls::{Service, calls};
 use question_types::Question;
-use report_text::{push_call_line, verdict_line};
+use report_text::{open_lines, verdict_line};
 use std::alloc::{AllocError, Global};
 
-// The line of a call.
-fn call_line(alloc: Global, call: &Call, table: &CallTable) -> Result<Vec<u8>, AllocError>
-    ensures tells_the_call { IfOk result (λ line. line.items ≡ call_line table.now call.now) }
-{
-    let mut line = Vec::new(alloc);
-    push_call_line(alloc, &mut line, call, table)?;
-    Ok(line)
-}
-
-// Prints calls, one behind the other.
-fn print_calls<K: Sink>(
+// The lines of the answer to a question, of which this is found; below one that is open the calls that show it.
+fn answer_lines(
     alloc: Global,
-    list: &[Call],
-    table: &CallTable,
-    out: &mut K,
-) -> Result<(), SinkError>
-    ensures takes_the_text { TakesText (K.taken out.old) (K.taken out.new) (flat_map (call_line table.now) list.now) result }
-    ensures fault_rose { HasWriteCause (K.faults out.old) (K.faults out.new) result }
+    asked: &Asked<'_>,
+    service: &Service<'_>,
+    question: &Question,
+    found: Verdict,
+) -> Result<Vec<u8>, AllocError>
+    requires asked { IsAsked asked.now }
+    requires listed { Contains (questions asked.now.bounded.service.world.calls asked.now.bounded.service.world.site) question.now }
+    requires found { IsVerdict asked.now question.now found }
+    requires its_service { IsServiceOf asked.now service.now }
+    ensures { IfOk result (λ text. text.items ≡ answer_text asked.now question.now) }
 {
-    for call in list {
-        put_line(out, call_line(alloc, call, table))?;
+    let world = &asked.bounded.service.world;
+    let table = world.call_table();
+    let site = world.site_table();
+    match found {
+        Verdict::Denied => verdict_line(alloc, question, found, table, site),
+        Verdict::Open => {
+            let list = calls(service, question)?;
+            open_lines(alloc, question, list.as_slice(), table, site)
+        }
     }
-    Ok(())
 }
 
-// Prints the answer to a question, of which this is found; below it the calls that show what is open.
+// Prints the answer to a question, of which this is found, a line after the other.
 fn print_answer<K: Sink>(
     alloc: Global,
     asked: &Asked<'_>,
@@ -60,18 +57,9 @@ fn print_answer<K: Sink>(
     ensures takes_the_text { TakesText (K.taken out.old) (K.taken out.new) (answer_text asked.now question.now) result }
     ensures fault_rose { HasWriteCause (K.faults out.old) (K.faults out.new) result }
 {
-    let world = &asked.bounded.service.world;
-    let table = world.call_table();
-    let line = verdict_line(alloc, question, found, table, world.site_table());
-    match found {
-        Verdict::Denied => put_line(out, line),
-        Verdict::Open => {
-            let Ok(list) = calls(service, question) else {
-                return Err(SinkError::Memory);
-            };
-            put_line(out, line)?;
-            print_calls(alloc, list.as_slice(), table, out)
-        }
+    match answer_lines(alloc, asked, service, question, found) {
+        Ok(text) => put_lines(out, text.as_slice()),
+        Err(_) => Err(SinkError::Memory),
     }
 }
 

@@ -14,6 +14,7 @@ mod command;
 mod counting;
 mod folders;
 mod launching;
+mod lines;
 mod preparing;
 mod printing;
 mod reasons;
