@@ -46,9 +46,14 @@ class OneByOne:
             timed.run()
         self.clock.append(sum(timed.clock[-1] for timed in self.runs))
         self.processor.append(sum(timed.processor[-1] for timed in self.runs))
+        self.status = max(timed.status for timed in self.runs)
+
+    def measure(self):
+        """What each prints, and the most memory of one."""
+        for timed in self.runs:
+            timed.measure()
         self.memory = max(timed.memory for timed in self.runs)
         self.printed = sum(timed.printed for timed in self.runs)
-        self.status = max(timed.status for timed in self.runs)
 
 
 def main(found):
@@ -64,7 +69,7 @@ def main(found):
             all_of_them.append(("systemd-analyze security, each", OneByOne([Timed(path, [*words, f"./{path}"], folder) for path in paths])))
         in_turns([timed for _, timed in all_of_them], found.runs)
     tell([
-        [name, str(it.status), f"{it.printed:,}", *(f"{one:.1f} ms" for one in (min(it.clock), median(it.clock), max(it.clock), median(it.processor))), f"{it.memory:.1f} MB"]
+        [name, str(it.status), f"{it.printed:,}", *(f"{one:.1f} ms" for one in (min(it.clock), median(it.clock), max(it.clock), median(it.processor))), f"{it.memory:.1f} MB", "-"]
         for name, it in all_of_them
     ])  # fmt: skip
     if not analyze:

@@ -19,6 +19,7 @@ def add_words(parser):
     parser.add_argument("--runs", type=int, default=21, help="how often each is run (21)")
     parser.add_argument("--rows", type=int, default=50, help="rows in each of the 40 folders of the large site (50)")
     parser.add_argument("--source", metavar="FOLDER", help="a folder whose calls.txt and site.toml the hardened unit is judged on")
+    parser.add_argument("--pipe", action="store_true", help="print into a pipe that is read along, and not to /dev/null")
     parser.add_argument("names", nargs="*", metavar="COMMAND", help="the commands (all where none is given)")
 
 
@@ -45,7 +46,7 @@ def make_all(folder, found):
     return places
 
 
-def timed_commands(folder, large, hardened, root, paths=None):
+def timed_commands(folder, is_piped, large, hardened, root, paths=None):
     """Each command with its inputs."""
     rows = [
         ("start", ["--version"], hardened),
@@ -66,13 +67,13 @@ def timed_commands(folder, large, hardened, root, paths=None):
         rows.append(("judge, 128 paths", ["judge", "web.service"], paths))
     for programs, binds in HIDDEN:
         rows.append((f"judge, {programs:,} hidden programs and {binds} binds", ["judge", "web.service"], f"{folder}/hidden-{programs}-{binds}"))
-    found = [Timed("true", ["true"], hardened)]
-    found += [Timed(name, [PROGRAM, *words], place) for name, words, place in rows]
+    found = [Timed("true", ["true"], hardened, is_piped)]
+    found += [Timed(name, [PROGRAM, *words], place, is_piped) for name, words, place in rows]
     analyze = shutil.which("systemd-analyze")
     if analyze:
         for name, place in (("hardened", hardened), ("large", large)):
             words = [analyze, "security", "--offline=true", "--no-pager", f"./{inputs.SYSTEM}/web.service"]
-            found.append(Timed(ANALYZE.format(name), words, place))
+            found.append(Timed(ANALYZE.format(name), words, place, is_piped))
     return found
 
 
@@ -88,7 +89,7 @@ def main(found):
     """Times the commands, and prints the table."""
     with tempfile.TemporaryDirectory(prefix="bench-") as folder:
         places = make_all(folder, found)
-        commands = timed_commands(folder, **places)
+        commands = timed_commands(folder, found.pipe, **places)
         if found.names:
             commands = [it for it in commands if it.name.split(",")[0].split(" ")[0] in {"true", "systemd-analyze", *found.names}]
         in_turns(commands, found.runs)

@@ -10,26 +10,40 @@ TRACEME, CONT, SETOPTIONS, TRACE_EXIT, EXIT_STOP = 0, 7, 0x4200, 0x40, signal.SI
 
 
 class Timed:
-    """What runs of one command took: milliseconds by the clock and of the processor, and the most memory in MB."""
+    """What runs of one command took: milliseconds by the clock and of the processor, and the most memory in MB.
 
-    def __init__(self, name, words, folder):
-        self.name, self.words, self.folder = name, words, folder
+    What it prints goes to /dev/null, or where `is_piped` into a pipe that is read along, which costs a wake-up for many a line.
+    """
+
+    def __init__(self, name, words, folder, is_piped=False):
+        self.name, self.words, self.folder, self.is_piped = name, words, folder, is_piped
         self.clock, self.processor, self.memory, self.printed, self.status = [], [], 0.0, 0, 0
 
     def run(self):
         """One run more."""
         before = time.perf_counter()
-        child = subprocess.Popen(self.words, cwd=self.folder, stdin=subprocess.DEVNULL, stdout=subprocess.PIPE, stderr=subprocess.DEVNULL)
-        self.printed = sum(len(piece) for piece in iter(lambda: child.stdout.read1(1 << 20), b""))
-        child.stdout.close()
+        output = subprocess.PIPE if self.is_piped else subprocess.DEVNULL
+        child = subprocess.Popen(self.words, cwd=self.folder, stdin=subprocess.DEVNULL, stdout=output, stderr=subprocess.DEVNULL)
+        if self.is_piped:
+            read_all(child.stdout)
         _, status, used = os.wait4(child.pid, 0)
         self.clock.append((time.perf_counter() - before) * 1000)
         self.status = child.returncode = os.waitstatus_to_exitcode(status)
         self.processor.append((used.ru_utime + used.ru_stime) * 1000)
 
     def measure(self):
-        """One run that is not timed, of which the most memory is taken."""
+        """Two runs that are not timed, of which how much is printed and the most memory are taken."""
+        child = subprocess.Popen(self.words, cwd=self.folder, stdin=subprocess.DEVNULL, stdout=subprocess.PIPE, stderr=subprocess.DEVNULL)
+        self.printed = read_all(child.stdout)
+        child.wait()
         self.memory = high_water(self.words, self.folder)
+
+
+def read_all(pipe):
+    """Reads a pipe to its end, and answers how many bytes came."""
+    count = sum(len(piece) for piece in iter(lambda: pipe.read1(1 << 20), b""))
+    pipe.close()
+    return count
 
 
 def high_water(words, folder):
