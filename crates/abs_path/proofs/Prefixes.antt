@@ -1,10 +1,11 @@
 -- Prefixes of paths, by whole parts.
-use Rattle.std.proofs.Common.{◌≡◌, ℕ, ◌≤◌, true, List, [], ◌∷◌, ◌++◌, ◌⊎◌, inl, inr, length, cond, Some, None, refl, sym, ap, ◌∙◌, arith}
+use Rattle.std.proofs.Common.{◌≡◌, ℕ, suc, ◌≤◌, Bool, true, false, List, [], ◌∷◌, ◌++◌, ◌⊎◌, inl, inr, length, cond, Some, None, refl, sym, ap, ◌∙◌, arith, append-nil}
+use Rattle.std.specs.Prelude.{◌==◌, ◌&&◌, not}
 use Rattle.std.specs.Str.{bytes_eq}
 use Rattle.std.proofs.lemmas.Bool.{and_parts, and_from, false≢true}
 use Rattle.std.proofs.lemmas.Slice.Eq.{bytes_eq-Decides}
 use Rattle.abs_path.specs.Paths.{Path, tail_of}
-use Rattle.abs_path.specs.Prefix.{is_prefix, is_same, rest_of, rest_text}
+use Rattle.abs_path.specs.Prefix.{is_prefix, is_same, is_below, rest_of, rest_text}
 
 -- equal parts, by the test
 pub same_part : (x y : List ℕ) → bytes_eq x y ≡ true → x ≡ y
@@ -100,3 +101,25 @@ rest-append (part ∷ front) more = rest-append front more
 
 pub rest_text-append : (front more : Path) → rest_text front (front ++ more) ≡ Some (tail_of more)
 rest_text-append front more = ap (λ b. cond b (Some (tail_of (rest_of front (front ++ more)))) None) (prefix-append front more) ∙ ap (λ p. Some (tail_of p)) (rest-append front more)
+
+-- more behind a path makes another
+longer_is_other : (front more : Path) (part : List ℕ) → is_same front (front ++ part ∷ more) ≡ false
+longer_is_other [] more part = refl
+longer_is_other (first ∷ front) more part = ap (λ b. b && is_same front (front ++ part ∷ more)) (part_itself first first refl) ∙ longer_is_other front more part
+
+has_bytes : (n : ℕ) → not (suc n == 0) ≡ true
+has_bytes n = grind arith
+
+-- a path is strictly below another that leads to it where it has something behind it
+pub below_by_rest : (front path : Path) (rest : List ℕ) → Some rest ≡ rest_text front path → not (length rest == 0) ≡ is_below path front
+below_by_rest front path rest e = by (is_prefix front path) refl e
+  where
+    behind : (more : Path) → front ++ more ≡ path → rest ≡ tail_of more → not (length rest == 0) ≡ not (is_same front path)
+    behind [] whole text = ap (λ (t : List ℕ). not (length t == 0)) text ∙ sym (ap (λ p. not (is_same front p)) (sym whole ∙ append-nil front) ∙ ap not (same_itself front))
+    behind (part ∷ more) whole text = ap (λ (t : List ℕ). not (length t == 0)) text ∙ has_bytes (length (part ++ tail_of more)) ∙ sym (ap (λ p. not (is_same front p)) (sym whole) ∙ ap not (longer_is_other front more part))
+
+    by : (b : Bool) → is_prefix front path ≡ b → Some rest ≡ cond b (Some (tail_of (rest_of front path))) None → not (length rest == 0) ≡ (b && not (is_same front path))
+    by false leads e = cc
+    by true leads e =
+        let text : rest ≡ tail_of (rest_of front path) = cc in
+        behind (rest_of front path) (prefix_and_rest front path leads) text

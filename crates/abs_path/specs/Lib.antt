@@ -3,3 +3,4 @@ pub mod Prefix
 pub mod ByteOrder
 pub mod Read
 pub mod Plain
+pub mod Held

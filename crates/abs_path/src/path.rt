@@ -10,6 +10,7 @@ ghost use Rattle.abs_path.specs.Paths.{text_of, tail_of, is_root, is_normal, pro
 ghost use Rattle.std.specs.Ordering.{nat_cmp};
 ghost use Rattle.std.specs.Cmp.Lexicographic.{slice_cmp};
 
+use crate::text::Text;
 use std::alloc::{AllocError, Global};
 use std::cmp::Ordering;
 use std::marker::Model;
@@ -21,18 +22,17 @@ const LONGEST: usize = 512;
 #[derive(Drop)]
 pub struct AbsPath {
     // the text, but nothing for the root
-    tail: String,
+    tail: Text,
 }
 
 impl Model for AbsPath {
-    ghost use Rattle.std.specs.Prelude.{string_bytes};
     ghost use Rattle.abs_path.specs.Paths.{Path, IsTail, parts_of};
 
     ghost Value = { Path };
 
-    ghost view = { λ path. parts_of (string_bytes path.tail) };
+    ghost view = { λ path. parts_of path.tail };
 
-    ghost invariant = { λ path. IsTail (string_bytes path.tail) };
+    ghost invariant = { λ path. IsTail path.tail };
 }
 
 impl AbsPath {
@@ -41,7 +41,7 @@ impl AbsPath {
         ensures has_no_parts { result ≡ [] }
     {
         AbsPath {
-            tail: String::new(alloc),
+            tail: Text::empty(),
         }
     }
 
@@ -49,7 +49,7 @@ impl AbsPath {
     pub fn proc(alloc: Global) -> Result<AbsPath, AllocError>
         ensures of_the_processes { IfOk result (λ path. path ≡ proc) }
     {
-        let tail = String::from_str(alloc, "/proc")?;
+        let tail = Text::read(alloc, "/proc")?;
         Ok(AbsPath { tail })
     }
 
@@ -59,18 +59,15 @@ impl AbsPath {
         ensures normal { IsTrue (is_normal self.now) }
         ensures short { length result.now ≤ 512 }
     {
-        if self.tail.is_empty() {
-            "/"
-        } else {
-            self.tail.as_str()
-        }
+        let tail = self.tail.as_str();
+        if tail.is_empty() { "/" } else { tail }
     }
 
     /// Whether it is the root.
     pub fn is_root(&self) -> bool
         ensures without_parts { result ≡ is_root self.now }
     {
-        self.tail.is_empty()
+        self.tail.as_str().is_empty()
     }
 
     /// How many bytes the parts have, each with the slash before it; none for the root.
@@ -93,7 +90,7 @@ impl AbsPath {
         ensures same { IfOk result (λ path. path ≡ self.now) }
     {
         Ok(AbsPath {
-            tail: self.tail.clone()?,
+            tail: self.tail.copy()?,
         })
     }
 }
@@ -108,7 +105,7 @@ impl PartialEq for AbsPath {
     ghost laws = { partial_equiv_from_equiv (lists_equiv nat_list_eq_equiv) };
 
     fn eq(&self, other: &AbsPath) -> bool {
-        self.tail == other.tail
+        self.tail.as_str() == other.tail.as_str()
     }
 }
 

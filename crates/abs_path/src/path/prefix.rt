@@ -1,6 +1,6 @@
 //! Prefixes by whole parts, what a path has behind one, and joining the two again.
 
-ghost use Rattle.std.specs.Prelude.{◌≡◌, ◌≤◌, ◌++◌, IfOk, IfSome, IsTrue, length, string_bytes, option_map, true};
+ghost use Rattle.std.specs.Prelude.{◌≡◌, ◌≤◌, ◌++◌, IfOk, IfSome, IsTrue, length, option_map, true};
 ghost use Rattle.abs_path.specs.Paths.{is_normal, parts_of, tail_of};
 ghost use Rattle.abs_path.specs.Prefix.{is_prefix, is_below, rest_of, rest_text, IsRest, Joins, is_behind, after, behind_text};
 
@@ -31,15 +31,6 @@ fn behind<'a>(front: &str, text: &'a str) -> Option<&'a str>
     if is_behind(rest) { Some(rest) } else { None }
 }
 
-fn joined(alloc: Global, front: &str, rest: &str) -> Result<String, AllocError>
-    ensures { IfOk result (λ text. string_bytes text ≡ front.now ++ rest.now) }
-{
-    let mut text = String::new(alloc);
-    text.push_str(front)?;
-    text.push_str(rest)?;
-    Ok(text)
-}
-
 impl AbsPath {
     /// Whether this path is the other or leads to it, by whole parts.
     pub fn is_prefix(&self, of: &AbsPath) -> bool
@@ -52,7 +43,10 @@ impl AbsPath {
     pub fn is_below(&self, other: &AbsPath) -> bool
         ensures by_whole_parts { result ≡ is_below self.now other.now }
     {
-        other.is_prefix(self) && other != self
+        match other.rest(self) {
+            Some(rest) => !rest.is_empty(),
+            None => false,
+        }
     }
 
     /// What the other path has behind this one: nothing, or further parts, each after a slash.
@@ -85,7 +79,7 @@ impl AbsPath {
         requires short { length (tail_of (self.now ++ parts_of rest.now)) ≤ 512 }
         ensures { IfOk result (λ path. path ≡ self.now ++ parts_of rest.now) }
     {
-        let tail = joined(alloc, self.tail.as_str(), rest)?;
+        let tail = self.tail.with_rest(alloc, rest)?;
         Ok(AbsPath { tail })
     }
 

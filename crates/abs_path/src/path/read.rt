@@ -9,6 +9,7 @@ ghost use Rattle.abs_path.specs.Read.{Reads};
 
 use super::{AbsPath, LONGEST};
 use crate::error::PathError;
+use crate::text::Text;
 use std::alloc::{AllocError, Global};
 
 // a piece that says nothing
@@ -96,7 +97,7 @@ impl AbsPath {
             return Err(PathError::TooLong);
         }
         if is_rooted(text) && is_plain(text) {
-            let tail = String::from_str(alloc, text)?;
+            let tail = Text::read(alloc, text)?;
             return Ok(AbsPath { tail });
         }
         AbsPath::read_pieces(alloc, text)
@@ -117,7 +118,7 @@ impl AbsPath {
         if climbs(&pieces) {
             return Err(PathError::DotDot);
         }
-        let tail = folded(alloc, &pieces)?;
+        let tail = Text::of(folded(alloc, &pieces)?);
         Ok(AbsPath { tail })
     }
 }

@@ -1,3 +1,4 @@
+use Rattle.launched_units.specs.declared.refusal.UnitRefusal.TheVariants.{Memory}
 use Rattle.trace_profile.specs.Finding.{DerivesOpen}
 use Rattle.trace_profile.proofs.Tried.{at_error, derived_is, every_serve, not_opened}
 use Rattle.trace_profile.proofs.finding.derive_open.Goals as goal
@@ -7,6 +8,10 @@ returns-in_err-service c =
     at_error (DerivesOpen c.args.unit.now c.args.calls.now c.args.site.now c.args.script.now) c.from_residual-in_err-service.result c.in_err-service.field-0.0 c.from_residual-in_err-service.ensures.1
     (not_opened c.args.unit.now c.args.calls.now c.args.site.now c.args.script.now c.in_ok-open.open c.in_ok-every.every.items c.deref.result.now c.in_ok-every.ensures.all_of_the_table c.deref.ensures.value c.in_ok-open.ensures.drop_in_stands_last
     c.in_err-service.field-0.0 c.in_err-service.ensures.launches)
+
+pub returns-in_err-names : goal.returns-in_err-names
+returns-in_err-names c =
+    at_error (DerivesOpen c.args.unit.now c.args.calls.now c.args.site.now c.args.script.now) c.from_residual-in_err-names.result Memory c.from_residual-in_err-names.ensures.1 tt
 
 pub begin-requires-clause-serving : goal.begin-requires-clause-serving
 begin-requires-clause-serving c =

@@ -5,7 +5,7 @@ use Rattle.abs_path.proofs.Reading.{rest_is, rest_form, rest_parts}
 use Rattle.abs_path.proofs.path.AbsPath.rest.Goals as goal
 
 pub returns-clause-behind : goal.returns-clause-behind
-returns-clause-behind c = c.behind.ensures ∙ ap (λ l. behind_text l c.as_str-2.result.now) c.as_str.ensures.value ∙ ap (behind_text _) c.as_str-2.ensures.value
+returns-clause-behind c = c.behind.ensures ∙ ap (λ l. behind_text l c.as_str-2.result.now) c.as_str.ensures ∙ ap (behind_text _) c.as_str-2.ensures
     ∙ rest_is _ _ _ _ c.self.invariant c.of.invariant c.self.view_is c.of.view_is
 
 pub returns-clause-may_be_joined : goal.returns-clause-may_be_joined

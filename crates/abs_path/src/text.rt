@@ -1,0 +1,136 @@
+//! A text that is held in place where it is short, so that most paths take no memory beside their own.
+
+ghost use Rattle.std.specs.Prelude.{◌≡◌, ◌++◌, [], length, IfOk, IfSome, string_bytes};
+ghost use Rattle.abs_path.specs.Held.{bytes_of};
+
+use arrayvec::ArrayString;
+use std::alloc::{AllocError, Global};
+use std::marker::Model;
+
+/// How many bytes a text has at most that is held in place.
+const IN_PLACE: usize = 24;
+
+#[derive(Drop)]
+enum Held {
+    Short(ArrayString<IN_PLACE>),
+    Long(String),
+}
+
+/// A text, in place where it has at most 24 bytes. A contract sees its bytes.
+#[derive(Drop)]
+pub(crate) struct Text {
+    held: Held,
+}
+
+impl Model for Text {
+    ghost use Rattle.std.specs.Prelude.{List, ℕ};
+    ghost use Rattle.abs_path.specs.Held.{bytes_of};
+
+    ghost Value = { List ℕ };
+
+    ghost view = { λ text. bytes_of text.held };
+}
+
+impl Text {
+    /// The text without a byte.
+    pub(crate) fn empty() -> Text
+        ensures { result ≡ [] }
+    {
+        Text {
+            held: Held::Short(ArrayString::new()),
+        }
+    }
+
+    /// The text of a string.
+    pub(crate) fn of(text: String) -> Text
+        ensures { result ≡ string_bytes text }
+    {
+        match short(text.as_str()) {
+            Some(short) => Text {
+                held: Held::Short(short),
+            },
+            None => Text {
+                held: Held::Long(text),
+            },
+        }
+    }
+
+    /// The same bytes again.
+    pub(crate) fn read(alloc: Global, text: &str) -> Result<Text, AllocError>
+        ensures { IfOk result (λ read. read ≡ text.now) }
+    {
+        let held = match short(text) {
+            Some(short) => Held::Short(short),
+            None => Held::Long(String::from_str(alloc, text)?),
+        };
+        Ok(Text { held })
+    }
+
+    /// The text with a rest behind it.
+    pub(crate) fn with_rest(&self, alloc: Global, rest: &str) -> Result<Text, AllocError>
+        ensures { IfOk result (λ text. text ≡ self.now ++ rest.now) }
+    {
+        let held = match short_with_rest(&self.held, rest) {
+            Some(short) => Held::Short(short),
+            None => Held::Long(joined(alloc, self.as_str(), rest)?),
+        };
+        Ok(Text { held })
+    }
+
+    /// The same text again.
+    pub(crate) fn copy(&self) -> Result<Text, AllocError>
+        ensures { IfOk result (λ text. text ≡ self.now) }
+    {
+        let held = match &self.held {
+            Held::Short(text) => Held::Short(*text),
+            Held::Long(text) => Held::Long(text.clone()?),
+        };
+        Ok(Text { held })
+    }
+
+    /// How many bytes it has.
+    pub(crate) fn len(&self) -> usize
+        ensures { result ≡ length self.now }
+    {
+        self.as_str().len()
+    }
+
+    pub(crate) fn as_str(&self) -> &str
+        ensures { result.now ≡ self.now }
+    {
+        match &self.held {
+            Held::Short(text) => text.as_str(),
+            Held::Long(text) => text.as_str(),
+        }
+    }
+}
+
+// the text in place, where it is short enough
+fn short(text: &str) -> Option<ArrayString<IN_PLACE>>
+    ensures { IfSome result (λ short. short.bytes ≡ text.now) }
+{
+    ArrayString::from(text).ok()
+}
+
+// the text with a rest behind it in place, where the two are short enough
+fn short_with_rest(front: &Held, rest: &str) -> Option<ArrayString<IN_PLACE>>
+    ensures { IfSome result (λ short. short.bytes ≡ bytes_of front.now ++ rest.now) }
+{
+    let Held::Short(front) = front else {
+        return None;
+    };
+    let mut text = *front;
+    match text.try_push_str(rest) {
+        Ok(()) => Some(text),
+        Err(_) => None,
+    }
+}
+
+fn joined(alloc: Global, front: &str, rest: &str) -> Result<String, AllocError>
+    ensures { IfOk result (λ text. string_bytes text ≡ front.now ++ rest.now) }
+{
+    let mut text = String::new(alloc);
+    text.push_str(front)?;
+    text.push_str(rest)?;
+    Ok(text)
+}
