@@ -1,9 +1,8 @@
 -- What a bind makes of mounts, by the number of the source's mount.
-use Rattle.std.proofs.Common.{◌≡◌, ◌<◌, ◌≤◌, ◌+◌, ℕ, zero, suc, ◌++◌, ◌∷◌, [], Bool, true, false, cond, filter, map, get_or, drop, length, Ok, Err, Result, refl, sym, ap, ◌∙◌, arith}
+use Rattle.std.proofs.Common.{◌≡◌, ◌<◌, ◌≤◌, ◌+◌, ℕ, zero, suc, ◌++◌, ◌∷◌, [], Bool, true, false, cond, filter, map, get_or, take, drop, length, length-append, Ok, Err, Result, refl, sym, ap, ◌∙◌, arith}
 use Rattle.std.specs.Prelude.{◌&&◌, ◌||◌, nat_lt, not, count_by}
 use Rattle.std.specs.List.{list_any}
-use Rattle.std.proofs.lemmas.Bool.{or_parts}
-use Rattle.std.proofs.lemmas.List.{length-map}
+use Rattle.std.proofs.lemmas.List.{length-map, length-take, take_all, drop_all}
 use Rattle.std.proofs.lemmas.List.Sums.{length-filter}
 use Rattle.abs_path.specs.Paths.{Path}
 use Rattle.abs_path.specs.Prefix.{is_prefix}
@@ -15,14 +14,26 @@ use Rattle.kern_mounts.specs.Bind.{moved, is_too_long, goes_too_far, can_show, c
 use Rattle.kern_mounts.specs.Mounts.{Mounts, steps_of, leads, stands_below}
 use Rattle.kern_mounts.specs.MountsPush.{mounts_grown}
 use Rattle.kern_mounts.specs.MountsBind.{moved_mount, copied_mounts, bound_mount, is_locked_below, is_placed_too_long, mounts_bound, mounts_after_bind}
+use Rattle.kern_mounts.specs.Pushed.{HasBound}
 use Rattle.kern_mounts.proofs.Splits.{about, split_some}
-use Rattle.kern_mounts.proofs.Mounts.{mount_by_number, mount_entry}
+use Rattle.kern_mounts.proofs.Mounts.{in_range, mount_by_number, mount_entry}
 
 -- the source's mount, and the mounts that copies are looked for among
 pub record Binds (mounts later : Mounts) (source : Path) (recursive : Bool) (at : ℕ) (mount : Mount) : Type 0 where
   pub belongs : Belongs (steps_of mounts) source at
   pub entry_is : mount ≡ get_or mounts at mount
   pub later_is : later ≡ cond recursive (drop (at + 1) mounts) []
+
+-- a mount of this number stands there
+pub stands : (mounts : Mounts) (at : ℕ) → at < length mounts → (mount : Mount) × (mount ≡ get_or mounts at mount)
+stands [] at lt = absurd (omega arith)
+stands (mount ∷ mounts) zero lt = (mount, refl)
+stands (mount ∷ mounts) (suc at) lt = stands mounts at (omega arith)
+
+-- up to the end are those that copies are looked for among
+up_to_the_end : (mounts : Mounts) (recursive : Bool) (at end : ℕ) → end ≡ cond recursive (length mounts) (at + 1) → drop (at + 1) (take end mounts) ≡ cond recursive (drop (at + 1) mounts) []
+up_to_the_end mounts true at end e = ap (drop (at + 1)) (take_all end mounts (omega (arith, e)))
+up_to_the_end mounts false at end e = drop_all (at + 1) (take end mounts) (let long = length-take end mounts in omega (arith, e, long))
 
 pub shown : (mounts later : Mounts) (source : Path) (recursive : Bool) (at : ℕ) (mount : Mount) → Binds mounts later source recursive at mount → can_bind (steps_of mounts) source ≡ true → can_show mount.step.what mount.step.place source ≡ true
 shown mounts later source recursive at mount h can =
@@ -40,20 +51,6 @@ any_moved source target (mount ∷ later) = by (stands_below source mount) (any_
         → ((b && is_too_long (moved source target mount.step)) || list_any (λ mount. goes_too_far source target mount.step) later) ≡ list_any is_placed_too_long (map (moved_mount source target) (cond b (mount ∷ filter (stands_below source) later) (filter (stands_below source) later)))
     by true e = ap (λ b. is_too_long (moved source target mount.step) || b) e
     by false e = e
-
--- none of the copies is too long, nor is the one of this number
-pub short_copy : (source target : Path) (later : Mounts) (at : ℕ) (mount : Mount) → list_any (λ mount. goes_too_far source target mount.step) later ≡ false → at < length later → mount ≡ get_or later at mount → stands_below source mount ≡ true
-    → is_too_long (moved source target mount.step) ≡ false
-short_copy source target [] at mount none lt e below = absurd (omega arith)
-short_copy source target (first ∷ later) zero mount none lt e below =
-    let own : goes_too_far source target mount.step ≡ false = ap (λ (m : Mount). goes_too_far source target m.step) e ∙ (or_parts (goes_too_far source target first.step) (list_any (λ mount. goes_too_far source target mount.step) later) none).0 in
-    by (stands_below source mount) (is_too_long (moved source target mount.step)) below own
-  where
-    by : (a b : Bool) → a ≡ true → (a && b) ≡ false → b ≡ false
-    by true b e f = f
-    by false b e f = cc
-short_copy source target (first ∷ later) (suc at) mount none lt e below =
-    short_copy source target later at mount (or_parts (goes_too_far source target first.step) (list_any (λ mount. goes_too_far source target mount.step) later) none).1 (omega arith) e below
 
 count_copies : (source target : Path) (later : Mounts) → length (copied_mounts true source target later) ≡ count_by (stands_below source) later
 count_copies source target later = length-map (filter (stands_below source) later) (moved_mount source target) ∙ length-filter (stands_below source) later
@@ -96,20 +93,33 @@ not_less : (a b : ℕ) → b ≤ a → nat_lt a b ≡ false
 not_less a b h = grind arith
 
 pub bind_full : (mounts later : Mounts) (source target : Path) (recursive : Bool) (at : ℕ) (mount : Mount) (count : ℕ) → Binds mounts later source recursive at mount →
-    uncovers mounts source recursive at ≡ false → list_any (λ mount. goes_too_far source target mount.step) later ≡ false → count ≡ count_by (stands_below source) later → mount_max < length mounts + 1 + count → mounts_after_bind mounts source target recursive ≡ Err enospc
+    uncovers mounts source recursive at ≡ false → list_any (λ mount. goes_too_far source target mount.step) later ≡ false → count ≡ count_by (stands_below source) later → mount_max < length mounts + (1 + count) → mounts_after_bind mounts source target recursive ≡ Err enospc
 bind_full mounts later source target recursive at mount count h none short e many =
-    let all : length mounts + length (bound_mount source target mount ∷ copied_mounts true source target later) ≡ length mounts + 1 + count = let n = count_copies source target later in omega (arith, n, e) in
+    let all : length mounts + length (bound_mount source target mount ∷ copied_mounts true source target later) ≡ length mounts + (1 + count) = let n = count_copies source target later in omega (arith, n, e) in
     bind_short mounts later source target recursive at mount h none short
-    ∙ ap (λ b. cond b (Err enospc) (Ok (mounts ++ bound_mount source target mount ∷ copied_mounts true source target later))) (ap (nat_lt mount_max) all ∙ less mount_max (length mounts + 1 + count) many)
+    ∙ ap (λ b. cond b (Err enospc) (Ok (mounts ++ bound_mount source target mount ∷ copied_mounts true source target later))) (ap (nat_lt mount_max) all ∙ less mount_max (length mounts + (1 + count)) many)
 
 pub bind_done : (mounts later : Mounts) (source target : Path) (recursive : Bool) (at : ℕ) (mount : Mount) (count : ℕ) → Binds mounts later source recursive at mount →
-    uncovers mounts source recursive at ≡ false → list_any (λ mount. goes_too_far source target mount.step) later ≡ false → count ≡ count_by (stands_below source) later → length mounts + 1 + count ≤ mount_max →
+    uncovers mounts source recursive at ≡ false → list_any (λ mount. goes_too_far source target mount.step) later ≡ false → count ≡ count_by (stands_below source) later → length mounts + (1 + count) ≤ mount_max →
     mounts_after_bind mounts source target recursive ≡ Ok (mounts ++ bound_mount source target mount ∷ copied_mounts true source target later)
 bind_done mounts later source target recursive at mount count h none short e few =
-    let all : length mounts + length (bound_mount source target mount ∷ copied_mounts true source target later) ≡ length mounts + 1 + count = let n = count_copies source target later in omega (arith, n, e) in
+    let all : length mounts + length (bound_mount source target mount ∷ copied_mounts true source target later) ≡ length mounts + (1 + count) = let n = count_copies source target later in omega (arith, n, e) in
     bind_short mounts later source target recursive at mount h none short
-    ∙ ap (λ b. cond b (Err enospc) (Ok (mounts ++ bound_mount source target mount ∷ copied_mounts true source target later))) (ap (nat_lt mount_max) all ∙ not_less mount_max (length mounts + 1 + count) few)
+    ∙ ap (λ b. cond b (Err enospc) (Ok (mounts ++ bound_mount source target mount ∷ copied_mounts true source target later))) (ap (nat_lt mount_max) all ∙ not_less mount_max (length mounts + (1 + count)) few)
 
 -- the source belongs to the mount
 pub source_leads : (mounts later : Mounts) (source : Path) (recursive : Bool) (at : ℕ) (mount : Mount) → Binds mounts later source recursive at mount → is_prefix mount.step.place source ≡ true
 source_leads mounts later source recursive at mount h = (split_some (leads source) mounts (about mounts at mount) (mount_by_number mounts source at mount h.belongs h.entry_is)).has
+
+-- once the mount at the target and all copies are behind the others, and there is room for them, the bind is made
+pub bind_made : (mounts new : Mounts) (source target : Path) (recursive : Bool) (at end : ℕ) → Belongs (steps_of mounts) source at → uncovers mounts source recursive at ≡ false → end ≡ cond recursive (length mounts) (at + 1) →
+    HasBound mounts new at (drop (at + 1) (take end mounts)) source target → length new ≤ mount_max → mounts_after_bind mounts source target recursive ≡ Ok new
+bind_made mounts new source target recursive at end belongs none is h few =
+    let here = stands mounts at (in_range mounts source at belongs) in
+    let later = drop (at + 1) (take end mounts) in
+    let more = bound_mount source target here.0 ∷ copied_mounts true source target later in
+    let binds : Binds mounts later source recursive at here.0 = record { belongs = belongs; entry_is = here.1; later_is = up_to_the_end mounts recursive at end is } in
+    let made : new ≡ mounts ++ more = h.behind here.0 here.1 in
+    let room : length mounts + length more ≤ mount_max = let sum = length-append mounts more in let size = ap length made in omega (arith, sum, size, few) in
+    bind_short mounts later source target recursive at here.0 binds none h.none_long
+    ∙ ap (λ b. cond b (Err enospc) (Ok (mounts ++ more))) (not_less mount_max (length mounts + length more) room) ∙ ap Ok (sym made)

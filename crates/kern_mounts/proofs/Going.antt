@@ -1,8 +1,7 @@
 -- Going over a list and keeping what passes a test, in place: what is kept is put behind the front.
 use Rattle.std.proofs.Common.{◌≡◌, ◌<◌, ◌≤◌, ◌+◌, ℕ, zero, suc, Bool, true, false, List, [], ◌∷◌, ◌++◌, append_assoc, append-nil, filter, length, take, drop, get_or, set, get_or-set_other, refl, sym, ap, ◌∙◌, arith}
 use Rattle.std.specs.List.{swap}
-use Rattle.std.proofs.Math.ListN.{length-set}
-use Rattle.std.proofs.lemmas.List.{take_more_set, take-set, drop_more, drop_all}
+use Rattle.std.proofs.lemmas.List.{take_more_set, drop_more, drop_all}
 use Rattle.std.proofs.lemmas.List.Edits.{swap_is, length-swap}
 
 -- the elements before `index` are looked at: of those from `at` on what is kept stands before `kept`, and the others are as they were

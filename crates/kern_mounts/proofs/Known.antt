@@ -1,5 +1,5 @@
 -- What the tree of places knows of a table: the places of its first entries.
-use Rattle.std.proofs.Common.{◌≡◌, ◌<◌, ◌≤◌, ◌+◌, ◌⊎◌, inl, inr, ℕ, zero, suc, Bool, true, false, List, [], ◌∷◌, ◌++◌, length, length-append, take, drop, get_or, get_or-take, length-take-le, Option, Some, None, refl, sym, ap, ◌∙◌, subst, arith}
+use Rattle.std.proofs.Common.{◌≡◌, ◌<◌, ◌≤◌, ◌+◌, inl, inr, ℕ, zero, suc, true, false, List, [], ◌∷◌, ◌++◌, length, length-append, take, get_or, get_or-take, length-take-le, Option, Some, None, refl, sym, ap, ◌∙◌, subst, arith}
 use Rattle.std.specs.List.{AllWithin}
 use Rattle.std.proofs.lemmas.Bool.{cases_lt}
 use Rattle.std.proofs.lemmas.List.{map-append, length-map, take-map, take_more, get_or-map}
@@ -9,7 +9,7 @@ use Rattle.place_tree.specs.Places.{IsLastAt, IsLastLeading}
 use Rattle.kern_mounts.specs.declared.step.MountStep.{MountStep}
 use Rattle.kern_mounts.specs.declared.step.Mount.{Mount}
 use Rattle.kern_mounts.specs.Mounts.{Mounts, steps_of}
-use Rattle.kern_mounts.specs.Table.{places_of, HasPlaces, Knows}
+use Rattle.kern_mounts.specs.Table.{places_of, Knows}
 use Rattle.kern_mounts.proofs.Mounts.{steps_append, steps_long, steps_take}
 
 -- no place from this number on leads to the path
@@ -81,7 +81,7 @@ knows_next mounts places after count mount knows lt e is =
           ∙ ap places_of (sym (take_more (steps_of mounts) count mount.step below));
     }
 
-take_twice : {X : Type 0} (xs : List X) (n m : ℕ) → n ≤ m → take n (take m xs) ≡ take n xs
+pub take_twice : {X : Type 0} (xs : List X) (n m : ℕ) → n ≤ m → take n (take m xs) ≡ take n xs
 take_twice xs zero m le = refl
 take_twice xs (suc n) zero le = absurd (omega arith)
 take_twice [] (suc n) (suc m) le = refl

@@ -9,6 +9,7 @@ pub mod Unmounting
 pub mod Writing
 pub mod Changing
 pub mod Binding
+pub mod Pushing
 pub mod Showing
 pub mod Alike
 pub mod Leaving

@@ -1,11 +1,11 @@
 -- Prefixes of paths, what lies behind them, and how long paths are.
-use Rattle.std.proofs.Common.{◌≡◌, ◌≤◌, ◌+◌, ℕ, Bool, true, false, List, [], ◌∷◌, ◌++◌, ◌⊎◌, inl, inr, length, refl, sym, ap, ◌∙◌, arith, length-append, cond, Some, None}
-use Rattle.std.specs.Prelude.{nat_lt, not}
+use Rattle.std.proofs.Common.{◌≡◌, ◌≤◌, ◌+◌, ℕ, Bool, true, false, List, [], ◌∷◌, ◌++◌, ◌⊎◌, inl, inr, length, refl, sym, ap, ◌∙◌, arith, length-append, append-nil}
+use Rattle.std.specs.Prelude.{nat_lt, not, ◌&&◌}
 use Rattle.std.proofs.lemmas.Bool.{and_parts, and_from, false≢true}
 use Rattle.abs_path.specs.Paths.{Path, tail_of}
-use Rattle.abs_path.specs.Prefix.{is_prefix, is_same, rest_of, rest_text, is_below as is_path_below}
+use Rattle.abs_path.specs.Prefix.{is_prefix, is_same, rest_of, is_below as is_path_below}
 use Rattle.abs_path.proofs.ByteOrder.{tail-append}
-use Rattle.abs_path.proofs.Prefixes.{part_itself, prefix_itself, prefix_and_rest, prefix-append, prefix_chain, prefix_trans, same_path}
+use Rattle.abs_path.proofs.Prefixes.{part_itself, prefix_itself, prefix_and_rest, prefix-append, prefix_chain, prefix_trans, same_path, same_itself}
 use Rattle.kern_mounts.specs.declared.step.MountStep.{MountStep}
 use Rattle.kern_mounts.specs.Split.{is_below}
 use Rattle.kern_mounts.specs.Bind.{is_long}
@@ -54,6 +54,14 @@ stands_below front rest place leads not_there = elim (prefix_chain place front (
         let there : is_prefix place front ≡ true = ap (is_prefix place) (same refl) ∙ prefix_itself place in
         absurd (false≢true (sym not_there ∙ there))
 
+-- what has nothing behind a path does not stand strictly below it
+pub none_behind : (front path : Path) → rest_of front path ≡ [] → is_path_below path front ≡ false
+none_behind front path none = by (is_prefix front path) refl
+  where
+    by : (b : Bool) → is_prefix front path ≡ b → (b && not (is_same front path)) ≡ false
+    by false e = refl
+    by true e = ap (λ (p : Path). not (is_same front p)) (sym (prefix_and_rest front path e) ∙ ap (λ more. front ++ more) none ∙ append-nil front) ∙ ap not (same_itself front)
+
 -- a path is too long by its parts with the slashes before them
 pub long_tail : (path : Path) → is_long path ≡ nat_lt 512 (length (tail_of path))
 long_tail [] = refl
@@ -63,20 +71,13 @@ long_tail (part ∷ path) = refl
 pub below_leads : (path : Path) (entry : MountStep) → is_below path entry ≡ true → is_prefix path entry.place ≡ true
 below_leads path entry h = (and_parts (is_prefix path entry.place) (not (is_same path entry.place)) h).0
 
--- the text of the rest behind a front that leads to the path
-pub rest_is : (front path : Path) (rest : List ℕ) → is_prefix front path ≡ true → Some rest ≡ rest_text front path → rest ≡ tail_of (rest_of front path)
-rest_is front path rest leads e = some_is (e ∙ ap (λ b. cond b (Some (tail_of (rest_of front path))) None) leads)
-  where
-    some_is : {a b : List ℕ} → Some a ≡ Some b → a ≡ b
-    some_is e = cc
-
 -- whether two paths joined are too long, by their lengths
-pub long_by_length : (onto front path : Path) (n : ℕ) (rest : List ℕ) → n ≡ length (tail_of onto) → rest ≡ tail_of (rest_of front path) → nat_lt 512 (n + length rest) ≡ is_long (onto ++ rest_of front path)
-long_by_length onto front path n rest e f =
+pub long_by_length : (onto more : Path) (n : ℕ) (rest : List ℕ) → n ≡ length (tail_of onto) → rest ≡ tail_of more → nat_lt 512 (n + length rest) ≡ is_long (onto ++ more)
+long_by_length onto more n rest e f =
     ap (λ k. nat_lt 512 (k + length rest)) e ∙ ap (λ t. nat_lt 512 (length (tail_of onto) + length t)) f
-    ∙ ap (nat_lt 512) (sym (length-append (tail_of onto) (tail_of (rest_of front path))))
-    ∙ ap (λ t. nat_lt 512 (length t)) (sym (tail-append onto (rest_of front path)))
-    ∙ sym (long_tail (onto ++ rest_of front path))
+    ∙ ap (nat_lt 512) (sym (length-append (tail_of onto) (tail_of more)))
+    ∙ ap (λ t. nat_lt 512 (length t)) (sym (tail-append onto more))
+    ∙ sym (long_tail (onto ++ more))
 
 not_less : (a b : ℕ) → nat_lt a b ≡ false → b ≤ a
 not_less a b h = grind arith

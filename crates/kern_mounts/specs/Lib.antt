@@ -17,5 +17,6 @@ pub mod MountsRemount
 pub mod MountsPush
 pub mod MountsBind
 pub mod Copying
+pub mod Pushed
 pub mod Backing
 pub mod Changes

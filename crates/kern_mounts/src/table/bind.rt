@@ -1,15 +1,16 @@
 //! mount(2) with MS_BIND and MS_REC: what a path shows, at another path too.
 
-ghost use Rattle.std.specs.Prelude.{◌≡◌, ◌&&◌, ◌+◌, ◌<◌, ◌++◌, ◌≤◌, ◌∷◌, [], true, false, not, length, drop, count_by, if◌then◌else◌, IfOk, MatchResult};
+ghost use Rattle.std.specs.Prelude.{◌≡◌, ◌&&◌, ◌+◌, ◌<◌, ◌++◌, ◌≤◌, [], true, false, not, length, take, drop, count_by, if◌then◌else◌, IfOk, IfSome, IsOk, Err, MatchOption, is_some};
 ghost use Rattle.std.specs.List.{list_any};
-ghost use Rattle.abs_path.specs.Prefix.{is_prefix, rest_of};
+ghost use Rattle.abs_path.specs.Paths.{parts_of};
+ghost use Rattle.abs_path.specs.Prefix.{is_prefix, rest_of, IsRest};
 ghost use Rattle.linux_numbers.specs.Limits.{mount_max};
 ghost use Rattle.kern_mounts.specs.Entry.{Belongs};
-ghost use Rattle.kern_mounts.specs.Answer.{Refuses, BecomesOrMemory};
-ghost use Rattle.kern_mounts.specs.Bind.{goes_too_far, moved, is_long, is_too_long, object_at, bound_entry, can_show, can_bind};
-ghost use Rattle.kern_mounts.specs.Split.{is_below};
+ghost use Rattle.kern_mounts.specs.Answer.{BecomesOrMemory};
+ghost use Rattle.kern_mounts.specs.Bind.{goes_too_far, is_long, object_at, bound_entry, can_show, can_bind};
 ghost use Rattle.kern_mounts.specs.Mounts.{steps_of, stands_below};
-ghost use Rattle.kern_mounts.specs.MountsBind.{moved_mount, copied_mounts, bound_mount, is_locked_below, mounts_after_bind};
+ghost use Rattle.kern_mounts.specs.MountsBind.{bound_mount, is_locked_below, mounts_after_bind};
+ghost use Rattle.kern_mounts.specs.Pushed.{HasBound, HasCopies};
 
 use super::{MountTable, later_than};
 use crate::error::MountError;
@@ -50,43 +51,127 @@ impl MountTable {
             (mounts_after_bind self.old source.now target.now recursive) }
     {
         let at = self.resolve(source);
-        let alloc = *self.mounts.allocator();
-        let more = added(alloc, &self.mounts, at, source, target, recursive)?;
-        self.grow(more)?;
+        add_bound(&mut self.mounts, at, source, target, recursive)?;
         self.learn();
         Ok(())
     }
 }
 
-// What a bind adds, or why it is refused; the source belongs to the mount of this number.
-fn added(
-    alloc: Global,
+// Adds what a bind adds behind the mounts, or says why it is refused, and then they stay; the source belongs to the mount of
+// this number. Where not all that may be copied has room it is counted first, so that a bind without room copies nothing.
+fn add_bound(
+    mounts: &mut Vec<Mount>,
+    at: usize,
+    source: &AbsPath,
+    target: &AbsPath,
+    recursive: bool,
+) -> Result<(), MountError>
+    requires belongs { Belongs (steps_of mounts.old.items) source.now at }
+    requires can_bind { can_bind (steps_of mounts.old.items) source.now ≡ true }
+    requires few { length mounts.old.items ≤ mount_max }
+    ensures by_the_rule { BecomesOrMemory mounts.old.items mounts.new.items result
+        (mounts_after_bind mounts.old.items source.now target.now recursive) }
+    ensures behind { mounts.new.items ≡ mounts.old.items ++ drop (length mounts.old.items) mounts.new.items }
+    ensures still_few { length mounts.new.items ≤ mount_max }
+{
+    if uncovers(mounts, at, source, recursive) {
+        return Err(MountError::Errno(EINVAL));
+    }
+    let before = mounts.len();
+    let end = if recursive { before } else { at + 1 };
+    if before + (end - at) > MOUNT_MAX {
+        if let Some(errno) = refusal(mounts, at, source, target, recursive) {
+            return Err(MountError::Errno(errno));
+        }
+    }
+    if let Ok(true) = push_bound(mounts, at, end, source, target) {
+        if mounts.len() <= MOUNT_MAX {
+            return Ok(());
+        }
+    }
+    mounts.truncate(before);
+    match refusal(mounts, at, source, target, recursive) {
+        Some(errno) => Err(MountError::Errno(errno)),
+        None => Err(MountError::Memory),
+    }
+}
+
+// The errno with which a bind is refused that uncovers nothing.
+fn refusal(
     mounts: &[Mount],
     at: usize,
     source: &AbsPath,
     target: &AbsPath,
     recursive: bool,
-) -> Result<Vec<Mount>, MountError>
+) -> Option<u32>
     requires belongs { Belongs (steps_of mounts.now) source.now at }
-    requires can_bind { can_bind (steps_of mounts.now) source.now ≡ true }
+    requires covered { (not recursive && list_any (is_locked_below source.now) (drop (at + 1) mounts.now)) ≡ false }
     requires few { length mounts.now ≤ mount_max }
-    ensures { MatchResult result
-        (λ more. mounts_after_bind mounts.now source.now target.now recursive ≡ Ok (mounts.now ++ more.items))
-        (λ error. Refuses error (mounts_after_bind mounts.now source.now target.now recursive)) }
+    ensures { MatchOption result
+        (IsOk (mounts_after_bind mounts.now source.now target.now recursive))
+        (λ errno. mounts_after_bind mounts.now source.now target.now recursive ≡ Err errno) }
 {
-    let mount = &mounts[at];
-    let later = copied_among(mounts, at, recursive);
-    if uncovers(mounts, at, source, recursive) {
-        return Err(MountError::Errno(EINVAL));
+    let Some(copies) = count_copies(copied_among(mounts, at, recursive), source, target) else {
+        return Some(ENAMETOOLONG);
+    };
+    if mounts.len() + (1 + copies) > MOUNT_MAX {
+        Some(ENOSPC)
+    } else {
+        None
     }
-    if any_too_long(later, source, target) {
-        return Err(MountError::Errno(ENAMETOOLONG));
+}
+
+// Adds the mount at the target, and copies of those behind the source's up to the end. False where one would have too long a
+// place; then, and where memory is wanting, some may be added.
+fn push_bound(
+    mounts: &mut Vec<Mount>,
+    at: usize,
+    end: usize,
+    source: &AbsPath,
+    target: &AbsPath,
+) -> Result<bool, AllocError>
+    requires belongs { Belongs (steps_of mounts.old.items) source.now at }
+    requires can_bind { can_bind (steps_of mounts.old.items) source.now ≡ true }
+    requires behind { at < end }
+    requires in_range { end ≤ length mounts.old.items }
+    ensures front_stays { take (length mounts.old.items) mounts.new.items ≡ mounts.old.items }
+    ensures pushed { IfOk result (λ all. all ≡ true → HasBound mounts.old.items mounts.new.items at
+        (drop (at + 1) (take end mounts.old.items)) source.now target.now) }
+{
+    let alloc = *mounts.allocator();
+    mounts.reserve(end - at)?;
+    let bound = bound_mount(alloc, &mounts[at], source, target)?;
+    mounts.push(bound)?;
+    push_copies(mounts, at + 1, end, source, target)
+}
+
+// Adds copies of those mounts of these numbers that stand strictly below the source. False where one would have too long a
+// place; then, and where memory is wanting, some may be added.
+fn push_copies(
+    mounts: &mut Vec<Mount>,
+    from: usize,
+    end: usize,
+    source: &AbsPath,
+    target: &AbsPath,
+) -> Result<bool, AllocError>
+    requires behind { from ≤ end }
+    requires in_range { end ≤ length mounts.old.items }
+    ensures front_stays { take (length mounts.old.items) mounts.new.items ≡ mounts.old.items }
+    ensures pushed { IfOk result (λ all. all ≡ true
+        → HasCopies mounts.old.items mounts.new.items (drop from (take end mounts.old.items)) source.now target.now) }
+{
+    let alloc = *mounts.allocator();
+    for index in from..end {
+        let other = &mounts[index];
+        if let Some(rest) = rest_below(other, source) {
+            if is_long(target, rest) {
+                return Ok(false);
+            }
+            let copy = moved_mount(alloc, other, rest, target)?;
+            mounts.push(copy)?;
+        }
     }
-    if mounts.len() + 1 + count_below(later, source) > MOUNT_MAX {
-        return Err(MountError::Errno(ENOSPC));
-    }
-    let more = bound(alloc, mount, later, source, target)?;
-    Ok(more)
+    Ok(true)
 }
 
 // Whether a bind that is not recursive would uncover what a locked mount, behind the one of this number, covers.
@@ -118,12 +203,12 @@ fn copied_among(mounts: &[Mount], at: usize, recursive: bool) -> &[Mount]
     }
 }
 
-// Whether what the path behind the front makes behind another path is too long for a path.
-fn is_long(onto: &AbsPath, front: &AbsPath, path: &AbsPath) -> bool
-    requires leads { is_prefix front.now path.now ≡ true }
-    ensures { result ≡ is_long (onto.now ++ rest_of front.now path.now) }
+// Whether a path is too long with a rest behind it.
+fn is_long(onto: &AbsPath, rest: &str) -> bool
+    requires is_rest { IsRest rest.now }
+    ensures { result ≡ is_long (onto.now ++ parts_of rest.now) }
 {
-    onto.tail_len() + front.rest(path).unwrap().len() > LONGEST
+    onto.tail_len() + rest.len() > LONGEST
 }
 
 // Whether what the entry shows at the source can be bound.
@@ -132,7 +217,7 @@ fn can_show(entry: &MountStep, source: &AbsPath) -> bool
     ensures { result ≡ can_show entry.now.what entry.now.place source.now }
 {
     match &entry.what {
-        What::Host(host) => !is_long(host, &entry.place, source),
+        What::Host(host) => !is_long(host, entry.place.rest(source).unwrap()),
         What::Empty => true,
         What::Hidden { .. } => false,
     }
@@ -156,45 +241,57 @@ fn object_at(alloc: Global, entry: &MountStep, source: &AbsPath) -> Result<What,
     }
 }
 
-// Whether the entry stands strictly below the source, and its copy's place would be too long.
-fn goes_too_far(entry: &MountStep, source: &AbsPath, target: &AbsPath) -> bool
-    ensures { result ≡ goes_too_far source.now target.now entry.now }
+// What the place of a mount strictly below the source has behind the source.
+fn rest_below<'a>(mount: &'a Mount, source: &AbsPath) -> Option<&'a str>
+    ensures below { is_some result ≡ stands_below source.now mount.now }
+    ensures behind { IfSome result (λ rest. parts_of rest.now ≡ rest_of source.now mount.now.step.place) }
+    ensures may_be_joined { IfSome result (λ rest. IsRest rest.now) }
 {
-    entry.place.is_below(source) && is_long(target, source, &entry.place)
+    let rest = source.rest(&mount.step.place)?;
+    if rest.is_empty() { None } else { Some(rest) }
 }
 
-// Whether a copy of one of these would have too long a place.
-fn any_too_long(later: &[Mount], source: &AbsPath, target: &AbsPath) -> bool
-    ensures { result ≡ list_any (λ mount. goes_too_far source.now target.now mount.step) later.now }
+// How many of these are copied, or None where a copy would have too long a place.
+fn count_copies(later: &[Mount], source: &AbsPath, target: &AbsPath) -> Option<usize>
+    ensures { MatchOption result
+        (list_any (λ mount. goes_too_far source.now target.now mount.step) later.now ≡ true)
+        (λ copies. (list_any (λ mount. goes_too_far source.now target.now mount.step) later.now ≡ false)
+        × (copies ≡ count_by (stands_below source.now) later.now)) }
 {
-    later
-        .iter()
-        .any(|mount| goes_too_far(&mount.step, source, target))
+    let mut copies = 0;
+    for mount in later {
+        if let Some(rest) = rest_below(mount, source) {
+            if is_long(target, rest) {
+                return None;
+            }
+            copies += 1;
+        }
+    }
+    Some(copies)
 }
 
-// How many of these are copied.
-fn count_below(later: &[Mount], source: &AbsPath) -> usize
-    ensures { result ≡ count_by (stands_below source.now) later.now }
+// The path with a rest behind it, where that is not too long: only memory may be wanting.
+fn joined(alloc: Global, path: &AbsPath, rest: &str) -> Result<AbsPath, AllocError>
+    requires is_rest { IsRest rest.now }
+    requires short { is_long (path.now ++ parts_of rest.now) ≡ false }
+    ensures { IfOk result (λ joined. joined ≡ path.now ++ parts_of rest.now) }
 {
-    later
-        .iter()
-        .filter(|mount| mount.step.place.is_below(source))
-        .count()
+    path.join(alloc, rest).or(Err(AllocError))
 }
 
-// The copy of an entry below the source.
+// The copy of an entry whose place has this rest behind the source.
 fn moved(
     alloc: Global,
     entry: &MountStep,
-    source: &AbsPath,
+    rest: &str,
     target: &AbsPath,
 ) -> Result<MountStep, AllocError>
-    requires below { is_below source.now entry.now ≡ true }
-    requires short { is_too_long (moved source.now target.now entry.now) ≡ false }
-    ensures { IfOk result (λ step. step ≡ moved source.now target.now entry.now) }
+    requires is_rest { IsRest rest.now }
+    requires short { is_long (target.now ++ parts_of rest.now) ≡ false }
+    ensures { IfOk result (λ step. step ≡ record entry.now { place = target.now ++ parts_of rest.now }) }
 {
     Ok(MountStep {
-        place: entry.place.moved(alloc, source, target)?,
+        place: joined(alloc, target, rest)?,
         what: entry.what.copy(alloc)?,
         flags: entry.flags,
     })
@@ -218,19 +315,20 @@ fn bound_entry(
     })
 }
 
-// The copy of a mount below the source.
+// The copy of a mount whose place has this rest behind the source.
 fn moved_mount(
     alloc: Global,
     mount: &Mount,
-    source: &AbsPath,
+    rest: &str,
     target: &AbsPath,
 ) -> Result<Mount, AllocError>
-    requires below { stands_below source.now mount.now ≡ true }
-    requires short { is_too_long (moved source.now target.now mount.now.step) ≡ false }
-    ensures { IfOk result (λ copy. copy ≡ moved_mount source.now target.now mount.now) }
+    requires is_rest { IsRest rest.now }
+    requires short { is_long (target.now ++ parts_of rest.now) ≡ false }
+    ensures { IfOk result (λ copy. copy
+        ≡ record mount.now { step = record mount.now.step { place = target.now ++ parts_of rest.now } }) }
 {
     Ok(Mount {
-        step: moved(alloc, &mount.step, source, target)?,
+        step: moved(alloc, &mount.step, rest, target)?,
         locked: mount.locked,
         kept: mount.kept,
     })
@@ -252,28 +350,4 @@ fn bound_mount(
         locked: false,
         kept: mount.kept,
     })
-}
-
-// What a bind adds: the mount at the target, and copies of these behind it.
-fn bound(
-    alloc: Global,
-    mount: &Mount,
-    later: &[Mount],
-    source: &AbsPath,
-    target: &AbsPath,
-) -> Result<Vec<Mount>, AllocError>
-    requires leads { is_prefix mount.now.step.place source.now ≡ true }
-    requires can_show { can_show mount.now.step.what mount.now.step.place source.now ≡ true }
-    requires short { list_any (λ mount. goes_too_far source.now target.now mount.step) later.now ≡ false }
-    ensures { IfOk result (λ more. more.items
-        ≡ bound_mount source.now target.now mount.now ∷ copied_mounts true source.now target.now later.now) }
-{
-    let mut more = Vec::new(alloc);
-    more.push(bound_mount(alloc, mount, source, target)?)?;
-    for other in later {
-        if other.step.place.is_below(source) {
-            more.push(moved_mount(alloc, other, source, target)?)?;
-        }
-    }
-    Ok(more)
 }
