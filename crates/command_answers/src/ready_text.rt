@@ -1,11 +1,11 @@
 // A text that is ready as a whole.
 use crate::ending::Ending;
-use crate::printing::put_piece;
+use crate::lines::put_lines;
 use crate::ready::Ready;
 use host_io::{Sink, SinkError};
 use std::alloc::Global;
 
-/// A text that is ready as a whole, and how a run ends behind it.
+/// A text of lines that is ready as a whole, and how a run ends behind it. It is printed line by line.
 #[derive(Drop)]
 pub struct ReadyText {
     /// The text.
@@ -26,6 +26,6 @@ impl Ready for ReadyText {
     }
 
     fn print<K: Sink>(&mut self, _alloc: Global, out: &mut K) -> Result<(), SinkError> {
-        put_piece(out, self.text.as_slice())
+        put_lines(out, self.text.as_slice())
     }
 }

@@ -7,7 +7,7 @@ ghost use Rattle.judge_command.specs.Lent.{IsServiceOf};
 
 use crate::asking::Asked;
 use crate::counting::denied_once;
-use crate::lines::put_lines;
+use command_answers::put_lines;
 use host_io::{Sink, SinkError};
 use judge::{Verdict, verdict};
 use open_calls::{Service, calls};

@@ -14,7 +14,6 @@ mod command;
 mod counting;
 mod folders;
 mod launching;
-mod lines;
 mod preparing;
 mod printing;
 mod reasons;

@@ -1,6 +1,6 @@
 use Rattle.std.proofs.Common.{◌≡◌, ℕ, List, ◌++◌, length}
 use Rattle.host_io.specs.Writing.{Grew}
-use Rattle.judge_command.proofs.lines.put_lines.Given as goal
+use Rattle.command_answers.proofs.lines.put_lines.Given as goal
 
 abbrev pub invariant-loop-line : goal.invariant-loop-line
 invariant-loop-line g l =

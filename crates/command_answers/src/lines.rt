@@ -1,8 +1,8 @@
-//! A text of lines, printed a line after the other.
+// A text of lines, printed a line after the other.
 ghost use Rattle.std.specs.Prelude.{◌≡◌, ◌<◌, ◌++◌, IfSome, length};
 ghost use Rattle.command_answers.specs.Printing.{HasWriteCause, TakesText};
 
-use command_answers::put_piece;
+use crate::printing::put_piece;
 use host_io::{Sink, SinkError};
 
 // The first line of a text, with its line feed, and what stands behind it.
@@ -15,7 +15,7 @@ fn first_line(text: &[u8]) -> Option<(&[u8], &[u8])>
 }
 
 /// Prints a text: each line with its line feed is one piece, and so is what stands behind the last one.
-pub(crate) fn put_lines<K: Sink>(out: &mut K, text: &[u8]) -> Result<(), SinkError>
+pub fn put_lines<K: Sink>(out: &mut K, text: &[u8]) -> Result<(), SinkError>
     ensures takes_the_text { TakesText (K.taken out.old) (K.taken out.new) text.now result }
     ensures fault_rose { HasWriteCause (K.faults out.old) (K.faults out.new) result }
 {

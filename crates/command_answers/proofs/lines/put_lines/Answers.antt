@@ -1,6 +1,6 @@
 use Rattle.std.proofs.Common.{◌++◌, ◌∙◌, Ok, Err, ap, append_assoc}
 use Rattle.command_answers.proofs.Texts.{text_as, text_at_error, text_cut, text_then}
-use Rattle.judge_command.proofs.lines.put_lines.Goals as goal
+use Rattle.command_answers.proofs.lines.put_lines.Goals as goal
 
 pub loop-line-preserved : goal.loop-line-preserved
 loop-line-preserved g c =
