@@ -7,8 +7,7 @@ use Rattle.site_table.specs.Table.{Site}
 use Rattle.text_forms.specs.Escaped.{escaped_word}
 use Rattle.kernel_calls.specs.declared.call.Call.{Call}
 use Rattle.question_types.specs.declared.question.Question.{Question}
-use Rattle.report_text.specs.Answers.{call_line}
-use Rattle.report_text.specs.Wording.{question_words}
+use Rattle.report_text.specs.Answers.{call_line, question_line}
 use Rattle.verdict_changes.specs.Changes.{Change, Closed, Hidden, Opened, Shown}
 use Rattle.effect_command.specs.declared.kinds.Kind.{Kind}
 use Rattle.effect_command.specs.declared.kinds.Kind.TheVariants as kind
@@ -16,10 +15,6 @@ use Rattle.effect_command.specs.declared.kinds.Kind.TheVariants as kind
 -- a refusal of the unit with the drop-in
 abbrev pub with_line : List ℕ → List ℕ
 with_line line = codes "with " ++ line
-
--- a question behind a word
-abbrev pub question_line : List ℕ → calls.Table → Site → Question → List ℕ
-question_line word table site question = word ++ (codes " " ++ (question_words table site question ++ 10 ∷ []))
 
 -- a folder behind a word
 abbrev pub folder_line : List ℕ → Path → List ℕ

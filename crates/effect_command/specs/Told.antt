@@ -2,7 +2,7 @@
 use Rattle.std.specs.Prelude.{ℕ, List, [], ◌∷◌, ◌++◌, codes, flat_map, map}
 use Rattle.abs_path.specs.Paths.{Path}
 use Rattle.call_table.specs.Table as calls
-use Rattle.report_text.specs.Answers.{call_line}
+use Rattle.report_text.specs.Answers.{call_line, question_line}
 use Rattle.site_table.specs.Table.{Site}
 use Rattle.verdict_changes.specs.declared.asking.VerdictChange.{VerdictChange}
 use Rattle.verdict_changes.specs.declared.asking.VerdictChange.TheVariants as verdict
@@ -14,7 +14,7 @@ use Rattle.question_types.specs.declared.question.Question.{Question}
 use Rattle.site_table.specs.declared.row.Row.{Row}
 use Rattle.verdict_changes.specs.ByRule.{question_change, row_change, changes_by}
 use Rattle.verdict_changes.specs.Changes.{Change}
-use Rattle.effect_command.specs.Lines.{change_lines, effect_text, folder_line, kind_of, question_line}
+use Rattle.effect_command.specs.Lines.{change_lines, effect_text, folder_line, kind_of}
 use Rattle.effect_command.specs.declared.kinds.Kind.{Kind}
 use Rattle.effect_command.specs.declared.kinds.Kind.TheVariants as kind
 

@@ -8,11 +8,10 @@ ghost use Rattle.kernel_laws.specs.Questions.{questions};
 ghost use Rattle.kernel_ways.specs.Laws.{IsServedWorld, IsShown};
 ghost use Rattle.ceilings.specs.Own.{IsCeilingOf};
 
-use crate::answer::Verdict;
 use crate::open::is_open;
 use ceilings::Ceiling;
 use launcher::Launched;
-use question_types::Question;
+use question_types::{Question, Verdict};
 
 /// The verdict on a question of the list, for a launched service and its own ceiling. It is denied where no process of any
 /// run of calls, in any order and of however many processes, ever does or has what is asked: over forks, programs that are

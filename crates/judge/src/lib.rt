@@ -7,7 +7,6 @@
 //! `verdict(&launched, &ceiling(alloc, &launched)?, &Question::MapWx)` is open where mmap(2) passes. It takes no memory.
 #![tactic(auto)]
 
-mod answer;
 mod blindness;
 mod ids;
 mod judging;
@@ -17,7 +16,7 @@ mod open;
 mod rows;
 mod two_sites;
 
-pub use answer::Verdict;
 pub use blindness::blind;
 pub use judging::verdict;
+pub use question_types::Verdict;
 pub use two_sites::alike;

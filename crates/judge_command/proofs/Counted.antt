@@ -8,8 +8,8 @@ use Rattle.chosen_calls.specs.Chosen.{calls_for}
 use Rattle.kernel_laws.specs.Bound.{is_open}
 use Rattle.kernel_laws.specs.Launched.{Launch}
 use Rattle.kernel_laws.specs.Questions.{questions}
-use Rattle.judge.specs.declared.answer.Verdict.{Verdict}
-use Rattle.judge.specs.declared.answer.Verdict.TheVariants as verdict
+use Rattle.question_types.specs.declared.verdict.Verdict.{Verdict}
+use Rattle.question_types.specs.declared.verdict.Verdict.TheVariants as verdict
 use Rattle.question_types.specs.declared.question.Question.{Question}
 use Rattle.judge_command.specs.Answers.{Denied, Open, is_denied}
 use Rattle.judge_command.specs.Report.{count_line}

@@ -11,9 +11,9 @@ use Rattle.std.specs.declared.alloc.Global.{Global}
 use Rattle.call_table.specs.Table.{Table}
 use Rattle.site_table.specs.Table.{Site}
 use Rattle.chosen_calls.specs.Chosen.{calls_for}
-use Rattle.judge.specs.declared.answer.Verdict.{Verdict}
+use Rattle.question_types.specs.declared.verdict.Verdict.{Verdict}
 use Rattle.kernel_laws.specs.Bound.{is_open}
-use Rattle.judge.specs.declared.answer.Verdict.TheVariants as verdict
+use Rattle.question_types.specs.declared.verdict.Verdict.TheVariants as verdict
 use Rattle.kernel_calls.specs.declared.call.Call.{Call}
 use Rattle.report_text.specs.Answers.{blind_line, call_line, open_lines, verdict_line}
 use Rattle.report_text.specs.Launches.{launched_line}

@@ -6,8 +6,8 @@ use Rattle.kernel_laws.specs.Bound.{is_open}
 use Rattle.kernel_laws.specs.Launched.{Launch, launch_of}
 use Rattle.kernel_laws.specs.Questions.{questions}
 use Rattle.kernel_ways.specs.Offers.{RunsProgram}
-use Rattle.judge.specs.declared.answer.Verdict.{Verdict}
-use Rattle.judge.specs.declared.answer.Verdict.TheVariants as verdict
+use Rattle.question_types.specs.declared.verdict.Verdict.{Verdict}
+use Rattle.question_types.specs.declared.verdict.Verdict.TheVariants as verdict
 use Rattle.question_types.specs.declared.question.Question.{Question}
 use Rattle.asked_service.specs.Asked.{IsBounded}
 use Rattle.report_text.specs.Answers.{blind_line}

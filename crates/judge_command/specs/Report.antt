@@ -5,7 +5,7 @@ use Rattle.call_table.specs.Table as calls
 use Rattle.site_table.specs.Table.{Site}
 use Rattle.dropin_merge.specs.declared.resolved.UnitFile.{UnitFile}
 use Rattle.unit_values.specs.declared.value.FileNote.{FileNote}
-use Rattle.judge.specs.declared.answer.Verdict.TheVariants as verdict
+use Rattle.question_types.specs.declared.verdict.Verdict.TheVariants as verdict
 use Rattle.report_text.specs.Answers.{blind_line, call_line, summary_line, verdict_line}
 use Rattle.report_text.specs.Launches.{launched_line}
 use Rattle.report_text.specs.Notes.{note_line, unit_line}

@@ -4,7 +4,7 @@ use Rattle.std.specs.Fmt.{decimal}
 use Rattle.std.specs.List.{All}
 use Rattle.call_table.specs.Table as calls
 use Rattle.dropin_merge.specs.declared.resolved.UnitFile.{UnitFile}
-use Rattle.effect_command.specs.Lines.{question_line}
+use Rattle.report_text.specs.Answers.{question_line}
 use Rattle.kernel_laws.specs.Questions.{questions}
 use Rattle.opening_lines.specs.declared.alone.Alone.{Alone}
 use Rattle.opening_lines.specs.declared.alone.Alone.TheVariants.{Opens, Needed}

@@ -1,15 +1,15 @@
 //! The lines of `why` and a unit alone.
 ghost use Rattle.std.specs.Prelude.{◌≡◌, ◌++◌, Contains, IfOk, OnOk, codes, count_by, flat_map};
 ghost use Rattle.std.specs.List.{All};
-ghost use Rattle.effect_command.specs.Lines.{question_line};
+ghost use Rattle.report_text.specs.Answers.{question_line};
 ghost use Rattle.kernel_laws.specs.Questions.{questions};
 ghost use Rattle.lines_command.specs.Lines.{IsListed, alone_words, counts_line, counts_text, is_idle, line_told, lines_text, opened_lines};
 
 use call_table::CallTable;
 use dropin_merge::{Resolved, UnitFile};
-use effect_command::question_line;
 use opening_lines::{Alone, LineAlone};
 use question_types::Question;
+use report_text::question_line;
 use site_table::SiteTable;
 use std::alloc::{AllocError, Global};
 use why_command::push_assignment;

@@ -7,8 +7,7 @@ ghost use Rattle.question_text.specs.Printed.{ArePrinted, IsPrinted};
 
 use crate::laws::one_reading;
 use call_table::CallTable;
-use judge::Verdict;
-use question_types::Question;
+use question_types::{Question, Verdict};
 use questions::questions;
 use report_text::verdict_line;
 use site_table::SiteTable;

@@ -7,10 +7,12 @@
 mod kind;
 mod power;
 mod question;
+mod verdict;
 mod wish;
 
 pub use filter_rules::NamespaceType;
 pub use kind::CallKind;
 pub use power::Power;
 pub use question::Question;
+pub use verdict::Verdict;
 pub use wish::Wish;

@@ -8,8 +8,8 @@ use Rattle.site_table.specs.Table.{Site}
 use Rattle.text_forms.specs.Escaped.{escaped_word}
 use Rattle.kernel_calls.specs.declared.call.Call.{Call}
 use Rattle.question_types.specs.declared.question.Question.{Question}
-use Rattle.judge.specs.declared.answer.Verdict.{Verdict}
-use Rattle.judge.specs.declared.answer.Verdict.TheVariants.{Denied, Open}
+use Rattle.question_types.specs.declared.verdict.Verdict.{Verdict}
+use Rattle.question_types.specs.declared.verdict.Verdict.TheVariants.{Denied, Open}
 use Rattle.script_text.specs.Printed.{call_text}
 use Rattle.report_text.specs.Wording.{question_words}
 
@@ -17,9 +17,13 @@ abbrev pub verdict_word : Verdict → List ℕ
 verdict_word Denied = codes "denied"
 verdict_word Open = codes "open"
 
--- a question, and what is found about it
+-- a question after a word
+abbrev pub question_line : List ℕ → calls.Table → Site → Question → List ℕ
+question_line word table site question = word ++ (codes " " ++ (question_words table site question ++ 10 ∷ []))
+
+-- a question after what is found about it
 abbrev pub verdict_line : calls.Table → Site → Question → Verdict → List ℕ
-verdict_line table site question verdict = verdict_word verdict ++ (codes " " ++ (question_words table site question ++ 10 ∷ []))
+verdict_line table site question verdict = question_line (verdict_word verdict) table site question
 
 -- a call of a list that shows an open question, as a script has it
 abbrev pub call_line : calls.Table → Call → List ℕ

@@ -8,7 +8,7 @@ use Rattle.command_answers.specs.declared.ending.Ending.TheVariants.{Done, Launc
 use Rattle.deciding_lines.specs.Deciding.{IsReason}
 use Rattle.deciding_lines.specs.Tried.{Tried}
 use Rattle.deciding_lines.specs.declared.reason.Reason.{Reason}
-use Rattle.judge.specs.declared.answer.Verdict.TheVariants as verdict
+use Rattle.question_types.specs.declared.verdict.Verdict.TheVariants as verdict
 use Rattle.judge_command.specs.Answers.{Denied, Open, IsTrueAnswer}
 use Rattle.judge_command.specs.Report.{answer_lines}
 use Rattle.kernel_calls.specs.declared.call.Call.{Call}

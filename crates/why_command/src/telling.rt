@@ -2,7 +2,7 @@
 ghost use Rattle.std.specs.Prelude.{◌≡◌, ◌++◌, Contains, IfOk};
 ghost use Rattle.deciding_lines.specs.Deciding.{IsReason};
 ghost use Rattle.kernel_laws.specs.Questions.{questions};
-ghost use Rattle.judge.specs.declared.answer.Verdict.TheVariants as verdict;
+ghost use Rattle.question_types.specs.declared.verdict.Verdict.TheVariants as verdict;
 ghost use Rattle.report_text.specs.Answers.{verdict_line};
 ghost use Rattle.why_command.specs.Lines.{reason_text};
 

@@ -1,6 +1,6 @@
 use Rattle.std.proofs.Common.{◌≡◌, ◌∙◌, subst}
 use Rattle.std.specs.Prelude.{IfOk}
-use Rattle.judge.specs.declared.answer.Verdict.TheVariants.{Denied}
+use Rattle.question_types.specs.declared.verdict.Verdict.TheVariants.{Denied}
 use Rattle.kernel_laws.specs.Bound.{is_open}
 use Rattle.judge_command.specs.Asked.{launch_in}
 use Rattle.judge_command.proofs.Lent.{chosen_for_it, is_served, lists_it, opens_it, runs_it}

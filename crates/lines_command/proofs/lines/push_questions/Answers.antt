@@ -1,7 +1,7 @@
 use Rattle.std.specs.Prelude.{codes}
 use Rattle.asked_service.proofs.Listed.{some_question}
-use Rattle.effect_command.proofs.Flattened.{told_more}
-use Rattle.effect_command.specs.Lines.{question_line}
+use Rattle.report_text.proofs.More.{told_more}
+use Rattle.report_text.specs.Answers.{question_line}
 use Rattle.lines_command.proofs.lines.push_questions.Goals as goal
 
 pub loop-question-preserved : goal.loop-question-preserved

@@ -1,6 +1,6 @@
 use Rattle.std.proofs.Common.{◌≡◌, ◌++◌, take}
 use Rattle.std.specs.Prelude.{codes, flat_map}
-use Rattle.effect_command.specs.Lines.{question_line}
+use Rattle.report_text.specs.Answers.{question_line}
 use Rattle.lines_command.proofs.lines.push_questions.Given as goal
 
 abbrev pub invariant-loop-question : goal.invariant-loop-question

@@ -1,7 +1,7 @@
 use Rattle.std.proofs.Common.{refl, subst, ◌≡◌, ◌++◌}
 use Rattle.std.specs.Prelude.{IfOk, flat_map}
 use Rattle.deciding_lines.specs.Tried.{tried_of}
-use Rattle.judge.specs.declared.answer.Verdict.TheVariants as verdict
+use Rattle.question_types.specs.declared.verdict.Verdict.TheVariants as verdict
 use Rattle.judge_command.specs.Answers.{Open}
 use Rattle.judge_command.specs.Report.{answer_lines}
 use Rattle.report_text.specs.Answers.{call_line, verdict_line}
