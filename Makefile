@@ -41,4 +41,5 @@ uninstall:
 
 # The quick tests, which need neither the kit nor a proved program; rt ci is the gate.
 test:
-	for test in command sites views docs; do tools/test-$$test || exit; done
+	for test in command sites views docs graph; do tools/test-$$test || exit; done
+	tools/graph
