@@ -1,6 +1,5 @@
 pub mod Adding
 pub mod AllCalls
-pub mod Among
 pub mod Answered
 pub mod Befores
 pub mod Bytes

@@ -30,7 +30,3 @@ not_joined front text end is = agrees front text end ∙ ap (λ found. option_ma
 pub with_abi : (test : List ℕ → Bool) (found : Option Abi) (name : List ℕ) → Some name ≡ option_map (λ abi. abi.name) found → option_map_or (λ (abi : Abi). test abi.name) found false ≡ test name
 with_abi test None name is = cc
 with_abi test (Some abi) name is = let same : name ≡ abi.name = cc in ap test (sym same)
-
-pub without_abi : (test : List ℕ → Bool) (found : Option Abi) → None ≡ option_map (λ (abi : Abi). abi.name) found → option_map_or (λ (abi : Abi). test abi.name) found false ≡ false
-without_abi test None is = refl
-without_abi test (Some abi) is = cc

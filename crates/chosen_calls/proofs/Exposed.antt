@@ -149,9 +149,6 @@ module _ (launch : Launch) (l : IsLaunched launch) (o : Offers launch) (creds : 
       )
 
   module _ (target : Row) (there : IsKnown launch.site target) (wish : Wish) where
-    abbrev path_at : Power → ℕ → Path
-    path_at power at = shown_at launch.table target.path at
-
     nowise_by : (x : Option ℕ) → reach Nowise launch.table target.path wish ≡ x → IsFirst (LeadsBy launch.table target.path wish) x → is_some x ≡ true → MarkedAt launch creds Nowise target wish
     nowise_by None e first s = cc
     nowise_by (Some at) e first s =

@@ -206,11 +206,6 @@ module _ (world : World) (launch : Launch) (l : IsLaunched launch) (o : Offers l
   mounting_is Unmounting e = cc
   mounting_is Mounting e = refl
 
-  mounting_if : (power : Power) → (not (is_mounting power) && true) ≡ false → power ≡ Mounting
-  mounting_if Nowise e = cc
-  mounting_if Unmounting e = cc
-  mounting_if Mounting e = refl
-
   pub parts : (wish : Wish) → can_reach launch (power_of launch) wish target ≡ true
       → (lets launch (ForPath wish) ≡ true) × (reaches (power_of launch) launch.table target.path wish ≡ true) × ((((is_to_exec wish && not (is_mounting (power_of launch))) && is_barred launch target) && not (can_make_user launch)) ≡ false)
   parts wish e =

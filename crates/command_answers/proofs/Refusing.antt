@@ -1,7 +1,7 @@
 -- The first of several refusals.
-use Rattle.std.proofs.Common.{◌≡◌, ℕ, Box, Global, List, [], ◌∷◌, ◌++◌, Option, None, Some, Result, Ok, Err, refl, sym, ap, ◌∙◌, arith}
-use Rattle.std.specs.Prelude.{IfOk, IsErrOf}
-use Rattle.command_answers.specs.Stops.{HasReadCause, IsAnswer, Prepares, RefusesNothing, first_refusal, refusal_in}
+use Rattle.std.proofs.Common.{◌≡◌, ℕ, List, [], ◌∷◌, ◌++◌, Option, None, Some, Result, Ok, Err, refl, ap, ◌∙◌, arith}
+use Rattle.std.specs.Prelude.{IsErrOf}
+use Rattle.command_answers.specs.Stops.{HasReadCause, IsAnswer, Prepares, first_refusal, refusal_in}
 use Rattle.command_answers.specs.declared.stop.Stop.{Stop}
 use Rattle.command_answers.specs.declared.stop.Stop.TheVariants.{Refused, ReadFault, Memory}
 
@@ -36,13 +36,6 @@ pub stops_before : {T U : Type 0} (P : T → Type 0) (Q : U → Type 0) (stop : 
 stops_before P Q (Refused line) some others is = before_others some others line.items is
 stops_before P Q ReadFault some others is = tt
 stops_before P Q Memory some others is = tt
-
--- a value that is kept behind a pointer
-pub boxed_answer : {V : Type 0} (wanted : Result V (List ℕ)) (value : V) (result : Result (Box V Global) Stop) → wanted ≡ Ok value → IfOk result (λ held. held.value ≡ value) → RefusesNothing result → IsAnswer (λ held. held.value) result wanted
-boxed_answer wanted value (Ok held) is holds refuses = is ∙ ap Ok (sym holds)
-boxed_answer wanted value (Err (Refused line)) is holds refuses = absurd refuses
-boxed_answer wanted value (Err ReadFault) is holds refuses = tt
-boxed_answer wanted value (Err Memory) is holds refuses = tt
 
 -- what reads nothing has no fault
 pub quiet : {T : Type 0} (before now : ℕ) (result : Result T Stop) → now ≡ before → (IsErrOf result ReadFault → ⊥) → HasReadCause before now result

@@ -8,7 +8,7 @@ use Rattle.std.proofs.lemmas.List.Concat.{flat_map-append}
 use Rattle.host_io.specs.Writing.{Grew, TakesWhole}
 use Rattle.host_io.specs.declared.writing.SinkError.{SinkError}
 use Rattle.host_io.proofs.Growth.{append_known-append, append_known-nil}
-use Rattle.command_answers.specs.Printing.{HasWriteCause, TakesText}
+use Rattle.command_answers.specs.Printing.{TakesText}
 
 grew_then : (a b c : Option (List ℕ)) (x y : List ℕ) → Grew a b x → Grew b c y → Grew a c (x ++ y)
 grew_then a b c x y f g = g ∙ ap (λ o. append_known o y) f ∙ append_known-append a x y
@@ -34,16 +34,9 @@ text_at_error a b x error (Err other) is takes = takes
 pub text_short : (a b : Option (List ℕ)) (x y : List ℕ) (error : SinkError) (put : Result (Unit {0}) SinkError) → IsErr put → TakesText a b x (Err error) → TakesText a b (x ++ y) put
 text_short a b x y error put is takes = text_at_error a b (x ++ y) error put is (text_cut a b x y error takes)
 
--- a count of faults that stayed where the first part was put
-pub cause_then : (before between now : ℕ) (put : Result (Unit {0}) SinkError) → between ≡ before → HasWriteCause between now put → HasWriteCause before now put
-cause_then before between now put same cause = subst (λ count. HasWriteCause count now put) same cause
-
 -- where nothing was put
 pub nothing_taken : (a : Option (List ℕ)) (x : List ℕ) (error : SinkError) → TakesText a a x (Err error)
 nothing_taken a x error = ([], x, refl, sym (append_known-nil a))
-
-pub nothing_grew : (a : Option (List ℕ)) → Grew a a []
-nothing_grew a = sym (append_known-nil a)
 
 -- a piece that was put
 pub piece_taken : (a b : Option (List ℕ)) (piece : List ℕ) (put : Result (Unit {0}) SinkError) → TakesWhole a b piece put → TakesText a b piece put

@@ -1,13 +1,12 @@
 -- What is ready, and the line of a refusal, are what the definitions admit.
-use Rattle.std.proofs.Common.{◌≡◌, ◌∙◌, ℕ, Option, Some, None, List, [], ◌∷◌, Result, Ok, Err, Vec, Global, refl, sym, ap, subst, inl, inr}
-use Rattle.std.specs.Prelude.{◌⊎◌, IfOk, IfSome, IsTrue, option_map}
-use Rattle.std.specs.declared.alloc.AllocError.{AllocError}
+use Rattle.std.proofs.Common.{◌≡◌, ◌∙◌, ℕ, Option, Some, None, List, ◌∷◌, Result, Ok, Err, refl, sym, ap, subst, inl, inr}
+use Rattle.std.specs.Prelude.{◌⊎◌, IfSome, IsTrue, option_map}
 use Rattle.host_io.specs.Files.{Files}
 use Rattle.call_table.specs.Table.{Table}
 use Rattle.kernel_calls.specs.declared.call.Call.{Call}
 use Rattle.command_answers.specs.Endings.{is_answer}
 use Rattle.command_answers.specs.Laws.{AcceptsFiles, GoTogether, IsAdmitted, laws_over}
-use Rattle.command_answers.specs.Stops.{IsAnswer, Prepares, first_refusal, stop_of}
+use Rattle.command_answers.specs.Stops.{IsAnswer, Prepares, first_refusal}
 use Rattle.command_answers.specs.declared.ending.Ending.{Ending}
 use Rattle.command_answers.specs.declared.ending.Ending.TheVariants.{Done, LaunchRefused}
 use Rattle.command_answers.specs.declared.stop.Stop.{Stop}
@@ -46,10 +45,6 @@ use Rattle.command_answers.specs.declared.ready_text.ReadyText.{ReadyText}
 use Rattle.derive_command.proofs.PlainInputs.{inputs_are_plain}
 
 -- ---- behind the script
--- the line of the first refusal stops
-pub stops_with : {T : Type 0} (P : T → Type 0) (refusals : List (Option (List ℕ))) (line : Result (Vec ℕ Global) AllocError) (text : List ℕ) → first_refusal refusals ≡ Some text → IfOk line (λ l. l.items ≡ text) → Prepares P refusals (Err (stop_of line))
-stops_with P refusals (Err none) text is said = tt
-stops_with P refusals (Ok line) text is said = is ∙ ap Some (sym said)
 
 module _ (unit path : List ℕ) (inputs : Inputs) (script : List Call) where
   abbrev pub opened_settings : Option SettingsError

@@ -1,33 +1,12 @@
 -- Lines of hex digits.
-use Rattle.std.proofs.Common.{◌≡◌, ℕ, zero, suc, ◌+◌, ◌-◌, ◌*◌, ◌/◌, ◌%◌, ◌^◌, ◌<◌, ◌≤◌, List, [], ◌∷◌, ◌++◌, length, get_or, take, map, Some, refl, sym, ap, ◌∙◌, subst, arith, append_assoc, length-append}
-use Rattle.std.specs.Prelude.{flat_map, slice_get, Bool, true, false}
+use Rattle.std.proofs.Common.{◌≡◌, ℕ, zero, suc, ◌+◌, ◌-◌, ◌*◌, ◌^◌, ◌<◌, List, [], ◌∷◌, ◌++◌, length, get_or, take, map, Some, refl, sym, ap, ◌∙◌, subst, arith, append_assoc, length-append}
+use Rattle.std.specs.Prelude.{flat_map, slice_get, true, false}
 use Rattle.std.specs.List.{All}
 use Rattle.std.proofs.lemmas.List.{take_more, take-map}
 use Rattle.std.proofs.lemmas.List.Elements.{All-push, All-nil}
-use Rattle.std.proofs.lemmas.Option.{slice_get-get_or}
-use Rattle.filter_lines.specs.Digits.{hex_byte, hex_digit}
+use Rattle.filter_lines.specs.Digits.{hex_byte}
 use Rattle.filter_lines.specs.Lines.{AreLines, IsFirstOther, IsLine}
 use Rattle.filter_lines.specs.Adding.{AddsLine}
-
-head_is : (x y : ℕ) (xs ys : List ℕ) → x ∷ xs ≡ y ∷ ys → x ≡ y
-head_is x y xs ys e = cc
-
-tail_is : (x y : ℕ) (xs ys : List ℕ) → x ∷ xs ≡ y ∷ ys → xs ≡ ys
-tail_is x y xs ys e = cc
-
--- a byte of which one digit is none
-pub no_high : (n high low : ℕ) → ((d : ℕ) → d < 16 → hex_digit d ≡ high → ⊥) → n < 2 ^ 8 → hex_byte n ≡ high ∷ low ∷ [] → ⊥
-no_high n high low none fits e = none (n / 16) (omega (arith, fits)) (head_is _ _ _ _ e)
-
-pub no_low : (n high low : ℕ) → ((d : ℕ) → d < 16 → hex_digit d ≡ low → ⊥) → hex_byte n ≡ high ∷ low ∷ [] → ⊥
-no_low n high low none e = none (n % 16) (omega arith) (head_is _ _ _ _ (tail_is _ _ _ _ e))
-
--- the byte of two digits
-pub byte_is : (a b high low : ℕ) → a < 16 → b < 16 → hex_digit a ≡ high → hex_digit b ≡ low → hex_byte (a * 16 + b) ≡ high ∷ low ∷ []
-byte_is a b high low small less e f =
-    let up : (a * 16 + b) / 16 ≡ a = omega (arith, less) in
-    let down : (a * 16 + b) % 16 ≡ b = omega (arith, less) in
-    ap (λ n. hex_digit n ∷ hex_digit ((a * 16 + b) % 16) ∷ []) up ∙ ap (λ n. hex_digit a ∷ hex_digit n ∷ []) down ∙ ap (λ n. n ∷ hex_digit b ∷ []) e ∙ ap (λ n. high ∷ n ∷ []) f
 
 -- two digits for each byte
 length_digits : (bytes : List ℕ) → length (flat_map hex_byte bytes) ≡ 2 * length bytes
@@ -136,18 +115,9 @@ first_other text lines i d code new lt are none = record {
   before = are;
 }
 
-take_whole : (xs : List (List ℕ)) (n : ℕ) → length xs ≤ n → take n xs ≡ xs
-take_whole [] zero le = refl
-take_whole [] (suc n) le = refl
-take_whole (x ∷ xs) zero le = absurd (omega (arith, le))
-take_whole (x ∷ xs) (suc n) le = ap (λ l. x ∷ l) (take_whole xs n (omega (arith, le)))
-
 length_map : {X : Type 0} (text : X → List ℕ) (lines : List X) → length (map text lines) ≡ length lines
 length_map text [] = refl
 length_map text (line ∷ lines) = ap suc (length_map text lines)
-
-pub lines_whole : {X : Type 0} (text : X → List ℕ) (lines : List X) (n : ℕ) (code : List ℕ) → length lines ≤ n → AreLines (take n (map text lines)) code → AreLines (map text lines) code
-lines_whole text lines n code le are = let l = length_map text lines in subst (λ some. AreLines some code) (take_whole (map text lines) n (omega (arith, le, l))) are
 
 -- without the last piece
 pub lines_cut : {X : Type 0} (text : X → List ℕ) (xs : List X) (pieces : List (List ℕ)) (n : ℕ) → n ≡ length xs → map text xs ≡ pieces → map text (take (n - 1) xs) ≡ take (length pieces - 1) pieces

@@ -1,13 +1,10 @@
 -- A program takes one path to one answer.
-use Rattle.std.proofs.Common.{◌≡◌, ℕ, ◌+◌, List, [], ◌∷◌, Some, refl}
+use Rattle.std.proofs.Common.{◌≡◌, ℕ, ◌+◌, List, [], ◌∷◌, refl}
 use Rattle.bpf_code.specs.declared.machine.Insn.{Insn}
 use Rattle.bpf_code.specs.declared.machine.CallData.{CallData}
 use Rattle.bpf_code.specs.declared.machine.Regs.{Regs}
 use Rattle.bpf_code.specs.Meaning as meaning
 use Rattle.filter_paths.specs.Traces.{Takes, ends, goes_on}
-
-same_some : (x y : Insn) → Some x ≡ Some y → x ≡ y
-same_some x y e = cc
 
 -- the path begins at the position
 abbrev pub first_position : ℕ → List ℕ → ℕ

@@ -7,9 +7,6 @@ use Rattle.bpf_code.specs.declared.machine.CallData.{CallData}
 use Rattle.bpf_code.specs.Effects.{words_of, halves}
 use Rattle.bpf_code.specs.Meaning.{IsCallData}
 
-AreSmall : List ℕ → Type 0
-AreSmall words = AllByRecursion (λ word. word < 2 ^ 32) words
-
 small_halves : (n : ℕ) → n < 2 ^ 64 → (n % 2 ^ 32 < 2 ^ 32) × (n / 2 ^ 32 < 2 ^ 32)
 small_halves n lt = (omega arith, omega (arith, lt))
 

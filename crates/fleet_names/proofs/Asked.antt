@@ -3,7 +3,7 @@ use Rattle.std.proofs.Common.{◌≡◌, ℕ, ◌+◌, ◌<◌, true, List, [], 
 use Rattle.std.specs.Prelude.{IfSome}
 use Rattle.host_io.specs.Calls.{ShelfCall, Whole, Cut, Went, NamesIn}
 use Rattle.host_io.specs.Files.{Files, names_in}
-use Rattle.host_io.proofs.Calling.{Going, going_ends, goes_on, stops_there, went_cut}
+use Rattle.host_io.proofs.Calling.{Going, goes_on, stops_there, went_cut}
 use Rattle.dropin_merge.specs.Asking.{folder_asks}
 use Rattle.dropin_merge.specs.Resolving.{is_overfull}
 use Rattle.dropin_merge.proofs.Reading.{told_from, told_to}
@@ -62,10 +62,3 @@ module _ {S : Type 0} (asks : S → ShelfCall → S → Type 0) (start told : Op
       (λ files known.
       stops_there asks (is_overfull files) NamesIn a b c (folder_asks files (map (λ (folder : Bor (List ℕ)). folder.now) folders)) (get_or folders i d).now (map (λ (folder : Bor (List ℕ)). folder.now) (drop (i + 1) folders))
       Cut (λ e. cc) (at_folder files known) (went_cut asks b c (NamesIn (get_or folders i d).now ∷ []) made))
-
--- all are listed
-pub folders_end : {S : Type 0} (asks : S → ShelfCall → S → Type 0) (start : Option Files) (a b : S) (left all : List (List ℕ)) → left ≡ [] → ((files : Files) → start ≡ Some files → Going asks a b (folder_asks files all) (folder_asks files left))
-    → IfSome start (λ files. Went asks a b (folder_asks files all) Whole)
-folders_end asks start a b left all none going =
-    told_to (λ files. Went asks a b (folder_asks files all) Whole) start
-    (λ files known. going_ends asks a b (folder_asks files all) (subst (λ own. Going asks a b (folder_asks files all) (folder_asks files own)) none (going files known)))

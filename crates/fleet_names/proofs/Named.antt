@@ -18,8 +18,7 @@ use Rattle.dropin_merge.proofs.Reading.{told_from, told_to}
 use Rattle.fleet_names.specs.Answers.{AreNamed}
 use Rattle.fleet_names.specs.Steps.{CollectsUnits}
 use Rattle.fleet_names.specs.Units.{are_too_many, units_of}
-use Rattle.fleet_names.specs.declared.errors.NamesError.{NamesError}
-use Rattle.fleet_names.specs.declared.errors.NamesError.TheVariants.{TooMany, ReadFault, Memory}
+use Rattle.fleet_names.specs.declared.errors.NamesError.TheVariants.{TooMany}
 use Rattle.fleet_names.proofs.Keyed.{given, keyed, lookup_given, lookup_keyed, same_from_lookups, sorted_given, sorted_keyed, values_given, values_keyed}
 
 above : (n : ℕ) → 1024 < n → nat_lt 1024 n ≡ true
@@ -73,12 +72,3 @@ module _ (told : Option Files) where
       (λ files known.
       let own = told_from (λ files. CollectsUnits files locations (Ok units)) told collected files known in
       (few files units ordered own h, given ∙ values_are files units ordered own))
-
-  pub refuses_folder : (error : NamesError) → IfSome told (λ files. CollectsUnits files locations (Err error)) → IfSome told (λ files. AreNamed files (Err error))
-  refuses_folder error collected =
-      told_to (λ files. AreNamed files (Err error)) told (λ files known. by_error files error (told_from (λ files. CollectsUnits files locations (Err error)) told collected files known))
-    where
-      by_error : (files : Files) (error : NamesError) → CollectsUnits files locations (Err error) → AreNamed files (Err error)
-      by_error files TooMany said = ap (λ b. b || nat_lt 1024 (length (units_of files))) said
-      by_error files ReadFault said = tt
-      by_error files Memory said = tt

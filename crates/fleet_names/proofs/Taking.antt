@@ -1,5 +1,5 @@
 -- The units that were taken, name by name and folder by folder.
-use Rattle.std.proofs.Common.{◌≡◌, ℕ, ◌+◌, ◌<◌, ◌≤◌, Bool, true, false, cond, List, [], ◌∷◌, length, drop, get_or, Option, Some, None, Ok, Err, map, Vec, String, Global, Bor, refl, sym, ap, ◌∙◌, subst, arith}
+use Rattle.std.proofs.Common.{◌≡◌, ℕ, ◌+◌, ◌<◌, ◌≤◌, Bool, true, false, cond, List, [], ◌∷◌, length, drop, get_or, Option, Some, None, Ok, map, Vec, String, Global, Bor, refl, sym, ap, ◌∙◌, subst, arith}
 use Rattle.std.specs.Prelude.{◌||◌, nat_lt, IfSome, flat_map, string_bytes}
 use Rattle.std.specs.Option.{option_or}
 use Rattle.std.specs.Str.{bytes_eq}
@@ -19,11 +19,8 @@ use Rattle.unit_names.specs.Names.{Name}
 use Rattle.dropin_merge.specs.Resolving.{is_overfull}
 use Rattle.dropin_merge.proofs.Left.{drop_read}
 use Rattle.dropin_merge.proofs.Listed.{both_ways}
-use Rattle.dropin_merge.proofs.Reading.{told_from, told_to}
-use Rattle.dropin_merge.proofs.Winning.{option_or-none}
-use Rattle.fleet_names.specs.Steps.{CollectsUnits, ListsFolder, unit_among, unit_called}
-use Rattle.fleet_names.specs.declared.errors.NamesError.{NamesError}
-use Rattle.fleet_names.specs.declared.errors.NamesError.TheVariants.{TooMany, ReadFault, Memory}
+use Rattle.dropin_merge.proofs.Reading.{told_from}
+use Rattle.fleet_names.specs.Steps.{ListsFolder, unit_among, unit_called}
 
 -- ---- a name
 turned : (one other : List ℕ) → bytes_eq one other ≡ bytes_eq other one
@@ -37,14 +34,6 @@ module _ (kept : Option Name) (name q : List ℕ) where
   called_here unit named true is =
       sym (ap (λ b. option_or (cond b (name_of q) None) kept) is ∙ ap (λ found. option_or found kept) (ap name_of ((bytes_eq-Decides q name).0 is) ∙ named))
   called_here unit named false is = sym (ap (λ b. option_or (cond b (name_of q) None) kept) is)
-
-  pub called_nowhere : name_of name ≡ None → (b : Bool) → bytes_eq q name ≡ b → kept ≡ option_or (unit_called name q) kept
-  called_nowhere none true is =
-      sym (ap (λ b. option_or (cond b (name_of q) None) kept) is ∙ ap (λ found. option_or found kept) (ap name_of ((bytes_eq-Decides q name).0 is) ∙ none))
-  called_nowhere none false is = sym (ap (λ b. option_or (cond b (name_of q) None) kept) is)
-
-pub no_unit : (units : BTreeMap (String Global) Name) (name : List ℕ) → name_of name ≡ None → (q : List ℕ) → get_by_text units q ≡ option_or (unit_called name q) (get_by_text units q)
-no_unit units name none q = called_nowhere (get_by_text units q) name q none (bytes_eq q name) refl
 
 pub unit_taken : (m n : BTreeMap (String Global) Name) (name : List ℕ) (key : String Global) (unit : Name) → string_bytes key ≡ name → name_of name ≡ Some unit → UpdatesBy string_cmp (string_cmp key) m n (Some unit)
     → (q : List ℕ) → get_by_text n q ≡ option_or (unit_called name q) (get_by_text m q)
@@ -96,12 +85,6 @@ pub record Collected (files : Files) (m : BTreeMap (String Global) Name) (left a
   pub units : (q : List ℕ) → option_or (unit_among (flat_map (names_in files) left) q) (get_by_text m q) ≡ unit_among (flat_map (names_in files) all) q
   pub overfull : list_any (is_overfull files) left ≡ list_any (is_overfull files) all
 
-pub collected_none : (files : Files) (m : BTreeMap (String Global) Name) (all : List (List ℕ)) → ((q : List ℕ) → get_by_text m q ≡ None) → Collected files m all all
-collected_none files m all none = record {
-  units = λ q. ap (option_or (unit_among (flat_map (names_in files) all) q)) (none q) ∙ option_or-none (unit_among (flat_map (names_in files) all) q);
-  overfull = refl;
-}
-
 pub collected_more : (files : Files) (m n : BTreeMap (String Global) Name) (folder : List ℕ) (left all : List (List ℕ)) (names : Vec (String Global) Global)
     → Collected files m (folder ∷ left) all
     → ListsFolder (names_in files folder) (Ok names)
@@ -116,17 +99,6 @@ collected_more files m n folder left all names before listed step = record {
       ∙ before.units q;
   overfull = ap (λ b. b || list_any (is_overfull files) left) (sym listed.1) ∙ before.overfull;
 }
-
-pub collected_all : (files : Files) (m : BTreeMap (String Global) Name) (left all : List (List ℕ)) → left ≡ [] → Collected files m left all → CollectsUnits files all (Ok m)
-collected_all files m left all none is = (
-  λ q. ap (λ own. option_or (unit_among (flat_map (names_in files) own) q) (get_by_text m q)) (sym none) ∙ is.units q,
-  sym is.overfull ∙ ap (list_any (is_overfull files)) none,
-)
-
-pub collected_stops : (files : Files) (m : BTreeMap (String Global) Name) (folder : List ℕ) (left all : List (List ℕ)) (error : NamesError) → Collected files m (folder ∷ left) all → ListsFolder (names_in files folder) (Err error) → CollectsUnits files all (Err error)
-collected_stops files m folder left all TooMany before said = sym before.overfull ∙ ap (λ b. b || list_any (is_overfull files) left) said
-collected_stops files m folder left all ReadFault before said = tt
-collected_stops files m folder left all Memory before said = tt
 
 -- a turn of the loop over folders
 pub texts_left : (folders : List (Bor (List ℕ))) (i : ℕ) (d : Bor (List ℕ)) → i < length folders → map (λ folder. folder.now) (drop i folders) ≡ (get_or folders i d).now ∷ map (λ folder. folder.now) (drop (i + 1) folders)
@@ -143,20 +115,3 @@ collected_turn files told m n folders i d names slice all known h sliced listed 
     (subst (λ left. Collected files m left all) (texts_left folders i d h) before)
     (told_from (λ files. ListsFolder (names_in files (get_or folders i d).now) (Ok names)) told listed files known)
     (λ q. step q ∙ ap (λ own. option_or (unit_among (map string_bytes own) q) (get_by_text m q)) sliced)
-
--- the loop stops at a folder that is refused
-pub collected_refused : (start told : Option Files) (m : BTreeMap (String Global) Name) (folders : List (Bor (List ℕ))) (i : ℕ) (d : Bor (List ℕ)) (error : NamesError)
-    → told ≡ start → i < length folders
-    → IfSome told (λ files. ListsFolder (names_in files (get_or folders i d).now) (Err error))
-    → ((files : Files) → start ≡ Some files → Collected files m (map (λ folder. folder.now) (drop i folders)) (map (λ folder. folder.now) folders))
-    → IfSome start (λ files. CollectsUnits files (map (λ folder. folder.now) folders) (Err error))
-collected_refused start told m folders i d error same h listed before =
-    told_to (λ files. CollectsUnits files (map (λ folder. folder.now) folders) (Err error)) start
-    (λ files known.
-    collected_stops files m (get_or folders i d).now (map (λ folder. folder.now) (drop (i + 1) folders)) (map (λ folder. folder.now) folders) error
-    (subst (λ left. Collected files m left (map (λ folder. folder.now) folders)) (texts_left folders i d h) (before files known))
-    (told_from (λ files. ListsFolder (names_in files (get_or folders i d).now) (Err error)) told listed files (same ∙ known)))
-
--- the loop is through
-pub collected_through : (start : Option Files) (m : BTreeMap (String Global) Name) (left all : List (List ℕ)) → left ≡ [] → ((files : Files) → start ≡ Some files → Collected files m left all) → IfSome start (λ files. CollectsUnits files all (Ok m))
-collected_through start m left all none is = told_to (λ files. CollectsUnits files all (Ok m)) start (λ files known. collected_all files m left all none (is files known))

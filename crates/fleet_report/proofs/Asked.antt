@@ -1,18 +1,13 @@
 -- The calls by which the units of a report are read.
-use Rattle.std.proofs.Common.{◌≡◌, ℕ, ◌+◌, ◌<◌, ◌≤◌, Bool, true, false, cond, arith, List, [], ◌++◌, drop, get_or, length, Option, Some, Result, Ok, Err, refl, sym, ◌∙◌, subst}
-use Rattle.std.specs.Prelude.{◌==◌, IfErr, IfSome, IsErrOf, nat_lt}
-use Rattle.std.specs.Result.{IsErrAnd}
-use Rattle.std.proofs.lemmas.Bool.Decides.{nat_tests}
-use Rattle.std.proofs.lemmas.List.{drop_all, drop_more}
-use Rattle.host_io.specs.Calls.{Ask, ShelfCall, Course, Whole, Cut, Went}
+use Rattle.std.proofs.Common.{◌≡◌, ℕ, ◌+◌, ◌<◌, List, ◌++◌, drop, get_or, length, Option, Some, Result, Ok, Err, refl, sym, ◌∙◌, subst}
+use Rattle.std.specs.Prelude.{IfErr, IfSome, IsErrOf}
+use Rattle.std.proofs.lemmas.List.{drop_more}
+use Rattle.host_io.specs.Calls.{Ask, ShelfCall, Whole, Cut, Went}
 use Rattle.host_io.specs.Files.{Files}
-use Rattle.host_io.proofs.Calling.{Going, all_told, going_ends, going_more, going_stops, told_cut, went_short}
+use Rattle.host_io.proofs.Calling.{Going, going_more, going_stops, told_cut, went_short}
 use Rattle.unit_names.specs.Names.{Name}
-use Rattle.dropin_merge.specs.Asking.{course as resolve_course}
-use Rattle.dropin_merge.specs.declared.errors.ResolveError.{ResolveError}
-use Rattle.dropin_merge.specs.declared.errors.ResolveError.TheVariants as resolving
 use Rattle.dropin_merge.proofs.Reading.{told_from, told_to}
-use Rattle.fleet_report.specs.Asking.{course, row_asks, rows_asks, unless_weightless}
+use Rattle.fleet_report.specs.Asking.{course, row_asks, rows_asks}
 use Rattle.fleet_report.specs.declared.errors.FleetError.{FleetError}
 use Rattle.fleet_report.specs.declared.errors.FleetError.TheVariants.{NoWeight, ReadFault, Memory}
 
@@ -22,24 +17,10 @@ course_as T U NoWeight = refl
 course_as T U ReadFault = refl
 course_as T U Memory = refl
 
--- a refusal that is neither a fault nor want of memory: all was read
-pub refused_whole : (T : Type 0) (refusal : ResolveError) → (refusal ≡ resolving.ReadFault → ⊥) → (refusal ≡ resolving.Memory → ⊥) → resolve_course {T = T} (Err refusal) ≡ Whole
-refused_whole T resolving.BadName read memory = refl
-refused_whole T resolving.NotFound read memory = refl
-refused_whole T resolving.Masked read memory = refl
-refused_whole T resolving.DropIns read memory = refl
-refused_whole T (resolving.TooLarge path) read memory = refl
-refused_whole T (resolving.Text path error) read memory = refl
-refused_whole T resolving.ReadFault read memory = absurd (read refl)
-refused_whole T resolving.Memory read memory = absurd (memory refl)
-
 no_whole : {T : Type 0} (error : FleetError) → (IsErrOf {T = T} (Err error) NoWeight → ⊥) → course {T = T} (Err error) ≡ Whole → ⊥
 no_whole NoWeight never whole = absurd (never refl)
 no_whole ReadFault never whole = cc
 no_whole Memory never whole = cc
-
-not_zero : (weight : ℕ) → nat_lt 0 weight ≡ true → (weight == 0) ≡ false
-not_zero weight e = grind (arith, nat_tests)
 
 module _ {S : Type 0} (asks : S → ShelfCall → S → Type 0) where
   module _ (told : Option Files) (a b : S) (wanted : Files → List Ask) where
@@ -48,21 +29,6 @@ module _ {S : Type 0} (asks : S → ShelfCall → S → Type 0) where
     only_memory (Ok value) only made = made
     only_memory {T} (Err error) only made =
         subst (λ e. IfSome told (λ files. Went asks a b (wanted files) (course {T = T} (Err e)))) (sym only) (told_cut asks told a b wanted made)
-
-    -- what stops is passed on
-    pub passed : (T : Type 0) {U : Type 0} (result : Result U FleetError) (error : FleetError) → IsErrAnd result (λ e. e ≡ error) → IfSome told (λ files. Went asks a b (wanted files) (course {T = T} (Err error)))
-        → IfSome told (λ files. Went asks a b (wanted files) (course result))
-    passed T (Ok value) error is made = absurd is
-    passed T {U} (Err own) error is made =
-        subst (λ e. IfSome told (λ files. Went asks a b (wanted files) (course {T = U} (Err e)))) (sym is)
-        (subst (λ how. IfSome told (λ files. Went asks a b (wanted files) how)) (course_as T U error) made)
-
-    pub refused_so : (T : Type 0) (refusal : ResolveError) → (refusal ≡ resolving.ReadFault → ⊥) → (refusal ≡ resolving.Memory → ⊥)
-        → IfSome told (λ files. Went asks a b (wanted files) (resolve_course {T = T} (Err refusal))) → IfSome told (λ files. Went asks a b (wanted files) Whole)
-    refused_so T refusal read memory made = subst (λ how. IfSome told (λ files. Went asks a b (wanted files) how)) (refused_whole T refusal read memory) made
-
-    pub resolved_so : {T : Type 0} (result end : Result T ResolveError) → result ≡ end → IfSome told (λ files. Went asks a b (wanted files) (resolve_course result)) → IfSome told (λ files. Went asks a b (wanted files) (resolve_course end))
-    resolved_so result end same made = subst (λ r. IfSome told (λ files. Went asks a b (wanted files) (resolve_course r))) same made
 
   -- the units that are left, behind those that are read
   abbrev pub GoesThrough : S → S → List Name → ℕ → Files → Type 0
@@ -97,20 +63,3 @@ module _ {S : Type 0} (asks : S → ShelfCall → S → Type 0) where
     row_cut made =
         told_to (λ files. Went asks a c (rows_asks files names) Cut) start
         (λ files known. (let own = row_more made files known in (own.front, rows_asks files (drop (i + 1) names), own.is, own.made)))
-
-  -- all are made
-  pub rows_end : (start : Option Files) (a b : S) (names : List Name) (i : ℕ) → length names ≤ i → ((files : Files) → start ≡ Some files → GoesThrough a b names i files) → IfSome start (λ files. Went asks a b (rows_asks files names) Whole)
-  rows_end start a b names i h going =
-      told_to (λ files. Went asks a b (rows_asks files names) Whole) start
-      (λ files known. going_ends asks a b (rows_asks files names) (subst (λ left. Going asks a b (rows_asks files names) (rows_asks files left)) (drop_all i names h) (going files known)))
-
-  -- a policy that weighs nothing
-  pub weightless : (told : Option Files) (a : S) (weight : ℕ) (wanted : Files → List Ask) → weight ≡ 0 → IfSome told (λ files. Went asks a a (unless_weightless weight (wanted files)) Whole)
-  weightless told a weight wanted none =
-      all_told (λ files. Went asks a a (unless_weightless weight (wanted files)) Whole) told (λ files. subst (λ w. Went asks a a (unless_weightless w (wanted files)) Whole) (sym none) refl)
-
-  -- and one that weighs something
-  pub weighed : (told : Option Files) (a b : S) (weight : ℕ) (answer : Bool) (wanted : Files → List Ask) (how : Course) → answer ≡ nat_lt 0 weight → answer ≡ true → IfSome told (λ files. Went asks a b (wanted files) how)
-      → IfSome told (λ files. Went asks a b (unless_weightless weight (wanted files)) how)
-  weighed told a b weight answer wanted how is some made =
-      subst (λ test. IfSome told (λ files. Went asks a b (cond test [] (wanted files)) how)) (sym (not_zero weight (sym is ∙ some))) made

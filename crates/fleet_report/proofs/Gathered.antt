@@ -1,8 +1,8 @@
 -- Rows that are gathered, and put in order.
-use Rattle.std.proofs.Common.{◌≡◌, ◌∙◌, ℕ, ◌+◌, ◌<◌, ◌≤◌, List, [], ◌∷◌, ◌++◌, length, take, get_or, map, Option, Some, None, refl, sym, ap, subst}
+use Rattle.std.proofs.Common.{◌≡◌, ◌∙◌, ℕ, ◌+◌, ◌<◌, List, [], ◌∷◌, ◌++◌, length, take, get_or, map, Option, Some, None, refl, sym, ap, subst}
 use Rattle.std.specs.Prelude.{IfSome, IsPermutation}
 use Rattle.std.specs.List.{All}
-use Rattle.std.proofs.lemmas.List.{take_all, take_more}
+use Rattle.std.proofs.lemmas.List.{take_more}
 use Rattle.std.proofs.lemmas.List.Elements.{All-push}
 use Rattle.std.proofs.lemmas.List.Sorted.{All-permutation, IsPermutation-map}
 use Rattle.host_io.specs.Files.{Files}
@@ -19,9 +19,6 @@ names_more rows row names i name d h is same before =
     named : (own : List FleetRow) → map (λ row. row.name) (own ++ row ∷ []) ≡ map (λ row. row.name) own ++ row.name ∷ []
     named [] = refl
     named (first ∷ own) = ap (λ rest. first.name ∷ rest) (named own)
-
-pub names_all : (rows : List FleetRow) (names : List Name) (i : ℕ) → length names ≤ i → map (λ row. row.name) rows ≡ take i names → map (λ row. row.name) rows ≡ names
-names_all rows names i h before = before ∙ take_all i names h
 
 -- what holds of each row by the files
 module _ (P : Files → FleetRow → Type 0) (start : Option Files) where

@@ -2,7 +2,6 @@
 use Rattle.std.proofs.Common.{◌≡◌, ◌∙◌, ℕ, Option, Some, None, List, Ok, Err, subst}
 use Rattle.std.specs.Prelude.{IfSome}
 use Rattle.host_io.specs.Files.{Files}
-use Rattle.kern_mounts.specs.Launch.{CanBeMounted}
 use Rattle.kern_mounts.specs.declared.step.MountStep.{MountStep}
 use Rattle.mount_plan.specs.Host.{host_of}
 use Rattle.exec_settings.specs.Mounts.{unit_mentions}
@@ -17,7 +16,7 @@ use Rattle.unit_inputs.specs.declared.settling.SettledUnit.{SettledUnit}
 use Rattle.plan_command.specs.Planned.{IsPlan, path_refusals}
 use Rattle.plan_command.specs.Prints.{plan_refusals}
 use Rattle.plan_command.proofs.Prepared.{at_paths, refused_as, refused_before}
-use Rattle.judge_command.specs.Prepared.{CanBeStarted, IsPrepared}
+use Rattle.judge_command.specs.Prepared.{IsPrepared}
 
 -- what stopped is told alike, whatever was wanted
 as_any : {T U : Type 0} (P : T → Type 0) (Q : U → Type 0) (refusals : List (Option (List ℕ))) (why : Stop) → Prepares P refusals (Err why) → Prepares Q refusals (Err why)
@@ -60,10 +59,3 @@ module _ (told : Option Files) (unit : List ℕ) where
           plan = subst (λ these. IsPlan (host_of (inputs_view one.inputs).site) these table) same (subst (λ place. IsPlan (host_of place) mentions table) lies planned.1);
         },
       )
-
--- what is prepared can be started
-pub can_start : (one : SettledUnit) (mentions : List Mention) (site : Site) (table : List MountStep) → AreSettled (inputs_view one.inputs) one.settings.value → site ≡ (inputs_view one.inputs).site → IsPlan (host_of site) mentions table → CanBeStarted (record { unit = one; plan = table })
-can_start one mentions site table settled lies is = record {
-  settled = settled;
-  plan = subst (λ place. CanBeMounted (host_of place) table) lies is.can_be_mounted;
-}

@@ -31,9 +31,6 @@ none_leads (entry ∷ rest) h = (by entry.place h.0, none_leads rest h.1)
     by [] e = cc
     by (part ∷ place) e = refl
 
-abbrev answer : Table → Result Table ℕ
-answer table = Ok table
-
 module _ (rows : Path → Option Row) (first : MountStep) (rest : Table) (folder : Path) (root : Row) (at : first.place ≡ []) (host : first.what ≡ Host []) (low : AllByRecursion (λ (entry : MountStep). is_root entry.place ≡ false) rest)
     (there : rows [] ≡ Some root) (dir : is_dir root.kind ≡ true) (target : target_kind rows (first ∷ rest) proc ≡ Ok true) (few : length (first ∷ rest) < 4096) where
   abbrev table : Table

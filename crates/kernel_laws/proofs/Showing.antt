@@ -54,9 +54,6 @@ pub shown_more : (shows others : Shows) → ((host : Path) (flags : Flags) → s
 shown_more shows others more [] h = tt
 shown_more shows others more (step ∷ later) h = ((λ source rest host clear. more (source ++ rest) step.flags (h.0 source rest host clear)), shown_more shows others more later h.1)
 
-not_any : (a : Bool) → a ≡ false → not a ≡ true
-not_any a e = ap not e
-
 or_clear : (uncover a : Bool) → a ≡ false → (uncover || not a) ≡ true
 or_clear true a e = refl
 or_clear false a e = ap not e

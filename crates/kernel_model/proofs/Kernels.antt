@@ -6,7 +6,7 @@ use Rattle.bpf_code.specs.declared.machine.Insn.{Insn}
 use Rattle.bpf_code.specs.ProgramOf.{program_of}
 use Rattle.bpf_code.specs.Stack.{room_of}
 use Rattle.cap_sets.specs.Sets.{has}
-use Rattle.linux_numbers.specs.Errnos.{eperm, eacces, einval, enospc, enomem}
+use Rattle.linux_numbers.specs.Errnos.{eperm, eacces, einval, enomem}
 use Rattle.linux_numbers.specs.Capabilities.{cap_sys_admin, cap_last_cap}
 use Rattle.linux_numbers.specs.Limits.{max_insns_per_path, no_id}
 use Rattle.kern_files.specs.Bits.{has_some}
@@ -317,10 +317,6 @@ kernel_copy world namespace user k room h =
 moved_space : (world : World) (namespace user : ℕ) (process : Process) → HasSpace (length (with_copy world namespace user).tables) (moved_to process (length world.tables))
 moved_space world namespace user process =
     subst (λ (n : ℕ). HasSpace n (moved_to process (length world.tables))) (sym (length-push world.tables (copied (not (owner_of world namespace == user)) (mounts_of world namespace)))) (new_space (length world.tables) process)
-
--- one user namespace more
-kernel_user : (world : World) → Kernel world → Kernel (with_user world)
-kernel_user world k = k
 
 kernel_effect : (world : World) (pid : ℕ) (process : Process) (effect : Effect) (out : Reply × World) → Kernel world → HasSpace (length world.tables) process → IsRooted (mounts_of world process.namespace) → MakesRooted effect
     → EffectCase world pid process effect out → Kernel out.1

@@ -35,10 +35,6 @@ use Rattle.kernel_model.proofs.Lists.{each-append, each-front, each-back, each-f
 abbrev Lower : MountStep → Type 0
 Lower entry = is_root entry.place ≡ false
 
--- a table whose first entry is at the root, if it has one
-first_is : (first : MountStep) (table : Table) → AreRooted (first ∷ table) → first.place ≡ []
-first_is first table h = h.0
-
 pub rooted_push : (table more : Table) → AreRooted table → AllByRecursion Lower more → AreRooted (table ++ more)
 rooted_push [] more h low = absurd h
 rooted_push (first ∷ table) more h low = (h.0, each-append Lower table more h.1 low)

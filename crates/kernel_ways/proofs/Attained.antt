@@ -328,12 +328,6 @@ module _ (launch : Launch) (l : IsLaunched launch) (o : Offers launch) where
         by (inl h) = nowise_before false number h
         by (inr h) = root_part launch.table number (caps_before launch Nowise) (nowise_before false 7) h
 
-    caps_free : (power : Power) → caps_at launch power ≡ with_root launch (lets launch TakesUid) (caps_before launch power)
-    caps_free power = ap (λ n. cond n launch.creds.effective (with_root launch (lets launch TakesUid) (caps_before launch power))) free
-
-    pub nowise_caps : (number : ℕ) → has (caps_at launch Nowise) number ≡ true → Gained false launch.creds launch.table launch.table number
-    nowise_caps number h = nowise number (ap (λ s. has s number) (sym (caps_free Nowise)) ∙ h)
-
     -- and with CAP_SYS_ADMIN at hand
     module _ (admin : Gained false launch.creds launch.table launch.table 21) (power : Power) (same : power_of launch ≡ power) where
       powered_before : (number : ℕ) → has (caps_before launch power) number ≡ true → (end : Table) × Gained false launch.creds launch.table end number

@@ -17,10 +17,10 @@ use Rattle.kernel_laws.specs.Denied.{HasGid}
 use Rattle.kernel_calls.specs.Doing as d
 use Rattle.kernel_calls.specs.Doing.{Doing}
 use Rattle.kernel_model.specs.Effects as f
-use Rattle.kernel_model.specs.Effects.{Effect, SetCreds, SetTable, effect_of, creds_effect, table_effect}
+use Rattle.kernel_model.specs.Effects.{SetCreds, SetTable, creds_effect, table_effect}
 use Rattle.question_types.specs.declared.kind.CallKind.TheVariants as k
 use Rattle.kernel_laws.specs.Kinds.{AreWords, no_words, asks}
-use Rattle.kernel_laws.specs.Launched.{Launch, passes}
+use Rattle.kernel_laws.specs.Launched.{Launch}
 use Rattle.kern_files.specs.MountCall.{after_mount}
 use Rattle.kern_mounts.specs.Answer.{plain_answer}
 use Rattle.kern_mounts.specs.Mounts.{plain}
@@ -29,7 +29,6 @@ use Rattle.kern_mounts.specs.Umount.{after_umount}
 use Rattle.kernel_calls.specs.declared.rule.Rule.TheVariants as rule
 use Rattle.call_names.specs.declared.rule.CallRule.TheVariants as known
 use Rattle.kernel_calls.specs.declared.rule.Rule.{Rule}
-use Rattle.kernel_calls.specs.Rules.{rule_at}
 use Rattle.kernel_ways.specs.Offers.{Offers, is_unlooked}
 use Rattle.kernel_ways.specs.Taking.{id_call, sets_call}
 use Rattle.kernel_ways.specs.Ways.{place_of, Makes, CallAt, IsCallAt, rule_there, passes_at}
@@ -65,10 +64,6 @@ module _ (launch : Launch) (o : Offers launch) (creds : Creds) (table : Table) w
   other nr own args n w at u t = o.alike nr own no_words args n zeros w at u t
 
   module _ (admin : has creds.effective 21 ≡ true) where
-    abbrev flag_of : Bool → ℕ
-    flag_of true = 2
-    flag_of false = 0
-
     umount_by : {own : Rule} {args : List ℕ} → (nr : CallAt) → IsCallAt nr → rule_there launch nr ≡ Some own → passes_at launch nr args → choices.Choice k.RemovesMounts own args
         → (path : Path) → IsPath path → (detach : Bool) (now : Table) → after_umount table path detach ≡ Ok now → TableCall now
     umount_by nr n at t choices.unmounts path fit true now e =

@@ -168,9 +168,6 @@ module _ (table : calls.Table) (site : Site) (calls' : HasLaunchCalls table.call
 
   -- ---- from the first capset to the last
   module _ (plan : Table) (uid amb : ℕ) (small : uid < no_id) where
-    stack0 : List (List Insn)
-    stack0 = []
-
     low : uid % 2 ^ 32 ≡ uid
     low = omega arith
 

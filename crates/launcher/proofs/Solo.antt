@@ -19,9 +19,9 @@ use Rattle.kernel_calls.specs.Rules.{rule_at}
 use Rattle.kernel_calls.specs.declared.rule.Rule.TheVariants as rule
 use Rattle.call_names.specs.declared.rule.CallRule.TheVariants as known
 use Rattle.kernel_calls.specs.Doing as d
-use Rattle.kernel_calls.specs.Doing.{Doing, Asked, doing_by, asked_by, asked_if, asked_of}
+use Rattle.kernel_calls.specs.Doing.{Doing, doing_by, asked_by, asked_if, asked_of}
 use Rattle.kernel_model.specs.Effects as f
-use Rattle.kernel_model.specs.Effects.{Effect, Host, Caller, effect_of, creds_effect, push_effect, seccomp_effect}
+use Rattle.kernel_model.specs.Effects.{Effect, Host, effect_of, creds_effect, push_effect, seccomp_effect}
 use Rattle.launcher.specs.Launch.{LaunchStep, Mounts, number_of, first_call, makes, launch_step, new_mounts}
 use Rattle.kernel_model.specs.MountStep.{with_step}
 use Rattle.kern_mounts.specs.Mounts.{Mounts as MountList, plain, steps_of}
@@ -111,9 +111,6 @@ module _ (table : calls.Table) (site : Site) where
   let_through world call process decision.Pass done = refl
   let_through world call process (decision.Errno errno) done = absurd done
   let_through world call process decision.Kill done = absurd done
-
-  abbrev W : Creds → List (List Insn) → ℕ → List MountList → World
-  W = solo
 
   module _ (creds : Creds) (stack : List (List Insn)) (namespace : ℕ) (tables : List MountList) where
     abbrev world : World

@@ -1,5 +1,5 @@
 -- The calls for a thing that is listed are those that are chosen for it.
-use Rattle.std.proofs.Common.{◌≡◌, ℕ, true, List, [], ◌∷◌, ◌++◌, Some, None, ap, ◌∙◌, sym, append_assoc}
+use Rattle.std.proofs.Common.{◌≡◌, ℕ, true, [], Some, ap, ◌∙◌, sym}
 use Rattle.std.specs.Prelude.{slice_get, Contains}
 use Rattle.std.specs.List.{list_any}
 use Rattle.std.specs.Option.{option_map_or}
@@ -9,7 +9,7 @@ use Rattle.call_table.specs.Table.{every_call}
 use Rattle.call_table.specs.declared.listed.CallLine.{CallLine}
 use Rattle.site_table.specs.declared.row.Row.{Row}
 use Rattle.kernel_calls.specs.declared.call.Call.{Call}
-use Rattle.kernel_laws.specs.Bound.{can_have_for, can_reach, ceiling, if_listed, is_call_open, is_open, power_of}
+use Rattle.kernel_laws.specs.Bound.{can_have_for, ceiling, if_listed, is_call_open, is_open}
 use Rattle.kernel_calls.specs.Rules.{rule_of}
 use Rattle.kernel_laws.specs.Launched.{Launch}
 use Rattle.question_types.specs.declared.wish.Wish.{Wish}
@@ -27,19 +27,8 @@ module _ (launch : Launch) (program : Path) (place : ℕ) where
   unfolding calls_for
   row_is wish row e = sym (ap (λ o. option_map_or (row_calls launch program wish) o []) e)
 
-  -- what is open is listed
-  pub open_row : (wish : Wish) (row : Row) → slice_get launch.site.rows place ≡ Some row → is_open launch (asking.Path wish place) ≡ true → can_reach launch (power_of launch) wish row ≡ true
-  open_row wish row e h = sym (ap (if_listed (can_reach launch (power_of launch) wish)) e) ∙ h
-
   pub open_call : (line : CallLine) → slice_get (every_call launch.calls) place ≡ Some line → is_open launch (asking.Call place) ≡ true → list_any (is_called launch line.name) (every_call launch.calls) ≡ true
   open_call line e h = (and_parts (list_any (is_called launch line.name) (every_call launch.calls)) (can_have_for (ceiling launch) (rule_of line)) (sym (ap (if_listed (is_call_open launch (ceiling launch))) e) ∙ h)).0
-
-  pub no_row : (wish : Wish) → slice_get launch.site.rows place ≡ None → is_open launch (asking.Path wish place) ≡ true → ⊥
-  no_row wish e h = let never = sym (ap (if_listed (can_reach launch (power_of launch) wish)) e) ∙ h in cc
-
--- one call behind others
-pub one_behind : (front more : List Call) (call : Call) (now : List Call) → now ≡ front ++ more → now ++ call ∷ [] ≡ front ++ (more ++ call ∷ [])
-one_behind front more call now e = ap (λ (calls : List Call). calls ++ call ∷ []) e ∙ append_assoc front more (call ∷ [])
 
 -- each question of the list is put to what it is about
 pub fit : (world : World) → IsServedWorld world → (one : Question) → Contains (questions world.calls world.site) one → IsFit world.site one

@@ -16,7 +16,7 @@ use Rattle.abs_path.proofs.Prefixes.{same_path, same_itself}
 use Rattle.place_tree.specs.declared.node.Node.{Node}
 use Rattle.place_tree.specs.Places.{last_at}
 use Rattle.place_tree.specs.Arena.{walk, child_at, number_at, node_at, kept_at, IsArena, IsNumbered, IsTree, Grows, HasSameWays, HasNodes}
-use Rattle.place_tree.proofs.Ways.{through, walk-append, walk_same, OneMore, way_was, stays, came, apart_still}
+use Rattle.place_tree.proofs.Ways.{walk-append, walk_same, OneMore, way_was, stays, came, apart_still}
 use Rattle.place_tree.proofs.Lasts.{has_last, last_push}
 
 written_same : {X : Type 0} (xs : List X) (i : ℕ) (y : X) → i < length xs → slice_get (set xs i y) i ≡ Some y
@@ -350,15 +350,6 @@ placed_tree nodes node next at places place h =
 
 pub grown_tree : (old new : List Node) (places : List Path) → IsTree old places → Grows old new → IsTree new places
 grown_tree old new places h g = record { arena = g.arena; numbers = λ path. g.numbers_stay path ∙ h.numbers path }
-
-pub node_in_range : (nodes : List Node) → IsArena nodes → (path : Path) (at : ℕ) → node_at nodes path ≡ Some at → at < length nodes
-node_in_range nodes h path at e = by 0 path h.has_root e
-  where
-    by : (from : ℕ) (path : Path) → from < length nodes → walk (child_at nodes) from path ≡ Some at → at < length nodes
-    by from [] lt e = let same : from ≡ at = cc in omega arith
-    by from (part ∷ path) lt e =
-        let there = through (child_at nodes from part) (λ child. walk (child_at nodes) child path) at e in
-        by there.0 path (h.in_range from there.0 part there.1) there.2
 
 -- one turn of numbering: where a place has its node the number is written there, and each place has one
 pub numbered_turn : (nodes : List Node) (node next : Node) (at index : ℕ) (places : List Path) (place : Path) → IsTree nodes (take index places) → HasNodes nodes places → index < length places → place ≡ get_or places index place →

@@ -1,5 +1,5 @@
 -- On the way down a tree: the node of a front of the path, the rest of its text, and what was found so far.
-use Rattle.std.proofs.Common.{◌≡◌, inl, inr, ℕ, Bool, true, false, List, [], ◌∷◌, ◌++◌, get_or, Option, Some, None, refl, sym, ap, ◌∙◌, subst, append_assoc, append-nil}
+use Rattle.std.proofs.Common.{◌≡◌, inl, inr, ℕ, Bool, true, false, List, [], ◌∷◌, ◌++◌, get_or, Option, Some, None, refl, sym, ap, ◌∙◌, subst, append_assoc}
 use Rattle.std.specs.Prelude.{◌||◌, option_and_then}
 use Rattle.std.specs.Option.{IsSome}
 use Rattle.std.proofs.lemmas.Bool.{false≢true}
@@ -37,12 +37,6 @@ on_step nodes path at child rest part more h e way = record {
   whole = append_assoc h.front (part ∷ []) (parts_of more) ∙ ap (λ (p : Path). h.front ++ p) (sym e) ∙ h.whole;
   node = on_child nodes h.front at part (Some child) h.node way;
 }
-
-pub on_end : (nodes : List Node) (path : Path) (at : ℕ) (rest : List ℕ) → On nodes path at rest → parts_of rest ≡ [] → (h : On nodes path at rest) → h.front ≡ path
-on_end nodes path at rest g e h = sym (append-nil h.front) ∙ ap (λ (p : Path). h.front ++ p) (sym e) ∙ h.whole
-
-pub node_is : (nodes : List Node) (path : Path) (at : ℕ) (rest : List ℕ) → On nodes path at rest → parts_of rest ≡ [] → node_at nodes path ≡ Some at
-node_is nodes path at rest h e = ap (node_at nodes) (sym (on_end nodes path at rest h e h)) ∙ h.node
 
 pub no_node : (nodes : List Node) (path : Path) (at : ℕ) (rest part more : List ℕ) → On nodes path at rest → parts_of rest ≡ part ∷ parts_of more → child_at nodes at part ≡ None → node_at nodes path ≡ None
 no_node nodes path at rest part more h e none =

@@ -7,9 +7,6 @@ use Rattle.std.proofs.lemmas.List.{get_or_default}
 use Rattle.std.proofs.lemmas.List.Splits.{slice_split_none, slice_split_at}
 use Rattle.abs_path.specs.Paths.{parts_of, is_idle}
 
-is_slash : ℕ → Bool
-is_slash byte = byte == 47
-
 no_slash : (byte : ℕ) → byte ≢ 47 → (byte == 47) ≡ false
 no_slash byte ne = by (byte == 47) (eqb-true byte 47)
   where

@@ -10,7 +10,7 @@ use Rattle.policy_file.specs.declared.policy.PolicyTest.{PolicyTest}
 use Rattle.policy_file.specs.declared.error.PolicyError.{PolicyError}
 use Rattle.policy_file.specs.declared.error.PolicyError.TheVariants.{NotJson, Field, TooMany, Memory}
 use Rattle.policy_file.specs.Reading.{Member, first_fault, tests_of, unless_fault, policy_in, policy_of_object, policy_of}
-use Rattle.policy_file.specs.Steps.{SaysTests, IsUnlessMemory}
+use Rattle.policy_file.specs.Steps.{IsUnlessMemory}
 
 -- bytes that are a tree
 pub of_tree : (bytes : List ℕ) (tree : Data) → IsUtf8 bytes → read bytes ≡ Some tree → policy_of bytes ≡ policy_of_object (as_object tree)
@@ -25,13 +25,6 @@ no_tree bytes h = by (is_utf8 bytes) refl
     by : (b : Bool) → is_utf8 bytes ≡ b → policy_of_object (option_and_then as_object (cond b (read bytes) None)) ≡ Err NotJson
     by true e = ap (λ found. policy_of_object (option_and_then as_object found)) (h (IsUtf8-from_is_utf8 bytes e))
     by false e = refl
-
--- the first member that is no test, or no memory
-pub fault_stops : (members : List Member) (error : PolicyError) → SaysTests members (Err error) → IsUnlessMemory (Err error) (policy_in members)
-fault_stops members (Field id) h = ap (λ fault. unless_fault fault (nat_lt 512 (length members)) (tests_of members)) h
-fault_stops members Memory h = tt
-fault_stops members NotJson h = absurd h
-fault_stops members TooMany h = absurd h
 
 -- too many tests, or all
 pub all_read : (members : List Member) (many : Bool) → first_fault members ≡ None → nat_lt 512 (length members) ≡ many → policy_in members ≡ unless_fault None many (tests_of members)

@@ -85,9 +85,6 @@ told_by table site text = told table site (front text) (behind text)
 
 -- ---- the things of tables
 
-abbrev such_line : CallLine → CallLine
-such_line line = line
-
 name_there : (lines : List CallLine) (at : ℕ) (line : CallLine) → slice_get lines at ≡ Some line → name_at lines at ≡ line.name
 name_there lines at line stands = ap (λ (found : Option CallLine). option_map_or (λ line. line.name) found []) stands
 

@@ -32,14 +32,8 @@ module _ (p : MountStep → Bool) (table : Table) (at : ℕ) where
   pub any_not_here : (entry : MountStep) → slice_get table at ≡ Some entry → p entry ≡ false → list_any p (drop (at + 1) table) ≡ list_any p (drop at table)
   any_not_here entry e is = sym (ap (list_any p) (from_here table at entry e) ∙ ap (λ b. b || list_any p (drop (at + 1) table)) is)
 
-  pub any_none : length table ≤ at → false ≡ list_any p (drop at table)
-  any_none h = sym (ap (list_any p) (none_from table at h))
-
 -- ---- the first entry that serves from here on
 module _ (uncover : Bool) (row : Path) (wish : Wish) (table : Table) (at : ℕ) where
-  pub none_serves : length table ≤ at → None ≡ reach_from uncover row wish (drop at table) at
-  none_serves h = sym (ap (λ t. reach_from uncover row wish t at) (none_from table at h))
-
   step : (entry : MountStep) → slice_get table at ≡ Some entry → (b : Bool) → serves uncover row wish entry (drop (at + 1) table) ≡ b
       → reach_from uncover row wish (drop at table) at ≡ cond b (Some at) (reach_from uncover row wish (drop (at + 1) table) (at + 1))
   step entry e b is =

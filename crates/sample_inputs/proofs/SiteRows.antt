@@ -154,9 +154,6 @@ first_good others =
       ),
     )
 
-pub each_folder : (n k : ℕ) → k < 16 → HasFolder (site_rows n) (folder_name k ∷ [])
-each_folder n k low = subst (λ (all : List Data). HasFolder all (folder_name k ∷ [])) (sym (in_parts n)) (any_back (is_dir_at (folder_name k ∷ [])) first_rows (folders_of n) (folders_there n k low))
-
 pub all_good : (n : ℕ) → AreGood (site_rows n) 0 (site_rows n)
 unfolding first_rows
 all_good n =

@@ -3,7 +3,6 @@ pub mod Granted
 pub mod Made
 pub mod Launching
 pub mod EndsWell
-pub mod PlainSettings
 pub mod Shown
 pub mod Turns
 pub mod Alike

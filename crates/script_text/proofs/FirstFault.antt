@@ -71,7 +71,3 @@ reads_more table front line made new call h r few n =
       read = n ∙ ap (λ ls. ls ++ call ∷ []) h.read ∙ ap (λ o. calls_of table front ++ cons_option o []) (sym (ap result_ok r)) ∙ sym (filter_map-append (λ line. result_ok (line_call table line)) front (line ∷ []));
       one_each = ap length n ∙ length-append made (call ∷ []) ∙ ap (λ k. k + 1) same ∙ sym (length-append front (line ∷ []));
     }
-
--- all lines
-pub reads_all : (table : Table) (lines : List Line) (made : List Call) → HasRead table lines made → script_of_lines table lines ≡ Ok made
-reads_all table lines made h = ap (λ o. unless_fault o (calls_of table lines)) h.faultless ∙ ap Ok (sym h.read)

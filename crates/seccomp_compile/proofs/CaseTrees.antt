@@ -100,16 +100,6 @@ past_path offset mask limit (looks other part next) h = past_path_by ((other == 
 past_path offset mask limit (splits comparison number miss hit) h = h
 past_path offset mask limit (both first second action otherwise) h = h
 
-past_inside_by : (same : Bool) (other part : ℕ) (next : Decision) → LooksInside (looks other part next) → LooksInside (cond same next (looks other part next))
-past_inside_by true other part next h = h.2
-past_inside_by false other part next h = h
-
-pub past_inside : (offset mask : ℕ) (decision : Decision) → LooksInside decision → LooksInside (past_look offset mask decision)
-past_inside offset mask (ends action) h = h
-past_inside offset mask (looks other part next) h = past_inside_by ((other == offset) && (part == mask)) other part next h
-past_inside offset mask (splits comparison number miss hit) h = h
-past_inside offset mask (both first second action otherwise) h = h
-
 tests_decide : (input : CallData) (tests : List Tested) (action other : Action) (otherwise : Decision) → length tests ≤ 2 → ((word : ℕ) → decide otherwise input word ≡ other) → (word : ℕ) →
     decide (by_tests tests action otherwise) input word ≡ cond (list_all (test_holds input) tests) action other
 tests_decide input [] action other otherwise few h word = refl

@@ -17,10 +17,6 @@ use Rattle.seccomp_compile.specs.Lengths.{most_of, jumps, hop, look_len, PathWit
 use Rattle.seccomp_compile.specs.Placed.{EndsWithin, from_place, IsSound, Grows, Placed, Reached, StandsAt}
 use Rattle.seccomp_compile.proofs.Steps.{from_place-grows, from_place-all, grows_not, grows-trans, grows-le, ends_later, jump_ends, end_ends, is_end_insn, compare_ends, look_ends, test_ends, end_sound, jump_sound, compare_sound, look_sound, test_sound, look_length, test_length}
 
--- what stands at a place is found behind as many instructions as stand in front of it
-at_front : (code : List Insn) (place : ℕ) → drop (length code - place) code ≡ from_place place code
-at_front code place = refl
-
 -- An ending.
 
 pub end_found : (action : Action) (skip place : ℕ) (code : List Insn) → StandsAt action code skip → place ≡ length code - skip → IsSound code → Placed (ends action) code code place

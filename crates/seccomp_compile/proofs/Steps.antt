@@ -44,9 +44,6 @@ from_place-all code place e = let none : length code - place ≡ 0 = omega arith
 pub grows_not : (code : List Insn) → Grows code code
 grows_not code = ([], refl)
 
-pub grows_by : (insn : Insn) (code : List Insn) → Grows code (insn ∷ code)
-grows_by insn code = (insn ∷ [], refl)
-
 pub grows-trans : (a b c : List Insn) → Grows a b → Grows b c → Grows a c
 grows-trans a b c h k = (k.0 ++ h.0, k.1 ∙ ap (λ l. k.0 ++ l) h.1 ∙ sym (append_assoc k.0 h.0 a))
 
@@ -173,9 +170,6 @@ test_ends test hit miss code input regs there here limit h k =
     (ends_later _ input regs (cond (test_holds input test) there here) (limit + 1 + 2) (limit + 3) (omega arith) all)
 
 -- Sound code.
-
-pub nothing_sound : IsSound []
-nothing_sound = record { fine = tt; ends = refl }
 
 ends_in_front : (insn : Insn) (code : List Insn) → 0 < length code → ends_well code ≡ true → ends_well (insn ∷ code) ≡ true
 ends_in_front insn [] lt e = absurd (omega arith)

@@ -61,13 +61,6 @@ module _ (tried : Tried) where
     by (inl stayed) item lo hi = subst (λ these. IsSettled tried these item) (sym stayed.0) (stayed.1 item (omega (arith, lo)) hi)
     by (inr grown) item lo hi = let first = grown.0 in absurd (omega (arith, first, same))
 
-  -- and where one was, fewer are outside
-  pub less_of : (set : List ℕ) (held : Held) → TriesItems tried set 17 held → (length held.set.items ≡ length set → ⊥) → outside held.set.items < outside set
-  less_of set held one other = by one.came where
-    by : ((held.set.items ≡ set) × ((item : ℕ) → 17 < item + 17 → item ≤ 17 → IsSettled tried set item)) ⊎ ((length set < length held.set.items) × (outside held.set.items < outside set)) → outside held.set.items < outside set
-    by (inl stayed) = absurd (other (ap length stayed.0))
-    by (inr grown) = grown.1
-
 -- an item that is tried
 module _ (tried : Tried) (held : Held) (item : ℕ) (first lent wider lent_wider : List ℕ) (in_it : Bool) (holds : IsHeld tried held) (lends_first : first ≡ held.set.items) (says : in_it ≡ has first item)
     (lends : lent ≡ held.set.items) (made : wider ≡ item ∷ lent) (lends_wider : lent_wider ≡ wider) where

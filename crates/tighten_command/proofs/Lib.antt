@@ -1,4 +1,3 @@
 pub mod Telling
-pub mod Taken
 pub mod Prepared
 pub mod Reading

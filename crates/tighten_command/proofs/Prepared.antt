@@ -30,11 +30,6 @@ use Rattle.tighten_command.specs.Telling.{IsTold, TellsTight, denies, no_launch,
 use Rattle.command_answers.specs.declared.ready_text.ReadyText.{ReadyText}
 
 -- ---- the file of what is to be kept
--- the bytes of the file are not there
-bytes_stop : {T : Type 0} (see : T → List ℕ) (files : Files) (table : Table) (site : Site) (path : List ℕ) (why : Stop) → IsAnswer see (Err why) (bytes_in files path) → IsSaid {T = List Question} (λ keep. keep) (IsKeepIn files table site path) (Err why)
-bytes_stop see files table site path (stop.Refused line) said = no_file line.items said
-bytes_stop see files table site path stop.ReadFault said = tt
-bytes_stop see files table site path stop.Memory said = tt
 
 pub no_bytes : {T V : Type 0} (see : T → List ℕ) (view : V → List Question) (told : Option Files) (table : Table) (site : Site) (path : List ℕ) (why : Stop) → IfSome told (λ files. IsAnswer see (Err why) (bytes_in files path))
     → IfSome told (λ files. IsSaid view (IsKeepIn files table site path) (Err why))

@@ -1,12 +1,9 @@
 -- Lines of words, of which one that begins with `~` is inverted (systemd.exec(5), SystemCallFilter=).
 use Rattle.std.specs.Prelude.{ℕ, false, is_some, Option, Some, None, Result, Ok, Err, List, [], ◌∷◌, unwrap_or}
 use Rattle.std.specs.Option.{option_map}
-use Rattle.std.specs.List.{filter_map}
 use Rattle.text_forms.specs.Words.{words_of}
 use Rattle.text_forms.specs.declared.error.WordsError.{WordsError}
 use Rattle.unit_grammar.specs.Kinds.{behind}
-use Rattle.unit_values.specs.declared.value.Value.{Value}
-use Rattle.unit_values.specs.Values.{in_force}
 use Rattle.unit_values.specs.declared.lines.Line.{Line}
 
 abbrev pub tilde : ℕ
@@ -26,7 +23,3 @@ line_of text =
 abbrev pub listed_line : List ℕ → Option Line
 listed_line [] = Some (record { is_inverted = false; words = [] })
 listed_line (byte ∷ text) = line_of (byte ∷ text)
-
--- the lines that count: those of the values in force, but for those that cannot be split
-abbrev pub lines_of : List Value → List Line
-lines_of values = filter_map (λ value. line_of value.text) (in_force values)

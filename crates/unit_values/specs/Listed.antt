@@ -1,11 +1,10 @@
 -- Lists of lines, of which an empty value resets what was listed before it (systemd.exec(5), SystemCallFilter=).
-use Rattle.std.specs.Prelude.{ℕ, ◌==◌, Bool, Option, List, ◌++◌, length, map}
-use Rattle.std.specs.List.{after_last, filter_map}
+use Rattle.std.specs.Prelude.{ℕ, ◌==◌, Bool, Option, List, ◌++◌, length}
+use Rattle.std.specs.List.{filter_map}
 use Rattle.std.specs.Option.{option_map}
 use Rattle.dropin_merge.specs.declared.resolved.Resolved.{Resolved}
 use Rattle.unit_values.specs.declared.value.FileNote.{FileNote}
 use Rattle.unit_values.specs.declared.value.Value.{Value}
-use Rattle.unit_values.specs.declared.lines.Line.{Line}
 use Rattle.unit_values.specs.declared.listed.Listed.{Listed}
 use Rattle.unit_values.specs.Values.{values_of, notes_of}
 use Rattle.unit_values.specs.Lasting.{unread_notes}
@@ -17,10 +16,6 @@ listed value = option_map (λ line. record { value = value; line = line }) (list
 
 abbrev pub is_reset : Listed → Bool
 is_reset one = length one.value.text == 0
-
--- the lines behind the last that resets
-abbrev pub lines_in_force : List Listed → List Line
-lines_in_force all = map (λ one. one.line) (after_last is_reset all)
 
 -- what the files of a unit give to such a key
 unfoldable pub unit_listed : Resolved → List ℕ → List Listed

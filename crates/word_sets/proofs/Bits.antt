@@ -91,9 +91,6 @@ wider_clear known bits wide more place v w = same_from_bits _ _ (λ i.
           ∙ sym (bit_at_and bits known i) ∙ ap (λ n. bit_at n i) w.clear ∙ sym (w.others i ne)
     ])
 
-set_is_one : (word place : ℕ) → is_set word place ≡ true → bit_at word place ≡ 1
-set_is_one word place h = eqb-true (bit_at word place) 1 h
-
 pub same_is : (a b : Bool) → same a b ≡ true → a ≡ b
 same_is true true h = refl
 same_is true false h = sym h

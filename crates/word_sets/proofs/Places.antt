@@ -3,7 +3,7 @@ use Rattle.std.proofs.Common.{◌≡◌, ℕ, ◌+◌, ◌*◌, ◌/◌, ◌%◌
 use Rattle.std.specs.Prelude.{◌==◌, bit_and, if◌then◌else◌}
 use Rattle.std.specs.Int.{bit_at}
 use Rattle.std.proofs.lemmas.Bool.{cases_lt, eqb-true, eq-eqb, ne_eqb, lt-ltb, le-ltb, and_parts, and_from, both_ways}
-use Rattle.std.proofs.lemmas.Nat.{shr-shr, and_le_l}
+use Rattle.std.proofs.lemmas.Nat.{shr-shr}
 use Rattle.std.proofs.Math.Pow.{shr_mono}
 use Rattle.std.proofs.lemmas.Nat.Bits.{bit_at-lt}
 use Rattle.std.proofs.lemmas.List.Folds.{list_any-append}
@@ -92,12 +92,6 @@ some_left false true false true k = refl
 some_left false true false false k = refl
 some_left false true true m k = sym (k refl)
 
-few_left : (old within h m : Bool) → (h ≡ true → m ≡ false) → (old || (within && (not h && m))) ≡ (old || (within && m))
-few_left true within h m k = refl
-few_left false false h m k = refl
-few_left false true false m k = refl
-few_left false true true m k = sym (k refl)
-
 or_false : (a : Bool) → (a || false) ≡ a
 or_false true = refl
 or_false false = refl
@@ -114,29 +108,6 @@ LeftIs cube condition left place = (word : ℕ) → word < 2 ^ 32 → is_in left
 
 abbrev pub FoundIs : List Cube → Cube → Condition → List Cube → ℕ → Type 0
 FoundIs old cube condition found place = (word : ℕ) → word < 2 ^ 32 → is_in_any found word ≡ (is_in_any old word || (is_in cube word && (not (high_of condition place word) && meets condition word)))
-
-high_start : (a b : ℕ) → a < 2 ^ 32 → b < 2 ^ 32 → same_high a b 32 ≡ true
-high_start a b la lb = eq-eqb (a / 2 ^ 32) (b / 2 ^ 32) (omega (arith, la, lb))
-
-masked_fits : (word mask : ℕ) → word < 2 ^ 32 → bit_and word mask < 2 ^ 32
-masked_fits word mask lt = let le = and_le_l word mask in omega (arith, le, lt)
-
-all_left : (within h : Bool) → h ≡ true → within ≡ (within && h)
-all_left true true e = refl
-all_left true false e = sym e
-all_left false h e = refl
-
-pub first_left : (cube : Cube) (condition : Condition) → condition.number < 2 ^ 32 → LeftIs cube condition cube 32
-first_left cube condition fits word lt = all_left (is_in cube word) (high_of condition 32 word) (high_start (bit_and word condition.mask) condition.number (masked_fits word condition.mask lt) fits)
-
-none_found : (old within h m : Bool) → h ≡ true → old ≡ (old || (within && (not h && m)))
-none_found true within h m e = refl
-none_found false false h m e = refl
-none_found false true true m e = refl
-none_found false true false m e = absurd (both_ways false refl e)
-
-pub first_found : (old : List Cube) (cube : Cube) (condition : Condition) → condition.number < 2 ^ 32 → FoundIs old cube condition old 32
-first_found old cube condition fits word lt = none_found (is_in_any old word) (is_in cube word) (high_of condition 32 word) (meets condition word) (high_start (bit_and word condition.mask) condition.number (masked_fits word condition.mask lt) fits)
 
 and_same : (a b c : Bool) → ((a && b) && c) ≡ (a && (b && c))
 and_same true b c = refl
@@ -198,22 +169,3 @@ ends_with_equal old found last cube left condition equal l f e word lt =
     ∙ ap (λ t. (is_in_any old word || (is_in cube word && (not (high_of condition 0 word) && meets condition word))) || t) (l word lt)
     ∙ some_left (is_in_any old word) (is_in cube word) (high_of condition 0 word) (meets condition word)
     (λ h. wants_equal condition.orders (bit_and word condition.mask) condition.number (whole _ _ h) ∙ equal)
-
-pub ends_without_equal : (old found : List Cube) (cube : Cube) (condition : Condition) → condition.orders.equal ≡ false → FoundIs old cube condition found 0 → MeetingIs old cube condition found
-ends_without_equal old found cube condition unequal f word lt =
-    f word lt
-    ∙ few_left (is_in_any old word) (is_in cube word) (high_of condition 0 word) (meets condition word)
-    (λ h. wants_equal condition.orders (bit_and word condition.mask) condition.number (whole _ _ h) ∙ unequal)
-
--- the cubes of a list in turn
-meet_both : (x c m : Bool) → ((x && m) || (c && m)) ≡ ((x || c) && m)
-meet_both true c true = refl
-meet_both true true false = refl
-meet_both true false false = refl
-meet_both false c m = refl
-
-pub next_narrowed : (cubes found next : List Cube) (cube : Cube) (condition : Condition) (word : ℕ) → is_in_any found word ≡ (is_in_any cubes word && meets condition word) → is_in_any next word ≡ (is_in_any found word || (is_in cube word && meets condition word)) → is_in_any next word ≡ (is_in_any (cubes ++ cube ∷ []) word && meets condition word)
-next_narrowed cubes found next cube condition word f n =
-    n ∙ ap (λ t. t || (is_in cube word && meets condition word)) f
-    ∙ meet_both (is_in_any cubes word) (is_in cube word) (meets condition word)
-    ∙ ap (λ t. t && meets condition word) (sym (any_push cubes cube word))
