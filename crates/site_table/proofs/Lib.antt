@@ -21,11 +21,3 @@ pub mod CapSets
 pub mod Exact
 pub mod Behind
 pub mod PlainRows
-pub mod Fronts
-pub mod Frames
-pub mod PlainLines
-pub mod TopNodes
-pub mod PlainRead
-pub mod PlainTables
-pub mod PlainTrees
-pub mod PlainSite
