@@ -20,4 +20,3 @@ pub mod Worked
 pub mod CapSets
 pub mod Exact
 pub mod Behind
-pub mod PlainRows
