@@ -11,5 +11,3 @@ pub mod Reading
 pub mod Texts
 pub mod RowSteps
 pub mod Exact
-pub mod Fronts
-pub mod Plain

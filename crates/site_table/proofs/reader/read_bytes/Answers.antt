@@ -6,7 +6,7 @@ use Rattle.toml.proofs.Views.{view-Table}
 use Rattle.site_table.specs.Reading.{IsUnlessMemory, unless_fault, faults_of, site_in}
 use Rattle.site_table.specs.Table.{Site}
 use Rattle.site_table.proofs.SiteRead.{of_tree, no_tree}
-use Rattle.site_table.proofs.reader.read_any.Goals as goal
+use Rattle.site_table.proofs.reader.read_bytes.Goals as goal
 
 pub returns-in-Ok : goal.returns-in-Ok
 returns-in-Ok c =
