@@ -1,4 +1,5 @@
 //! What printed filters answer: the text of `filter` is read back, program by program, and each is asked of the calls of a row.
+use crate::sought::push_line;
 use bpf_code::{CallData, Program, run};
 use row_tools::{bytes_of, number, number32};
 use std::alloc::{AllocError, Global};
@@ -67,8 +68,7 @@ pub fn answers(alloc: Global, text: &str, asked: &[String]) -> Result<String, Al
                 name.clear();
                 name.push_str(head_of(rest))?;
                 if name.is_empty() {
-                    said.push_str(line)?;
-                    said.push('\n')?;
+                    push_line(&mut said, "", line)?;
                 }
             }
         }

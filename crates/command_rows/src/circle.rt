@@ -1,6 +1,7 @@
 //! The lists of calls below the open questions of a report, each put through `replay`.
 use crate::rows::Rows;
 use crate::runs::run_over;
+use crate::sought::push_line;
 use host_io::are_files;
 use std::alloc::{AllocError, Global};
 
@@ -45,8 +46,7 @@ fn push_list(
     if are_done(replay.as_str(), script.lines().count()) {
         return Ok(done.push(1)?);
     }
-    said.push_str(question)?;
-    said.push('\n')?;
+    push_line(said, "", question)?;
     said.push_str(replay.as_str())
 }
 
@@ -69,8 +69,7 @@ pub fn circle(alloc: Global, rows: &Rows) -> Result<String, AllocError> {
     for line in report.as_str().lines() {
         match line.strip_prefix("  ") {
             Some(call) => {
-                script.push_str(call)?;
-                script.push('\n')?;
+                push_line(&mut script, "", call)?;
             }
             None => {
                 push_list(
