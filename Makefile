@@ -1,7 +1,7 @@
 # make install PREFIX=/usr/local  installs the command lentsheep with its program, tables and manual pages.
 #
-# The program is proved and built first, where ./sandbox has not done so; PROGRAM names another build. DESTDIR is put before
-# each place, as packages want it.
+# It proves and builds the program first if ./sandbox has not done so. PROGRAM names another build. DESTDIR is a prefix of every
+# installed path, for packages.
 PREFIX = /usr/local
 DESTDIR =
 PROGRAM = crates/sandbox_cli/out/sandbox_cli
@@ -39,7 +39,7 @@ uninstall:
 	rm -f $(BIN)/lentsheep $(COMPLETION)/lentsheep
 	for page in $(PAGES); do rm -f $(MAN)/man$${page##*.}/$$page; done
 
-# The quick tests, which need neither the kit nor a proved program; rt ci is the gate.
+# The quick tests, which need neither the kit nor a proved program. The gate is rt ci.
 test:
-	for test in command sites views docs graph; do tools/test-$$test || exit; done
+	for test in command sites views docs prose graph; do tools/test-$$test || exit; done
 	tools/graph
