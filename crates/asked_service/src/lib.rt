@@ -9,7 +9,19 @@
 #![tactic(auto)]
 
 mod bounding;
+pub mod launched_units;
 mod rows;
+pub mod started_units;
+pub mod unit_launch;
 
 pub use bounding::{Bounded, bound};
+pub use judge;
+pub use judge::{
+    abs_path, call_table, ceilings, dropin_merge, exec_settings, kern_mounts, kernel_laws,
+    kernel_model, kernel_ways, launcher, mount_plan, site_table,
+};
+pub use plan_command;
+pub use plan_command::{host_io, text_forms, unit_inputs};
+pub use report_text;
+pub use report_text::{script_text, unit_grammar};
 pub use rows::{VerdictRow, count_open, verdict_rows};

@@ -16,3 +16,7 @@ pub mod Places
 pub mod Standing
 pub mod Steps
 pub mod Versions
+pub mod Lines
+pub mod Cuts
+pub mod Back
+pub use Rattle.text_forms.proofs as TextForms

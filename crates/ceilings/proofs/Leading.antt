@@ -4,17 +4,17 @@ use Rattle.std.specs.Prelude.{slice_get, not, ◌||◌, ◌&&◌}
 use Rattle.std.specs.List.{list_any}
 use Rattle.std.proofs.lemmas.Bool.{or_from, cases_lt}
 use Rattle.std.proofs.lemmas.Bool.Decides.{nat_tests}
-use Rattle.abs_path.specs.Paths.{Path}
-use Rattle.abs_path.specs.Prefix.{is_prefix, is_same, rest_of}
-use Rattle.abs_path.proofs.Prefixes.{prefix_and_rest, same_path}
-use Rattle.kern_mounts.specs.Entry.{Belongs, leads_to}
-use Rattle.kern_mounts.specs.Split.{Table}
-use Rattle.kern_mounts.specs.declared.step.MountStep.{MountStep}
-use Rattle.kern_mounts.specs.declared.step.What.TheVariants.{Host}
-use Rattle.question_types.specs.declared.wish.Wish.{Wish}
-use Rattle.question_types.specs.declared.wish.Wish.TheVariants.{See as ToSee}
-use Rattle.kernel_laws.specs.Reach.{fits, shows_row, reach_from}
-use Rattle.reach_paths.proofs.Looping.{from_here}
+use Rattle.kernel_ways.specs.abs_path.Paths.{Path}
+use Rattle.kernel_ways.specs.abs_path.Prefix.{is_prefix, is_same, rest_of}
+use Rattle.kernel_ways.proofs.AbsPath.Prefixes.{prefix_and_rest, same_path}
+use Rattle.kernel_ways.specs.kern_mounts.Entry.{Belongs, leads_to}
+use Rattle.kernel_ways.specs.kern_mounts.Split.{Table}
+use Rattle.kernel_ways.specs.kern_mounts.declared.step.MountStep.{MountStep}
+use Rattle.kernel_ways.specs.kern_mounts.declared.step.What.TheVariants.{Host}
+use Rattle.kernel_ways.specs.kernel_laws.declared.question_types.wish.Wish.{Wish}
+use Rattle.kernel_ways.specs.kernel_laws.declared.question_types.wish.Wish.TheVariants.{See as ToSee}
+use Rattle.kernel_ways.specs.kernel_laws.Reach.{fits, shows_row, reach_from}
+use Rattle.kernel_ways.proofs.ReachPaths.Looping.{from_here}
 use Rattle.ceilings.specs.Leads.{is_elsewhere, is_moved}
 
 -- ---- entries behind a number

@@ -3,8 +3,8 @@ use Rattle.std.proofs.Common.{◌≡◌, ◌∙◌, ℕ, Bool, true, false, cond
 use Rattle.std.specs.Prelude.{◌&&◌, option_map}
 use Rattle.std.specs.Option.{option_map_or}
 use Rattle.std.specs.Str.{bytes_eq}
-use Rattle.abs_path.specs.Prefix.{after}
-use Rattle.call_table.specs.Table.{Abi}
+use Rattle.unit_inputs.specs.abs_path.Prefix.{after}
+use Rattle.unit_inputs.specs.call_table.Table.{Abi}
 
 -- a text is a front with an end behind it where that end stands behind the front
 abbrev Agrees : List ℕ → List ℕ → List ℕ → Type 0

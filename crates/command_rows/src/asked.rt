@@ -1,8 +1,8 @@
 //! What printed filters answer: the text of `filter` is read back, program by program, and each is asked of the calls of a row.
 use crate::sought::push_line;
-use bpf_code::{CallData, Program, run};
 use row_tools::{bytes_of, number, number32};
 use std::alloc::{AllocError, Global};
+use top_call::bpf_code::{CallData, Program, run};
 
 /// The architecture of x86-64, and that of i386 (audit(7)).
 const X86_64: u32 = 0xc000_003e;

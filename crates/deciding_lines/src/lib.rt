@@ -11,6 +11,7 @@ mod bare;
 mod reason;
 mod searching;
 mod trial;
+pub mod unit_lines;
 
 pub use bare::bare_places;
 pub use reason::Reason;

@@ -5,18 +5,18 @@ use Rattle.std.proofs.lemmas.List.Concat.{flat_map-append}
 use Rattle.std.proofs.lemmas.List.{map-append}
 use Rattle.judge_command.specs.Asked.{launch_in, world_in}
 use Rattle.judge_command.specs.declared.asking.Asked.{Asked}
-use Rattle.question_types.specs.declared.question.Question.{Question}
-use Rattle.site_table.specs.declared.row.Row.{Row}
-use Rattle.abs_path.specs.Paths.{Path}
-use Rattle.call_table.specs.Table.{Table}
-use Rattle.site_table.specs.Table.{Site}
-use Rattle.verdict_changes.specs.Found.{change_of, turn_of}
-use Rattle.verdict_changes.specs.declared.asking.VerdictChange.{VerdictChange}
-use Rattle.verdict_changes.specs.declared.asking.VerdictChange.TheVariants as verdict
-use Rattle.verdict_changes.specs.declared.looking.FolderChange.{FolderChange}
-use Rattle.verdict_changes.specs.declared.looking.FolderChange.TheVariants as folder
-use Rattle.verdict_changes.specs.ByRule.{changes_by, question_change, row_change}
-use Rattle.verdict_changes.specs.Changes.{Change}
+use Rattle.judge_command.specs.kernel_laws.declared.question_types.question.Question.{Question}
+use Rattle.judge_command.specs.site_table.declared.row.Row.{Row}
+use Rattle.judge_command.specs.abs_path.Paths.{Path}
+use Rattle.judge_command.specs.call_table.Table.{Table}
+use Rattle.judge_command.specs.site_table.Table.{Site}
+use Rattle.judge_command.specs.verdict_changes.Found.{change_of, turn_of}
+use Rattle.judge_command.specs.declared.verdict_changes.asking.VerdictChange.{VerdictChange}
+use Rattle.judge_command.specs.declared.verdict_changes.asking.VerdictChange.TheVariants as verdict
+use Rattle.judge_command.specs.declared.verdict_changes.looking.FolderChange.{FolderChange}
+use Rattle.judge_command.specs.declared.verdict_changes.looking.FolderChange.TheVariants as folder
+use Rattle.judge_command.specs.verdict_changes.ByRule.{changes_by, question_change, row_change}
+use Rattle.judge_command.specs.verdict_changes.Changes.{Change}
 use Rattle.effect_command.specs.Lines.{change_lines, counts_line, effect_text, kind_of}
 use Rattle.effect_command.specs.Told.{changes_at, folder_kinds, folder_lines, lines_in, told_text, turns_at, verdict_kinds, verdict_lines}
 

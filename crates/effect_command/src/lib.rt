@@ -17,3 +17,5 @@ mod starting;
 mod telling;
 
 pub use command::prepare;
+pub use judge_command;
+pub use judge_command::kernel_laws;

@@ -3,9 +3,9 @@ ghost use Rattle.std.specs.Prelude.{◌≡◌, IfOk};
 ghost use Rattle.effect_command.specs.Lines.{counts_line, folder_line, with_line};
 
 use crate::kinds::{Kind, count_of};
-use abs_path::AbsPath;
+use judge_command::abs_path::AbsPath;
+use judge_command::text_forms::push_word;
 use std::alloc::{AllocError, Global};
-use text_forms::push_word;
 
 /// The line of a refusal of the unit with the drop-in.
 pub fn with_line(alloc: Global, line: &[u8]) -> Result<Vec<u8>, AllocError>

@@ -5,14 +5,14 @@ use Rattle.std.specs.List.{All}
 use Rattle.std.proofs.lemmas.List.Elements.{All-cons, All-nil, All-append, All-weaker}
 use Rattle.std.proofs.lemmas.List.{take_more}
 use Rattle.std.proofs.lemmas.Bool.{cases_lt}
-use Rattle.bpf_code.specs.declared.machine.Insn.{Insn}
-use Rattle.bpf_code.specs.declared.machine.CallData.{CallData}
-use Rattle.bpf_code.specs.Effects.{words_of}
-use Rattle.bpf_code.specs.Meaning.{Answers}
-use Rattle.bpf_code.proofs.Endings.{run_by_answers, only_answer_by_run}
-use Rattle.filter_paths.specs.Regions.{IsWithin}
-use Rattle.filter_paths.specs.Walked.{AreEndsFor, IsEndFor}
-use Rattle.filter_paths.specs.declared.states.End.{End}
+use Rattle.seccomp_compile.specs.bpf_code.declared.machine.Insn.{Insn}
+use Rattle.seccomp_compile.specs.bpf_code.declared.machine.CallData.{CallData}
+use Rattle.seccomp_compile.specs.bpf_code.Effects.{words_of}
+use Rattle.seccomp_compile.specs.bpf_code.Meaning.{Answers}
+use Rattle.seccomp_compile.proofs.BpfCode.Endings.{run_by_answers, only_answer_by_run}
+use Rattle.filter_check.specs.filter_paths.Regions.{IsWithin}
+use Rattle.filter_check.specs.filter_paths.Walked.{AreEndsFor, IsEndFor}
+use Rattle.filter_check.specs.declared.filter_paths.states.End.{End}
 use Rattle.filter_check.specs.declared.differences.Difference.{Difference}
 use Rattle.filter_check.specs.Order.{IsNotAfter}
 use Rattle.filter_check.specs.Differing.{DiffersFrom, IsDifference, IsNoLater, IsNoLaterThan, IsLeastFrom, difference_at, ComesOf, IsLesser}

@@ -3,11 +3,11 @@ use Rattle.std.proofs.Common.{◌≡◌, Bool, Option, codes, ap}
 use Rattle.dropin_merge.specs.declared.resolved.Resolved.{Resolved}
 use Rattle.call_table.specs.Table.{Table}
 use Rattle.call_rules.specs.declared.actions.Action.{Action}
-use Rattle.filter_rules.specs.declared.mentions.CallList.{CallList}
-use Rattle.filter_rules.specs.declared.mentions.FamilyList.{FamilyList}
-use Rattle.filter_rules.specs.declared.namespace_types.NamespaceTypes.{NamespaceTypes}
-use Rattle.filter_rules.specs.declared.settings.FilterSettings.{FilterSettings}
-use Rattle.unit_values.specs.Flags.{unit_flag}
+use Rattle.filter_settings.specs.declared.filter_rules.mentions.CallList.{CallList}
+use Rattle.filter_settings.specs.declared.filter_rules.mentions.FamilyList.{FamilyList}
+use Rattle.filter_settings.specs.declared.filter_rules.namespace_types.NamespaceTypes.{NamespaceTypes}
+use Rattle.filter_settings.specs.declared.filter_rules.settings.FilterSettings.{FilterSettings}
+use Rattle.dropin_merge.specs.unit_values.Flags.{unit_flag}
 use Rattle.filter_settings.specs.ErrorActions.{unit_error_action}
 use Rattle.filter_settings.specs.Architectures.{unit_refuses_second}
 use Rattle.filter_settings.specs.CallLists.{unit_call_list}

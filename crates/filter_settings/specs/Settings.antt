@@ -1,10 +1,10 @@
 -- What the keys of the system call filters say (systemd.exec(5)).
 use Rattle.std.specs.Prelude.{List, ◌++◌, codes}
 use Rattle.dropin_merge.specs.declared.resolved.Resolved.{Resolved}
-use Rattle.unit_values.specs.declared.value.FileNote.{FileNote}
+use Rattle.dropin_merge.specs.declared.unit_values.value.FileNote.{FileNote}
 use Rattle.call_table.specs.Table.{Table}
-use Rattle.filter_rules.specs.declared.settings.FilterSettings.{FilterSettings}
-use Rattle.unit_values.specs.Flags.{unit_flag, unit_flag_notes}
+use Rattle.filter_settings.specs.declared.filter_rules.settings.FilterSettings.{FilterSettings}
+use Rattle.dropin_merge.specs.unit_values.Flags.{unit_flag, unit_flag_notes}
 use Rattle.filter_settings.specs.declared.settings.Booleans.{Booleans}
 use Rattle.filter_settings.specs.ErrorActions.{unit_error_action, unit_error_action_notes}
 use Rattle.filter_settings.specs.Architectures.{unit_refuses_second, unit_architectures_notes}

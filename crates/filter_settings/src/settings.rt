@@ -1,19 +1,19 @@
 //! What the keys of the system call filters say.
 ghost use Rattle.std.specs.Prelude.{◌≡◌, ◌++◌, IfOk, OnOk};
-ghost use Rattle.unit_values.specs.Flags.{unit_flag, unit_flag_notes};
-ghost use Rattle.filter_rules.specs.Known.{HasKnownFamilies};
-ghost use Rattle.filter_rules.specs.Refusing.{AreRefusing};
+ghost use Rattle.dropin_merge.specs.unit_values.Flags.{unit_flag, unit_flag_notes};
+ghost use Rattle.filter_settings.specs.filter_rules.Known.{HasKnownFamilies};
+ghost use Rattle.filter_settings.specs.filter_rules.Refusing.{AreRefusing};
 ghost use Rattle.filter_settings.specs.Settings.{flags_of, settings_of, restriction_notes, protection_notes, filter_notes};
 
 use crate::architectures::second_refused_by_key;
 use crate::error_actions::error_action_of_key;
+use crate::filter_rules::FilterSettings;
 use crate::key_lists::list_of_key;
 use crate::namespaces::namespaces_of_key;
 use call_table::CallTable;
 use dropin_merge::Resolved;
-use filter_rules::FilterSettings;
+use dropin_merge::unit_values::{FileNote, Said, flag_of_key};
 use std::alloc::{AllocError, Global};
-use unit_values::{FileNote, Said, flag_of_key};
 
 // What a boolean key says; its notes are put behind those that are there.
 fn flag(

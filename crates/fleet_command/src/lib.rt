@@ -8,6 +8,8 @@
 #![tactic(auto)]
 
 mod command;
+pub mod fleet_names;
+pub mod fleet_report;
 mod naming;
 mod preparing;
 mod printing;
@@ -17,3 +19,5 @@ mod wording;
 
 pub use command::prepare;
 pub use ready::Fleet;
+pub use score_command;
+pub use score_command::exposure_score;

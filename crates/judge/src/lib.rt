@@ -17,6 +17,11 @@ mod rows;
 mod two_sites;
 
 pub use blindness::blind;
+pub use ceilings;
+pub use ceilings::kernel_laws::question_types::Verdict;
+pub use ceilings::{
+    abs_path, call_table, dropin_merge, exec_settings, kern_mounts, kernel_laws, kernel_model,
+    kernel_ways, launcher, mount_plan, path_settings, site_table,
+};
 pub use judging::verdict;
-pub use question_types::Verdict;
 pub use two_sites::alike;

@@ -1,21 +1,21 @@
 -- What is prepared is what the files give, or the line of the first refusal.
 use Rattle.std.proofs.Common.{◌≡◌, ◌∙◌, ℕ, Option, Some, None, List, Ok, Err, subst}
 use Rattle.std.specs.Prelude.{IfSome}
-use Rattle.host_io.specs.Files.{Files}
-use Rattle.kern_mounts.specs.declared.step.MountStep.{MountStep}
-use Rattle.mount_plan.specs.Host.{host_of}
-use Rattle.exec_settings.specs.Mounts.{unit_mentions}
-use Rattle.path_settings.specs.declared.mentions.Mention.{Mention}
-use Rattle.command_answers.specs.Stops.{Prepares, first_refusal}
-use Rattle.command_answers.specs.declared.stop.Stop.{Stop}
-use Rattle.command_answers.specs.declared.stop.Stop.TheVariants as stop
-use Rattle.site_table.specs.Table.{Site}
-use Rattle.unit_inputs.specs.Inputs.{inputs_of, inputs_view}
-use Rattle.unit_inputs.specs.Settled.{AreSettled, unit_refusals}
-use Rattle.unit_inputs.specs.declared.settling.SettledUnit.{SettledUnit}
-use Rattle.plan_command.specs.Planned.{IsPlan, path_refusals}
-use Rattle.plan_command.specs.Prints.{plan_refusals}
-use Rattle.plan_command.proofs.Prepared.{at_paths, refused_as, refused_before}
+use Rattle.asked_service.specs.host_io.Files.{Files}
+use Rattle.asked_service.specs.kern_mounts.declared.step.MountStep.{MountStep}
+use Rattle.asked_service.specs.mount_plan.Host.{host_of}
+use Rattle.asked_service.specs.exec_settings.Mounts.{unit_mentions}
+use Rattle.asked_service.specs.path_settings.declared.mentions.Mention.{Mention}
+use Rattle.asked_service.specs.unit_inputs.command_answers.Stops.{Prepares, first_refusal}
+use Rattle.asked_service.specs.unit_inputs.declared.command_answers.stop.Stop.{Stop}
+use Rattle.asked_service.specs.unit_inputs.declared.command_answers.stop.Stop.TheVariants as stop
+use Rattle.asked_service.specs.site_table.Table.{Site}
+use Rattle.asked_service.specs.unit_inputs.Inputs.{inputs_of, inputs_view}
+use Rattle.asked_service.specs.unit_inputs.Settled.{AreSettled, unit_refusals}
+use Rattle.asked_service.specs.unit_inputs.declared.settling.SettledUnit.{SettledUnit}
+use Rattle.asked_service.specs.plan_command.Planned.{IsPlan, path_refusals}
+use Rattle.asked_service.specs.plan_command.Prints.{plan_refusals}
+use Rattle.asked_service.proofs.PlanCommand.Prepared.{at_paths, refused_as, refused_before}
 use Rattle.judge_command.specs.Prepared.{IsPrepared}
 
 -- what stopped is told alike, whatever was wanted

@@ -17,8 +17,15 @@ mod launching;
 mod preparing;
 mod printing;
 mod reasons;
+pub mod verdict_changes;
 
+pub use asked_service;
+pub use asked_service::{
+    abs_path, call_table, dropin_merge, host_io, judge, kernel_laws, kernel_model, launcher,
+    report_text, site_table, text_forms, unit_grammar, unit_inputs,
+};
 pub use asking::{Asked, ask};
 pub use command::answer;
 pub use folders::is_named;
+pub use open_calls;
 pub use reasons::truths;

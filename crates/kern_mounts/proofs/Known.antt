@@ -5,7 +5,7 @@ use Rattle.std.proofs.lemmas.Bool.{cases_lt}
 use Rattle.std.proofs.lemmas.List.{length-map, take-map}
 use Rattle.abs_path.specs.Paths.{Path}
 use Rattle.abs_path.specs.Prefix.{is_prefix}
-use Rattle.place_tree.specs.Places.{IsLastAt, IsLastLeading}
+use Rattle.abs_path.specs.place_tree.Places.{IsLastAt, IsLastLeading}
 use Rattle.kern_mounts.specs.declared.step.MountStep.{MountStep}
 use Rattle.kern_mounts.specs.declared.step.Mount.{Mount}
 use Rattle.kern_mounts.specs.Mounts.{Mounts, steps_of}

@@ -4,7 +4,7 @@ use Rattle.std.proofs.Math.ListN.{length-set}
 use Rattle.std.proofs.lemmas.List.{length-map, get_or-map}
 use Rattle.abs_path.specs.Paths.{Path}
 use Rattle.abs_path.specs.Prefix.{is_prefix}
-use Rattle.place_tree.specs.Places.{IsLastLeading}
+use Rattle.abs_path.specs.place_tree.Places.{IsLastLeading}
 use Rattle.kern_mounts.specs.declared.step.Mount.{Mount}
 use Rattle.kern_mounts.specs.declared.step.MountStep.{MountStep}
 use Rattle.kern_mounts.specs.Mounts.{Mounts, steps_of}

@@ -3,22 +3,22 @@
 use Rattle.std.proofs.Common.{◌≡◌, ℕ, Bool, true, false, List, Option, Some, refl, subst}
 use Rattle.std.specs.Prelude.{◌||◌, is_some}
 use Rattle.std.proofs.lemmas.Bool.{or_left, or_right}
-use Rattle.abs_path.specs.Paths.{Path}
-use Rattle.kernel_calls.specs.Words.{low_word}
-use Rattle.kernel_calls.specs.declared.payload.Payload.TheVariants as pay
-use Rattle.kernel_calls.specs.declared.payload.Payload.{Payload}
-use Rattle.call_names.specs.Known.{place_of}
-use Rattle.call_names.specs.declared.rule.Argument.{Argument}
-use Rattle.kernel_calls.specs.declared.rule.Rule.TheVariants as rule
-use Rattle.call_names.specs.declared.rule.CallRule.TheVariants as known
-use Rattle.kernel_calls.specs.declared.rule.Rule.{Rule}
-use Rattle.kernel_calls.specs.Doing as d
-use Rattle.kernel_calls.specs.Doing.{Doing, doing_by}
+use Rattle.kernel_model.specs.abs_path.Paths.{Path}
+use Rattle.kernel_model.specs.kernel_calls.Words.{low_word}
+use Rattle.kernel_model.specs.declared.kernel_calls.payload.Payload.TheVariants as pay
+use Rattle.kernel_model.specs.declared.kernel_calls.payload.Payload.{Payload}
+use Rattle.filter_settings.specs.call_table.call_names.Known.{place_of}
+use Rattle.filter_settings.specs.call_table.declared.call_names.rule.Argument.{Argument}
+use Rattle.kernel_model.specs.declared.kernel_calls.rule.Rule.TheVariants as rule
+use Rattle.filter_settings.specs.call_table.declared.call_names.rule.CallRule.TheVariants as known
+use Rattle.kernel_model.specs.declared.kernel_calls.rule.Rule.{Rule}
+use Rattle.kernel_model.specs.kernel_calls.Doing as d
+use Rattle.kernel_model.specs.kernel_calls.Doing.{Doing, doing_by}
 use Rattle.kernel_laws.specs.Denied.{path_for}
-use Rattle.question_types.specs.declared.wish.Wish.{Wish}
-use Rattle.question_types.specs.declared.kind.CallKind.{CallKind}
-use Rattle.question_types.specs.declared.wish.Wish.TheVariants as wish_to
-use Rattle.question_types.specs.declared.kind.CallKind.TheVariants as k
+use Rattle.kernel_laws.specs.declared.question_types.wish.Wish.{Wish}
+use Rattle.kernel_laws.specs.declared.question_types.kind.CallKind.{CallKind}
+use Rattle.kernel_laws.specs.declared.question_types.wish.Wish.TheVariants as wish_to
+use Rattle.kernel_laws.specs.declared.question_types.kind.CallKind.TheVariants as k
 use Rattle.kernel_laws.specs.Kinds.{asks, words}
 
 pub record Has (kind : CallKind) (rule' : Rule) : Type 0 where

@@ -12,8 +12,8 @@ use Rattle.call_table.specs.Table as calls
 use Rattle.call_table.specs.Table.{Abi, abis, native, abi_at, arch_of}
 use Rattle.site_table.specs.Table.{Site}
 use Rattle.kern_mounts.specs.Mounts.{Mounts as Table}
-use Rattle.kernel_calls.specs.declared.call.Call.{Call}
-use Rattle.kernel_calls.specs.Doing.{Doing, Does, asked_of}
+use Rattle.kernel_model.specs.declared.kernel_calls.call.Call.{Call}
+use Rattle.kernel_model.specs.kernel_calls.Doing.{Doing, Does, asked_of}
 use Rattle.kernel_model.specs.declared.process.Process.{Process}
 use Rattle.kernel_model.specs.declared.reply.Reply.{Reply}
 use Rattle.kernel_model.specs.declared.reply.Reply.TheVariants as reply

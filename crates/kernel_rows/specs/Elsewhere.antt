@@ -1,15 +1,15 @@
 -- What the law of two sites says of a service that a unit comes to on one of them.
 use Rattle.std.specs.Prelude.{◌≡◌, ℕ, List, []}
-use Rattle.abs_path.specs.Paths.{Path, text_of}
-use Rattle.exec_settings.specs.declared.service.Settings.{Settings}
-use Rattle.kern_mounts.specs.Split.{Table}
-use Rattle.kernel_laws.specs.Denied.{IsBlind}
-use Rattle.kernel_model.specs.World.{World}
-use Rattle.launcher.specs.Answers.{given_bytes, launch_with}
-use Rattle.launcher.specs.Launch.{Launched}
-use Rattle.launcher.specs.declared.launched.Launched.{Launched as Service}
-use Rattle.judge.specs.Alike.{IsAlike}
-use Rattle.judge.specs.Sites.{AgreeForUnit}
+use Rattle.asked_service.specs.abs_path.Paths.{Path, text_of}
+use Rattle.asked_service.specs.exec_settings.declared.service.Settings.{Settings}
+use Rattle.asked_service.specs.kern_mounts.Split.{Table}
+use Rattle.asked_service.specs.kernel_laws.Denied.{IsBlind}
+use Rattle.asked_service.specs.kernel_model.World.{World}
+use Rattle.asked_service.specs.launcher.Answers.{given_bytes, launch_with}
+use Rattle.asked_service.specs.launcher.Launch.{Launched}
+use Rattle.asked_service.specs.launcher.declared.launched.Launched.{Launched as Service}
+use Rattle.asked_service.specs.judge.Alike.{IsAlike}
+use Rattle.asked_service.specs.judge.Sites.{AgreeForUnit}
 use Rattle.kernel_rows.specs.declared.alike.asked.Asked.{Asked}
 
 -- a service that was launched with these programs is the same on the other site, where that agrees outside the folder

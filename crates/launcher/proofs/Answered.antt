@@ -1,16 +1,16 @@
 -- What the steps of a launch come to is what the launch answers.
 use Rattle.std.proofs.Common.{◌≡◌, ℕ, false, cond, List, ◌++◌, Result, Ok, Err, ap, ◌∙◌, sym, subst, arith}
 use Rattle.std.specs.Prelude.{IsErrAnd}
-use Rattle.bpf_code.specs.declared.machine.Insn.{Insn}
-use Rattle.call_table.specs.Facts.{IsWhole}
-use Rattle.call_table.specs.Table as calls
+use Rattle.kernel_laws.specs.bpf_code.declared.machine.Insn.{Insn}
+use Rattle.kernel_laws.specs.call_table.Facts.{IsWhole}
+use Rattle.kernel_laws.specs.call_table.Table as calls
 use Rattle.exec_settings.specs.declared.service.Settings.{Settings}
-use Rattle.kern_mounts.specs.Finds.{finds}
-use Rattle.kern_mounts.specs.Launch.{CanBeMounted}
-use Rattle.kern_mounts.specs.Split.{Table}
-use Rattle.kernel_model.specs.World.{World, start_world}
+use Rattle.kernel_laws.specs.kern_mounts.Finds.{finds}
+use Rattle.kernel_laws.specs.kern_mounts.Launch.{CanBeMounted}
+use Rattle.kernel_laws.specs.kern_mounts.Split.{Table}
+use Rattle.kernel_laws.specs.kernel_model.World.{World, start_world}
 use Rattle.mount_plan.specs.Host.{host_of}
-use Rattle.site_table.specs.Table.{Site, row_at}
+use Rattle.exec_settings.specs.site_table.Table.{Site, row_at}
 use Rattle.launcher.specs.Alike.{HasWordArchs}
 use Rattle.launcher.specs.declared.error.LaunchError.{LaunchError}
 use Rattle.launcher.specs.declared.error.LaunchError.TheVariants as error

@@ -1,10 +1,10 @@
 -- Calls of a launch that are made one after another.
 use Rattle.std.proofs.Common.{◌≡◌, ℕ, List, ◌∷◌, Ok, refl, ap, ◌∙◌, sym}
 use Rattle.std.specs.Prelude.{◌+◌}
-use Rattle.kernel_model.specs.declared.reply.Reply.{Reply}
-use Rattle.kernel_model.specs.declared.reply.Reply.TheVariants.{Done, Refused, Killed}
-use Rattle.kernel_model.specs.Runs.{IsDone}
-use Rattle.kernel_model.specs.World.{World}
+use Rattle.kernel_laws.specs.kernel_model.declared.reply.Reply.{Reply}
+use Rattle.kernel_laws.specs.kernel_model.declared.reply.Reply.TheVariants.{Done, Refused, Killed}
+use Rattle.kernel_laws.specs.kernel_model.Runs.{IsDone}
+use Rattle.kernel_laws.specs.kernel_model.World.{World}
 use Rattle.launcher.specs.Ends.{StepsTo}
 use Rattle.launcher.specs.Launch.{LaunchStep, Ending, launch_step, launch_on, launch_from}
 

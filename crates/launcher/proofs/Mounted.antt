@@ -2,21 +2,21 @@
 use Rattle.std.proofs.Common.{◌≡◌, ℕ, zero, suc, Bool, true, false, cond, codes, List, [], ◌∷◌, ◌++◌, Option, Some, None, Ok, refl, ap, ◌∙◌, sym, subst, length, drop, get_or, drop-cons, add-one, ◌<◌, ◌≤◌, arith, eqb}
 use Rattle.std.specs.Prelude.{map, slice_get, slice_set, ◌+◌, ◌-◌}
 use Rattle.std.proofs.lemmas.List.{length-append}
-use Rattle.abs_path.specs.Paths.{is_root}
-use Rattle.call_table.specs.declared.listed.CallLine.{CallLine}
-use Rattle.call_table.specs.Facts.{IsWhole}
-use Rattle.kern_creds.specs.declared.creds.Creds.{Creds}
-use Rattle.kern_creds.specs.Start as creds
-use Rattle.kern_mounts.specs.Table as mounts
-use Rattle.kern_mounts.specs.Mounts.{Mounts as MountList, plain, first_mounts}
-use Rattle.kern_mounts.specs.MountsRemount.{with_root_flags}
-use Rattle.kern_mounts.specs.Split.{Table}
-use Rattle.kern_mounts.specs.declared.step.Flags.{Flags}
-use Rattle.kern_mounts.specs.declared.step.MountStep.{MountStep}
-use Rattle.kernel_calls.specs.declared.payload.Payload.TheVariants.{Nothing}
-use Rattle.kernel_model.specs.declared.process.Process.{Process}
-use Rattle.kernel_model.specs.MountStep.{after_mount_step, stepped_by, with_step}
-use Rattle.kernel_model.specs.World.{World, living_of, of_number, put_number, mounts_of, table_or}
+use Rattle.exec_settings.specs.abs_path.Paths.{is_root}
+use Rattle.kernel_laws.specs.call_table.declared.listed.CallLine.{CallLine}
+use Rattle.kernel_laws.specs.call_table.Facts.{IsWhole}
+use Rattle.kernel_laws.specs.kern_creds.declared.creds.Creds.{Creds}
+use Rattle.kernel_laws.specs.kern_creds.Start as creds
+use Rattle.kernel_laws.specs.kern_mounts.Table as mounts
+use Rattle.kernel_laws.specs.kern_mounts.Mounts.{Mounts as MountList, plain, first_mounts}
+use Rattle.kernel_laws.specs.kern_mounts.MountsRemount.{with_root_flags}
+use Rattle.kernel_laws.specs.kern_mounts.Split.{Table}
+use Rattle.kernel_laws.specs.kern_mounts.declared.step.Flags.{Flags}
+use Rattle.kernel_laws.specs.kern_mounts.declared.step.MountStep.{MountStep}
+use Rattle.kernel_laws.specs.kernel_model.declared.kernel_calls.payload.Payload.TheVariants.{Nothing}
+use Rattle.kernel_laws.specs.kernel_model.declared.process.Process.{Process}
+use Rattle.kernel_laws.specs.kernel_model.MountStep.{after_mount_step, stepped_by, with_step}
+use Rattle.kernel_laws.specs.kernel_model.World.{World, living_of, of_number, put_number, mounts_of, table_or}
 use Rattle.launcher.specs.Ends.{Begins, StepsTo, IsStart, HasRoomBy, HasRoomFor, with_mounts}
 use Rattle.launcher.specs.Launch.{LaunchStep, Mounts, launch_from, makes, mount_steps, with_unshare, new_mounts}
 use Rattle.launcher.proofs.LaunchCalls.{launch_calls}

@@ -4,23 +4,23 @@ use Rattle.std.specs.Prelude.{slice_get, Contains}
 use Rattle.std.specs.List.{list_any}
 use Rattle.std.specs.Option.{option_map_or}
 use Rattle.std.proofs.lemmas.Bool.{and_parts}
-use Rattle.abs_path.specs.Paths.{Path}
-use Rattle.call_table.specs.Table.{every_call}
-use Rattle.call_table.specs.declared.listed.CallLine.{CallLine}
-use Rattle.site_table.specs.declared.row.Row.{Row}
-use Rattle.kernel_calls.specs.declared.call.Call.{Call}
-use Rattle.kernel_laws.specs.Bound.{can_have_for, ceiling, if_listed, is_call_open, is_open}
-use Rattle.kernel_calls.specs.Rules.{rule_of}
-use Rattle.kernel_laws.specs.Launched.{Launch}
-use Rattle.question_types.specs.declared.wish.Wish.{Wish}
-use Rattle.question_types.specs.declared.question.Question.{Question}
-use Rattle.question_types.specs.declared.question.Question.TheVariants as asking
-use Rattle.kernel_laws.specs.Questions.{questions}
-use Rattle.kernel_model.specs.World.{World}
-use Rattle.kernel_ways.specs.Laws.{IsFit, IsServedWorld}
-use Rattle.kernel_ways.proofs.FitQuestions.{listed_are_fit}
+use Rattle.ceilings.specs.abs_path.Paths.{Path}
+use Rattle.ceilings.specs.call_table.Table.{every_call}
+use Rattle.ceilings.specs.call_table.declared.listed.CallLine.{CallLine}
+use Rattle.ceilings.specs.site_table.declared.row.Row.{Row}
+use Rattle.ceilings.specs.kernel_model.declared.kernel_calls.call.Call.{Call}
+use Rattle.ceilings.specs.kernel_laws.Bound.{can_have_for, ceiling, if_listed, is_call_open, is_open}
+use Rattle.ceilings.specs.kernel_model.kernel_calls.Rules.{rule_of}
+use Rattle.ceilings.specs.kernel_laws.Launched.{Launch}
+use Rattle.ceilings.specs.kernel_laws.declared.question_types.wish.Wish.{Wish}
+use Rattle.ceilings.specs.kernel_laws.declared.question_types.question.Question.{Question}
+use Rattle.ceilings.specs.kernel_laws.declared.question_types.question.Question.TheVariants as asking
+use Rattle.ceilings.specs.kernel_laws.Questions.{questions}
+use Rattle.ceilings.specs.kernel_model.World.{World}
+use Rattle.ceilings.specs.kernel_ways.Laws.{IsFit, IsServedWorld}
+use Rattle.ceilings.proofs.KernelWays.FitQuestions.{listed_are_fit}
 use Rattle.questions.proofs.Among.{has_contained, all_had}
-use Rattle.chosen_calls.specs.Chosen.{calls_for, is_called, row_calls}
+use Rattle.open_calls.specs.chosen_calls.Chosen.{calls_for, is_called, row_calls}
 
 module _ (launch : Launch) (program : Path) (place : ℕ) where
   pub row_is : (wish : Wish) (row : Row) → slice_get launch.site.rows place ≡ Some row → row_calls launch program wish row ≡ calls_for launch program (asking.Path wish place)

@@ -8,6 +8,7 @@
 
 mod answering;
 mod basis;
+pub mod chosen_calls;
 mod exposing;
 mod first;
 mod firsts;
@@ -20,4 +21,5 @@ mod service;
 mod ways;
 
 pub use answering::calls;
+pub use questions;
 pub use service::Service;

@@ -1,10 +1,10 @@
 //! Programs of seccomp(2) as bytes in hex, stacks of them, and why they are refused.
-use bpf_code::{Program, ProgramError, Stack};
-use call_rules::{Action, CallRules, RuleSet};
+use exec_settings::linux_numbers::actions::ALLOW;
+use filter_check::bpf_code::{Program, ProgramError, Stack};
+use filter_check::call_rules::{Action, CallRules, RuleSet};
 use filter_check::check;
-use linux_numbers::actions::ALLOW;
+use filter_check::seccomp_compile::can_compile;
 use row_tools::{bytes_of, number, said};
-use seccomp_compile::can_compile;
 use std::alloc::{AllocError, Global};
 
 /// Why a program is refused, by the reader or where it is compared with rules that end the process at every call.

@@ -1,14 +1,14 @@
 //! Readers, and why they refuse the text of a row.
 use crate::escapes::bytes_of;
-use abs_path::{AbsPath, PathError};
-use call_table::read_calls;
-use path_settings::{Kind, Mention, MentionError, Mentions};
+use exec_settings::abs_path::{AbsPath, PathError};
+use exec_settings::call_table::read_calls;
+use exec_settings::path_settings::{Kind, Mention, MentionError, Mentions};
+use exec_settings::site_table::read_site;
+use exec_settings::text_forms::words;
+use exec_settings::unit_grammar::read_unit;
+use exec_settings::unit_names::{UnitName, expand};
 use row_tools::{long_path, number, said, text_of};
-use site_table::read_site;
 use std::alloc::{AllocError, Global};
-use text_forms::words;
-use unit_grammar::read_unit;
-use unit_names::{UnitName, expand};
 
 /// What the call of a row answers: why a text is refused, or that it is read.
 pub fn answer(alloc: Global, row: &[&str]) -> Result<String, AllocError> {

@@ -1,11 +1,11 @@
 //! Settings of a unit, and why there are none.
-use cred_settings::identity_of_unit;
+use exec_settings::cred_settings::identity_of_unit;
+use exec_settings::mount_settings::{Switches, mount_settings, written_paths};
+use exec_settings::path_settings::Mentions;
 use exec_settings::settings;
+use exec_settings::site_table::SiteTable;
 use mount_plan::plan;
-use mount_settings::{Switches, mount_settings, written_paths};
-use path_settings::Mentions;
 use row_tools::{Inputs, Texts, said};
-use site_table::SiteTable;
 use std::alloc::{AllocError, Global};
 
 /// Why the unit of these lines has no settings, no ids, or no plan; or what comes first of them.

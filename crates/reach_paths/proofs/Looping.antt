@@ -3,14 +3,14 @@ use Rattle.std.proofs.Common.{◌≡◌, ◌≤◌, ◌∙◌, ℕ, zero, suc, B
 use Rattle.std.specs.Prelude.{slice_get, not, ◌||◌, ◌&&◌}
 use Rattle.std.specs.List.{list_any}
 use Rattle.std.proofs.lemmas.Bool.{and_from}
-use Rattle.abs_path.specs.Paths.{Path, tail_of, parts_of, is_normal}
-use Rattle.abs_path.specs.Prefix.{is_prefix, rest_of, rest_text}
-use Rattle.kern_mounts.specs.Entry.{leads_to}
-use Rattle.kern_mounts.specs.declared.step.What.TheVariants.{Host}
-use Rattle.abs_path.proofs.Reading.{parts_behind}
-use Rattle.kern_mounts.specs.declared.step.MountStep.{MountStep}
-use Rattle.kern_mounts.specs.Split.{Table}
-use Rattle.question_types.specs.declared.wish.Wish.{Wish}
+use Rattle.kernel_laws.specs.abs_path.Paths.{Path, tail_of, parts_of, is_normal}
+use Rattle.kernel_laws.specs.abs_path.Prefix.{is_prefix, rest_of, rest_text}
+use Rattle.kernel_laws.specs.kern_mounts.Entry.{leads_to}
+use Rattle.kernel_laws.specs.kern_mounts.declared.step.What.TheVariants.{Host}
+use Rattle.kernel_laws.proofs.AbsPath.Reading.{parts_behind}
+use Rattle.kernel_laws.specs.kern_mounts.declared.step.MountStep.{MountStep}
+use Rattle.kernel_laws.specs.kern_mounts.Split.{Table}
+use Rattle.kernel_laws.specs.declared.question_types.wish.Wish.{Wish}
 use Rattle.kernel_laws.specs.Reach.{fits, shows_row, serves, reach_from}
 
 pub from_here : (table : Table) (at : ℕ) (entry : MountStep) → slice_get table at ≡ Some entry → drop at table ≡ entry ∷ drop (at + 1) table

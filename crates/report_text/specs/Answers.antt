@@ -2,14 +2,14 @@
 use Rattle.std.specs.Prelude.{ℕ, List, [], ◌∷◌, ◌++◌, codes}
 use Rattle.std.specs.Fmt.{decimal}
 use Rattle.std.specs.List.{flat_map}
-use Rattle.abs_path.specs.Paths.{Path, text_of}
-use Rattle.call_table.specs.Table as calls
-use Rattle.site_table.specs.Table.{Site}
-use Rattle.text_forms.specs.Escaped.{escaped_word}
-use Rattle.kernel_calls.specs.declared.call.Call.{Call}
-use Rattle.question_types.specs.declared.question.Question.{Question}
-use Rattle.question_types.specs.declared.verdict.Verdict.{Verdict}
-use Rattle.question_types.specs.declared.verdict.Verdict.TheVariants.{Denied, Open}
+use Rattle.exposure_score.specs.abs_path.Paths.{Path, text_of}
+use Rattle.exposure_score.specs.call_table.Table as calls
+use Rattle.exposure_score.specs.site_table.Table.{Site}
+use Rattle.exposure_score.specs.text_forms.Escaped.{escaped_word}
+use Rattle.questions.specs.kernel_model.declared.kernel_calls.call.Call.{Call}
+use Rattle.questions.specs.kernel_laws.declared.question_types.question.Question.{Question}
+use Rattle.questions.specs.kernel_laws.declared.question_types.verdict.Verdict.{Verdict}
+use Rattle.questions.specs.kernel_laws.declared.question_types.verdict.Verdict.TheVariants.{Denied, Open}
 use Rattle.script_text.specs.Printed.{call_text}
 use Rattle.report_text.specs.Wording.{question_words}
 

@@ -1,18 +1,18 @@
 //! The lines of answers to questions, those of blind folders, and the count of all questions.
 ghost use Rattle.std.specs.Prelude.{◌≡◌, ◌++◌, Contains, IfOk, OnOk, flat_map};
-ghost use Rattle.kernel_laws.specs.Questions.{questions};
+ghost use Rattle.questions.specs.kernel_laws.Questions.{questions};
 ghost use Rattle.report_text.specs.Answers.{blind_line, call_line, open_lines, question_line, summary_line, verdict_line, verdict_word};
 
 use crate::wording::push_question;
-use abs_path::AbsPath;
-use call_table::CallTable;
-use kernel_calls::Call;
-use question_types::{Question, Verdict};
+use exposure_score::abs_path::AbsPath;
+use exposure_score::call_table::CallTable;
+use exposure_score::site_table::SiteTable;
+use exposure_score::text_forms::push_word;
+use questions::kernel_laws::question_types::{Question, Verdict};
+use questions::kernel_model::kernel_calls::Call;
 use questions::laws::members;
 use script_text::push_call;
-use site_table::SiteTable;
 use std::alloc::{AllocError, Global};
-use text_forms::push_word;
 
 fn verdict_word(verdict: Verdict) -> &'static str
     ensures { result.now ≡ verdict_word verdict }

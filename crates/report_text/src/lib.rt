@@ -15,6 +15,11 @@ mod wording;
 pub use answers::{
     open_lines, push_blind_line, push_call_lines, question_line, summary_line, verdict_line,
 };
+pub use exposure_score;
+pub use exposure_score::{call_table, dropin_merge, site_table, text_forms, unit_grammar};
 pub use launches::{Launched, killed_line, launched_line, privileged_line, refused_line};
 pub use notes::{note_line, unit_line};
+pub use questions;
+pub use questions::kernel_laws;
 pub use scores::{exposure_line, score_line};
+pub use script_text;

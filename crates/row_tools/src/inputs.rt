@@ -4,11 +4,11 @@
 use crate::held::HeldText;
 use crate::wording::{said, text_of};
 use call_table::{CallTable, read_calls};
+use dropin_merge::unit_grammar::{Text, read_unit};
+use dropin_merge::unit_names::UnitName;
 use dropin_merge::{Resolved, UnitFile, UnitFiles};
 use site_table::{SiteTable, read_site};
 use std::alloc::{AllocError, Global};
-use unit_grammar::{Text, read_unit};
-use unit_names::UnitName;
 
 /// A unit, a table of calls and a site.
 #[derive(Drop)]

@@ -3,9 +3,9 @@ use Rattle.std.proofs.Common.{◌≡◌, ℕ, ◌≤◌, true, false, pos, Some,
 use Rattle.std.specs.List.{list_all}
 use Rattle.toml.specs.Data.{Data, Members, integer, array, table, no_members, member}
 use Rattle.toml.specs.View.{items_of}
-use Rattle.toml_shapes.specs.Tree.{elements}
-use Rattle.toml_shapes.specs.Keys.{is_table}
-use Rattle.site_table.specs.Reading.{top_faults, size_faults, row_faults, faults_of, unless_fault, site_of_tree, site_in}
+use Rattle.launcher.specs.toml_shapes.Tree.{elements}
+use Rattle.launcher.specs.toml_shapes.Keys.{is_table}
+use Rattle.launcher.specs.site_table.Reading.{top_faults, size_faults, row_faults, faults_of, unless_fault, site_of_tree, site_in}
 use Rattle.sample_inputs.specs.Site.{site_rows, site_users, site_groups, site_tree}
 use Rattle.sample_inputs.proofs.GoodRows.{no_faults}
 use Rattle.sample_inputs.proofs.EachRow.{each_row}

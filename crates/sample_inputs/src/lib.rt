@@ -10,6 +10,7 @@ mod calls;
 mod inputs;
 pub mod laws;
 mod rows;
+pub mod sample_launch;
 mod site;
 mod unit;
 

@@ -6,9 +6,9 @@ use Rattle.std.specs.Result.{result_ok}
 use Rattle.std.proofs.lemmas.Bool.Decides.{nat_tests}
 use Rattle.std.proofs.lemmas.List.{length-append}
 use Rattle.std.proofs.lemmas.List.Elements.{filter_map-append}
-use Rattle.line_text.specs.Lines.{Line}
-use Rattle.call_table.specs.Table.{Table}
-use Rattle.kernel_calls.specs.declared.call.Call.{Call}
+use Rattle.kernel_model.specs.text_forms.line_text.Lines.{Line}
+use Rattle.kernel_model.specs.call_table.Table.{Table}
+use Rattle.kernel_model.specs.declared.kernel_calls.call.Call.{Call}
 use Rattle.script_text.specs.Progress.{Adds, HasRead, ReadsLine, ReadsScript}
 use Rattle.script_text.specs.Scripts.{most_calls, line_call, fault_by, fault_at, fault_of, calls_of, unless_fault, script_of_lines}
 use Rattle.script_text.specs.declared.error.ScriptError.{ScriptError}

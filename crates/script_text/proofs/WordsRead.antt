@@ -4,7 +4,7 @@ use Rattle.std.specs.Prelude.{◌==◌, ◌&&◌}
 use Rattle.std.specs.Char.{is_digit, digit_value}
 use Rattle.std.proofs.lemmas.Bool.{and_from}
 use Rattle.std.proofs.lemmas.Bool.Decides.{nat_tests}
-use Rattle.text_forms.specs.Escaped.{with_byte, word_read, code_read}
+use Rattle.kernel_model.specs.text_forms.Escaped.{with_byte, word_read, code_read}
 use Rattle.script_text.specs.Escapes.{GivesByte, GivesCode}
 use denote.Ref.{Bor}
 

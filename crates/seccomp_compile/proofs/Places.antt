@@ -2,10 +2,10 @@
 use Rattle.std.proofs.Common.{◌≡◌, ℕ, ◌+◌, ◌-◌, ◌%◌, ◌<◌, ◌≤◌, Bool, true, false, cond, List, [], ◌∷◌, ◌++◌, length, drop, refl, sym, ap, ◌∙◌, subst, arith, length-append}
 use Rattle.std.specs.Prelude.{nat_le}
 use Rattle.std.proofs.lemmas.Bool.{leb-true}
-use Rattle.bpf_code.specs.declared.machine.Insn.{Insn}
-use Rattle.bpf_code.specs.declared.machine.CallData.{CallData}
-use Rattle.bpf_code.specs.declared.machine.Regs.{Regs}
-use Rattle.bpf_code.proofs.Endings.{drop_at_found}
+use Rattle.call_rules.specs.bpf_code.declared.machine.Insn.{Insn}
+use Rattle.call_rules.specs.bpf_code.declared.machine.CallData.{CallData}
+use Rattle.call_rules.specs.bpf_code.declared.machine.Regs.{Regs}
+use Rattle.call_rules.proofs.BpfCode.Endings.{drop_at_found}
 use Rattle.call_rules.specs.Tested.{Tested}
 use Rattle.call_rules.specs.declared.actions.Action.{Action}
 use Rattle.call_rules.specs.Action.{test_holds}

@@ -5,15 +5,15 @@ use Rattle.std.specs.Prelude.{not, nat_lt, nat_le, ◌&&◌, ◌==◌, slice_ind
 use Rattle.std.specs.List.{flat_map}
 use Rattle.std.proofs.lemmas.Bool.{lt-ltb, eq-eqb, eqb-true}
 use Rattle.std.proofs.lemmas.Nat.{and_mask}
-use Rattle.bpf_code.specs.declared.machine.Insn.{Insn}
-use Rattle.bpf_code.specs.declared.machine.CallData.{CallData}
-use Rattle.bpf_code.specs.declared.machine.Regs.{Regs}
-use Rattle.bpf_code.specs.declared.program.Fault.TheVariants as fault
-use Rattle.bpf_code.specs.Ops.{op_of}
-use Rattle.bpf_code.specs.Effects.{halves, words_of, effect_by}
-use Rattle.bpf_code.specs.Meaning.{counted, goes_on, run_from}
-use Rattle.bpf_code.specs.Accepted.{fault_of, is_scratch_load, unless}
-use Rattle.bpf_code.proofs.Endings.{run_from-skip}
+use Rattle.call_rules.specs.bpf_code.declared.machine.Insn.{Insn}
+use Rattle.call_rules.specs.bpf_code.declared.machine.CallData.{CallData}
+use Rattle.call_rules.specs.bpf_code.declared.machine.Regs.{Regs}
+use Rattle.call_rules.specs.bpf_code.declared.program.Fault.TheVariants as fault
+use Rattle.call_rules.specs.bpf_code.Ops.{op_of}
+use Rattle.call_rules.specs.bpf_code.Effects.{halves, words_of, effect_by}
+use Rattle.call_rules.specs.bpf_code.Meaning.{counted, goes_on, run_from}
+use Rattle.call_rules.specs.bpf_code.Accepted.{fault_of, is_scratch_load, unless}
+use Rattle.call_rules.proofs.BpfCode.Endings.{run_from-skip}
 use Rattle.call_rules.specs.Tested.{Tested}
 use Rattle.call_rules.specs.Action.{test_holds}
 use Rattle.call_rules.specs.declared.actions.Action.{Action}

@@ -1,7 +1,7 @@
 -- The instructions of compiled programs.
 use Rattle.std.specs.Prelude.{◌≡◌, ℕ, ◌+◌, ◌-◌, ◌*◌, ◌^◌, ◌==◌, if◌then◌else◌, List, [], ◌∷◌}
-use Rattle.bpf_code.specs.declared.machine.Insn.{Insn}
-use Rattle.bpf_code.specs.Codes as bpf
+use Rattle.call_rules.specs.bpf_code.declared.machine.Insn.{Insn}
+use Rattle.call_rules.specs.bpf_code.Codes as bpf
 use Rattle.call_rules.specs.Action.{word_of}
 use Rattle.call_rules.specs.declared.actions.Action.{Action}
 use Rattle.seccomp_compile.specs.declared.tree.Comparison.{Comparison}

@@ -6,16 +6,16 @@ use Rattle.std.specs.Result.{IsErrAnd}
 use Rattle.std.proofs.lemmas.List.{get_or-map, length-map, map-append, take_more}
 use Rattle.std.proofs.lemmas.List.Elements.{All-push}
 use Rattle.std.proofs.lemmas.Option.{slice_get-get_or}
-use Rattle.call_table.specs.Table as calls
-use Rattle.site_table.specs.Table.{Site}
-use Rattle.kernel_laws.specs.Questions as asked
-use Rattle.line_text.specs.Lines.{Line, is_text, text_of}
-use Rattle.line_text.specs.Views.{line_view}
-use Rattle.line_text.specs.declared.lines.Line.{Line as ReadLine}
-use Rattle.question_types.specs.declared.question.Question.{Question}
+use Rattle.asked_service.specs.call_table.Table as calls
+use Rattle.asked_service.specs.site_table.Table.{Site}
+use Rattle.asked_service.specs.kernel_laws.Questions as asked
+use Rattle.asked_service.specs.text_forms.line_text.Lines.{Line, is_text, text_of}
+use Rattle.asked_service.specs.text_forms.line_text.Views.{line_view}
+use Rattle.asked_service.specs.text_forms.declared.line_text.lines.Line.{Line as ReadLine}
+use Rattle.asked_service.specs.kernel_laws.declared.question_types.question.Question.{Question}
 use Rattle.question_text.specs.Printed.{ArePrinted, IsPrintedSo}
 use Rattle.question_text.specs.declared.printed.PrintedQuestion.{PrintedQuestion}
-use Rattle.report_text.specs.Wording.{question_words}
+use Rattle.asked_service.specs.report_text.Wording.{question_words}
 use Rattle.tighten_command.specs.Keeping.{AreOf, AreTooMany, IsFirstOther, ReadsKeep, ReadsLines, questions, text_lines}
 use Rattle.tighten_command.specs.declared.keeping.KeepError.{KeepError}
 use Rattle.tighten_command.specs.declared.keeping.KeepError.TheVariants.{Memory}

@@ -1,18 +1,18 @@
 -- What a step of preparing tells.
 use Rattle.std.proofs.Common.{◌≡◌, ℕ, List, Result, Ok, Err, sym, subst}
 use Rattle.std.specs.Prelude.{IsErrOf}
-use Rattle.command_answers.specs.declared.ending.Ending.{Ending}
-use Rattle.command_answers.specs.declared.ending.Ending.TheVariants.{Done, LaunchRefused, Refused}
-use Rattle.command_answers.specs.declared.stop.Stop.{Stop}
-use Rattle.command_answers.specs.declared.stop.Stop.TheVariants as stop
-use Rattle.tighten.specs.Tight.{IsTight, Tightens}
-use Rattle.tighten.specs.Tried.{Tried}
-use Rattle.tighten.specs.declared.tight.Tight.{Tight}
-use Rattle.tighten.specs.declared.tight.TightenError.{TightenError}
-use Rattle.tighten.specs.declared.tight.TightenError.TheVariants as error
+use Rattle.asked_service.specs.unit_inputs.declared.command_answers.ending.Ending.{Ending}
+use Rattle.asked_service.specs.unit_inputs.declared.command_answers.ending.Ending.TheVariants.{Done, LaunchRefused, Refused}
+use Rattle.asked_service.specs.unit_inputs.declared.command_answers.stop.Stop.{Stop}
+use Rattle.asked_service.specs.unit_inputs.declared.command_answers.stop.Stop.TheVariants as stop
+use Rattle.tighten_command.specs.tightening.Tight.{IsTight, Tightens}
+use Rattle.tighten_command.specs.tightening.Tried.{Tried}
+use Rattle.tighten_command.specs.declared.tightening.tight.Tight.{Tight}
+use Rattle.tighten_command.specs.declared.tightening.tight.TightenError.{TightenError}
+use Rattle.tighten_command.specs.declared.tightening.tight.TightenError.TheVariants as error
 use Rattle.tighten_command.specs.Lines.{tight_text}
 use Rattle.tighten_command.specs.Telling.{IsTold, TellsError, TellsTight, denies, no_launch, no_plan, no_settings, refuses_wish, tightened}
-use Rattle.command_answers.specs.declared.ready_text.ReadyText.{ReadyText}
+use Rattle.asked_service.specs.unit_inputs.declared.command_answers.ready_text.ReadyText.{ReadyText}
 
 module _ (P : Ending → List ℕ → Type 0) where
   -- what is told by one relation is told by another

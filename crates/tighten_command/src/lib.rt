@@ -11,5 +11,6 @@ mod command;
 mod keep_file;
 mod keeping;
 mod lines;
+pub mod tightening;
 
 pub use command::prepare;

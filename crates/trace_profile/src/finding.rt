@@ -1,13 +1,13 @@
 //! The least list, derived.
 
-ghost use Rattle.launched_units.specs.Launching.{IsNotLaunched};
+ghost use Rattle.asked_service.specs.launched_units.Launching.{IsNotLaunched};
 ghost use Rattle.trace_profile.specs.Derived.{Derives, Serves, tried_with};
 ghost use Rattle.trace_profile.specs.Extended.{extended};
 ghost use Rattle.trace_profile.specs.Finding.{DerivesOpen};
 ghost use Rattle.std.specs.Prelude.{◌≡◌, All, IfOk, IfErr, None, length};
 ghost use Rattle.trace_profile.specs.Derived.{IsLeast};
 ghost use Rattle.trace_profile.specs.Searching.{AreServing, tried_of};
-ghost use Rattle.kernel_calls.specs.Calls.{IsCall};
+ghost use Rattle.asked_service.specs.kernel_model.kernel_calls.Calls.{IsCall};
 
 use crate::derived::{DeriveError, Derived, Names};
 use crate::extending::extended;
@@ -16,13 +16,13 @@ use crate::replies::replies_of;
 use crate::scripts::first_seccomp;
 use crate::searching::Trial;
 use crate::used::used_marks;
-use call_table::CallTable;
-use dropin_merge::Resolved;
-use kernel_calls::{Call, fits};
-use kernel_model::Reply;
-use launched_units::{UnitRefusal, launch_whole};
-use script_text::Script;
-use site_table::SiteTable;
+use asked_service::call_table::CallTable;
+use asked_service::dropin_merge::Resolved;
+use asked_service::kernel_model::Reply;
+use asked_service::kernel_model::kernel_calls::{Call, fits};
+use asked_service::launched_units::{UnitRefusal, launch_whole};
+use asked_service::script_text::Script;
+use asked_service::site_table::SiteTable;
 use std::alloc::{AllocError, Global};
 
 // Names that serve: those that the script uses, which as a rule do, or else all.

@@ -7,6 +7,7 @@
 //! `derive(alloc, &unit, &calls, &site, &script)?.names` are places of call lines, and `drop_in` is the text that allows them.
 #![tactic(auto)]
 
+pub mod allow_laws;
 mod derived;
 mod extending;
 mod finding;
@@ -16,6 +17,7 @@ mod scripts;
 mod searching;
 mod used;
 
+pub use asked_service::dropin_merge;
 pub use derived::{DeriveError, Derived, Names};
 pub use extending::drop_in;
 pub use finding::derive;

@@ -11,6 +11,8 @@ mod answering;
 mod asking;
 mod command;
 mod lines;
+pub mod lines_command;
+pub mod opening_lines;
 mod telling;
 
 pub use command::prepare;

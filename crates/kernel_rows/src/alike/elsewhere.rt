@@ -1,26 +1,26 @@
 //! A service on the other site of a pair, by the law of two sites.
 ghost use Rattle.std.specs.Prelude.{◌≡◌, true, [], Ok, Some, IfOk};
 ghost use Rattle.kernel_rows.specs.Elsewhere.{AreSameThere, IsBlindThere, IsSameThere};
-ghost use Rattle.ceilings.specs.Own.{IsCeilingOf};
-ghost use Rattle.exec_settings.specs.AreSettings.{AreSettings};
-ghost use Rattle.kern_mounts.specs.Launch.{CanBeMounted};
-ghost use Rattle.kernel_laws.specs.Denied.{IsBlind};
-ghost use Rattle.kernel_laws.specs.Launched.{launch_of};
-ghost use Rattle.launcher.specs.Answers.{given_bytes};
-ghost use Rattle.mount_plan.specs.Answers.{Plans};
-ghost use Rattle.mount_plan.specs.Host.{host_of};
-ghost use Rattle.site_table.specs.Table.{kind_at};
-ghost use Rattle.site_table.specs.declared.kinds.RowKind.TheVariants.{Dir};
-ghost use Rattle.unit_launch.specs.Launching.{IsLaunched};
+ghost use Rattle.asked_service.specs.ceilings.Own.{IsCeilingOf};
+ghost use Rattle.asked_service.specs.exec_settings.AreSettings.{AreSettings};
+ghost use Rattle.asked_service.specs.kern_mounts.Launch.{CanBeMounted};
+ghost use Rattle.asked_service.specs.kernel_laws.Denied.{IsBlind};
+ghost use Rattle.asked_service.specs.kernel_laws.Launched.{launch_of};
+ghost use Rattle.asked_service.specs.launcher.Answers.{given_bytes};
+ghost use Rattle.asked_service.specs.mount_plan.Answers.{Plans};
+ghost use Rattle.asked_service.specs.mount_plan.Host.{host_of};
+ghost use Rattle.asked_service.specs.site_table.Table.{kind_at};
+ghost use Rattle.asked_service.specs.site_table.declared.kinds.RowKind.TheVariants.{Dir};
+ghost use Rattle.asked_service.specs.unit_launch.Launching.{IsLaunched};
 
 use crate::alike::asked::Asked;
-use abs_path::AbsPath;
-use ceilings::{Ceiling, ceiling};
-use exec_settings::Settings;
-use judge::{alike, blind};
-use kern_mounts::MountStep;
-use launcher::{FilterProgram, Launched};
-use site_table::RowKind;
+use asked_service::abs_path::AbsPath;
+use asked_service::ceilings::{Ceiling, ceiling};
+use asked_service::exec_settings::Settings;
+use asked_service::judge::{alike, blind};
+use asked_service::kern_mounts::MountStep;
+use asked_service::launcher::{FilterProgram, Launched};
+use asked_service::site_table::RowKind;
 use std::alloc::{AllocError, Global};
 
 // The law at these settings and their plan, which meet what it asks, and at any programs. It does nothing.

@@ -1,8 +1,8 @@
 //! Pairs of sites, and whether a service can tell them apart.
 use crate::alike::asked::Asked;
 use crate::alike::traces::{Trace, trace_of};
+use asked_service::script_text::read_script;
 use row_tools::{inputs_of, said, site_of};
-use script_text::read_script;
 use std::alloc::{AllocError, Global};
 
 /// What the service comes to on both sites of a pair.

@@ -1,23 +1,23 @@
 //! What a unit comes to on a site: its launch and the replies to calls.
 ghost use Rattle.std.specs.Prelude.{Ok};
-ghost use Rattle.exec_settings.specs.AreSettings.{AreSettings};
-ghost use Rattle.kern_mounts.specs.Launch.{CanBeMounted};
-ghost use Rattle.mount_plan.specs.Answers.{Plans};
-ghost use Rattle.mount_plan.specs.Host.{host_of};
-ghost use Rattle.unit_launch.specs.Launching.{IsLaunched};
+ghost use Rattle.asked_service.specs.exec_settings.AreSettings.{AreSettings};
+ghost use Rattle.asked_service.specs.kern_mounts.Launch.{CanBeMounted};
+ghost use Rattle.asked_service.specs.mount_plan.Answers.{Plans};
+ghost use Rattle.asked_service.specs.mount_plan.Host.{host_of};
+ghost use Rattle.asked_service.specs.unit_launch.Launching.{IsLaunched};
 
 use crate::alike::asked::Asked;
 use crate::alike::elsewhere::is_blind_there;
 use crate::replies::reply_text;
-use exec_settings::{Settings, settings};
-use kern_mounts::MountStep;
-use kernel_calls::Call;
-use kernel_model::World;
-use launcher::Launched;
-use mount_plan::plan;
+use asked_service::exec_settings::{Settings, settings};
+use asked_service::kern_mounts::MountStep;
+use asked_service::kernel_model::World;
+use asked_service::kernel_model::kernel_calls::Call;
+use asked_service::launcher::Launched;
+use asked_service::mount_plan::plan;
+use asked_service::unit_launch::{UnitLaunch, launch_unit};
 use row_tools::said;
 use std::alloc::{AllocError, Global};
-use unit_launch::{UnitLaunch, launch_unit};
 
 /// What a unit comes to, as text, and whether the launched service is blind to the folder that is asked for.
 #[derive(Drop)]

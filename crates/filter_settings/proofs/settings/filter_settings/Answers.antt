@@ -1,6 +1,6 @@
 use Rattle.std.proofs.Common.{codes, sym, subst, ap, ◌++◌, ◌∙◌}
-use Rattle.filter_rules.specs.Known.{HasKnownFamilies}
-use Rattle.filter_rules.specs.Refusing.{AreRefusing}
+use Rattle.filter_settings.specs.filter_rules.Known.{HasKnownFamilies}
+use Rattle.filter_settings.specs.filter_rules.Refusing.{AreRefusing}
 use Rattle.filter_settings.specs.Settings.{filter_notes}
 use Rattle.filter_settings.proofs.KnownOnes.{unit_families_known}
 use Rattle.filter_settings.proofs.Refusals.{settings_refuse}

@@ -1,4 +1,4 @@
-use Rattle.launched_units.specs.declared.refusal.UnitRefusal.TheVariants.{Memory}
+use Rattle.asked_service.specs.declared.launched_units.refusal.UnitRefusal.TheVariants.{Memory}
 use Rattle.trace_profile.specs.Finding.{DerivesOpen}
 use Rattle.trace_profile.proofs.Tried.{at_error, derived_is, every_serve, not_opened}
 use Rattle.trace_profile.proofs.finding.derive_open.Goals as goal

@@ -1,6 +1,6 @@
 use Rattle.std.proofs.Common.{sym, subst}
 use Rattle.std.specs.Prelude.{IfErr}
-use Rattle.launched_units.specs.Launching.{IsLaunchedUnit, IsNotLaunched}
+use Rattle.asked_service.specs.launched_units.Launching.{IsLaunchedUnit, IsNotLaunched}
 use Rattle.trace_profile.specs.Extended.{extended}
 use Rattle.trace_profile.proofs.Tried.{at_error}
 use Rattle.trace_profile.proofs.finding.replies_with.Goals as goal

@@ -1,6 +1,6 @@
 use Rattle.std.proofs.Common.{◌≡◌, ℕ, List, ap, subst, ◌∙◌}
-use Rattle.judge.specs.Alike.{IsAlike}
-use Rattle.launcher.specs.Answers.{given_bytes, launch_with}
+use Rattle.asked_service.specs.judge.Alike.{IsAlike}
+use Rattle.asked_service.specs.launcher.Answers.{given_bytes, launch_with}
 use Rattle.kernel_rows.proofs.alike.elsewhere.is_blind_at.Goals as goal
 
 pub returns-clause-same_there : goal.returns-clause-same_there
