@@ -1,7 +1,7 @@
-//! Normal absolute paths, by whole parts: reading, prefixes, the rest after a prefix, byte order.
+//! Normal absolute paths, by whole parts: reading, prefixes, what lies behind one, byte order.
 //!
-//! An `AbsPath` has no empty part, no `.`, no `..` and no NUL, and at most 512 bytes. [`place_tree`] finds the last of many
-//! places that leads to a path. The crate uses std and `arrayvec`. `AbsPath::read(alloc, "/a//b/")?.text()` is `/a/b`.
+//! An `AbsPath` has no empty part, no `.`, no `..` and no NUL, and at most 512 bytes.
+//! The crate rests on std and `arrayvec`; `AbsPath::read(alloc, "/a//b/")?.text()` is `/a/b`.
 #![tactic(auto)]
 
 mod error;

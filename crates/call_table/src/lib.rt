@@ -1,12 +1,12 @@
-//! Reads the table of system calls in calls.txt, and answers by name and by number.
+//! The table of system calls that calls.txt gives.
 //!
-//! Its lines say for which ABI it is (syscalls(2)), or for which two; the calls of each ABI with their numbers and the
-//! capabilities that they need; groups of calls; and families of sockets.
+//! Its lines say which ABI it is for (syscalls(2)), or which two, the calls of each with their numbers and
+//! the capabilities that they ask for, groups of calls, and families of sockets. A `CallTable` answers by
+//! name and by number. It rests on `line_text` for lines and words, on `text_forms` for numbers, on
+//! `cap_sets` for names of capabilities, on `call_names` for the calls that take none, and on `name_table`
+//! for lines by name.
 //!
-//! - [`call_names`] lists the calls that the modelled kernel knows by name.
-//! - [`call_words`] names the calls of either ABI, as scripts and reports do.
-//!
-//! If a file has the line `call read 0`, `read_calls(alloc, bytes)?.number("read")` is `Some(0)`.
+//! Where a file has the line `call read 0`, `read_calls(alloc, bytes)?.number("read")` is `Some(0)`.
 #![tactic(auto)]
 
 mod by_number;

@@ -1,8 +1,7 @@
-//! Finds the files that say what a unit is, and the values that they give to its keys.
+//! Which files say what a unit is, and what they say.
 //!
-//! A unit has a fragment and drop-ins that change it, in folders of several locations (systemd.unit(5)). `resolve` reads them
-//! over a `host_io` shelf, each by `unit_grammar`. [`unit_values`] reads the values of a key over all files; `exec_settings`
-//! reads what they mean.
+//! A unit has a fragment and drop-ins that change it, in folders of several locations; systemd.unit(5) has
+//! the rules. It reads them over a `host_io` shelf, each by `unit_grammar`; `exec_settings` reads what they set.
 //!
 //! `resolve(alloc, &mut shelf, "web.service")?` has the files in force, in the order of use.
 #![tactic(auto)]

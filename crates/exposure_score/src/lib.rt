@@ -1,12 +1,10 @@
-//! Scores the exposure of a service: what its sandbox leaves open, weighed by a policy.
+//! The exposure of a service: what its sandbox leaves open, weighed by a policy.
 //!
-//! - [`policy_file`] reads a policy from JSON.
-//! - [`service_facts`] says how bad each setting of a service is, test by test (systemd-analyze(1), security).
-//! - [`policy_weights`] says whether a policy weighs anything at all.
+//! Each test of a policy has a badness, by a fact of the service's settings or by a stored test that is handed in; the more
+//! of its range that is, the more of its weight counts. It stands on `policy_file` for policies and on `cap_sets` for the
+//! sets of capabilities among the facts.
 //!
-//! Each test of a policy has a badness, by a fact of the settings or by a stored test that the caller hands in. The badness
-//! decides how much of the test's weight counts. `score(alloc, &policy, &facts, &tests)?.exposure` is 0 if nothing is bad and 100
-//! if everything is.
+//! `score(alloc, &policy, &facts, &tests)?.exposure` is 0 where nothing is bad and 100 where everything is.
 #![tactic(auto)]
 
 mod arithmetic;

@@ -1,10 +1,8 @@
-//! Compares a program of another maker with the rules of a filter: does it decide every call as they do?
+//! Whether a program of another maker decides every call as the rules of a filter do.
 //!
-//! - [`filter_lines`] reads such a program from a file.
-//! - [`filter_paths`] finds all paths of a program with the call data that take them, as sets of words ([`word_sets`]).
-//!
-//! `check(alloc, &program, &rules)?` is `Same` with the number of paths, or `Differs` with the least call data on which the two
-//! answer differently. The crate uses `seccomp_compile` for the program of the rules.
+//! It stands on `filter_paths` for the paths of programs and on `seccomp_compile` for the program of the rules:
+//! `check(alloc, &program, &rules)?` is `Same` with the number of paths, or `Differs` with the least call data at which the two
+//! answer otherwise.
 #![tactic(auto)]
 
 mod checking;

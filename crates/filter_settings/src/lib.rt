@@ -1,7 +1,8 @@
-//! Reads the keys of the system call filters, and makes the rules of the filters that they ask for.
+//! What the keys of the system call filters say.
 //!
-//! The values of a key are read in their order; a value that cannot be read is noted and ignored (systemd.exec(5)).
-//! [`filter_rules`] has the settings and makes their filters as rules by number.
+//! The values that a unit gives to a key are read in their order, and what cannot be read is noted and passed over;
+//! systemd.exec(5) has the keys. It stands on `unit_values` for the values, on `call_table` for names and numbers,
+//! and on `filter_rules` for what the settings are.
 //!
 //! `filter_settings(alloc, &unit, &table)?` has the settings that `filter_rules::filters` takes, with the notes.
 #![tactic(auto)]

@@ -1,7 +1,7 @@
-//! Defines the questions about a launched service, and says which of them the kernel's rules let no list of calls reach.
+//! What is asked of a launched service, and what the kernel's rules let no list of calls reach.
 //!
-//! [`question_types`] has the types of questions. All else is definitions in specs/, and functions whose contracts are laws over
-//! them. The crate uses `kernel_model`; the crates that launch and judge cite its words.
+//! There is no code: the definitions stand in specs/, and each function's contract is a law over them.
+//! It rests on `kernel_model`; the crates that launch and judge cite its words.
 #![tactic(auto)]
 
 ghost use Rattle.kernel_laws.specs.Blind.{BlindIsSound, ExposedAtOnce, ExposedByMount, ExposesByUnmounts};

@@ -2,7 +2,7 @@
 //! (path_resolution(7), stat(2), open(2), execve(2), mount(2), umount2(2)).
 //!
 //! Whether the caller may make the call is asked before: nothing here looks at capabilities.
-//! It rests on `kern_mounts` for tables, on `site_table` for rows and on `kern_creds` for the marks of programs;
+//! The crate rests on `kern_mounts` for tables, on `site_table` for rows and on `kern_creds` for the marks of programs;
 //! `see(&table, &site, &path)?` is `()` where the path is there.
 
 mod find;

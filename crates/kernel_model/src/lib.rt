@@ -1,12 +1,8 @@
-//! A modelled Linux kernel: processes that share mount tables, and what each of their calls does (syscalls(2)).
+//! A modelled Linux kernel: processes that share mount tables, and what each of their calls comes to (syscalls(2)).
 //!
-//! A `World` borrows a table of calls and a site. It starts with one process, which is root and has no filter programs:
-//! `World::start(alloc, &calls, &site)?.step(alloc, &call)?` is the reply to its first call.
-//!
-//! - [`kernel_calls`] has calls as processes make them, and the rule that a table gives each number.
-//! - [`kern_files`] answers the calls that name paths, over a mount table and the rows of the site.
-//!
-//! The crate uses `bpf_code` for what the caller's programs decide, and `kern_creds` and `kern_mounts` for the rules.
+//! A `World` is started with a table of calls and a site, which it borrows, and has one process, as root and without programs:
+//! `World::start(alloc, &calls, &site)?.step(alloc, &call)?` is the reply to its first call. It rests on `kernel_calls` for what
+//! a call asks for, on `bpf_code` for what the caller's programs decide about it, and on `kern_creds` and `kern_files` for rules.
 #![tactic(auto)]
 
 mod calls;

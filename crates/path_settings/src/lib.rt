@@ -1,8 +1,7 @@
-//! Reads what settings say of paths, and says what a service finds at a path by them.
+//! What settings say of paths: mentions in written order, and how each word of a setting becomes one.
 //!
-//! The keys are ReadWritePaths= and its kin, BindPaths=, TemporaryFileSystem=, and StateDirectory= with its kin (systemd.exec(5),
-//! Sandboxing). Each word becomes a mention; mentions keep their written order. [`view_map`] says by the mentions what stands at
-//! a path.
+//! The keys are ReadWritePaths= and its kin, BindPaths=, TemporaryFileSystem= and StateDirectory= with its kin
+//! (systemd.exec(5), Sandboxing). It stands on `abs_path`; `view_map` says what a service finds by mentions.
 //!
 //! `read_mention(alloc, PathKey::ReadOnlyPaths, "-/srv")?` is an optional mention that `/srv` is read-only.
 #![tactic(auto)]

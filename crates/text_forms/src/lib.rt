@@ -1,12 +1,7 @@
-//! Reads and writes small forms of text: numbers, booleans, errno names, words of a list, escaped words, and lines.
+//! Small forms of text: numbers, booleans, errno names, words of a list, escaped words.
 //!
 //! The rules are those of systemd.syntax(7) in the profile that the judge takes.
-//!
-//! - `read_u64`, `read_bool`, `errno_number`, `words`, `push_word` and their kin read or write one form each.
-//! - [`line_text`] cuts a text into lines and a line into words.
-//! - [`item_list`] has the lists that definitions compare in place of a `Vec`.
-//!
-//! The crate uses `linux_numbers` for errno names and `itoa` for digits. `read_u64("0x10")` is `Some(16)`.
+//! The crate rests on `linux_numbers`, and on `itoa` for the digits of numbers; `read_u64("0x10")` is `Some(16)`.
 #![tactic(auto)]
 
 mod booleans;

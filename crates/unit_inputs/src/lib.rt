@@ -1,10 +1,11 @@
-//! Reads what every command on a unit begins with: the unit with its drop-ins, calls.txt, site.toml, and the settings.
+//! What every command on a unit begins with: the unit with its drop-ins, calls.txt and site.toml, and the settings that they give.
 //!
-//! They are read in this order; the first refusal gives the line that is printed. [`command_answers`] says what every command
-//! does: it is prepared, and then printed line by line.
+//! They are read in this order, and the first that is refused gives the line that is printed, the settings last. It stands on
+//! `dropin_merge`, `call_table` and `site_table` for what each of them says, on `exec_settings` for the settings, and on
+//! `command_answers`.
 //!
-//! `read_inputs(alloc, &mut shelf, "web.service")?` has the three, and `settle_unit` the settings with them, or they stop with
-//! the line of the first refusal. A command on all units reads the two tables alone.
+//! `read_inputs(alloc, &mut shelf, "web.service")?` has the three, and `settle_unit` the settings with them, or they stop with the
+//! line of the first refusal. A command on all units reads the two tables alone.
 #![tactic(auto)]
 
 mod calls;
