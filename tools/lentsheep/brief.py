@@ -246,7 +246,7 @@ def _partings(found: Sequence[Parting], page: Page) -> list[str]:
 def _touching(parting: Parting) -> list[str]:
     """A parting with what it touches and what closes it, in parts that are not broken."""
     touched = [counted(len(parting.answers or ()), "answer")] * bool(parting.answers)
-    touched += [counted(len(parting.blind), "blind folder")] * bool(parting.blind)
+    touched += [counted(len(topmost(parting.blind)), "blind folder")] * bool(parting.blind)
     closing = [word for at, line in enumerate(parting.closed_by) for word in ["or"] * (at > 0) + [line]]
     return [*_parting_name(parting).split(), *", ".join(touched).split()] + (["closed", "by", *closing] if closing else [])
 
