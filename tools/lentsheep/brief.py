@@ -248,7 +248,8 @@ def _touching(parting: Parting) -> list[str]:
     touched = [counted(len(parting.answers or ()), "answer")] * bool(parting.answers)
     touched += [counted(len(topmost(parting.blind)), "blind folder")] * bool(parting.blind)
     closing = [word for at, line in enumerate(parting.closed_by) for word in ["or"] * (at > 0) + [line]]
-    return [*_parting_name(parting).split(), *", ".join(touched).split()] + (["closed", "by", *closing] if closing else [])
+    text = ", ".join(touched) + ";" * bool(closing)
+    return [*_parting_name(parting).split(), *text.split()] + (["closed", "by", *closing] if closing else [])
 
 
 def _parting_name(parting: Parting) -> str:
