@@ -5,12 +5,12 @@ from typing import Callable, Iterable
 
 from . import parting_keys as keys
 from .judged import Judged
-from .parting_lists import families_behind_none, more_capabilities, more_namespaces
+from .parting_lists import ALL, capabilities_here, families_behind_none, more_capabilities, more_namespaces
 from .places import is_below
 from .table import read_groups
 from .touches import Test, at, given_by, left_to, of_kinds, sockets
 from .unit_text import Said
-from .values import PATH_KINDS, Answer
+from .values import PATH_KINDS, Answer, Launched
 
 Keys = tuple[str, ...]
 # No key of the unit meets it: the host does.
@@ -169,6 +169,52 @@ def asks_manager(judged: Judged) -> Keys:
     hidden = [judged.is_open("see", path) is False for path in ("/run/systemd/private", "/run/dbus/system_bus_socket")]
     makes = judged.has_answers and judged.is_open("socket", "AF_UNIX") is not False
     return ("User",) if judged.is_root and makes and not all(hidden) else ()
+
+
+def kernel_ways(judged: Judged) -> dict[str, str]:
+    """By the capability that the service can have, the calls by which it changes the kernel or reads a disk."""
+    ways = {"CAP_SYS_MODULE": ("init_module", "finit_module"), "CAP_SYS_RAWIO": ("iopl", "ioperm"), "CAP_MKNOD": ("mknod", "mknodat")}
+    if judged.said.is_on("PrivateDevices"):
+        del ways["CAP_MKNOD"]
+    return {
+        capability: " ".join(calls) for capability, calls in ways.items()
+        if judged.holds(capability) and any(judged.passes(call) for call in calls)
+    }  # fmt: skip
+
+
+def kernel_itself(judged: Judged) -> Keys:
+    """A capability, and a call, that reach below all that is judged."""
+    return ("CapabilityBoundingSet",) if kernel_ways(judged) else ()
+
+
+def kernel_closed(judged: Judged) -> Iterable[str]:
+    """The capabilities, or the calls."""
+    found = kernel_ways(judged)
+    return without(judged, " ".join(found)), f"SystemCallFilter=~{' '.join(found.values())}"
+
+
+def privileged_files(judged: Judged) -> Keys:
+    """A capability by which a file can be given privileges, without no_new_privs."""
+    launch = judged.report.launch if judged.report else None
+    if not isinstance(launch, Launched) or launch.no_new_privs:
+        return ()
+    gives = judged.holds("CAP_SETFCAP") and judged.passes("setxattr")
+    takes = (judged.holds("CAP_CHOWN") or judged.holds("CAP_FOWNER")) and judged.passes("chown", "chmod")
+    return ("NoNewPrivileges",) if gives or takes else ()
+
+
+# Capabilities that keys take off the bounding set.
+TAKEN = {
+    "ProtectClock": ("CAP_SYS_TIME", "CAP_WAKE_ALARM"), "ProtectKernelModules": ("CAP_SYS_MODULE",),
+    "ProtectKernelLogs": ("CAP_SYSLOG",), "PrivateDevices": ("CAP_MKNOD", "CAP_SYS_RAWIO"),
+}  # fmt: skip
+
+
+def bounding_answers(judged: Judged) -> Test:
+    """The capabilities of the bounding set that the service cannot have here, and what they give."""
+    bounding = capabilities_here(judged.said.values.get(("Service", "CapabilityBoundingSet"), []), ALL)
+    taken = {capability for key, names in TAKEN.items() if judged.said.is_on(key) for capability in names}
+    return given_by(it for it in bounding - taken if not judged.holds(it))(judged)
 
 
 # Ways round filters

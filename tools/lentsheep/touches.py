@@ -75,7 +75,8 @@ def given_by(capabilities: Iterable[str]) -> Touches:
                 return name in more
             if kind in ("call", "socket"):
                 return judged.table.capabilities.get(name) in more
-            return any(kind in kinds[capability] for capability in more & kinds.keys())
+            # a user namespace asks for no capability
+            return (kind, name) != ("ns", "user") and any(kind in kinds[capability] for capability in more & kinds.keys())
 
         return test
 

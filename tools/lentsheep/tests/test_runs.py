@@ -172,8 +172,8 @@ PARTINGS = {
     # strict beside control groups and tunables; a ring sets the bits that RestrictSUIDSGID= denies
     "vnstat/vnstat.service": """architectures clone3 device-folders file-modes io-uring mdwe-prctl outside-roots personality-question
         run-writable suid-newer-calls sys-writable tmpfile-bits tunables-more wx-programs""",
-    # setns(2) passes, with all that it asks for; 252 lacks mseal(2) and its like
-    "util-linux/fstrim.service": """architectures asks-manager links mdwe-prctl mount-calls older-groups outside-roots sys-writable
+    # setns(2) passes, with all that it asks for, and so does mknod(2); 252 lacks mseal(2) and its like
+    "util-linux/fstrim.service": """architectures asks-manager kernel-itself links mdwe-prctl mount-calls older-groups outside-roots sys-writable
         tunables-more user-namespaces wx-programs""",
     # all files are open by mount(2); a ring makes sockets of other families
     "low-memory-monitor/low-memory-monitor.service": """architectures asks-manager device-folders families-allow-bits io-uring mdwe-prctl
