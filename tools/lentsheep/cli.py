@@ -9,7 +9,7 @@ from typing import Callable, Sequence
 
 from . import compare, expect
 from .brief import brief
-from .gather import view_of
+from .gather import partings_of, view_of
 from .jsonform import json_of
 from .page import page_of, read_names
 from .program import POLICY, TOP, Program, Run
@@ -28,7 +28,8 @@ usage: {COMMAND} [--root DIR ..] --brief judge UNIT          the verdict in one 
        {COMMAND} --compare OLD NEW                           what opened and closed between two reports
 
 A line of FILE is one of a report, as `denied write /etc/shadow`, `open write /var/lib/web` and `blind /srv`, or
-`exposure <= 40`; `#` begins a comment. OLD and NEW are texts of judge.
+`exposure <= 40`; `#` begins a comment. Behind `denied` and `blind` lines `as-run` asks that they hold whatever systemd does
+otherwise (docs/PROFILE.md); without it such lines are told on standard error. OLD and NEW are texts of judge.
 
 The status is the program's; where it is 0, it is 1 where an expectation does not hold, or something opened between the reports.
 It is 2 for wrong words.
@@ -134,9 +135,15 @@ def _expect(program: Program, file: str, words: list[str]) -> int:
     if report is None or run.status != 0:
         return run.status
     report = _with_rows(program, words, report, expectations)
+    found = partings_of(program, run, report)
     failed = 0
     for expectation in expectations:
         reasons = _reasons(program, words, report, expectation, file)
+        doubting = ", ".join(expect.doubts(expectation, report, found)) if not reasons else ""
+        if doubting and expectation.as_run:
+            reasons = [f"it holds only without {doubting}"]
+        elif doubting:
+            print(f"{file}:{expectation.line}: {expectation.text} holds only without {doubting}", file=sys.stderr)
         failed += bool(reasons)
         if reasons:
             write(f"{file}:{expectation.line}: {expectation.text}\n" + "".join(f"  {reason}\n" for reason in reasons))
