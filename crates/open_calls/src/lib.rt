@@ -22,5 +22,5 @@ mod service;
 mod ways;
 
 pub use answering::calls;
-pub use questions;
+pub use questions::questions as questions_questions;
 pub use service::Service;
