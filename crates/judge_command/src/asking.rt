@@ -6,7 +6,7 @@ ghost use Rattle.asked_service.specs.kernel_ways.Offers.{RunsProgram};
 ghost use Rattle.judge_command.specs.Asked.{IsAsked};
 
 use asked_service::{Bounded, Launched, Question, bound};
-use open_calls::questions_questions as questions;
+use questions::questions;
 use std::alloc::{AllocError, Global};
 
 /// A launched service, with what bounds its processes, and all that is asked of it.

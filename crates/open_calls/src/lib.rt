@@ -22,5 +22,4 @@ mod service;
 mod ways;
 
 pub use answering::calls;
-pub use questions::questions as questions_questions;
 pub use service::Service;
