@@ -3,16 +3,16 @@ pub mod Exact
 pub mod Counted
 pub mod OtherPrograms
 pub mod Served
-pub mod Launched
+pub mod LaunchedWhole
 pub mod Started
 pub mod Given
-pub use Rattle.judge.proofs.BpfCode as BpfCode
-pub use Rattle.judge.proofs.CallTable as CallTable
-pub use Rattle.judge.proofs.DropinMerge as DropinMerge
-pub use Rattle.judge.proofs.ExecSettings as ExecSettings
-pub use Rattle.judge.proofs as Judge
-pub use Rattle.judge.proofs.Launcher as Launcher
-pub use Rattle.plan_command.proofs as PlanCommand
-pub use Rattle.report_text.proofs as ReportText
-pub use Rattle.plan_command.proofs.TextForms as TextForms
-pub use Rattle.plan_command.proofs.UnitInputs as UnitInputs
+pub use Rattle.judge.proofs.OfBpfCode as OfBpfCode
+pub use Rattle.judge.proofs.OfCallTable as OfCallTable
+pub use Rattle.judge.proofs.OfDropinMerge as OfDropinMerge
+pub use Rattle.judge.proofs.OfExecSettings as OfExecSettings
+pub use Rattle.judge.proofs as OfJudge
+pub use Rattle.judge.proofs.OfLauncher as OfLauncher
+pub use Rattle.plan_command.proofs as OfPlanCommand
+pub use Rattle.report_text.proofs as OfReportText
+pub use Rattle.plan_command.proofs.TextForms as OfTextForms
+pub use Rattle.plan_command.proofs.UnitInputs as OfUnitInputs

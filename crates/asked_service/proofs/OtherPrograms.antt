@@ -23,11 +23,11 @@ use Rattle.judge.specs.launcher.Launches.{AreRead}
 use Rattle.judge.specs.launcher.LaunchesAlike.{AreInstalled, EndAlike}
 use Rattle.judge.specs.launcher.Matching.{AreMatching}
 use Rattle.judge.specs.launcher.declared.launched.Launched.{Launched as Service}
-use Rattle.judge.proofs.Launcher.Alike.{alike_replies, alike_runs, full_by_own, room_by_bounds}
-use Rattle.judge.proofs.Launcher.Conditions.{settings_can_be_launched}
-use Rattle.judge.proofs.Launcher.LaunchesAlike.{launches_alike}
-use Rattle.judge.proofs.Launcher.Matching.{alike, room}
-use Rattle.judge.proofs.Launcher.Programs.{they_are_read, they_match}
+use Rattle.judge.proofs.OfLauncher.Alike.{alike_replies, alike_runs, full_by_own, room_by_bounds}
+use Rattle.judge.proofs.OfLauncher.Conditions.{settings_can_be_launched}
+use Rattle.judge.proofs.OfLauncher.LaunchesAlike.{launches_alike}
+use Rattle.judge.proofs.OfLauncher.Matching.{alike, room}
+use Rattle.judge.proofs.OfLauncher.Programs.{they_are_read, they_match}
 use Rattle.asked_service.specs.unit_launch.OtherPrograms.{AreOthers, GoesOnAlike, HasRoomByBounds, WhicheverPrograms}
 
 -- programs that match have room in one stack

@@ -19,17 +19,17 @@ use Rattle.judge.specs.kernel_laws.FirstChoice.{Means}
 use Rattle.judge.specs.kernel_laws.Launched.{launch_of}
 use Rattle.judge.specs.kernel_ways.Laws.{IsServedWorld}
 use Rattle.judge.specs.kernel_ways.Offers.{RunsProgram}
-use Rattle.judge.proofs.KernelWays.Serving.{launched_is_served, launched_runs_program}
+use Rattle.judge.proofs.OfKernelWays.Serving.{launched_is_served, launched_runs_program}
 use Rattle.judge.specs.mount_plan.Host.{host_of}
 use Rattle.judge.specs.site_table.Table.{Site, IsSite}
 use Rattle.judge.specs.launcher.declared.launched.Launched.{Launched as Service}
 use Rattle.judge.specs.launcher.Answers.{LaunchesTo, codes_of, given_bytes, wanted_of}
 use Rattle.judge.specs.launcher.LaunchedWorlds.{IsMeant}
 use Rattle.judge.specs.launcher.Launches.{AreRead}
-use Rattle.judge.proofs.Launcher.Conditions.{settings_can_be_launched}
-use Rattle.judge.proofs.Launcher.Matching.{means}
-use Rattle.judge.proofs.Launcher.Programs.{they_are_read, they_match}
-use Rattle.judge.proofs.Launcher.TwoAbis.{filters_there}
+use Rattle.judge.proofs.OfLauncher.Conditions.{settings_can_be_launched}
+use Rattle.judge.proofs.OfLauncher.Matching.{means}
+use Rattle.judge.proofs.OfLauncher.Programs.{they_are_read, they_match}
+use Rattle.judge.proofs.OfLauncher.TwoAbis.{filters_there}
 use Rattle.judge.specs.launcher.Alike.{HasWordArchs}
 
 same_code : (one other : List Insn) → ◌≡◌ {A = Option (List Insn)} (Some one) (Some other) → one ≡ other

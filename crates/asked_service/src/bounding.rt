@@ -7,11 +7,7 @@ ghost use Rattle.judge.specs.kernel_ways.Laws.{IsServedWorld};
 ghost use Rattle.asked_service.specs.Asked.{IsBounded, is_open_by};
 ghost use Rattle.asked_service.specs.Rows.{IsSo};
 
-use judge::ceilings::{Ceiling, ceiling};
-use judge::kernel_laws::question_types::Question;
-use judge::kernel_ways::openness;
-use judge::launcher::Launched;
-use judge::{Verdict, verdict};
+use judge::{Ceiling, Launched, Question, Verdict, ceiling, openness, verdict};
 use std::alloc::{AllocError, Global};
 
 /// A launched service, with what bounds its processes.

@@ -6,8 +6,7 @@ ghost use Rattle.asked_service.specs.Asked.{IsBounded};
 ghost use Rattle.asked_service.specs.Rows.{AreRows, count_open, rows_of};
 
 use crate::bounding::Bounded;
-use judge::kernel_laws::question_types::Question;
-use judge::kernel_ways::openness;
+use judge::{Question, openness};
 use std::alloc::{AllocError, Global};
 
 /// A question, and whether it is open.

@@ -16,7 +16,7 @@ use kernel_ways::kernel_model::World;
 use kernel_ways::kernel_model::kernel_calls::Rule;
 
 /// The rule of a line of the table, by its name; None where the kernel lacks the call.
-#[tactic(auto, unfolding(kernel_ways::specs::kernel_model::kernel_calls::Rules::rule_of))]
+#[tactic(auto, unfolding(kernel_model::specs::kernel_calls::Rules::rule_of))]
 pub fn rule_of(line: &CallLine) -> Option<Rule>
     ensures by_its_name { result ≡ rule_of line.now }
 {

@@ -2,7 +2,7 @@
 use crate::sought::push_line;
 use row_tools::{bytes_of, number, number32};
 use std::alloc::{AllocError, Global};
-use top_call::bpf_code::{CallData, Program, run};
+use top_call::{CallData, Program, bpf_code_run as run};
 
 /// The architecture of x86-64, and that of i386 (audit(7)).
 const X86_64: u32 = 0xc000_003e;

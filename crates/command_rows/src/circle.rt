@@ -3,7 +3,7 @@ use crate::rows::Rows;
 use crate::runs::run_over;
 use crate::sought::push_line;
 use std::alloc::{AllocError, Global};
-use top_call::host_io::are_files;
+use top_call::are_files;
 
 /// Where the script of a list lies.
 const SCRIPT: &str = "list";

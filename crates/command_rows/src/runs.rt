@@ -1,12 +1,10 @@
 //! A run over files in memory, with faults or without.
 use row_tools::said;
 use std::alloc::{AllocError, Global};
-use top_call::asked_service::VerdictRow;
-use top_call::exposure_score::{CustomTest, Facts, ambient_count, writable_paths};
-use top_call::host_io::{MemShelf, MemSink, are_files};
-use top_call::kernel_laws::question_types::{Question, Wish};
-use top_call::run;
-use top_call::tighten_command::tightening::StoredWish;
+use top_call::{
+    CustomTest, Facts, MemShelf, MemSink, Question, StoredWish, VerdictRow, Wish, ambient_count,
+    are_files, run, writable_paths,
+};
 
 /// What fails in a run, how much the sink takes at once, and what wishes answer.
 #[derive(Drop)]

@@ -3,8 +3,7 @@ ghost use Rattle.std.specs.Prelude.{◌≡◌, ◌++◌, IfOk, OnOk};
 ghost use Rattle.deciding_lines.specs.Bare.{bare_places, is_command, place_unless_command, places_of};
 
 use crate::unit_lines::{UnitLine, lines};
-use asked_service::dropin_merge::Resolved;
-use asked_service::dropin_merge::unit_values::Place;
+use asked_service::{Place, Resolved};
 use std::alloc::{AllocError, Global};
 
 /// The key that says what is launched.

@@ -8,11 +8,9 @@ ghost use Rattle.deciding_lines.specs.Tried.{CanBeTried, inputs_without, tried_o
 use crate::bare::bare_places;
 use crate::trial::{Trial, is_open_of};
 use crate::unit_lines::without;
-use asked_service::dropin_merge::unit_values::Place;
-use asked_service::launcher::Launched;
 use asked_service::started_units::start;
-use asked_service::unit_inputs::command_answers::Stop;
 use asked_service::unit_launch::{UnitLaunch, refusal_line};
+use asked_service::{Launched, Place, Stop};
 use std::alloc::{AllocError, Global};
 
 /// What denies a question that is denied.

@@ -5,7 +5,7 @@ ghost use Rattle.deciding_lines.specs.Searching.{IsRound, TriesBack};
 ghost use Rattle.deciding_lines.specs.Tried.{CanBeTried, IsOpenWithout, tried_of};
 
 use crate::trial::Trial;
-use asked_service::dropin_merge::unit_values::Place;
+use asked_service::Place;
 use std::alloc::{AllocError, Global};
 
 // Places, one behind the other.

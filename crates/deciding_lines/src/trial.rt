@@ -6,17 +6,11 @@ ghost use Rattle.asked_service.specs.started_units.Starting.{StartsAs};
 ghost use Rattle.deciding_lines.specs.Tried.{CanBeTried, IsRefusal, IsSaid, TellsOpen, inputs_without, tried_of};
 
 use crate::unit_lines::without;
-use asked_service::bound;
-use asked_service::call_table::CallTable;
-use asked_service::dropin_merge::Resolved;
-use asked_service::dropin_merge::unit_values::Place;
-use asked_service::kernel_laws::question_types::Question;
-use asked_service::kernel_ways::openness;
-use asked_service::launcher::Launched;
-use asked_service::site_table::SiteTable;
 use asked_service::started_units::start;
-use asked_service::unit_inputs::command_answers::Stop;
 use asked_service::unit_launch::UnitLaunch;
+use asked_service::{
+    CallTable, Launched, Place, Question, Resolved, SiteTable, Stop, bound, openness,
+};
 use std::alloc::{AllocError, Global};
 
 /// What sets of lines are tried on, and what is asked.

@@ -18,7 +18,7 @@ use Rattle.replay_command.specs.call_table.Table.{Table, every_call}
 use Rattle.replay_command.specs.call_table.declared.listed.CallLine.{CallLine}
 use Rattle.replay_command.specs.call_table.declared.causes.CallsError.{CallsError}
 use Rattle.replay_command.specs.call_table.declared.causes.CallsError.TheVariants.{NotText}
-use Rattle.replay_command.proofs.CallTable.Places.{some_line}
+use Rattle.replay_command.proofs.OfCallTable.Places.{some_line}
 use Rattle.trace_profile.specs.Extended.{name_at, is_first_line}
 use Rattle.trace_profile.specs.Names.{AreNames}
 use Rattle.trace_profile.specs.PlainNames.{HasPlainNames}

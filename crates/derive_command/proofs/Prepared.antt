@@ -11,8 +11,8 @@ use Rattle.replay_command.specs.unit_inputs.declared.command_answers.ending.Endi
 use Rattle.replay_command.specs.unit_inputs.declared.command_answers.ending.Ending.TheVariants.{Done, LaunchRefused}
 use Rattle.replay_command.specs.unit_inputs.declared.command_answers.stop.Stop.{Stop}
 use Rattle.replay_command.specs.unit_inputs.declared.command_answers.stop.Stop.TheVariants as stop
-use Rattle.replay_command.proofs.UnitInputs.FileCommands.{go_together, ready_is_admitted, stop_is_admitted}
-use Rattle.replay_command.proofs.UnitInputs.Refusing.{stops_as}
+use Rattle.replay_command.proofs.OfUnitInputs.FileCommands.{go_together, ready_is_admitted, stop_is_admitted}
+use Rattle.replay_command.proofs.OfUnitInputs.Refusing.{stops_as}
 use Rattle.replay_command.specs.exec_settings.Mounts.{unit_mentions}
 use Rattle.replay_command.specs.exec_settings.Refusals.{refusal_of}
 use Rattle.replay_command.specs.exec_settings.declared.errors.SettingsError.{SettingsError}
@@ -24,7 +24,7 @@ use Rattle.replay_command.specs.mount_plan.declared.error.PlanError.{PlanError}
 use Rattle.replay_command.specs.plan_command.Refusals.{error_line}
 use Rattle.replay_command.specs.Scripts.{script_in}
 use Rattle.replay_command.specs.asked_service.started_units.Starting.{start_refusals}
-use Rattle.replay_command.proofs.AskedService.Started as started
+use Rattle.replay_command.proofs.OfAskedService.Started as started
 use Rattle.trace_profile.specs.Derived.{IsDerived, IsOnlyOne}
 use Rattle.trace_profile.specs.PlainNames.{HasPlainNames}
 use Rattle.trace_profile.specs.Extended.{drop_in_text, open_unit}
@@ -35,8 +35,8 @@ use Rattle.replay_command.specs.asked_service.unit_launch.Refusals.{refusal_line
 use Rattle.replay_command.specs.asked_service.declared.unit_launch.refusal.LaunchRefusal.{LaunchRefusal}
 use Rattle.replay_command.specs.unit_inputs.SettingsRefusals.{settings_line}
 use Rattle.replay_command.specs.unit_inputs.Settled.{refusals_by}
-use Rattle.replay_command.proofs.UnitInputs.Steps as steps
-use Rattle.replay_command.proofs.UnitInputs.Steps.{AreRead, refusals_with}
+use Rattle.replay_command.proofs.OfUnitInputs.Steps as steps
+use Rattle.replay_command.proofs.OfUnitInputs.Steps.{AreRead, refusals_with}
 use Rattle.replay_command.specs.unit_inputs.command_answers.ReadyTexts.{ending_of, text_of}
 use Rattle.derive_command.specs.Prints.{PrintsAnswer, PrintsDerived, derived, refused, derive_laws}
 use Rattle.derive_command.specs.Refusals.{derive_refusals, opened, refusals_behind, refusals_behind_script, refusals_by_script, seccomp_line}

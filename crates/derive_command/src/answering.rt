@@ -11,16 +11,12 @@ ghost use Rattle.replay_command.specs.unit_inputs.command_answers.ReadyTexts.{en
 ghost use Rattle.derive_command.specs.Refusals.{refusals_behind_script};
 
 use crate::refusals::seccomp_line;
-use replay_command::asked_service::unit_launch::{LaunchRefusal, refusal_line};
-use replay_command::call_table::CallTable;
-use replay_command::plan_command::plan_line;
-use replay_command::script_text::Script;
-use replay_command::site_table::SiteTable;
-use replay_command::unit_inputs::command_answers::{Ending, ReadyText, Stop, refuse};
-use replay_command::unit_inputs::settings_line;
+use replay_command::{
+    CallTable, Ending, LaunchRefusal, ReadyText, ScriptTextScript as Script, SiteTable, Stop,
+    plan_line, refusal_line, refuse, settings_line,
+};
 use std::alloc::Global;
-use trace_profile::dropin_merge::Resolved;
-use trace_profile::{DeriveError, derive, drop_in};
+use trace_profile::{DeriveError, Resolved, derive, drop_in};
 
 // The drop-in that allows these names.
 fn allow_names(alloc: Global, calls: &CallTable, names: &[u32]) -> Result<ReadyText, Stop>

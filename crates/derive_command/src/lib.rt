@@ -11,5 +11,7 @@ mod command;
 mod refusals;
 
 pub use command::prepare;
-pub use replay_command;
-pub use replay_command::{asked_service, host_io, plan_command, text_forms, unit_inputs};
+pub use replay_command::{
+    DirShelf, Ending, MemShelf, MemSink, Shelf, Sink, SinkError, StdSink, UnitInputsReady as Ready,
+    VerdictRow, are_files, finish, put_piece, read_decimal,
+};

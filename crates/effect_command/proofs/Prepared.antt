@@ -11,8 +11,8 @@ use Rattle.judge_command.specs.unit_inputs.declared.command_answers.ending.Endin
 use Rattle.judge_command.specs.unit_inputs.declared.command_answers.ending.Ending.TheVariants.{Done, LaunchRefused}
 use Rattle.judge_command.specs.unit_inputs.declared.command_answers.stop.Stop.{Stop}
 use Rattle.judge_command.specs.unit_inputs.declared.command_answers.stop.Stop.TheVariants as stop
-use Rattle.judge_command.proofs.UnitInputs.FileCommands.{go_together, ready_is_admitted, stop_is_admitted}
-use Rattle.judge_command.proofs.UnitInputs.Refusing.{stops_as}
+use Rattle.judge_command.proofs.OfUnitInputs.FileCommands.{go_together, ready_is_admitted, stop_is_admitted}
+use Rattle.judge_command.proofs.OfUnitInputs.Refusing.{stops_as}
 use Rattle.judge_command.specs.dropin_merge.declared.resolved.Resolved.{Resolved}
 use Rattle.judge_command.specs.dropin_merge.declared.resolved.UnitFile.{UnitFile}
 use Rattle.std.specs.declared.alloc.AllocError.{AllocError}
@@ -23,8 +23,8 @@ use Rattle.judge_command.specs.unit_inputs.declared.inputs.UnitInputs.{UnitInput
 use Rattle.judge_command.specs.asked_service.declared.unit_launch.launching.UnitLaunch.{UnitLaunch}
 use Rattle.judge_command.specs.asked_service.declared.unit_launch.launching.UnitLaunch.TheVariants.{Launched, Refused}
 use Rattle.judge_command.specs.unit_inputs.Settled.{refusals_by}
-use Rattle.judge_command.proofs.UnitInputs.Steps as steps
-use Rattle.judge_command.proofs.UnitInputs.Steps.{AreRead, refusals_with}
+use Rattle.judge_command.proofs.OfUnitInputs.Steps as steps
+use Rattle.judge_command.proofs.OfUnitInputs.Steps.{AreRead, refusals_with}
 use Rattle.effect_command.specs.Lines.{with_line}
 use Rattle.judge_command.specs.asked_service.started_units.Starting.{StartsAs, first_start, given, start_refusals}
 use Rattle.effect_command.specs.Longer.{dropin_in, longer_unit, with_dropin}

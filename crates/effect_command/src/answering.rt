@@ -9,12 +9,7 @@ ghost use Rattle.effect_command.specs.Refusals.{refusals_behind_dropin};
 
 use crate::comparing::compare;
 use crate::starting::start_with;
-use judge_command::asked_service::started_units::start;
-use judge_command::call_table::CallTable;
-use judge_command::dropin_merge::Resolved;
-use judge_command::site_table::SiteTable;
-use judge_command::unit_grammar::UnitText;
-use judge_command::unit_inputs::command_answers::{ReadyText, Stop};
+use judge_command::{CallTable, ReadyText, Resolved, SiteTable, Stop, UnitText, start};
 use std::alloc::{AllocError, Global};
 
 // The unit with the drop-in behind its files.

@@ -12,11 +12,10 @@ ghost use Rattle.judge_command.specs.asked_service.declared.unit_launch.launchin
 
 use crate::lines::with_line;
 use crate::telling::effect_text;
-use judge_command::ask;
-use judge_command::asked_service::unit_launch::{LaunchRefusal, UnitLaunch, refusal_line};
-use judge_command::launcher::Launched;
-use judge_command::unit_inputs::command_answers::{Ending, ReadyText, Stop};
 use judge_command::verdict_changes::changes_are_true;
+use judge_command::{
+    Ending, LaunchRefusal, Launched, ReadyText, Stop, UnitLaunch, ask, refusal_line,
+};
 use std::alloc::Global;
 
 // The line of a launch of the unit that is refused.

@@ -7,11 +7,9 @@ ghost use Rattle.judge_command.specs.unit_inputs.command_answers.Stops.{HasReadC
 ghost use Rattle.judge_command.specs.unit_inputs.UnitRefusals.{text_cause};
 ghost use Rattle.effect_command.specs.Longer.{dropin_in, dropin_said};
 
-use judge_command::dropin_merge::ResolveError;
-use judge_command::host_io::Shelf;
-use judge_command::unit_grammar::{Text, UnitError, UnitText, read_unit};
-use judge_command::unit_inputs::command_answers::{Stop, refuse};
-use judge_command::unit_inputs::{read_input, unit_line};
+use judge_command::{
+    ResolveError, Shelf, Stop, Text, UnitError, UnitText, read_input, read_unit, refuse, unit_line,
+};
 use std::alloc::{AllocError, Global};
 
 // The line of a drop-in that is refused for its text.

@@ -17,5 +17,4 @@ mod starting;
 mod telling;
 
 pub use command::prepare;
-pub use judge_command;
-pub use judge_command::kernel_laws;
+pub use judge_command::{Question, Wish};

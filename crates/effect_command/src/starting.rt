@@ -6,12 +6,7 @@ ghost use Rattle.effect_command.specs.Lines.{with_line};
 ghost use Rattle.effect_command.specs.Stopping.{IsBehindWith};
 
 use crate::lines::with_line;
-use judge_command::asked_service::started_units::start;
-use judge_command::asked_service::unit_launch::UnitLaunch;
-use judge_command::call_table::CallTable;
-use judge_command::dropin_merge::Resolved;
-use judge_command::site_table::SiteTable;
-use judge_command::unit_inputs::command_answers::{Stop, refuse};
+use judge_command::{CallTable, Resolved, SiteTable, Stop, UnitLaunch, refuse, start};
 use std::alloc::Global;
 
 // The same refusal, of the unit with the drop-in.

@@ -10,15 +10,11 @@ ghost use Rattle.effect_command.specs.Told.{changes_at, folder_kinds, folder_lin
 
 use crate::kinds::Kind;
 use crate::lines::{counts_line, folder_line};
-use judge_command::Asked;
-use judge_command::abs_path::AbsPath;
-use judge_command::call_table::CallTable;
-use judge_command::kernel_laws::question_types::Question;
-use judge_command::kernel_model::kernel_calls::Call;
-use judge_command::open_calls::Service;
-use judge_command::report_text::{push_call_lines, question_line};
-use judge_command::site_table::{Row, SiteTable};
 use judge_command::verdict_changes::{FolderChange, VerdictChange, folder_change, verdict_change};
+use judge_command::{
+    AbsPath, Asked, Call, CallTable, Question, Row, Service, SiteTable, push_call_lines,
+    question_line,
+};
 use std::alloc::{AllocError, Global};
 
 // Tells a line.

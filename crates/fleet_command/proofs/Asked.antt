@@ -3,7 +3,7 @@ use Rattle.std.proofs.Common.{◌≡◌, ◌∙◌, ℕ, Bool, true, false, cond
 use Rattle.std.specs.Prelude.{◌==◌, IfSome}
 use Rattle.score_command.specs.host_io.Calls.{Ask, ShelfCall, Course, Whole, Went}
 use Rattle.score_command.specs.host_io.Files.{Files}
-use Rattle.score_command.proofs.HostIo.Calling.{told_behind, told_short}
+use Rattle.score_command.proofs.OfHostIo.Calling.{told_behind, told_short}
 use Rattle.score_command.specs.call_table.Table.{Table}
 use Rattle.score_command.specs.exposure_score.StoredTests.{StoredTests}
 use Rattle.score_command.specs.exposure_score.policy_weights.Weights.{weight_of}
@@ -13,7 +13,7 @@ use Rattle.score_command.specs.unit_inputs.command_answers.Asking.{course, input
 use Rattle.score_command.specs.unit_inputs.command_answers.Stops.{IsAnswer, Prepares, first_refusal}
 use Rattle.score_command.specs.unit_inputs.declared.command_answers.stop.Stop.{Stop}
 use Rattle.score_command.specs.unit_inputs.declared.command_answers.stop.Stop.TheVariants as stop
-use Rattle.score_command.proofs.UnitInputs.Refusing.{before_others}
+use Rattle.score_command.proofs.OfUnitInputs.Refusing.{before_others}
 use Rattle.fleet_command.specs.fleet_names.Asking.{course as names_course, names_asks}
 use Rattle.fleet_command.specs.fleet_names.Units.{are_too_many, units_of}
 use Rattle.fleet_command.specs.declared.fleet_names.errors.NamesError.{NamesError}
@@ -23,7 +23,7 @@ use Rattle.fleet_command.specs.declared.fleet_report.rows.FleetRow.{FleetRow}
 use Rattle.score_command.specs.unit_inputs.Asking.{AsksInOrder, site_asks, table_asks}
 use Rattle.score_command.specs.unit_inputs.CallsRefusals.{calls_in}
 use Rattle.score_command.specs.unit_inputs.SiteRefusals.{site_in}
-use Rattle.score_command.proofs.UnitInputs.Ordering.{asked_so, order_answered, order_refused}
+use Rattle.score_command.proofs.OfUnitInputs.Ordering.{asked_so, order_answered, order_refused}
 use Rattle.score_command.specs.Policies.{policy_in}
 use Rattle.score_command.specs.Weights.{no_weight_line, weight_refusal}
 use Rattle.fleet_command.specs.Asking.{behind_names, behind_site, fleet_asks, read_asks}

@@ -10,7 +10,7 @@ use Rattle.score_command.specs.exposure_score.StoredTests.{StoredTests}
 use Rattle.score_command.specs.exposure_score.declared.facts.Facts.{Facts}
 use Rattle.score_command.specs.exposure_score.declared.policy_file.policy.PolicyTest.{PolicyTest}
 use Rattle.score_command.specs.exposure_score.policy_weights.Weights.{weight_of}
-use Rattle.score_command.proofs.ExposureScore.Weights.{weighs_alike}
+use Rattle.score_command.proofs.OfExposureScore.Weights.{weighs_alike}
 use Rattle.score_command.specs.exposure_score.service_facts.Facts.{AreFacts}
 use Rattle.fleet_command.specs.declared.fleet_report.errors.FleetError.{FleetError}
 use Rattle.fleet_command.specs.declared.fleet_report.errors.FleetError.TheVariants.{NoWeight}

@@ -3,10 +3,10 @@ use Rattle.std.proofs.Common.{◌≡◌, ℕ, ◌+◌, ◌<◌, true, List, [], 
 use Rattle.std.specs.Prelude.{IfSome}
 use Rattle.score_command.specs.host_io.Calls.{ShelfCall, Whole, Cut, Went, NamesIn}
 use Rattle.score_command.specs.host_io.Files.{Files, names_in}
-use Rattle.score_command.proofs.HostIo.Calling.{Going, goes_on, stops_there, went_cut}
+use Rattle.score_command.proofs.OfHostIo.Calling.{Going, goes_on, stops_there, went_cut}
 use Rattle.score_command.specs.dropin_merge.Asking.{folder_asks}
 use Rattle.score_command.specs.dropin_merge.Resolving.{is_overfull}
-use Rattle.score_command.proofs.DropinMerge.Reading.{told_from, told_to}
+use Rattle.score_command.proofs.OfDropinMerge.Reading.{told_from, told_to}
 use Rattle.fleet_command.specs.fleet_names.Asking.{course}
 use Rattle.fleet_command.specs.fleet_names.Steps.{ListsFolder}
 use Rattle.fleet_command.specs.declared.fleet_names.errors.NamesError.{NamesError}

@@ -4,9 +4,9 @@ use Rattle.std.specs.Prelude.{IfErr, IfSome, IsErrOf}
 use Rattle.std.proofs.lemmas.List.{drop_more}
 use Rattle.score_command.specs.host_io.Calls.{Ask, ShelfCall, Whole, Cut, Went}
 use Rattle.score_command.specs.host_io.Files.{Files}
-use Rattle.score_command.proofs.HostIo.Calling.{Going, going_more, going_stops, told_cut, went_short}
+use Rattle.score_command.proofs.OfHostIo.Calling.{Going, going_more, going_stops, told_cut, went_short}
 use Rattle.score_command.specs.unit_names.Names.{Name}
-use Rattle.score_command.proofs.DropinMerge.Reading.{told_from, told_to}
+use Rattle.score_command.proofs.OfDropinMerge.Reading.{told_from, told_to}
 use Rattle.fleet_command.specs.fleet_report.Asking.{course, row_asks, rows_asks}
 use Rattle.fleet_command.specs.declared.fleet_report.errors.FleetError.{FleetError}
 use Rattle.fleet_command.specs.declared.fleet_report.errors.FleetError.TheVariants.{NoWeight, ReadFault, Memory}

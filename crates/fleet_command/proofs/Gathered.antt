@@ -7,7 +7,7 @@ use Rattle.std.proofs.lemmas.List.Elements.{All-push}
 use Rattle.std.proofs.lemmas.List.Sorted.{All-permutation, IsPermutation-map}
 use Rattle.score_command.specs.host_io.Files.{Files}
 use Rattle.score_command.specs.unit_names.Names.{Name}
-use Rattle.score_command.proofs.DropinMerge.Reading.{told_from, told_to}
+use Rattle.score_command.proofs.OfDropinMerge.Reading.{told_from, told_to}
 use Rattle.fleet_command.specs.declared.fleet_report.rows.FleetRow.{FleetRow}
 
 -- one more row, of one more name

@@ -15,7 +15,7 @@ use Rattle.std.proofs.lemmas.Cmp.{nat_list_cmp_total}
 use Rattle.std.proofs.lemmas.Map.Lookups.{exact_bytes}
 use Rattle.std.proofs.lemmas.Map.Text.{is_eq-slice_cmp}
 use Rattle.std.proofs.lemmas.Slice.Eq.{bytes_eq-Decides}
-use Rattle.score_command.proofs.DropinMerge.Ordered.{byte_cmp}
+use Rattle.score_command.proofs.OfDropinMerge.Ordered.{byte_cmp}
 
 -- ---- texts with what a function gives for them
 module _ {X : Type 0} (f : List ℕ → Option X) where

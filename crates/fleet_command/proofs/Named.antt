@@ -13,8 +13,8 @@ use Rattle.score_command.specs.unit_names.Names.{Name}
 use Rattle.score_command.specs.dropin_merge.Places.{locations}
 use Rattle.score_command.specs.dropin_merge.Resolving.{is_overfull}
 use Rattle.score_command.specs.dropin_merge.Winners.{in_byte_order}
-use Rattle.score_command.proofs.DropinMerge.Ordered.{any-in_byte_order, in_byte_order-sorted}
-use Rattle.score_command.proofs.DropinMerge.Reading.{told_from, told_to}
+use Rattle.score_command.proofs.OfDropinMerge.Ordered.{any-in_byte_order, in_byte_order-sorted}
+use Rattle.score_command.proofs.OfDropinMerge.Reading.{told_from, told_to}
 use Rattle.fleet_command.specs.fleet_names.Answers.{AreNamed}
 use Rattle.fleet_command.specs.fleet_names.Steps.{CollectsUnits}
 use Rattle.fleet_command.specs.fleet_names.Units.{are_too_many, units_of}

@@ -11,8 +11,8 @@ use Rattle.score_command.specs.unit_inputs.declared.command_answers.ending.Endin
 use Rattle.score_command.specs.unit_inputs.declared.command_answers.ending.Ending.TheVariants.{Done}
 use Rattle.score_command.specs.unit_inputs.declared.command_answers.stop.Stop.{Stop}
 use Rattle.score_command.specs.unit_inputs.declared.command_answers.stop.Stop.TheVariants as stop
-use Rattle.score_command.proofs.UnitInputs.FileCommands.{go_together, ready_is_admitted, stop_is_admitted}
-use Rattle.score_command.proofs.UnitInputs.Refusing.{behind_none, stops_as, stops_before}
+use Rattle.score_command.proofs.OfUnitInputs.FileCommands.{go_together, ready_is_admitted, stop_is_admitted}
+use Rattle.score_command.proofs.OfUnitInputs.Refusing.{behind_none, stops_as, stops_before}
 use Rattle.score_command.specs.unit_inputs.CallsRefusals.{calls_in}
 use Rattle.score_command.specs.Policies.{policy_in}
 use Rattle.score_command.specs.Weights.{weight_refusal}

@@ -17,9 +17,9 @@ use Rattle.score_command.specs.host_io.Reading.{Lists}
 use Rattle.score_command.specs.unit_names.Cutting.{name_of}
 use Rattle.score_command.specs.unit_names.Names.{Name}
 use Rattle.score_command.specs.dropin_merge.Resolving.{is_overfull}
-use Rattle.score_command.proofs.DropinMerge.Left.{drop_read}
-use Rattle.score_command.proofs.DropinMerge.Listed.{both_ways}
-use Rattle.score_command.proofs.DropinMerge.Reading.{told_from}
+use Rattle.score_command.proofs.OfDropinMerge.Left.{drop_read}
+use Rattle.score_command.proofs.OfDropinMerge.Listed.{both_ways}
+use Rattle.score_command.proofs.OfDropinMerge.Reading.{told_from}
 use Rattle.fleet_command.specs.fleet_names.Steps.{ListsFolder, unit_among, unit_called}
 
 -- ---- a name

@@ -10,9 +10,7 @@ ghost use Rattle.fleet_command.specs.Prints.{ending_of, fleet_laws, text_of};
 use crate::preparing::read_all;
 use crate::ready::Fleet;
 use crate::reporting::report;
-use score_command::exposure_score::{CustomTest, Stored};
-use score_command::host_io::Shelf;
-use score_command::unit_inputs::command_answers::Stop;
+use score_command::{CustomTest, Shelf, Stop, Stored};
 use std::alloc::Global;
 
 /// Prepares `fleet` and the path of a policy: names the units, reads calls.txt, site.toml and the policy, finds the first refusal

@@ -19,5 +19,4 @@ mod wording;
 
 pub use command::prepare;
 pub use ready::Fleet;
-pub use score_command;
-pub use score_command::exposure_score;
+pub use score_command::{CustomTest, Facts, Stored, ambient_count, writable_paths};

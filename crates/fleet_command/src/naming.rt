@@ -7,9 +7,7 @@ ghost use Rattle.score_command.specs.unit_inputs.Asking.{AsksInOrder};
 ghost use Rattle.fleet_command.specs.Refusals.{names_in};
 
 use crate::fleet_names::{NamesError, fleet_names};
-use score_command::host_io::Shelf;
-use score_command::unit_inputs::command_answers::{Stop, refuse, refused_line};
-use score_command::unit_names::UnitName;
+use score_command::{Shelf, Stop, UnitName, refuse, refused_line};
 use std::alloc::Global;
 
 /// The names of the units in byte order, or the line that there are too many.

@@ -8,14 +8,9 @@ ghost use Rattle.fleet_command.specs.Inputs.{AreInputs, inputs_view};
 ghost use Rattle.fleet_command.specs.Refusals.{read_refusals};
 
 use crate::naming::read_names;
-use score_command::call_table::CallTable;
-use score_command::exposure_score::policy_file::Policy;
-use score_command::host_io::Shelf;
-use score_command::read_policy;
-use score_command::site_table::SiteTable;
-use score_command::unit_inputs::command_answers::Stop;
-use score_command::unit_inputs::{read_site, read_table};
-use score_command::unit_names::UnitName;
+use score_command::{
+    CallTable, Policy, Shelf, SiteTable, Stop, UnitName, read_policy, read_site, read_table,
+};
 use std::alloc::Global;
 
 /// What is asked of which units.

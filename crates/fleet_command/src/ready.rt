@@ -2,8 +2,7 @@
 
 use crate::fleet_report::FleetRow;
 use crate::printing::print_fleet;
-use score_command::host_io::{Sink, SinkError};
-use score_command::unit_inputs::command_answers::{Ending, Ready};
+use score_command::{Ending, Sink, SinkError, UnitInputsReady as Ready};
 use std::alloc::Global;
 
 /// What came of all units.

@@ -3,8 +3,7 @@ ghost use Rattle.std.specs.Prelude.{◌≡◌, IfOk, count_by};
 ghost use Rattle.fleet_command.specs.Texts.{counts_line, exposure_line, is_refused, row_line};
 
 use crate::fleet_report::{FleetOutcome, FleetRow};
-use score_command::text_forms::push_word;
-use score_command::unit_inputs::{settings_line, unit_line};
+use score_command::{push_word, settings_line, unit_line};
 use std::alloc::{AllocError, Global};
 
 // The line of a unit that is scored.

@@ -4,10 +4,10 @@ use Rattle.ceilings.specs.call_table.Table as calls
 use Rattle.ceilings.specs.site_table.Table.{Site}
 use Rattle.ceilings.specs.kernel_laws.declared.question_types.question.Question.{Question}
 use Rattle.ceilings.specs.kernel_laws.Questions.{IsAsked, questions}
-use Rattle.ceilings.proofs.KernelLaws.AskedQuestions.{all_asked}
+use Rattle.ceilings.proofs.OfKernelLaws.AskedQuestions.{all_asked}
 use Rattle.ceilings.specs.kernel_model.World.{World}
 use Rattle.ceilings.specs.kernel_ways.Laws.{IsServedWorld, IsExact}
-use Rattle.ceilings.proofs.KernelWays.Exact.{questions_are_exact}
+use Rattle.ceilings.proofs.OfKernelWays.Exact.{questions_are_exact}
 use Rattle.questions.proofs.Among.{has_contained, all_had}
 
 pub asked : (table : calls.Table) (site : Site) (question : Question) → Contains (questions table site) question → IsAsked table question

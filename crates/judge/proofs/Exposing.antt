@@ -5,9 +5,9 @@ use Rattle.ceilings.specs.abs_path.Paths.{Path, tail_of, parts_of, is_normal}
 use Rattle.ceilings.specs.abs_path.Prefix.{is_prefix, rest_of, rest_text}
 use Rattle.ceilings.specs.kern_mounts.Split.{Table}
 use Rattle.ceilings.specs.kern_mounts.declared.step.MountStep.{MountStep}
-use Rattle.ceilings.proofs.AbsPath.Reading.{parts_behind}
+use Rattle.ceilings.proofs.OfAbsPath.Reading.{parts_behind}
 use Rattle.ceilings.specs.kernel_laws.Blind.{shows_below, exposes}
-use Rattle.ceilings.proofs.ReachPaths.Looping.{from_here}
+use Rattle.ceilings.proofs.OfReachPaths.Looping.{from_here}
 
 -- a source that is the folder or leads to it
 pub at_folder : (source folder : Path) (rest : List ℕ) (clear : Path → Bool) → Some rest ≡ rest_text source folder → is_normal folder ≡ true

@@ -7,8 +7,8 @@ use Rattle.ceilings.specs.site_table.Table.{Site, IsSite, kind_at}
 use Rattle.ceilings.specs.site_table.declared.kinds.RowKind.TheVariants.{Dir}
 use Rattle.ceilings.specs.site_table.declared.row.Row.{Row}
 use Rattle.ceilings.specs.kernel_laws.Blind.{IsFolder}
-use Rattle.ceilings.proofs.KernelWays.Rows.{known_at}
-use Rattle.ceilings.proofs.ReachPaths.RowsOfSites.{found_path, found_row, has_dir}
+use Rattle.ceilings.proofs.OfKernelWays.Rows.{known_at}
+use Rattle.ceilings.proofs.OfReachPaths.RowsOfSites.{found_path, found_row, has_dir}
 
 pub dir_is_folder : (site : Site) (path : Path) → IsSite site → kind_at site.rows path ≡ Some Dir → IsFolder path
 dir_is_folder site path is e =

@@ -8,7 +8,7 @@ use Rattle.ceilings.specs.call_table.Table as calls
 use Rattle.ceilings.specs.site_table.Table.{Site, row_at}
 use Rattle.ceilings.specs.kern_creds.declared.creds.Creds.{Creds}
 use Rattle.ceilings.specs.kern_mounts.Mounts.{steps_of}
-use Rattle.ceilings.proofs.KernMounts.Plain.{steps_plain}
+use Rattle.ceilings.proofs.OfKernMounts.Plain.{steps_plain}
 use Rattle.ceilings.specs.kern_mounts.Finds.{finds}
 use Rattle.ceilings.specs.kern_mounts.Split.{Table}
 use Rattle.ceilings.specs.kern_mounts.declared.step.MountStep.{MountStep}
@@ -23,14 +23,14 @@ use Rattle.ceilings.specs.kernel_model.declared.reply.Reply.TheVariants as w
 use Rattle.ceilings.specs.kernel_laws.Questions.{if_so, count_from}
 use Rattle.ceilings.specs.launcher.Launch.{Wanted, LaunchStep, Makes, Mounts, Launched, PrivilegedProgram, makes, first_call, prctl_step, launch_step, launch_steps, launch_on, launch_from, is_privileged_row, mount_steps, with_unshare, if_user, has_flags, capbset_drop, cap_ambient, ambient_raise, set_mode_filter, identity_steps, filter_steps, program_steps, group_steps, drop_steps, inherit_steps, user_steps, raise_steps, left_steps, privilege_steps}
 use Rattle.ceilings.specs.launcher.Launches.{HasLaunchCalls, Leaves}
-use Rattle.ceilings.proofs.Launcher.HostRoot.{begins_at_host}
-use Rattle.ceilings.proofs.Launcher.LaunchCalls.{launch_calls}
-use Rattle.ceilings.proofs.Launcher.LaunchCreds.{IsReady}
-use Rattle.ceilings.proofs.Launcher.LaunchWorld.{launch_leaves, ready_at, filtered}
-use Rattle.ceilings.proofs.Launcher.Leading.{Leads, launched_leads, leads_parts, append_parts}
-use Rattle.ceilings.proofs.Launcher.Solo.{At}
+use Rattle.ceilings.proofs.OfLauncher.HostRoot.{begins_at_host}
+use Rattle.ceilings.proofs.OfLauncher.LaunchCalls.{launch_calls}
+use Rattle.ceilings.proofs.OfLauncher.LaunchCreds.{IsReady}
+use Rattle.ceilings.proofs.OfLauncher.LaunchWorld.{launch_leaves, ready_at, filtered}
+use Rattle.ceilings.proofs.OfLauncher.Leading.{Leads, launched_leads, leads_parts, append_parts}
+use Rattle.ceilings.proofs.OfLauncher.Solo.{At}
 use Rattle.ceilings.specs.mount_plan.Host.{host_of}
-use Rattle.ceilings.proofs.PathSettings.ViewMapLists.{all_appended}
+use Rattle.ceilings.proofs.OfPathSettings.ViewMapLists.{all_appended}
 use Rattle.judge.specs.Worlds.{with_site, LaunchIsBlind}
 use Rattle.judge.proofs.Runs.{FindsSame, PayloadSame, sited, step_sited, finds_same, not_shown, site_kept}
 

@@ -4,23 +4,23 @@ use Rattle.std.specs.Prelude.{nat_le, length}
 use Rattle.std.specs.List.{AllByRecursion}
 use Rattle.std.proofs.lemmas.Bool.{and_parts}
 use Rattle.ceilings.specs.abs_path.Paths.{text_of, is_normal}
-use Rattle.ceilings.proofs.ExecSettings.OtherSites.{settings_rest}
+use Rattle.ceilings.proofs.OfExecSettings.OtherSites.{settings_rest}
 use Rattle.ceilings.specs.kern_mounts.Split.{Table}
 use Rattle.ceilings.specs.kernel_laws.Blind.{IsSmall}
 use Rattle.ceilings.specs.kernel_laws.Launched.{Launch}
 use Rattle.ceilings.specs.launcher.Answers.{wanted_of}
 use Rattle.ceilings.specs.launcher.Launch.{Wanted}
 use Rattle.ceilings.specs.launcher.Launches.{Leaves}
-use Rattle.ceilings.proofs.Launcher.Conditions.{settings_can_be_launched}
-use Rattle.ceilings.proofs.Launcher.LaunchWorld.{launch_leaves}
+use Rattle.ceilings.proofs.OfLauncher.Conditions.{settings_can_be_launched}
+use Rattle.ceilings.proofs.OfLauncher.LaunchWorld.{launch_leaves}
 use Rattle.ceilings.specs.mount_plan.Host.{host_of}
 use Rattle.ceilings.specs.mount_plan.Resting.{ShowsNothingOf}
-use Rattle.ceilings.proofs.MountPlan.PlanIsBlind.{plan_is_blind}
+use Rattle.ceilings.proofs.OfMountPlan.PlanIsBlind.{plan_is_blind}
 use Rattle.ceilings.specs.path_settings.Mentions.{AreKept, is_path, is_whole, has_whole_source}
 use Rattle.ceilings.specs.path_settings.declared.mentions.Mention.{Mention}
 use Rattle.ceilings.specs.site_table.Table.{Site}
 use Rattle.ceilings.specs.path_settings.view_map.Resting.{AreSameSources}
-use Rattle.ceilings.proofs.PathSettings.ViewMapLists.{all_from_test, all_weaker}
+use Rattle.ceilings.proofs.OfPathSettings.ViewMapLists.{all_from_test, all_weaker}
 use Rattle.judge.specs.Alike.{BlindToOthers}
 use Rattle.judge.specs.Sites.{AgreeOutside}
 use Rattle.judge.proofs.LaunchIsBlind.{has_plan, launch_is_blind}

@@ -44,7 +44,7 @@ use Rattle.ceilings.specs.kernel_model.kern_files.MountsCall.{mounts_after_mount
 use Rattle.ceilings.specs.kernel_model.declared.process.Process.{Process}
 use Rattle.ceilings.specs.kernel_model.declared.reply.Reply.{Reply}
 use Rattle.ceilings.specs.kernel_model.declared.reply.Reply.TheVariants as w
-use Rattle.ceilings.proofs.KernelModel.Kernels.{told_stays}
+use Rattle.ceilings.proofs.OfKernelModel.Kernels.{told_stays}
 use Rattle.ceilings.specs.kernel_laws.Denied.{Exposes}
 use Rattle.judge.specs.Sites.{AgreeOutside}
 use Rattle.judge.specs.Worlds.{with_site, RepliesAreBlind}

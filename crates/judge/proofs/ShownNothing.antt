@@ -4,16 +4,16 @@ use Rattle.std.specs.Prelude.{◌&&◌, not}
 use Rattle.std.proofs.lemmas.Bool.{or_right, and_from}
 use Rattle.ceilings.specs.abs_path.Paths.{Path}
 use Rattle.ceilings.specs.abs_path.Prefix.{is_prefix, is_same, is_below, rest_of}
-use Rattle.ceilings.proofs.AbsPath.Prefixes.{prefix-append, same_path, rest-append}
+use Rattle.ceilings.proofs.OfAbsPath.Prefixes.{prefix-append, same_path, rest-append}
 use Rattle.ceilings.specs.kern_mounts.Entry.{leads_to}
 use Rattle.ceilings.specs.kern_mounts.Finds.{host_place}
 use Rattle.ceilings.specs.kern_mounts.Split.{Table}
 use Rattle.ceilings.specs.kern_mounts.declared.step.What.TheVariants.{Host}
-use Rattle.ceilings.proofs.KernMounts.Splits.{split_some}
+use Rattle.ceilings.proofs.OfKernMounts.Splits.{split_some}
 use Rattle.ceilings.specs.kernel_laws.Blind.{is_clear, shows_below, exposes}
-use Rattle.ceilings.proofs.KernelLaws.Blind.{exposes_at, placed, seen_exposes}
-use Rattle.ceilings.proofs.KernelLaws.Exposed.{exposes_seen}
-use Rattle.ceilings.proofs.KernelLaws.Reach.{none_any}
+use Rattle.ceilings.proofs.OfKernelLaws.Blind.{exposes_at, placed, seen_exposes}
+use Rattle.ceilings.proofs.OfKernelLaws.Exposed.{exposes_seen}
+use Rattle.ceilings.proofs.OfKernelLaws.Reach.{none_any}
 use Rattle.ceilings.specs.kernel_model.World.{table_of}
 use Rattle.ceilings.specs.mount_plan.Resting.{ShowsNothingOf}
 use Rattle.judge.specs.Worlds.{BlindIsShownNothing}

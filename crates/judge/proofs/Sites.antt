@@ -3,7 +3,7 @@ use Rattle.std.proofs.Common.{◌≡◌, ◌∙◌, Bool, true, false, cond, Lis
 use Rattle.std.specs.Prelude.{not, option_map}
 use Rattle.ceilings.specs.abs_path.Paths.{Path}
 use Rattle.ceilings.specs.abs_path.Prefix.{is_same, is_below}
-use Rattle.ceilings.proofs.AbsPath.Prefixes.{same_path}
+use Rattle.ceilings.proofs.OfAbsPath.Prefixes.{same_path}
 use Rattle.ceilings.specs.mount_plan.Host.{host_of}
 use Rattle.ceilings.specs.mount_plan.Resting.{AgreeButBelow}
 use Rattle.ceilings.specs.site_table.Kinds.{is_dir}

@@ -14,13 +14,10 @@ ghost use Rattle.ceilings.specs.kernel_ways.Blindness.{IsExposed};
 ghost use Rattle.ceilings.specs.kernel_ways.Laws.{IsServedWorld};
 ghost use Rattle.ceilings.specs.Own.{IsCeilingOf};
 
-use ceilings::abs_path::AbsPath;
-use ceilings::kern_mounts::{MountStep, MountTable, What};
-use ceilings::kernel_laws::question_types::Power;
-use ceilings::kernel_model::World;
-use ceilings::launcher::Launched;
-use ceilings::reach_paths::is_covered;
-use ceilings::{Ceiling, launched_table};
+use ceilings::{
+    AbsPath, Ceiling, Launched, MountStep, MountTable, Power, What, World, is_covered,
+    launched_table,
+};
 
 // Whether no entry behind this number covers the path that the front and the rest make, or what covers it can be taken away.
 fn is_clear(table: &MountTable, at: usize, front: &AbsPath, rest: &str, uncover: bool) -> bool

@@ -17,11 +17,12 @@ mod rows;
 mod two_sites;
 
 pub use blindness::blind;
-pub use ceilings;
-pub use ceilings::kernel_laws::question_types::Verdict;
 pub use ceilings::{
-    abs_path, call_table, dropin_merge, exec_settings, kern_mounts, kernel_laws, kernel_model,
-    kernel_ways, launcher, mount_plan, path_settings, site_table,
+    AbsPath, Call, CallTable, Ceiling, FileNote, FilterProgram, Flags, LaunchError, Launched,
+    Mentions, MountStep, MountSteps, MountTable, PathError, Place, PlanError, Question, Reply,
+    ResolveError, Resolved, Row, RowKind, Settings, SettingsError, SiteTable, UnitFile, UnitFiles,
+    Verdict, What, Wish, World, blindness as kernel_ways_blindness, ceiling, fits, is_judged,
+    launch, openness, plan, service_assignments, settings,
 };
 pub use judging::verdict;
 pub use two_sites::alike;

@@ -11,12 +11,10 @@ ghost use Rattle.ceilings.specs.kernel_laws.declared.question_types.question.Que
 ghost use Rattle.ceilings.specs.kernel_laws.Launched.{Launch, can_make_user, launch_of, lets, lets_line};
 ghost use Rattle.ceilings.specs.Own.{IsCeilingOf};
 
-use ceilings::call_table::CallLine;
-use ceilings::call_table::call_names::is_known;
-use ceilings::kernel_laws::question_types::{CallKind, NamespaceType};
-use ceilings::kernel_model::World;
-use ceilings::linux_numbers::capabilities::CAP_SYS_ADMIN;
-use ceilings::{Ceiling, can_make_user, plain_line_at};
+use ceilings::{
+    CAP_SYS_ADMIN, CallKind, CallLine, Ceiling, NamespaceType, World, can_make_user, is_known,
+    plain_line_at,
+};
 
 // Whether the capability, if one is asked for, can become effective.
 fn can_have_cap(top: &Ceiling, cap: Option<u8>) -> bool

@@ -8,9 +8,7 @@ ghost use Rattle.ceilings.specs.Own.{IsCeilingOf};
 use crate::ids::{is_gid_open, is_uid_open};
 use crate::lines::{is_call_open, is_namespace_open, is_socket_open, passes};
 use crate::rows::is_path_open;
-use ceilings::Ceiling;
-use ceilings::kernel_laws::question_types::{CallKind, Question};
-use ceilings::kernel_model::World;
+use ceilings::{CallKind, Ceiling, Question, World};
 
 // Whether the question is open, by the ceiling of the launched world and the calls that its filters let through.
 pub(crate) fn is_open(world: &World<'_>, ceiling: &Ceiling, question: &Question) -> bool

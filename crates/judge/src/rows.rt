@@ -8,10 +8,7 @@ ghost use Rattle.ceilings.specs.Leads.{leads_of};
 ghost use Rattle.ceilings.specs.Own.{IsCeilingOf};
 
 use crate::lines::makes_user;
-use ceilings::kernel_laws::question_types::{Power, Wish};
-use ceilings::kernel_model::World;
-use ceilings::site_table::Row;
-use ceilings::{Ceiling, RowLeads, is_barred, reach_by};
+use ceilings::{Ceiling, Power, Row, RowLeads, Wish, World, is_barred, reach_by};
 
 // Whether execve refuses the row by its marks on every table that the power makes, and in every user namespace: only mount(2) makes
 // a mount on which they are not looked at, MS_NOSUID, and in a newer user namespace the bounding set is full.

@@ -18,11 +18,7 @@ ghost use Rattle.ceilings.specs.site_table.declared.kinds.RowKind.TheVariants.{D
 ghost use Rattle.judge.specs.Alike.{IsAlike};
 ghost use Rattle.judge.specs.Sites.{AgreeForUnit};
 
-use ceilings::abs_path::AbsPath;
-use ceilings::call_table::CallTable;
-use ceilings::dropin_merge::Resolved;
-use ceilings::launcher::FilterProgram;
-use ceilings::site_table::SiteTable;
+use ceilings::{AbsPath, CallTable, FilterProgram, Resolved, SiteTable};
 
 // What holds of every site; its parts are lent with it.
 fn know_site(site: &SiteTable)

@@ -8,7 +8,7 @@ use Rattle.asked_service.specs.unit_inputs.command_answers.Endings.{is_whole}
 use Rattle.asked_service.specs.unit_inputs.command_answers.Printing.{Output}
 use Rattle.asked_service.specs.unit_inputs.declared.command_answers.ending.Ending.{Ending}
 use Rattle.asked_service.specs.unit_inputs.Asking.{AsksInOrder}
-use Rattle.asked_service.proofs.UnitInputs.Ended.{order_out, order_printed}
+use Rattle.asked_service.proofs.OfUnitInputs.Ended.{order_out, order_printed}
 use Rattle.judge_command.specs.Started.{FinishesStarted, ending_of, text_of}
 use Rattle.judge_command.specs.declared.launching.Outcome.{Outcome}
 use Rattle.judge_command.specs.declared.launching.Outcome.TheVariants as outcome

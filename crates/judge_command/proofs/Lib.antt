@@ -8,6 +8,6 @@ pub mod Lent
 pub mod InOrder
 pub mod Found
 pub mod Changed
-pub use Rattle.asked_service.proofs as AskedService
-pub use Rattle.asked_service.proofs.ReportText as ReportText
-pub use Rattle.asked_service.proofs.UnitInputs as UnitInputs
+pub use Rattle.asked_service.proofs as OfAskedService
+pub use Rattle.asked_service.proofs.OfReportText as OfReportText
+pub use Rattle.asked_service.proofs.OfUnitInputs as OfUnitInputs

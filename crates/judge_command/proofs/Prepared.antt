@@ -15,7 +15,7 @@ use Rattle.asked_service.specs.unit_inputs.Settled.{AreSettled, unit_refusals}
 use Rattle.asked_service.specs.unit_inputs.declared.settling.SettledUnit.{SettledUnit}
 use Rattle.asked_service.specs.plan_command.Planned.{IsPlan, path_refusals}
 use Rattle.asked_service.specs.plan_command.Prints.{plan_refusals}
-use Rattle.asked_service.proofs.PlanCommand.Prepared.{at_paths, refused_as, refused_before}
+use Rattle.asked_service.proofs.OfPlanCommand.Prepared.{at_paths, refused_as, refused_before}
 use Rattle.judge_command.specs.Prepared.{IsPrepared}
 
 -- what stopped is told alike, whatever was wanted

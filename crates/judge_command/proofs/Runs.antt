@@ -9,9 +9,9 @@ use Rattle.asked_service.specs.unit_inputs.command_answers.Stops.{HasReadCause, 
 use Rattle.asked_service.specs.unit_inputs.declared.command_answers.ending.Ending.{Ending}
 use Rattle.asked_service.specs.unit_inputs.declared.command_answers.ending.Ending.TheVariants.{Done, LaunchRefused}
 use Rattle.asked_service.specs.unit_inputs.declared.command_answers.stop.Stop.TheVariants as stop
-use Rattle.asked_service.proofs.UnitInputs.FileCommands.{go_together, ready_is_admitted}
-use Rattle.asked_service.proofs.UnitInputs.Refusing.{quiet}
-use Rattle.asked_service.proofs.UnitInputs.Runs.{ran}
+use Rattle.asked_service.proofs.OfUnitInputs.FileCommands.{go_together, ready_is_admitted}
+use Rattle.asked_service.proofs.OfUnitInputs.Refusing.{quiet}
+use Rattle.asked_service.proofs.OfUnitInputs.Runs.{ran}
 use Rattle.asked_service.specs.call_table.Table as calls
 use Rattle.asked_service.specs.site_table.Table.{Site}
 use Rattle.asked_service.specs.unit_launch.Launching.{ComesTo}

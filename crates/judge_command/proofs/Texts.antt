@@ -22,7 +22,7 @@ use Rattle.asked_service.specs.unit_launch.Told.{told_of}
 use Rattle.asked_service.specs.host_io.Writing.{Grew}
 use Rattle.asked_service.specs.host_io.declared.writing.SinkError.{SinkError}
 use Rattle.asked_service.specs.unit_inputs.command_answers.Printing.{TakesText}
-use Rattle.asked_service.proofs.UnitInputs.Texts.{text_as, text_then}
+use Rattle.asked_service.proofs.OfUnitInputs.Texts.{text_as, text_then}
 use Rattle.judge_command.specs.Answers.{Denied, Open}
 use Rattle.judge_command.specs.Asked.{IsAsked, answer_text, asked_text, folder_text, is_named, launch_in, world_in}
 use Rattle.judge_command.specs.ByRule.{answer_of, answers_of, folders_of}

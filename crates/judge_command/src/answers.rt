@@ -7,11 +7,9 @@ ghost use Rattle.judge_command.specs.Lent.{IsServiceOf};
 
 use crate::asking::Asked;
 use crate::counting::denied_once;
-use asked_service::host_io::{Sink, SinkError};
-use asked_service::judge::{Verdict, verdict};
-use asked_service::kernel_laws::question_types::Question;
-use asked_service::report_text::{open_lines, verdict_line};
-use asked_service::unit_inputs::command_answers::put_lines;
+use asked_service::{
+    Question, Sink, SinkError, Verdict, open_lines, put_lines, verdict, verdict_line,
+};
 use open_calls::{Service, calls};
 use std::alloc::{AllocError, Global};
 

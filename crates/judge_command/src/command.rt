@@ -13,8 +13,7 @@ use crate::launching::{ending_behind, start};
 use crate::preparing::{Prepared, prepare};
 use crate::printing::print_report;
 use crate::reasons::truths;
-use asked_service::host_io::{Shelf, Sink};
-use asked_service::unit_inputs::command_answers::{Ending, ending_after, finish_stop};
+use asked_service::{Ending, Shelf, Sink, ending_after, finish_stop};
 use std::alloc::Global;
 
 // Launches what is prepared and prints the report.

@@ -5,12 +5,7 @@ ghost use Rattle.asked_service.specs.report_text.Answers.{blind_line};
 ghost use Rattle.judge_command.specs.Asked.{IsAsked, IsRowIn, folder_text, is_named};
 
 use crate::asking::Asked;
-use asked_service::abs_path::AbsPath;
-use asked_service::host_io::{Sink, SinkError};
-use asked_service::judge::blind;
-use asked_service::report_text::push_blind_line;
-use asked_service::site_table::{Row, RowKind};
-use asked_service::unit_inputs::command_answers::put_line;
+use asked_service::{AbsPath, Row, RowKind, Sink, SinkError, blind, push_blind_line, put_line};
 use std::alloc::{AllocError, Global};
 
 /// Whether a row is a folder that is blind. It takes no memory.

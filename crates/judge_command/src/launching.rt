@@ -5,7 +5,7 @@ ghost use Rattle.judge_command.specs.Started.{IsStarted, ending_of};
 
 use crate::asking::{Asked, ask};
 use crate::preparing::Prepared;
-use asked_service::unit_inputs::command_answers::Ending;
+use asked_service::Ending;
 use asked_service::unit_launch::{LaunchRefusal, UnitLaunch, launch_unit};
 use std::alloc::{AllocError, Global};
 

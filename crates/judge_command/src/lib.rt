@@ -18,13 +18,18 @@ mod printing;
 mod reasons;
 pub mod verdict_changes;
 
-pub use asked_service;
+pub use asked_service::launched_units::{UnitRefusal, launch_whole};
+pub use asked_service::started_units::start;
+pub use asked_service::unit_launch::{LaunchRefusal, UnitLaunch, refusal_line};
 pub use asked_service::{
-    abs_path, call_table, dropin_merge, host_io, judge, kernel_laws, kernel_model, launcher,
-    report_text, site_table, text_forms, unit_grammar, unit_inputs,
+    AbsPath, Bounded, Call, CallTable, Ending, Launched, Place, Question, Ready, ReadyText,
+    ResolveError, Resolved, Row, Shelf, Sink, SinkError, SiteTable, Stop, Text, UnitError,
+    UnitFile, UnitText, Verdict, Wish, bound, count_open, open_lines, push_call_lines, push_word,
+    put_line, question_line, read_input, read_inputs, read_unit, refuse,
+    unit_inputs_unit_line as unit_line, verdict_line,
 };
 pub use asking::{Asked, ask};
 pub use command::answer;
 pub use folders::is_named;
-pub use open_calls;
+pub use open_calls::{Service, calls};
 pub use reasons::truths;

@@ -7,11 +7,7 @@ ghost use Rattle.asked_service.specs.unit_inputs.Asking.{AsksInOrder, input_asks
 ghost use Rattle.asked_service.specs.unit_inputs.ReadsFor.{ReadsFor};
 ghost use Rattle.judge_command.specs.Prepared.{CanBeStarted, IsPrepared};
 
-use asked_service::host_io::Shelf;
-use asked_service::mount_plan::MountSteps;
-use asked_service::plan_command::plan_mounts;
-use asked_service::unit_inputs::command_answers::Stop;
-use asked_service::unit_inputs::{SettledUnit, settle_unit};
+use asked_service::{MountSteps, SettledUnit, Shelf, Stop, plan_mounts, settle_unit};
 use std::alloc::Global;
 
 /// All that a report starts with.

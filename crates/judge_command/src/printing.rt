@@ -11,13 +11,11 @@ use crate::answers::print_answers;
 use crate::asking::Asked;
 use crate::folders::print_folders;
 use crate::launching::Outcome;
-use asked_service::dropin_merge::Resolved;
-use asked_service::dropin_merge::unit_values::FileNote;
-use asked_service::host_io::{Sink, SinkError};
-use asked_service::report_text::{launched_line, note_line, summary_line, unit_line};
-use asked_service::unit_inputs::SettledUnit;
-use asked_service::unit_inputs::command_answers::put_line;
 use asked_service::unit_launch::{refusal_line, told};
+use asked_service::{
+    FileNote, Resolved, SettledUnit, Sink, SinkError, launched_line, note_line, put_line,
+    report_text_unit_line as unit_line, summary_line,
+};
 use std::alloc::Global;
 
 // Prints notes, one behind the other.

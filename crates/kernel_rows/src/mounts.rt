@@ -1,8 +1,7 @@
 //! Rows over tables of many mounts.
 //!
 //! Each row is a call with its words, parted by bars; it is printed with what came out.
-use asked_service::abs_path::{AbsPath, PathError};
-use asked_service::kern_mounts::{Flags, MountStep, MountTable, What};
+use asked_service::{AbsPath, Flags, MountStep, MountTable, PathError, What};
 use row_tools::{Follow, Shown, number, said, words};
 use std::alloc::{AllocError, Global};
 use std::io;

@@ -1,5 +1,5 @@
 //! Replies of the kernel in words.
-use asked_service::kernel_model::Reply;
+use asked_service::Reply;
 use row_tools::said;
 use std::alloc::{AllocError, Global};
 

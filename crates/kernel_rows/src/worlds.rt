@@ -8,9 +8,7 @@ mod tables;
 
 use crate::replies::reply_text;
 pub use crate::worlds::tables::{Tables, tables_of};
-use asked_service::kernel_model::World;
-use asked_service::kernel_model::kernel_calls::Call;
-use asked_service::script_text::read_script;
+use asked_service::{Call, World, read_script};
 use row_tools::{Follow, Shown, number, said};
 use std::alloc::{AllocError, Global};
 use std::io;

@@ -30,14 +30,14 @@ use Rattle.ceilings.specs.kernel_ways.Offers.{Offers, RunsProgram}
 use Rattle.ceilings.specs.kernel_ways.Showing.{HaveAsked}
 use Rattle.ceilings.specs.kernel_ways.Taking.{id_call}
 use Rattle.ceilings.specs.kernel_ways.Ways.{Way, here, by_creds, CallAt, IsSolo, place_of}
-use Rattle.ceilings.proofs.KernelWays.Solo.{way_join}
-use Rattle.ceilings.proofs.KernelWays.Attained.{uids_after}
-use Rattle.ceilings.proofs.KernelWays.Gains as gains
-use Rattle.ceilings.proofs.KernelWays.Gains.{Basis}
-use Rattle.ceilings.proofs.KernelLaws.Bound.{any_listed}
-use Rattle.ceilings.proofs.KernelWays.Ids.{owner_is, other_way}
-use Rattle.ceilings.proofs.KernelWays.Privileged as privileged
-use Rattle.ceilings.proofs.KernelWays.Showing.{creds_show}
+use Rattle.ceilings.proofs.OfKernelWays.Solo.{way_join}
+use Rattle.ceilings.proofs.OfKernelWays.Attained.{uids_after}
+use Rattle.ceilings.proofs.OfKernelWays.Gains as gains
+use Rattle.ceilings.proofs.OfKernelWays.Gains.{Basis}
+use Rattle.ceilings.proofs.OfKernelLaws.Bound.{any_listed}
+use Rattle.ceilings.proofs.OfKernelWays.Ids.{owner_is, other_way}
+use Rattle.ceilings.proofs.OfKernelWays.Privileged as privileged
+use Rattle.ceilings.proofs.OfKernelWays.Showing.{creds_show}
 use Rattle.open_calls.specs.chosen_calls.Chosen.{runner, taking, id_at_power, id_by_cap, id_by_row, id_calls, uid_calls, gid_calls}
 use Rattle.open_calls.specs.chosen_calls.First.{line_of, own_rule}
 use Rattle.open_calls.specs.chosen_calls.Gaining.{IsRunner, CapWay, at_once, gaining, cap_calls, run_calls}

@@ -19,8 +19,8 @@ use Rattle.questions.specs.filter_settings.declared.filter_rules.namespace_types
 use Rattle.ceilings.specs.kernel_laws.Launched.{Launch, IsLaunched, lets, can_make_user}
 use Rattle.ceilings.specs.kernel_ways.Entering.{pid_in, IsEntered}
 use Rattle.ceilings.specs.kernel_ways.Ways.{IsSolo, place_of}
-use Rattle.ceilings.proofs.KernelWays.InUser.{enters, call_by as made_by}
-use Rattle.ceilings.proofs.KernelWays.Lines.{first_by}
+use Rattle.ceilings.proofs.OfKernelWays.InUser.{enters, call_by as made_by}
+use Rattle.ceilings.proofs.OfKernelWays.Lines.{first_by}
 use Rattle.open_calls.specs.chosen_calls.Chosen.{user_call, pid_inside, call_inside}
 use Rattle.open_calls.proofs.FirstLines.{ChosenLine, chosen, call_is, rule_is}
 

@@ -4,26 +4,26 @@ use Rattle.std.specs.Prelude.{slice_get}
 use Rattle.std.specs.List.{AllByRecursion}
 use Rattle.ceilings.specs.abs_path.Paths.{Path, tail_of, text_of}
 use Rattle.ceilings.specs.abs_path.Prefix.{is_prefix, rest_of}
-use Rattle.ceilings.proofs.AbsPath.Prefixes.{prefix-append, rest-append}
+use Rattle.ceilings.proofs.OfAbsPath.Prefixes.{prefix-append, rest-append}
 use Rattle.ceilings.specs.site_table.declared.row.Row.{Row}
 use Rattle.ceilings.specs.kern_mounts.Entry.{leads_to}
 use Rattle.ceilings.specs.kern_mounts.Launch.{HasShortPlace}
 use Rattle.ceilings.specs.kern_mounts.Split.{Table}
 use Rattle.ceilings.specs.kern_mounts.declared.step.MountStep.{MountStep}
 use Rattle.ceilings.specs.kern_mounts.declared.step.What.TheVariants.{Host}
-use Rattle.ceilings.proofs.KernMounts.Splits.{split_some}
-use Rattle.ceilings.proofs.KernMounts.Unmounting.{append_all}
+use Rattle.ceilings.proofs.OfKernMounts.Splits.{split_some}
+use Rattle.ceilings.proofs.OfKernMounts.Unmounting.{append_all}
 use Rattle.ceilings.specs.kernel_model.kernel_calls.Calls.{IsPath}
 use Rattle.ceilings.specs.kernel_laws.Launched.{Launch}
 use Rattle.ceilings.specs.kernel_laws.declared.question_types.wish.Wish.{Wish}
 use Rattle.ceilings.specs.kernel_laws.declared.question_types.power.Power.TheVariants.{None as Nowise, Unmount as Unmounting}
 use Rattle.ceilings.specs.kernel_laws.Reach.{reach}
 use Rattle.ceilings.specs.reach_paths.First.{LeadsBy, Shows, IsFirst}
-use Rattle.ceilings.proofs.ReachPaths.Naming.{named_both, rest_short}
-use Rattle.ceilings.proofs.ReachPaths.RowsOfSites.{found_row}
-use Rattle.ceilings.proofs.ReachPaths.Serving.{first_by_power}
+use Rattle.ceilings.proofs.OfReachPaths.Naming.{named_both, rest_short}
+use Rattle.ceilings.proofs.OfReachPaths.RowsOfSites.{found_row}
+use Rattle.ceilings.proofs.OfReachPaths.Serving.{first_by_power}
 use Rattle.ceilings.specs.kernel_ways.Offers.{Offers}
-use Rattle.ceilings.proofs.KernelWays.Rows.{IsKnown}
+use Rattle.ceilings.proofs.OfKernelWays.Rows.{IsKnown}
 use Rattle.open_calls.specs.chosen_calls.Exposing.{IsLead}
 use Rattle.open_calls.proofs.Lists.{get_here}
 

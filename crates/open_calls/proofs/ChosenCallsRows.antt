@@ -31,17 +31,17 @@ use Rattle.ceilings.specs.kernel_laws.Reach.{reaches}
 use Rattle.ceilings.specs.kernel_ways.Laws.{IsFit}
 use Rattle.ceilings.specs.kernel_ways.Offers.{Offers, RunsProgram}
 use Rattle.ceilings.specs.kernel_ways.Ways.{Way, here, IsSolo}
-use Rattle.ceilings.proofs.KernelWays.Solo.{way_join}
-use Rattle.ceilings.proofs.KernelWays.Doings.{PathCall, see_path, read_path, write_path, exec_path}
-use Rattle.ceilings.proofs.KernelWays.Exposing.{mounts_pass}
-use Rattle.ceilings.proofs.KernelWays.Gains.{Basis}
-use Rattle.ceilings.proofs.KernelWays.Rows.{IsKnown, known_at}
-use Rattle.ceilings.proofs.KernelWays.Showing.{calls_show}
+use Rattle.ceilings.proofs.OfKernelWays.Solo.{way_join}
+use Rattle.ceilings.proofs.OfKernelWays.Doings.{PathCall, see_path, read_path, write_path, exec_path}
+use Rattle.ceilings.proofs.OfKernelWays.Exposing.{mounts_pass}
+use Rattle.ceilings.proofs.OfKernelWays.Gains.{Basis}
+use Rattle.ceilings.proofs.OfKernelWays.Rows.{IsKnown, known_at}
+use Rattle.ceilings.proofs.OfKernelWays.Showing.{calls_show}
 use Rattle.open_calls.specs.chosen_calls.Chosen.{unmarked, doing_calls, row_calls, user_call, pid_inside, call_inside, inside_calls, row_inside}
 use Rattle.open_calls.proofs.ChosenCallsInside.{user_called, inside_is, at_place}
 use Rattle.ceilings.specs.kernel_ways.Entering.{MakesIn}
-use Rattle.ceilings.proofs.KernelWays.Entering.{calls_show_inside}
-use Rattle.ceilings.proofs.KernelWays.InUser.{exec_inside, after_run}
+use Rattle.ceilings.proofs.OfKernelWays.Entering.{calls_show_inside}
+use Rattle.ceilings.proofs.OfKernelWays.InUser.{exec_inside, after_run}
 use Rattle.ceilings.specs.kern_creds.Enter.{entered}
 use Rattle.ceilings.specs.cap_sets.Sets.{all, IsWithin}
 use Rattle.ceilings.specs.site_table.Table.{IsRowOf}

@@ -4,14 +4,14 @@ use Rattle.std.specs.Prelude.{find, slice_get, not, ◌&&◌, ◌||◌, option_m
 use Rattle.std.specs.Option.{option_or}
 use Rattle.std.proofs.lemmas.Bool.{and_from, and_parts, or_cases, or_left, or_right}
 use Rattle.ceilings.specs.cap_sets.Sets.{has, none, cut}
-use Rattle.ceilings.proofs.Caps.Members.{has_cut, has_union, has_none}
+use Rattle.ceilings.proofs.OfCaps.Members.{has_cut, has_union, has_none}
 use Rattle.ceilings.specs.site_table.declared.row.Row.{Row}
 use Rattle.ceilings.specs.kernel_laws.Bound.{is_owner, can_run, file_gain, gain_at, gathered, when, caps_before, caps_at, with_root, power_by, power_of}
 use Rattle.ceilings.specs.kernel_laws.declared.question_types.kind.CallKind.TheVariants.{ChangesMounts, RemovesMounts, SetsCaps, TakesUid}
 use Rattle.ceilings.specs.kernel_laws.declared.question_types.power.Power.{Power}
 use Rattle.ceilings.specs.kernel_laws.declared.question_types.power.Power.TheVariants.{None as Nowise, Unmount as Unmounting, Mount as Mounting}
 use Rattle.ceilings.specs.kernel_laws.Launched.{Launch, lets}
-use Rattle.ceilings.proofs.KernelWays.Attained.{gathered_from}
+use Rattle.ceilings.proofs.OfKernelWays.Attained.{gathered_from}
 use Rattle.open_calls.specs.chosen_calls.Gaining.{FileWay, Held, ByRun, ByCapset, CapWay, ByFile, ByRoot, AtOnce, Behind, gives_at_once, gives_by_capset, by_rows, by_launch, takes_root, cap_way, at_once, at_power, gain}
 use Rattle.open_calls.proofs.Lists.{member_found}
 

@@ -17,9 +17,9 @@ use Rattle.ceilings.specs.kern_mounts.Unmounts as u
 use Rattle.ceilings.specs.kern_mounts.Unmounts.{Unmounts}
 use Rattle.ceilings.specs.kern_mounts.declared.step.MountStep.{MountStep}
 use Rattle.ceilings.specs.kern_mounts.declared.step.What.TheVariants.{Host}
-use Rattle.ceilings.proofs.AbsPath.Prefixes.{rest-append}
-use Rattle.ceilings.proofs.KernMounts.Splits.{split_some, of_split}
-use Rattle.ceilings.proofs.KernMounts.Unmounting.{append_all, trimmed_part, unmounts_trim}
+use Rattle.ceilings.proofs.OfAbsPath.Prefixes.{rest-append}
+use Rattle.ceilings.proofs.OfKernMounts.Splits.{split_some, of_split}
+use Rattle.ceilings.proofs.OfKernMounts.Unmounting.{append_all, trimmed_part, unmounts_trim}
 use Rattle.ceilings.specs.kernel_model.kern_files.Bits.{has_all}
 use Rattle.ceilings.specs.kernel_model.kern_files.Looking.{flags_at, flags_by}
 use Rattle.ceilings.specs.kernel_model.kern_files.MountCall.{ms_remount_bind, has_other_kind, flags_of}
@@ -34,20 +34,20 @@ use Rattle.ceilings.specs.kernel_laws.declared.question_types.power.Power.TheVar
 use Rattle.ceilings.specs.kernel_laws.Launched.{Launch, IsLaunched, lets}
 use Rattle.ceilings.specs.kernel_laws.Reach.{fits, Leads, reach, reaches}
 use Rattle.ceilings.specs.reach_paths.First.{LeadsBy, Shows, IsFirst}
-use Rattle.ceilings.proofs.ReachPaths.Looping.{from_here}
-use Rattle.ceilings.proofs.ReachPaths.Naming.{named_both, rest_short}
-use Rattle.ceilings.proofs.ReachPaths.Parts.{part_all}
-use Rattle.ceilings.proofs.ReachPaths.RowsOfSites.{found_row}
-use Rattle.ceilings.proofs.ReachPaths.Serving.{first_by_power}
+use Rattle.ceilings.proofs.OfReachPaths.Looping.{from_here}
+use Rattle.ceilings.proofs.OfReachPaths.Naming.{named_both, rest_short}
+use Rattle.ceilings.proofs.OfReachPaths.Parts.{part_all}
+use Rattle.ceilings.proofs.OfReachPaths.RowsOfSites.{found_row}
+use Rattle.ceilings.proofs.OfReachPaths.Serving.{first_by_power}
 use Rattle.ceilings.specs.kernel_ways.Exposures.{CanMount, FindsAt}
 use Rattle.ceilings.specs.kernel_ways.Offers.{Offers}
 use Rattle.ceilings.specs.kernel_ways.Uncovering.{covering, Detaches, still, then_one, umount_calls}
 use Rattle.ceilings.specs.kernel_ways.Ways.{Way, here, CallAt, IsCallAt, place_of, rule_there, passes_at}
-use Rattle.ceilings.proofs.KernelWays.ByName.{unmounts_show_row, two_mounts_show_rows}
-use Rattle.ceilings.proofs.KernelWays.Choices as choices
-use Rattle.ceilings.proofs.KernelWays.Lines.{choice_of}
-use Rattle.ceilings.proofs.KernelWays.Exposing.{HasPower, marks_count, remounted_fits, unmounts_pass, mounts_pass}
-use Rattle.ceilings.proofs.KernelWays.Rows.{IsKnown}
+use Rattle.ceilings.proofs.OfKernelWays.ByName.{unmounts_show_row, two_mounts_show_rows}
+use Rattle.ceilings.proofs.OfKernelWays.Choices as choices
+use Rattle.ceilings.proofs.OfKernelWays.Lines.{choice_of}
+use Rattle.ceilings.proofs.OfKernelWays.Exposing.{HasPower, marks_count, remounted_fits, unmounts_pass, mounts_pass}
+use Rattle.ceilings.proofs.OfKernelWays.Rows.{IsKnown}
 use Rattle.open_calls.specs.chosen_calls.Exposing.{shown_by, shown_if, shown_at, lead, exposing_path, exposing_calls}
 use Rattle.open_calls.specs.chosen_calls.First.{line_of}
 use Rattle.open_calls.proofs.FirstLines.{chosen, place_is}

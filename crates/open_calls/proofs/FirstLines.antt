@@ -12,7 +12,7 @@ use Rattle.ceilings.specs.kernel_laws.declared.question_types.kind.CallKind.{Cal
 use Rattle.ceilings.specs.kernel_laws.Kinds.{words, no_words}
 use Rattle.ceilings.specs.kernel_laws.Launched.{Launch, IsLaunched, lets, lets_line}
 use Rattle.ceilings.specs.kernel_ways.Ways.{place_of}
-use Rattle.ceilings.proofs.KernelWays.Lines.{Line, first_by, line_at}
+use Rattle.ceilings.proofs.OfKernelWays.Lines.{Line, first_by, line_at}
 use Rattle.open_calls.specs.chosen_calls.First.{names_of, lets_name, line_in, first_line, no_line, line_of, args_of, own_rule, call_by}
 use Rattle.open_calls.proofs.Lists.{found_at, any_found, get_front, get_back}
 

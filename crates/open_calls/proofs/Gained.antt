@@ -5,7 +5,7 @@ use Rattle.std.specs.Option.{option_or}
 use Rattle.std.proofs.lemmas.Bool.{and_parts, or_cases, not-true}
 use Rattle.ceilings.specs.abs_path.Paths.{Path}
 use Rattle.ceilings.specs.cap_sets.Sets.{has, none, cut, within}
-use Rattle.ceilings.proofs.Caps.Members.{has_cut, has_none, IsWithin-from_within}
+use Rattle.ceilings.proofs.OfCaps.Members.{has_cut, has_none, IsWithin-from_within}
 use Rattle.ceilings.specs.linux_numbers.Capabilities.{cap_setuid}
 use Rattle.ceilings.specs.site_table.declared.row.Row.{Row}
 use Rattle.ceilings.specs.site_table.Kinds.{is_exe}
@@ -27,13 +27,13 @@ use Rattle.ceilings.specs.kernel_laws.Reach.{reaches}
 use Rattle.ceilings.specs.kernel_ways.Offers.{Offers, RunsProgram}
 use Rattle.ceilings.specs.kernel_ways.Taking.{id_call, sets_call}
 use Rattle.ceilings.specs.kernel_ways.Ways.{Way, here, by_creds, place_of}
-use Rattle.ceilings.proofs.KernelWays.Solo.{way_join}
-use Rattle.ceilings.proofs.KernelWays.Attained.{IsRootlike, zeroed, basis_uids, uids_after, stays_zero, unmarked}
-use Rattle.ceilings.proofs.KernelWays.Exposing.{HasPower, marks_count}
-use Rattle.ceilings.proofs.KernelWays.Gains as gains
-use Rattle.ceilings.proofs.KernelWays.Gains.{Basis, common_small}
-use Rattle.ceilings.proofs.KernelWays.Privileged as privileged
-use Rattle.ceilings.proofs.KernelWays.Rows.{IsKnown, known_at, known_found, owner_alone, no_bit}
+use Rattle.ceilings.proofs.OfKernelWays.Solo.{way_join}
+use Rattle.ceilings.proofs.OfKernelWays.Attained.{IsRootlike, zeroed, basis_uids, uids_after, stays_zero, unmarked}
+use Rattle.ceilings.proofs.OfKernelWays.Exposing.{HasPower, marks_count}
+use Rattle.ceilings.proofs.OfKernelWays.Gains as gains
+use Rattle.ceilings.proofs.OfKernelWays.Gains.{Basis, common_small}
+use Rattle.ceilings.proofs.OfKernelWays.Privileged as privileged
+use Rattle.ceilings.proofs.OfKernelWays.Rows.{IsKnown, known_at, known_found, owner_alone, no_bit}
 use Rattle.open_calls.specs.chosen_calls.Exposing.{exposing_path}
 use Rattle.open_calls.specs.chosen_calls.First.{line_of, own_rule}
 use Rattle.open_calls.specs.chosen_calls.Gaining.{IsRunner, CanBeMade, CapCanBeMade, GainCanBeMade, FileWay, Held, ByRun, ByCapset, CapWay, ByFile, ByRoot, GainWay, AtOnce, Behind, gives_at_once, common, gives_by_capset, by_rows, by_launch, takes_root, at_once, at_power, gain, run_call, run_calls, capset_call, file_calls, last_path, root_call, cap_calls, gain_calls}

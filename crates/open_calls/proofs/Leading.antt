@@ -13,7 +13,7 @@ use Rattle.ceilings.specs.kernel_laws.declared.question_types.power.Power.TheVar
 use Rattle.ceilings.specs.kernel_laws.Reach.{reach, reaches}
 use Rattle.ceilings.specs.kernel_model.World.{World}
 use Rattle.ceilings.specs.kernel_ways.Laws.{IsServedWorld}
-use Rattle.ceilings.proofs.ReachPaths.RowsOfSites.{found_row}
+use Rattle.ceilings.proofs.OfReachPaths.RowsOfSites.{found_row}
 use Rattle.open_calls.specs.chosen_calls.Exposing.{IsLead, lead}
 use Rattle.open_calls.proofs.ChosenCallsLeading.{leads_nowise, leads_unmounting}
 

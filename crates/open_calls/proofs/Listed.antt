@@ -18,7 +18,7 @@ use Rattle.ceilings.specs.kernel_laws.declared.question_types.question.Question.
 use Rattle.ceilings.specs.kernel_laws.Questions.{questions}
 use Rattle.ceilings.specs.kernel_model.World.{World}
 use Rattle.ceilings.specs.kernel_ways.Laws.{IsFit, IsServedWorld}
-use Rattle.ceilings.proofs.KernelWays.FitQuestions.{listed_are_fit}
+use Rattle.ceilings.proofs.OfKernelWays.FitQuestions.{listed_are_fit}
 use Rattle.questions.proofs.Among.{has_contained, all_had}
 use Rattle.open_calls.specs.chosen_calls.Chosen.{calls_for, is_called, row_calls}
 

@@ -35,8 +35,8 @@ use Rattle.ceilings.specs.kernel_laws.Reach.{reaches}
 use Rattle.ceilings.specs.kernel_ways.Entering.{pid_in}
 use Rattle.ceilings.specs.kernel_ways.Uncovering.{covering, umount_calls}
 use Rattle.ceilings.specs.kernel_ways.Ways.{CallAt, place_of, rule_there}
-use Rattle.ceilings.proofs.KernelWays.Choices as choices
-use Rattle.ceilings.proofs.KernelWays.Lines.{choice_of, first_by}
+use Rattle.ceilings.proofs.OfKernelWays.Choices as choices
+use Rattle.ceilings.proofs.OfKernelWays.Lines.{choice_of, first_by}
 use Rattle.open_calls.specs.chosen_calls.Chosen.{unmarked, is_held_off, doing_calls, user_call, pid_inside, call_inside, inside_calls, row_inside, row_calls, runner, taking, id_at_power, id_by_cap, id_by_row, id_calls, uid_calls, gid_calls, plain_cap, plain_line, plain_calls, socket_payload, socket_calls, space_calls, calls_for}
 use Rattle.open_calls.specs.chosen_calls.Exposing.{exposing_calls, exposing_path, lead, shown_at}
 use Rattle.open_calls.specs.chosen_calls.First.{call_by, line_of, own_rule}

@@ -20,8 +20,8 @@ use Rattle.ceilings.specs.kernel_laws.Launched.{Launch, IsLaunched}
 use Rattle.ceilings.specs.kernel_ways.Exposures.{FindsAt}
 use Rattle.ceilings.specs.kernel_ways.Offers.{Offers}
 use Rattle.ceilings.specs.kernel_ways.Ways.{Makes}
-use Rattle.ceilings.proofs.KernelWays.Gains.{Runnable, runs_by}
-use Rattle.ceilings.proofs.KernelWays.Rows.{IsKnown}
+use Rattle.ceilings.proofs.OfKernelWays.Gains.{Runnable, runs_by}
+use Rattle.ceilings.proofs.OfKernelWays.Rows.{IsKnown}
 use Rattle.open_calls.specs.chosen_calls.Gaining.{run_call}
 use Rattle.open_calls.proofs.FirstLines.{chosen, call_is}
 

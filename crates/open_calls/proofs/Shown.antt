@@ -31,23 +31,23 @@ use Rattle.questions.specs.filter_settings.declared.filter_rules.namespace_types
 use Rattle.ceilings.specs.kernel_laws.declared.question_types.question.Question.TheVariants as asking
 use Rattle.ceilings.specs.kernel_laws.Launched.{Launch, IsLaunched, launch_of, lets, lets_line, can_make_user}
 use Rattle.ceilings.specs.kernel_laws.PlainCalls.{bare_call}
-use Rattle.ceilings.proofs.KernelLaws.Filters.{at_position}
+use Rattle.ceilings.proofs.OfKernelLaws.Filters.{at_position}
 use Rattle.ceilings.specs.kernel_ways.Laws.{IsFit}
 use Rattle.ceilings.specs.kernel_ways.Offers.{Offers, RunsProgram}
 use Rattle.ceilings.specs.kernel_ways.Showing.{Answers}
 use Rattle.ceilings.specs.kernel_ways.Ways.{Way, here, IsSolo, place_of}
-use Rattle.ceilings.proofs.KernelWays.Choices as choices
-use Rattle.ceilings.proofs.KernelWays.Doings.{Performed}
-use Rattle.ceilings.proofs.KernelWays.Lines.{choice_of, first_by, low_number, line_at, of_abi, same_rule}
-use Rattle.ceilings.proofs.KernelWays.Performing as performing
-use Rattle.ceilings.proofs.KernelWays.Performing.{CapAtHand, is_free}
-use Rattle.ceilings.proofs.KernelWays.Showing.{calls_show, creds_show}
-use Rattle.ceilings.proofs.KernelWays.Starts.{starts_solo, performs}
+use Rattle.ceilings.proofs.OfKernelWays.Choices as choices
+use Rattle.ceilings.proofs.OfKernelWays.Doings.{Performed}
+use Rattle.ceilings.proofs.OfKernelWays.Lines.{choice_of, first_by, low_number, line_at, of_abi, same_rule}
+use Rattle.ceilings.proofs.OfKernelWays.Performing as performing
+use Rattle.ceilings.proofs.OfKernelWays.Performing.{CapAtHand, is_free}
+use Rattle.ceilings.proofs.OfKernelWays.Showing.{calls_show, creds_show}
+use Rattle.ceilings.proofs.OfKernelWays.Starts.{starts_solo, performs}
 use Rattle.open_calls.specs.chosen_calls.Chosen.{plain_cap, row_calls, plain_calls, socket_calls, space_calls, user_call, pid_inside, call_inside, calls_for, is_called, plain_line, socket_payload}
 use Rattle.open_calls.specs.chosen_calls.First.{call_by, no_line}
 use Rattle.open_calls.proofs.ChosenCallsInside.{user_called, inside_is}
-use Rattle.ceilings.proofs.KernelWays.Entering.{calls_show_inside}
-use Rattle.ceilings.proofs.KernelWays.InUser.{enters, Inside, own_space}
+use Rattle.ceilings.proofs.OfKernelWays.Entering.{calls_show_inside}
+use Rattle.ceilings.proofs.OfKernelWays.InUser.{enters, Inside, own_space}
 use Rattle.open_calls.specs.chosen_calls.Gaining.{gaining, gaining_if}
 use Rattle.open_calls.specs.chosen_calls.Laws.{ChoiceShows}
 use Rattle.open_calls.proofs.FirstLines.{chosen, call_is, rule_is}

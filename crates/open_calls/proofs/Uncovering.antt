@@ -9,7 +9,7 @@ use Rattle.ceilings.specs.kernel_model.declared.kernel_calls.call.Call.{Call}
 use Rattle.ceilings.specs.kernel_laws.Questions.{if_so}
 use Rattle.ceilings.specs.kernel_ways.Uncovering.{covering, umount_call, umount_calls}
 use Rattle.ceilings.specs.kernel_ways.Ways.{CallAt}
-use Rattle.ceilings.proofs.ReachPaths.Looping.{from_here, none_from}
+use Rattle.ceilings.proofs.OfReachPaths.Looping.{from_here, none_from}
 
 map_append : {X Y : Type 0} (f : X → Y) (xs ys : List X) → map f (xs ++ ys) ≡ map f xs ++ map f ys
 map_append f [] ys = refl

@@ -19,12 +19,10 @@ ghost use Rattle.ceilings.specs.kernel_laws.declared.question_types.question.Que
 use crate::first::call_of;
 use crate::ids::IdKind;
 use crate::service::{Made, Service};
-use ceilings::call_table::CallLine;
-use ceilings::kernel_laws::question_types::{CallKind, NamespaceType, Question};
-use ceilings::kernel_model::World;
-use ceilings::kernel_model::kernel_calls::{Call, Payload, Rule};
-use ceilings::linux_numbers::capabilities::CAP_SYS_ADMIN;
-use ceilings::{plain_line_at, rule_of};
+use ceilings::{
+    CAP_SYS_ADMIN, Call, CallKind, CallLine, NamespaceType, Payload, Question, Rule, World,
+    plain_line_at, rule_of,
+};
 use std::alloc::AllocError;
 
 // The call of this number.

@@ -5,9 +5,7 @@ ghost use Rattle.ceilings.specs.kernel_laws.Launched.{launch_of};
 ghost use Rattle.ceilings.specs.Own.{IsCeilingOf};
 ghost use Rattle.open_calls.specs.Bases.{IsBasis};
 
-use ceilings::Ceiling;
-use ceilings::kernel_laws::question_types::{CallKind, Power};
-use ceilings::kernel_model::World;
+use ceilings::{CallKind, Ceiling, Power, World};
 
 /// What is known of a launched service before any way is found.
 #[derive(Clone, Copy)]

@@ -25,14 +25,10 @@ ghost use Rattle.open_calls.specs.Firsts.{place_in};
 
 use crate::first::FirstCall;
 use crate::service::{Made, Service};
-use ceilings::abs_path::AbsPath;
-use ceilings::kern_mounts::{MountTable, What};
-use ceilings::kernel_laws::question_types::{CallKind, Power, Wish};
-use ceilings::kernel_model::World;
-use ceilings::kernel_model::kernel_calls::{Call, Payload};
-use ceilings::launched_table;
-use ceilings::reach_paths::reach;
-use ceilings::site_table::Row;
+use ceilings::{
+    AbsPath, Call, CallKind, MountTable, Payload, Power, Row, What, Wish, World, launched_table,
+    reach,
+};
 use std::alloc::Global;
 
 /// MNT_DETACH of umount2(2).

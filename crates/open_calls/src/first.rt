@@ -10,12 +10,10 @@ ghost use Rattle.open_calls.specs.Firsts.{call_as, first_of};
 
 use crate::names::names_of;
 use crate::service::Made;
-use ceilings::call_table::CallLine;
-use ceilings::call_table::call_names::CallRule;
-use ceilings::kernel_laws::question_types::CallKind;
-use ceilings::kernel_model::World;
-use ceilings::kernel_model::kernel_calls::{Call, IdList, Payload, Rule};
-use ceilings::{lets_line, passing_line, rule_of, words};
+use ceilings::{
+    Call, CallKind, CallLine, CallRule, KernelModelIdList as IdList, Payload, Rule, World,
+    lets_line, passing_line, rule_of, words,
+};
 use std::alloc::Global;
 
 // The line of this ABI with this name.

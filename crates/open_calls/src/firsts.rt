@@ -15,11 +15,7 @@ ghost use Rattle.open_calls.specs.Firsts.{AreFirsts, IsFirst, first_of};
 use crate::basis::Basis;
 use crate::first::{FirstCall, first_call, id_payload, id_words};
 use crate::service::{Made, Service};
-use ceilings::Ceiling;
-use ceilings::call_table::call_names::CallRule;
-use ceilings::kernel_laws::question_types::{CallKind, NamespaceType, Wish};
-use ceilings::kernel_model::World;
-use ceilings::kernel_model::kernel_calls::{Call, Payload, Rule};
+use ceilings::{Call, CallKind, CallRule, Ceiling, NamespaceType, Payload, Rule, Wish, World};
 
 /// The first calls of some kinds; None where none passes.
 #[derive(Clone, Copy)]

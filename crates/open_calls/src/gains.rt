@@ -10,9 +10,7 @@ ghost use Rattle.open_calls.specs.Meanings.{meant_cap, meant_gain};
 use crate::basis::Basis;
 use crate::service::Service;
 use crate::ways::{CapWay, GainWay, gain};
-use ceilings::cap_sets::CapSet;
-use ceilings::kernel_model::World;
-use ceilings::linux_numbers::capabilities::CAP_LAST_CAP;
+use ceilings::{CAP_LAST_CAP, CapSet, World};
 use std::alloc::{AllocError, Global};
 
 /// What is kept of a capability.

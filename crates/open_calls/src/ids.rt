@@ -11,12 +11,10 @@ ghost use Rattle.open_calls.specs.Meanings.{asked, gives, is_had, meant_cap, mea
 
 use crate::service::{Made, Service};
 use crate::ways::CapWay;
-use ceilings::kernel_laws::question_types::{CallKind, Power};
-use ceilings::kernel_model::World;
-use ceilings::kernel_model::kernel_calls::Call;
-use ceilings::linux_numbers::capabilities::{CAP_SETGID, CAP_SETUID, CAP_SYS_ADMIN};
-use ceilings::site_table::Row;
-use ceilings::{can_run, launched_process};
+use ceilings::{
+    CAP_SETGID, CAP_SETUID, CAP_SYS_ADMIN, Call, CallKind, Power, Row, World, can_run,
+    launched_process,
+};
 
 /// Whose ids, credentials(7).
 #[derive(Clone, Copy)]

@@ -22,5 +22,4 @@ mod service;
 mod ways;
 
 pub use answering::calls;
-pub use questions;
 pub use service::Service;

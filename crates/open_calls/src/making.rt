@@ -11,11 +11,7 @@ ghost use Rattle.open_calls.specs.Meanings.{meant_cap, meant_file, meant_gain};
 use crate::exposing::{Aim, REMOUNT, lead};
 use crate::service::{Made, Service};
 use crate::ways::{CapWay, FileWay, GainWay};
-use ceilings::abs_path::AbsPath;
-use ceilings::kernel_laws::question_types::{CallKind, Power, Wish};
-use ceilings::kernel_model::kernel_calls::{Call, Payload};
-use ceilings::launched_process;
-use ceilings::site_table::Row;
+use ceilings::{AbsPath, Call, CallKind, Payload, Power, Row, Wish, launched_process};
 
 impl Service<'_> {
     // capset(2) of what the row's set and the bounding set have in common.

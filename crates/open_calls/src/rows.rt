@@ -15,12 +15,7 @@ ghost use Rattle.ceilings.specs.Leads.{leads_of};
 
 use crate::exposing::{Aim, REMOUNT, REMOUNT_UNMARKED, lead, number_of};
 use crate::service::{Made, Service};
-use ceilings::kernel_laws::question_types::{Power, Wish};
-use ceilings::kernel_model::World;
-use ceilings::kernel_model::kernel_calls::Call;
-use ceilings::linux_numbers::capabilities::CAP_SYS_ADMIN;
-use ceilings::site_table::Row;
-use ceilings::{RowLeads, is_barred, reach_by};
+use ceilings::{CAP_SYS_ADMIN, Call, Power, Row, RowLeads, Wish, World, is_barred, reach_by};
 
 // The row of this number.
 fn listed_row<'a>(world: &'a World<'_>, at: usize) -> Option<&'a Row>

@@ -13,12 +13,7 @@ ghost use Rattle.open_calls.specs.Firsts.{AreFirsts, AreGained};
 use crate::basis::Basis;
 use crate::firsts::Firsts;
 use crate::gains::{Gained, gains};
-use ceilings::Ceiling;
-use ceilings::abs_path::AbsPath;
-use ceilings::kernel_laws::question_types::Power;
-use ceilings::kernel_model::World;
-use ceilings::launcher::Launched;
-use ceilings::linux_numbers::capabilities::CAP_SYS_ADMIN;
+use ceilings::{AbsPath, CAP_SYS_ADMIN, Ceiling, Launched, Power, World};
 use std::alloc::{AllocError, Global};
 
 /// A launched service, for which calls are made. The ways that gain capabilities and the first calls of the kinds that are asked for

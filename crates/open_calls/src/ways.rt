@@ -8,11 +8,7 @@ ghost use Rattle.open_calls.specs.Bases.{IsBasis};
 ghost use Rattle.open_calls.specs.Meanings.{meant_file, meant_cap, meant_gain};
 
 use crate::basis::Basis;
-use ceilings::kernel_laws::question_types::Power;
-use ceilings::kernel_model::World;
-use ceilings::linux_numbers::capabilities::{CAP_SETUID, CAP_SYS_ADMIN};
-use ceilings::site_table::Row;
-use ceilings::{can_run, launched_process};
+use ceilings::{CAP_SETUID, CAP_SYS_ADMIN, Power, Row, World, can_run, launched_process};
 
 /// How a capability becomes effective by a file.
 #[derive(Clone, Copy)]

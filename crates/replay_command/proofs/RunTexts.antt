@@ -8,7 +8,7 @@ use Rattle.asked_service.specs.call_table.Table.{Table}
 use Rattle.asked_service.specs.host_io.Writing.{Grew}
 use Rattle.asked_service.specs.host_io.declared.writing.SinkError.{SinkError}
 use Rattle.asked_service.specs.unit_inputs.command_answers.Printing.{TakesText}
-use Rattle.asked_service.proofs.UnitInputs.Texts.{text_as, text_cut, text_then}
+use Rattle.asked_service.proofs.OfUnitInputs.Texts.{text_as, text_cut, text_then}
 use Rattle.asked_service.specs.kernel_model.declared.kernel_calls.call.Call.{Call}
 use Rattle.asked_service.specs.kernel_model.Runs.{moment_at, moments, run}
 use Rattle.asked_service.specs.kernel_model.Step.{step}

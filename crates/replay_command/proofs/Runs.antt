@@ -17,9 +17,9 @@ use Rattle.asked_service.specs.unit_inputs.command_answers.Stops.{HasReadCause, 
 use Rattle.asked_service.specs.unit_inputs.declared.command_answers.ending.Ending.{Ending}
 use Rattle.asked_service.specs.unit_inputs.declared.command_answers.ending.Ending.TheVariants.{Done, LaunchRefused}
 use Rattle.asked_service.specs.unit_inputs.declared.command_answers.stop.Stop.TheVariants as stop
-use Rattle.asked_service.proofs.UnitInputs.FileCommands.{go_together, ready_is_admitted}
-use Rattle.asked_service.proofs.UnitInputs.Refusing.{quiet}
-use Rattle.asked_service.proofs.UnitInputs.Runs.{ran}
+use Rattle.asked_service.proofs.OfUnitInputs.FileCommands.{go_together, ready_is_admitted}
+use Rattle.asked_service.proofs.OfUnitInputs.Refusing.{quiet}
+use Rattle.asked_service.proofs.OfUnitInputs.Runs.{ran}
 use Rattle.asked_service.specs.declared.unit_launch.launching.UnitLaunch.{UnitLaunch}
 use Rattle.asked_service.specs.declared.unit_launch.launching.UnitLaunch.TheVariants.{Launched, Refused}
 use Rattle.replay_command.specs.Prepared.{CanBeStarted, IsPrepared, inputs_in, replay_refusals}

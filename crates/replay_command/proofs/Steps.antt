@@ -13,14 +13,14 @@ use Rattle.asked_service.specs.exec_settings.Mounts.{unit_mentions}
 use Rattle.asked_service.specs.path_settings.declared.mentions.Mention.{Mention}
 use Rattle.asked_service.specs.unit_inputs.command_answers.Stops.{IsAnswer, Prepares, first_refusal}
 use Rattle.asked_service.specs.unit_inputs.declared.command_answers.stop.Stop.{Stop}
-use Rattle.asked_service.proofs.UnitInputs.Refusing.{behind_none, passes, stops, stops_as, stops_before}
+use Rattle.asked_service.proofs.OfUnitInputs.Refusing.{behind_none, passes, stops, stops_as, stops_before}
 use Rattle.asked_service.specs.site_table.Table.{Site}
 use Rattle.asked_service.specs.unit_inputs.Inputs.{input_refusals, inputs_of, inputs_view}
 use Rattle.asked_service.specs.unit_inputs.declared.inputs.UnitInputs.{UnitInputs}
 use Rattle.asked_service.specs.unit_inputs.Settled.{AreSettled, refusals_by, refusals_of}
 use Rattle.asked_service.specs.unit_inputs.declared.settling.SettledUnit.{SettledUnit}
-use Rattle.asked_service.proofs.UnitInputs.Steps as steps
-use Rattle.asked_service.proofs.UnitInputs.Steps.{AreRead, refusals_with}
+use Rattle.asked_service.proofs.OfUnitInputs.Steps as steps
+use Rattle.asked_service.proofs.OfUnitInputs.Steps.{AreRead, refusals_with}
 use Rattle.asked_service.specs.plan_command.Planned.{IsPlan, path_refusals}
 use Rattle.asked_service.specs.plan_command.Prints.{refused_paths}
 use Rattle.replay_command.specs.Prepared.{CanBeStarted, IsPrepared, refusals_behind, replay_refusals}

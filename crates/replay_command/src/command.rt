@@ -11,8 +11,7 @@ ghost use Rattle.replay_command.specs.Started.{FinishesStarted};
 
 use crate::launching::start;
 use crate::preparing::{Prepared, prepare};
-use asked_service::host_io::{Shelf, Sink};
-use asked_service::unit_inputs::command_answers::{Ending, finish, finish_stop};
+use asked_service::{Ending, Shelf, Sink, finish, finish_stop};
 use std::alloc::Global;
 
 // Launches what is prepared and prints its replay.

@@ -17,9 +17,12 @@ mod ready;
 mod replaying;
 mod script;
 
-pub use asked_service;
+pub use asked_service::unit_launch::{LaunchRefusal, refusal_line};
 pub use asked_service::{
-    call_table, host_io, plan_command, script_text, site_table, text_forms, unit_inputs,
+    CallTable, DirShelf, Ending, MemShelf, MemSink, Ready as UnitInputsReady, ReadyText,
+    Script as ScriptTextScript, Shelf, Sink, SinkError, SiteTable, StdSink, Stop, VerdictRow,
+    are_files, finish, plan_line, put_piece, read_decimal, read_inputs, refuse, refused_line,
+    settings_line,
 };
 pub use command::answer;
 pub use script::read_script;

@@ -3,11 +3,7 @@ ghost use Rattle.std.specs.Prelude.{◌≡◌, ◌++◌, IfOk, OnOk};
 ghost use Rattle.replay_command.specs.Lines.{call_line, reply_words};
 ghost use Rattle.replay_command.specs.Texts.{count_line};
 
-use asked_service::call_table::CallTable;
-use asked_service::kernel_model::Reply;
-use asked_service::kernel_model::kernel_calls::Call;
-use asked_service::script_text::print_call;
-use asked_service::text_forms::push_u64;
+use asked_service::{Call, CallTable, Reply, print_call, push_u64};
 use std::alloc::{AllocError, Global};
 
 // Appends what a call comes to: its value, its errno, or that the caller was killed.

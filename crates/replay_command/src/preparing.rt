@@ -8,13 +8,9 @@ ghost use Rattle.asked_service.specs.unit_inputs.ReadsFor.{ReadsFor};
 ghost use Rattle.replay_command.specs.Prepared.{CanBeStarted, IsPrepared, replay_refusals};
 
 use crate::script::read_script;
-use asked_service::host_io::Shelf;
-use asked_service::kernel_model::kernel_calls::{Call, fits};
-use asked_service::mount_plan::MountSteps;
-use asked_service::plan_command::plan_mounts;
-use asked_service::script_text::Script;
-use asked_service::unit_inputs::command_answers::Stop;
-use asked_service::unit_inputs::{SettledUnit, read_inputs, settle};
+use asked_service::{
+    Call, MountSteps, Script, SettledUnit, Shelf, Stop, fits, plan_mounts, read_inputs, settle,
+};
 use std::alloc::Global;
 
 /// All that a replay starts with.

@@ -4,13 +4,8 @@ ghost use Rattle.replay_command.specs.Texts.{replay_text, service_text};
 
 use crate::lines::count_line;
 use crate::replaying::replay;
-use asked_service::call_table::CallTable;
-use asked_service::host_io::{Sink, SinkError};
-use asked_service::launcher::Launched;
-use asked_service::report_text::launched_line;
-use asked_service::script_text::Script;
-use asked_service::unit_inputs::command_answers::put_line;
 use asked_service::unit_launch::{UnitLaunch, refusal_line, told};
+use asked_service::{CallTable, Launched, Script, Sink, SinkError, launched_line, put_line};
 use std::alloc::Global;
 
 // Prints the launch, each call of the script as it is made, and how many there are.

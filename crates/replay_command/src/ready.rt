@@ -3,11 +3,8 @@ ghost use Rattle.std.specs.Prelude.{◌≡◌};
 ghost use Rattle.replay_command.specs.Texts.{ending_behind};
 
 use crate::printing::print_replay;
-use asked_service::call_table::CallTable;
-use asked_service::host_io::{Sink, SinkError};
-use asked_service::script_text::Script;
-use asked_service::unit_inputs::command_answers::{Ending, Ready};
 use asked_service::unit_launch::UnitLaunch;
+use asked_service::{CallTable, Ending, Ready, Script, Sink, SinkError};
 use std::alloc::Global;
 
 /// A unit that is launched, and the script whose calls are made in its world while their lines are printed.

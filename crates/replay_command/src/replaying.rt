@@ -6,13 +6,7 @@ ghost use Rattle.replay_command.specs.Lines.{moment_line, run_text};
 ghost use Rattle.replay_command.specs.Performed.{Makes, Performs};
 
 use crate::lines::call_line;
-use asked_service::call_table::CallTable;
-use asked_service::host_io::{Sink, SinkError};
-use asked_service::kernel_model::World;
-use asked_service::kernel_model::kernel_calls::Call;
-use asked_service::launcher::Launched;
-use asked_service::script_text::Script;
-use asked_service::unit_inputs::command_answers::put_line;
+use asked_service::{Call, CallTable, Launched, Script, Sink, SinkError, World, put_line};
 use std::alloc::Global;
 
 // Makes a call, and prints its line.

@@ -5,11 +5,10 @@ ghost use Rattle.asked_service.specs.unit_inputs.command_answers.Asking.{course,
 ghost use Rattle.asked_service.specs.unit_inputs.command_answers.Stops.{HasReadCause, IsAnswer};
 ghost use Rattle.replay_command.specs.Scripts.{line_cause, script_cause, script_in, script_line, script_said};
 
-use asked_service::call_table::CallTable;
-use asked_service::host_io::Shelf;
-use asked_service::script_text::{Script, ScriptCause, ScriptError, read_script as read_bytes};
-use asked_service::unit_inputs::command_answers::{Stop, refuse, refused_line};
-use asked_service::unit_inputs::read_input;
+use asked_service::{
+    CallTable, Script, ScriptCause, ScriptError, Shelf, Stop, read_input,
+    read_script as read_bytes, refuse, refused_line,
+};
 use std::alloc::{AllocError, Global};
 
 // Which line is faulty, and why.

@@ -6,8 +6,7 @@ ghost use Rattle.sample_command.specs.Prints.{ending_of, sample_laws, sampled_te
 use crate::judging::judge_sample;
 use crate::launching::launch_sample;
 use crate::sampled::Sampled;
-use judge_command::truths;
-use judge_command::unit_inputs::command_answers::Stop;
+use judge_command::{Stop, truths};
 use sample_inputs::made;
 use sample_inputs::sample_launch::launches_end_well;
 use std::alloc::Global;

@@ -7,9 +7,7 @@ ghost use Rattle.sample_command.specs.Counts.{CountsAnswers};
 ghost use Rattle.judge_command.specs.Asked.{IsAsked};
 
 use crate::sampled::Sampled;
-use judge_command::asked_service::count_open;
-use judge_command::launcher::Launched;
-use judge_command::{Asked, ask};
+use judge_command::{Asked, Launched, ask, count_open};
 use std::alloc::{AllocError, Global};
 
 // Counts the answers to all that is asked.

@@ -3,8 +3,7 @@ ghost use Rattle.std.specs.Prelude.{IfOk};
 ghost use Rattle.judge_command.specs.asked_service.launched_units.Launching.{IsLaunchedUnit};
 ghost use Rattle.sample_command.specs.Accepted.{IsNeverRefused};
 
-use judge_command::asked_service::launched_units::{UnitRefusal, launch_whole};
-use judge_command::launcher::Launched;
+use judge_command::{Launched, UnitRefusal, launch_whole};
 use sample_inputs::SampleInputs;
 use std::alloc::{AllocError, Global};
 

@@ -26,7 +26,7 @@ use Rattle.launcher.specs.site_table.Kinds.{is_exe}
 use Rattle.launcher.specs.site_table.Table.{Site, row_at}
 use Rattle.sample_inputs.specs.sample_launch.EndsWell.{ShowsProgram, IsPlain, PlainLaunchEndsWell, ArePlain, IsNeverRefused, PlainSettingsAreLaunched}
 use Rattle.sample_inputs.proofs.Going.{goes_on, leads_append, leads_launch}
-use Rattle.sample_inputs.proofs.Made.{goes_mounts, runs_program}
+use Rattle.sample_inputs.proofs.MadeSteps.{goes_mounts, runs_program}
 use Rattle.sample_inputs.proofs.Launching.{Root, Any, goes_identity}
 use Rattle.launcher.proofs.Solo.{At}
 use Rattle.launcher.proofs.LaunchCreds.{IsReady}

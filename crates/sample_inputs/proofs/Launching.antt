@@ -31,7 +31,7 @@ use Rattle.launcher.specs.site_table.Table.{Site}
 use Rattle.sample_inputs.specs.sample_launch.EndsWell.{IsPlain}
 use Rattle.sample_inputs.proofs.Going.{Goes, stays, goes_on, goes_each}
 use Rattle.sample_inputs.proofs.Granted.{full, groups_granted, gids_granted, uids_granted, drop_granted, still_within, sets_granted, raise_granted}
-use Rattle.sample_inputs.proofs.Made.{goes_creds}
+use Rattle.sample_inputs.proofs.MadeSteps.{goes_creds}
 
 -- what is counted is below the end, and what a filter leaves has what it asks for
 counted_below : (from count : ℕ) → from + count ≤ 41 → AllByRecursion (λ n. n < 41) (count_from from count)

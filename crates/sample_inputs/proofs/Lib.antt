@@ -17,7 +17,7 @@ pub mod Printing
 pub mod SampleRows
 pub mod Going
 pub mod Granted
-pub mod Made
+pub mod MadeSteps
 pub mod Launching
 pub mod EndsWell
 pub mod Shown
@@ -25,4 +25,4 @@ pub mod SampleLaunchTurns
 pub mod Alike
 pub mod Settling
 pub mod Plans
-pub use Rattle.launcher.proofs.Caps as Caps
+pub use Rattle.launcher.proofs.Caps as OfCaps

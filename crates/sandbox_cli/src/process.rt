@@ -5,9 +5,7 @@ use std::alloc::AllocError;
 use std::process::ExitCode;
 use std::rt::{Env, Files};
 use std::{env, io};
-use top_call::Status;
-use top_call::host_io::{DirShelf, StdSink};
-use top_call::unit_inputs::command_answers::Ending;
+use top_call::{DirShelf, Ending, Status, StdSink};
 
 // The arguments, the program's name the first of them.
 fn arguments<R: Env + AllocGlobal>(rt: &R) -> io::Result<Vec<String>> {

@@ -10,12 +10,9 @@ ghost use Rattle.sandbox_cli.specs.Wishes.{AreProgramWishes};
 use std::alloc::{AllocError, Global};
 use std::io;
 use std::process::ExitCode;
-use top_call::asked_service::VerdictRow;
-use top_call::exposure_score::{CustomTest, Facts, Stored};
-use top_call::host_io::{Shelf, Sink};
-use top_call::tighten_command::tightening::{StoredWish, Wished};
-use top_call::unit_inputs::command_answers::Ending;
-use top_call::{Status, run};
+use top_call::{
+    CustomTest, Ending, Facts, Shelf, Sink, Status, Stored, StoredWish, VerdictRow, Wished, run,
+};
 
 // The words behind the program's name, which is the first argument.
 fn behind_name(all: &[String]) -> &[String]

@@ -9,10 +9,9 @@ use crate::running::run_here;
 use std::alloc::{AllocError, Global};
 use std::io;
 use std::process::ExitCode;
-use top_call::asked_service::VerdictRow;
-use top_call::exposure_score::{CustomTest, Facts, ambient_count, writable_paths};
-use top_call::host_io::{Shelf, Sink};
-use top_call::tighten_command::tightening::StoredWish;
+use top_call::{
+    CustomTest, Facts, Shelf, Sink, StoredWish, VerdictRow, ambient_count, writable_paths,
+};
 
 /// Runs the arguments over a shelf and a sink, with the tests that a score may ask beside the settings: `AmbientCount`, how many
 /// ambient capabilities the service has, of 41 at most; and `WritablePaths`, how many words of ReadWritePaths= and BindPaths= are

@@ -1,6 +1,6 @@
 pub mod Steps
 pub mod Prepared
-pub use Rattle.report_text.proofs.DropinMerge as DropinMerge
-pub use Rattle.report_text.proofs.ExposureScore as ExposureScore
-pub use Rattle.unit_inputs.proofs.HostIo as HostIo
-pub use Rattle.unit_inputs.proofs as UnitInputs
+pub use Rattle.report_text.proofs.DropinMerge as OfDropinMerge
+pub use Rattle.report_text.proofs.ExposureScore as OfExposureScore
+pub use Rattle.unit_inputs.proofs.HostIo as OfHostIo
+pub use Rattle.unit_inputs.proofs as OfUnitInputs

@@ -13,7 +13,7 @@ use Rattle.asked_service.specs.unit_inputs.declared.command_answers.ending.Endin
 use Rattle.asked_service.specs.unit_inputs.declared.command_answers.stop.Stop.{Stop}
 use Rattle.asked_service.specs.unit_inputs.declared.command_answers.stop.Stop.TheVariants as stop
 use Rattle.asked_service.specs.unit_inputs.command_answers.Said.{IsSaid}
-use Rattle.asked_service.proofs.UnitInputs.Said.{said_as}
+use Rattle.asked_service.proofs.OfUnitInputs.Said.{said_as}
 use Rattle.asked_service.specs.dropin_merge.declared.resolved.Resolved.{Resolved}
 use Rattle.asked_service.specs.kernel_laws.declared.question_types.question.Question.{Question}
 use Rattle.asked_service.specs.site_table.Table.{Site}
@@ -22,7 +22,7 @@ use Rattle.tighten_command.specs.tightening.Wishes.{Wishes}
 use Rattle.asked_service.specs.unit_inputs.FileRefusals.{bytes_in}
 use Rattle.asked_service.specs.unit_inputs.Inputs.{input_refusals, inputs_view}
 use Rattle.asked_service.specs.unit_inputs.declared.inputs.UnitInputs.{UnitInputs}
-use Rattle.asked_service.proofs.UnitInputs.Steps.{AreRead}
+use Rattle.asked_service.proofs.OfUnitInputs.Steps.{AreRead}
 use Rattle.tighten_command.specs.KeepFiles.{IsKeepIn, IsKeepOf, no_file, of_file}
 use Rattle.asked_service.specs.unit_inputs.command_answers.ReadyTexts.{ending_of, text_of}
 use Rattle.tighten_command.specs.Prints.{Admits, MayEndUntold, an_input, refuses, tells, the_keep, tighten_laws}

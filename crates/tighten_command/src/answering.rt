@@ -10,14 +10,11 @@ ghost use Rattle.asked_service.specs.unit_inputs.declared.command_answers.ending
 
 use crate::lines::{keep_line, tight_text, wish_line};
 use crate::tightening::{StoredWish, Tight, TightenError, Wished, tighten};
-use asked_service::call_table::CallTable;
-use asked_service::dropin_merge::Resolved;
-use asked_service::kernel_laws::question_types::Question;
-use asked_service::plan_command::plan_line;
-use asked_service::site_table::SiteTable;
-use asked_service::unit_inputs::command_answers::{Ending, ReadyText, Stop, refuse};
-use asked_service::unit_inputs::settings_line;
 use asked_service::unit_launch::{LaunchRefusal, refusal_line};
+use asked_service::{
+    CallTable, Ending, Question, ReadyText, Resolved, SiteTable, Stop, plan_line, refuse,
+    settings_line,
+};
 use std::alloc::Global;
 
 // What can be added.

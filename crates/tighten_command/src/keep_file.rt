@@ -10,11 +10,7 @@ ghost use Rattle.tighten_command.specs.KeepFiles.{IsKeepIn, IsKeepOf, keep_cause
 
 use crate::keeping::{KeepError, read_questions};
 use crate::tightening::Questions;
-use asked_service::call_table::CallTable;
-use asked_service::host_io::Shelf;
-use asked_service::site_table::SiteTable;
-use asked_service::unit_inputs::command_answers::{Stop, refuse, refused_line};
-use asked_service::unit_inputs::read_input;
+use asked_service::{CallTable, Shelf, SiteTable, Stop, read_input, refuse, refused_line};
 use std::alloc::{AllocError, Global};
 
 // Why a file does not say what is to be kept.

@@ -5,9 +5,7 @@ ghost use Rattle.tighten_command.specs.Keeping.{ReadsKeep, ReadsLines};
 ghost use Rattle.tighten_command.specs.declared.keeping.KeepError.TheVariants.{Memory};
 
 use crate::tightening::Questions;
-use asked_service::call_table::CallTable;
-use asked_service::site_table::SiteTable;
-use asked_service::text_forms::line_text::{Line, read_lines, read_text};
+use asked_service::{CallTable, Line, SiteTable, read_lines, read_text};
 use question_text::{find_question, print_questions};
 use std::alloc::{AllocError, AllocFailed, Global};
 

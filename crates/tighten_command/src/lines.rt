@@ -4,7 +4,7 @@ ghost use Rattle.std.specs.List.{All};
 ghost use Rattle.tighten_command.specs.Lines.{add_line, counts_line, counts_text, items_line, keep_line, tight_text, wish_line};
 
 use crate::tightening::{Tight, line};
-use asked_service::unit_inputs::command_answers::refused_line;
+use asked_service::refused_line;
 use std::alloc::{AllocError, Global};
 
 // Adds the line of an item.

@@ -8,8 +8,8 @@ use Rattle.derive_command.specs.unit_inputs.command_answers.Endings.{is_whole}
 use Rattle.derive_command.specs.unit_inputs.command_answers.Printing.{Finishes, Output}
 use Rattle.derive_command.specs.unit_inputs.declared.command_answers.ending.Ending.{Ending}
 use Rattle.derive_command.specs.unit_inputs.Asking.{AsksInOrder}
-use Rattle.derive_command.proofs.UnitInputs.Ended.{order_printed}
-use Rattle.derive_command.proofs.UnitInputs.Ordering.{asked_so}
+use Rattle.derive_command.proofs.OfUnitInputs.Ended.{order_printed}
+use Rattle.derive_command.proofs.OfUnitInputs.Ordering.{asked_so}
 use Rattle.top_call.specs.Texts.{ending_of, text_of}
 use Rattle.top_call.specs.declared.texts.Fixed.{Fixed}
 

@@ -10,9 +10,9 @@ use Rattle.derive_command.specs.unit_inputs.command_answers.Laws.{fixed_laws}
 use Rattle.derive_command.specs.unit_inputs.command_answers.Printing.{Finishes}
 use Rattle.derive_command.specs.unit_inputs.command_answers.Runs.{IsRun, Outside}
 use Rattle.derive_command.specs.unit_inputs.declared.command_answers.ending.Ending.{Ending}
-use Rattle.derive_command.proofs.UnitInputs.FileCommands.{fixed_go_together}
-use Rattle.derive_command.proofs.UnitInputs.Refusing.{quiet}
-use Rattle.derive_command.proofs.UnitInputs.Runs.{ran}
+use Rattle.derive_command.proofs.OfUnitInputs.FileCommands.{fixed_go_together}
+use Rattle.derive_command.proofs.OfUnitInputs.Refusing.{quiet}
+use Rattle.derive_command.proofs.OfUnitInputs.Runs.{ran}
 use Rattle.tighten_command.specs.tightening.Wishes.{Wishes}
 use Rattle.derive_command.specs.unit_inputs.Asking.{AsksInOrder}
 use Rattle.top_call.specs.Asked.{Asked, asks_by, asks_of, laws_by, laws_of}

@@ -13,10 +13,12 @@ mod running;
 mod status;
 mod texts;
 
-pub use check_command::bpf_code;
-pub use derive_command::{asked_service, host_io, unit_inputs};
-pub use effect_command::kernel_laws;
-pub use fleet_command::exposure_score;
+pub use check_command::bpf_code::{CallData, Program, run as bpf_code_run};
+pub use derive_command::{
+    DirShelf, Ending, MemShelf, MemSink, Shelf, Sink, StdSink, VerdictRow, are_files,
+};
+pub use effect_command::{Question, Wish};
+pub use fleet_command::{CustomTest, Facts, Stored, ambient_count, writable_paths};
 pub use running::run;
 pub use status::Status;
-pub use tighten_command;
+pub use tighten_command::tightening::{StoredWish, Wished};

@@ -12,9 +12,8 @@ ghost use Rattle.top_call.specs.Requests.{IsNumbered, request_of};
 use crate::request::{Request, parse};
 use crate::status::Status;
 use crate::texts;
-use derive_command::host_io::{Shelf, Sink};
-use derive_command::unit_inputs::command_answers::{Ending, finish};
-use fleet_command::exposure_score::{CustomTest, Stored};
+use derive_command::{Ending, Shelf, Sink, finish};
+use fleet_command::{CustomTest, Stored};
 use std::alloc::Global;
 use tighten_command::tightening::{StoredWish, Wished};
 
@@ -40,15 +39,9 @@ fn answer_request<S: Shelf, K: Sink>(
         Request::Help => finish(alloc, Ok(texts::help()), out),
         Request::Version => finish(alloc, Ok(texts::version()), out),
         Request::Filter(unit) => finish(alloc, filter_command::prepare(alloc, shelf, unit), out),
-        Request::Plan(unit) => finish(
-            alloc,
-            derive_command::plan_command::prepare(alloc, shelf, unit),
-            out,
-        ),
-        Request::Judge(unit) => effect_command::judge_command::answer(alloc, shelf, unit, out),
-        Request::Replay(unit, script) => derive_command::replay_command::answer(
-            alloc, shelf, unit, script, out,
-        ),
+        Request::Plan(unit) => finish(alloc, plan_command::prepare(alloc, shelf, unit), out),
+        Request::Judge(unit) => judge_command::answer(alloc, shelf, unit, out),
+        Request::Replay(unit, script) => replay_command::answer(alloc, shelf, unit, script, out),
         Request::Derive(unit, script) => finish(
             alloc,
             derive_command::prepare(alloc, shelf, unit, script),
@@ -74,7 +67,7 @@ fn answer_request<S: Shelf, K: Sink>(
         ),
         Request::Score(unit, policy, threshold) => finish(
             alloc,
-            fleet_command::score_command::prepare(alloc, shelf, unit, policy, threshold, tests),
+            score_command::prepare(alloc, shelf, unit, policy, threshold, tests),
             out,
         ),
         Request::Check(unit, name, path) => finish(

@@ -13,7 +13,7 @@ use Rattle.std.proofs.lemmas.Option.{slice_get-get_or}
 use Rattle.std.proofs.lemmas.Slice.Eq.{bytes_eq-Decides}
 use Rattle.asked_service.specs.call_rules.declared.actions.Action.{Action}
 use Rattle.asked_service.specs.call_rules.declared.actions.Action.TheVariants.{Allow as Allowed}
-use Rattle.asked_service.proofs.CallTable.Places.{some_line}
+use Rattle.asked_service.proofs.OfCallTable.Places.{some_line}
 use Rattle.asked_service.specs.call_table.Lookups.{has_name, place_named}
 use Rattle.asked_service.specs.call_table.Names.{behind_at, is_name, is_name_byte}
 use Rattle.asked_service.specs.call_table.Table.{Table, every_call}

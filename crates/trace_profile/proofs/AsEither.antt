@@ -4,7 +4,7 @@ use Rattle.std.specs.Prelude.{◌==◌, IfSome, slice_get}
 use Rattle.std.specs.List.{AllByRecursion}
 use Rattle.std.specs.Option.{option_map_or, option_to_list}
 use Rattle.std.proofs.lemmas.Bool.Decides.{nat_tests}
-use Rattle.asked_service.proofs.BpfCode.Stacks.{answer_is}
+use Rattle.asked_service.proofs.OfBpfCode.Stacks.{answer_is}
 use Rattle.asked_service.specs.bpf_code.Meaning.{IsCallData}
 use Rattle.asked_service.specs.bpf_code.declared.machine.CallData.{CallData}
 use Rattle.asked_service.specs.bpf_code.declared.machine.Insn.{Insn}
@@ -27,7 +27,7 @@ use Rattle.asked_service.specs.filter_settings.declared.filter_rules.names.Filte
 use Rattle.asked_service.specs.filter_settings.declared.filter_rules.names.FilterName.TheVariants.{Families, MemoryDenyWriteExecute, Realtime, Suid, Namespaces, Hostname, Modules, Logs, Clock, Devices, Personality, Calls, Archs}
 use Rattle.asked_service.specs.filter_settings.declared.filter_rules.settings.FilterSettings.{FilterSettings}
 use Rattle.asked_service.specs.launcher.Matching.{AreMatching}
-use Rattle.asked_service.proofs.Launcher.TwoAbis.{IsThere, archs_differ, filters_there}
+use Rattle.asked_service.proofs.OfLauncher.TwoAbis.{IsThere, archs_differ, filters_there}
 use Rattle.trace_profile.specs.allow_laws.Either.{AnswerSame, AnswersAsEither}
 use Rattle.trace_profile.proofs.SameButCalls.{with_calls}
 

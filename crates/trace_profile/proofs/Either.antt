@@ -8,7 +8,7 @@ use Rattle.asked_service.specs.kernel_model.Runs.{replies}
 use Rattle.asked_service.specs.kernel_model.World.{World}
 use Rattle.asked_service.specs.kernel_model.declared.reply.Reply.{Reply}
 use Rattle.asked_service.specs.launcher.Alike.{HasWordArchs, above}
-use Rattle.asked_service.proofs.Launcher.Alike.{calls_kept, fits, own_step, step_above}
+use Rattle.asked_service.proofs.OfLauncher.Alike.{calls_kept, fits, own_step, step_above}
 use Rattle.trace_profile.specs.allow_laws.Either.{EitherReplies, PushNone}
 use Rattle.trace_profile.proofs.Same.{as_one, same_reply}
 

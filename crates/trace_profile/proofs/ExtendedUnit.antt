@@ -23,7 +23,7 @@ use Rattle.asked_service.specs.unit_grammar.declared.unit.Assignment.{Assignment
 use Rattle.asked_service.specs.unit_grammar.declared.unit.UnitText.{UnitText}
 use Rattle.asked_service.specs.unit_names.Expansion.{expansion, longest_value}
 use Rattle.asked_service.specs.unit_names.Names.{Name}
-use Rattle.asked_service.proofs.DropinMerge.OneMore.{after_last-push}
+use Rattle.asked_service.proofs.OfDropinMerge.OneMore.{after_last-push}
 use Rattle.asked_service.specs.dropin_merge.unit_values.Assignments.{service_assignments, service_from, service_in}
 use Rattle.asked_service.specs.dropin_merge.unit_values.Listed.{is_reset, listed, unit_listed}
 use Rattle.asked_service.specs.dropin_merge.unit_values.Values.{expanded_at, given_by, values_of}

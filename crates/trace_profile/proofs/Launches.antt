@@ -38,14 +38,14 @@ use Rattle.asked_service.specs.mount_plan.Host.{host_of as site_host}
 use Rattle.asked_service.specs.launcher.Alike.{HasWordArchs, above}
 use Rattle.asked_service.specs.launcher.Launch.{LaunchStep, Launched, PrivilegedProgram, Wanted, first_call, number_of, launch_step, launch_steps, launch_from, is_privileged_row, mount_steps, with_unshare, identity_steps, filter_steps, program_steps}
 use Rattle.asked_service.specs.launcher.Launches.{HasLaunchCalls, AreRead}
-use Rattle.asked_service.proofs.Launcher.Alike.{own_step, lifted, step_above}
-use Rattle.asked_service.proofs.Launcher.CallsMade.{done_on}
-use Rattle.asked_service.proofs.Launcher.HostRoot.{begins_at_host}
-use Rattle.asked_service.proofs.Launcher.CallData.{fits}
-use Rattle.asked_service.proofs.Launcher.LaunchCalls.{launch_calls}
-use Rattle.asked_service.proofs.Launcher.LaunchWorld.{ready_at}
-use Rattle.asked_service.proofs.Launcher.Leading.{Leads, append_assoc, append_none, append_split, launched_leads, leads_parts}
-use Rattle.asked_service.proofs.Launcher.Solo.{solo, only}
+use Rattle.asked_service.proofs.OfLauncher.Alike.{own_step, lifted, step_above}
+use Rattle.asked_service.proofs.OfLauncher.CallsMade.{done_on}
+use Rattle.asked_service.proofs.OfLauncher.HostRoot.{begins_at_host}
+use Rattle.asked_service.proofs.OfLauncher.CallData.{fits}
+use Rattle.asked_service.proofs.OfLauncher.LaunchCalls.{launch_calls}
+use Rattle.asked_service.proofs.OfLauncher.LaunchWorld.{ready_at}
+use Rattle.asked_service.proofs.OfLauncher.Leading.{Leads, append_assoc, append_none, append_split, launched_leads, leads_parts}
+use Rattle.asked_service.proofs.OfLauncher.Solo.{solo, only}
 use Rattle.trace_profile.specs.allow_laws.Either.{AnswerSame, AnswersAsEither}
 use Rattle.trace_profile.specs.allow_laws.Launches.{EitherLaunches, launch_by}
 use Rattle.trace_profile.proofs.Same.{as_one, both_done, same_decision}

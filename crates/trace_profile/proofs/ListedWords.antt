@@ -12,7 +12,7 @@ use Rattle.std.proofs.lemmas.Str.{IsUtf8-append, IsUtf8-from_is_utf8, is_utf8-fr
 use Rattle.asked_service.specs.call_table.Names.{is_name, is_name_byte}
 use Rattle.asked_service.specs.text_forms.Grammar.{EndsWord, IsPart, LaysOut, Part, Spells, bare, nothing, part_bytes, part_symbols, quoted, white, word}
 use Rattle.asked_service.specs.text_forms.Words.{words_of}
-use Rattle.asked_service.proofs.TextForms.Layouts.{split_as_laid}
+use Rattle.asked_service.proofs.OfTextForms.Layouts.{split_as_laid}
 use Rattle.asked_service.specs.unit_names.Expansion.{Piece, literal, expansion, if_short, if_text, longest_value, pieces_meaning, pieces_of, onto_pieces}
 use Rattle.asked_service.specs.unit_names.Names.{Name}
 use Rattle.asked_service.specs.dropin_merge.unit_values.Lines.{line_of, words_if}

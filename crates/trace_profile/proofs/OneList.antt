@@ -46,9 +46,9 @@ use Rattle.asked_service.specs.launcher.Launches.{AreRead}
 use Rattle.asked_service.specs.launcher.LaunchesAlike.{AreInstalled}
 use Rattle.asked_service.specs.launcher.Matching.{AreMatching}
 use Rattle.asked_service.specs.launcher.declared.launched.Launched.{Launched as Service}
-use Rattle.asked_service.proofs.Launcher.Conditions.{settings_can_be_launched}
-use Rattle.asked_service.proofs.Launcher.Matching.{room}
-use Rattle.asked_service.proofs.Launcher.Programs.{they_are_read, they_match}
+use Rattle.asked_service.proofs.OfLauncher.Conditions.{settings_can_be_launched}
+use Rattle.asked_service.proofs.OfLauncher.Matching.{room}
+use Rattle.asked_service.proofs.OfLauncher.Programs.{they_are_read, they_match}
 use Rattle.asked_service.specs.mount_plan.Answers.{Plans}
 use Rattle.asked_service.specs.mount_plan.Host.{host_of}
 use Rattle.asked_service.specs.mount_plan.Plan.{table_of}

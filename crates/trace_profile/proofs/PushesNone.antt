@@ -13,7 +13,7 @@ use Rattle.asked_service.specs.call_table.declared.call_names.known.KnownCall.{K
 use Rattle.asked_service.specs.call_table.declared.call_names.known.KnownCall.TheVariants.{Modelled, Absent}
 use Rattle.asked_service.specs.call_table.declared.call_names.rule.CallRule.{CallRule}
 use Rattle.asked_service.specs.call_table.declared.call_names.rule.CallRule.TheVariants as known
-use Rattle.asked_service.proofs.CallTable.Places.{any_nowhere, or_false}
+use Rattle.asked_service.proofs.OfCallTable.Places.{any_nowhere, or_false}
 use Rattle.asked_service.specs.call_table.Lookups.{numbered}
 use Rattle.asked_service.specs.call_table.Table.{Table, calls_in}
 use Rattle.asked_service.specs.call_table.declared.listed.CallLine.{CallLine}

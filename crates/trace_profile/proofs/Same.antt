@@ -21,7 +21,7 @@ use Rattle.asked_service.specs.kernel_model.declared.process.Process.{Process}
 use Rattle.asked_service.specs.kernel_model.declared.reply.Reply.{Reply}
 use Rattle.asked_service.specs.kernel_model.declared.reply.Reply.TheVariants as w
 use Rattle.asked_service.specs.launcher.Alike.{over}
-use Rattle.asked_service.proofs.Launcher.Alike.{caller_over, own_answered, own_by, own_decided, own_step}
+use Rattle.asked_service.proofs.OfLauncher.Alike.{caller_over, own_answered, own_by, own_decided, own_step}
 use Rattle.asked_service.specs.linux_numbers.Errnos.{eagain, enospc}
 use Rattle.std.specs.Option.{option_map_or}
 use Rattle.trace_profile.specs.allow_laws.Either.{AnswerSame, AnswersAsEither, PushesNone}

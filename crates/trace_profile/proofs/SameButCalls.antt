@@ -28,7 +28,7 @@ use Rattle.asked_service.specs.exec_settings.declared.commands.Command.{Command}
 use Rattle.asked_service.specs.exec_settings.declared.errors.SettingsError.TheVariants.{OutsideProfile, TooManyPaths}
 use Rattle.asked_service.specs.exec_settings.declared.keys.Meaning.{Meaning}
 use Rattle.asked_service.specs.exec_settings.declared.keys.Meaning.TheVariants as means
-use Rattle.asked_service.proofs.ExecSettings.FilterSame.{same_settings}
+use Rattle.asked_service.proofs.OfExecSettings.FilterSame.{same_settings}
 use Rattle.asked_service.specs.filter_settings.declared.filter_rules.mentions.CallList.{CallList}
 use Rattle.asked_service.specs.filter_settings.declared.filter_rules.settings.FilterSettings.{FilterSettings}
 use Rattle.asked_service.specs.filter_settings.Architectures.{is_read, is_second, unit_refuses_second}

@@ -10,7 +10,7 @@ use Rattle.asked_service.specs.kernel_model.declared.kernel_calls.call.Call.{Cal
 use Rattle.asked_service.specs.launched_units.Launching.{IsNotLaunched}
 use Rattle.asked_service.specs.declared.launched_units.refusal.UnitRefusal.{UnitRefusal}
 use Rattle.asked_service.specs.declared.launched_units.refusal.UnitRefusal.TheVariants as refusal
-use Rattle.asked_service.proofs.Launcher.TwoAbis.{word_archs}
+use Rattle.asked_service.proofs.OfLauncher.TwoAbis.{word_archs}
 use Rattle.asked_service.specs.site_table.Table.{IsSite, Site}
 use Rattle.trace_profile.specs.Derived.{Derives}
 use Rattle.trace_profile.specs.Errors.{error_of}

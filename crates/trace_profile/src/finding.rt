@@ -16,13 +16,8 @@ use crate::replies::replies_of;
 use crate::scripts::first_seccomp;
 use crate::searching::Trial;
 use crate::used::used_marks;
-use asked_service::call_table::CallTable;
-use asked_service::dropin_merge::Resolved;
-use asked_service::kernel_model::Reply;
-use asked_service::kernel_model::kernel_calls::{Call, fits};
 use asked_service::launched_units::{UnitRefusal, launch_whole};
-use asked_service::script_text::Script;
-use asked_service::site_table::SiteTable;
+use asked_service::{Call, CallTable, Reply, Resolved, Script, SiteTable, fits};
 use std::alloc::{AllocError, Global};
 
 // Names that serve: those that the script uses, which as a rule do, or else all.

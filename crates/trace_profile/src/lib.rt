@@ -17,7 +17,7 @@ mod scripts;
 mod searching;
 mod used;
 
-pub use asked_service::dropin_merge;
+pub use asked_service::Resolved;
 pub use derived::{DeriveError, Derived, Names};
 pub use extending::drop_in;
 pub use finding::derive;

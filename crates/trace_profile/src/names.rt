@@ -7,7 +7,7 @@ ghost use Rattle.trace_profile.specs.Extended.{every_name, is_first_line};
 ghost use Rattle.trace_profile.specs.Names.{is_marked, without};
 
 use crate::extending::name_at;
-use asked_service::call_table::CallTable;
+use asked_service::CallTable;
 use std::alloc::{AllocError, Global};
 
 // How many call lines there are, in all ABIs.

@@ -4,8 +4,7 @@ ghost use Rattle.std.specs.Prelude.{◌≡◌, ◌≢◌, IfOk, IsTrue, false, l
 ghost use Rattle.asked_service.specs.kernel_model.Runs.{replies};
 ghost use Rattle.trace_profile.specs.Replies.{Compares};
 
-use asked_service::kernel_model::kernel_calls::Call;
-use asked_service::kernel_model::{Reply, World};
+use asked_service::{Call, Reply, World};
 use std::alloc::{AllocError, Global};
 
 /// The replies, in the order of the calls.

@@ -8,12 +8,8 @@ ghost use Rattle.trace_profile.specs.Searching.{AreKept, AreServing, LeavesOut, 
 use crate::extending::extended;
 use crate::names::without;
 use crate::replies::are_replies;
-use asked_service::call_table::CallTable;
-use asked_service::dropin_merge::Resolved;
-use asked_service::kernel_model::Reply;
-use asked_service::kernel_model::kernel_calls::Call;
 use asked_service::launched_units::{UnitRefusal, launch_whole};
-use asked_service::site_table::SiteTable;
+use asked_service::{Call, CallTable, Reply, Resolved, SiteTable};
 use std::alloc::{AllocError, Global};
 
 /// What lists of names are tried on.

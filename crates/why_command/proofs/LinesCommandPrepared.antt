@@ -8,16 +8,16 @@ use Rattle.judge_command.specs.unit_inputs.command_answers.Stops.{Prepares, firs
 use Rattle.judge_command.specs.unit_inputs.declared.command_answers.ending.Ending.{Ending}
 use Rattle.judge_command.specs.unit_inputs.declared.command_answers.ending.Ending.TheVariants.{Done, LaunchRefused}
 use Rattle.judge_command.specs.unit_inputs.declared.command_answers.stop.Stop.{Stop}
-use Rattle.judge_command.proofs.UnitInputs.FileCommands.{go_together, ready_is_admitted, stop_is_admitted}
-use Rattle.judge_command.proofs.UnitInputs.Refusing.{stops_as}
+use Rattle.judge_command.proofs.OfUnitInputs.FileCommands.{go_together, ready_is_admitted, stop_is_admitted}
+use Rattle.judge_command.proofs.OfUnitInputs.Refusing.{stops_as}
 use Rattle.judge_command.specs.asked_service.started_units.Starting.{start_refusals}
 use Rattle.judge_command.specs.unit_inputs.Inputs.{Inputs, input_refusals, inputs_of, inputs_view}
 use Rattle.judge_command.specs.unit_inputs.declared.inputs.UnitInputs.{UnitInputs}
 use Rattle.judge_command.specs.asked_service.declared.unit_launch.launching.UnitLaunch.{UnitLaunch}
 use Rattle.judge_command.specs.asked_service.declared.unit_launch.launching.UnitLaunch.TheVariants.{Launched, Refused}
 use Rattle.judge_command.specs.unit_inputs.Settled.{refusals_by}
-use Rattle.judge_command.proofs.UnitInputs.Steps.{AreRead, refusals_with}
-use Rattle.judge_command.proofs.UnitInputs.Steps as steps
+use Rattle.judge_command.proofs.OfUnitInputs.Steps.{AreRead, refusals_with}
+use Rattle.judge_command.proofs.OfUnitInputs.Steps as steps
 use Rattle.judge_command.specs.unit_inputs.command_answers.ReadyTexts.{ending_of, text_of}
 use Rattle.judge_command.specs.unit_inputs.declared.command_answers.ready_text.ReadyText.{ReadyText}
 use Rattle.why_command.specs.lines_command.Prints.{PrintsLines, TellsLaunch, TellsLines, lines_laws, lines_refusals}

@@ -11,8 +11,8 @@ use Rattle.judge_command.specs.unit_inputs.declared.command_answers.ending.Endin
 use Rattle.judge_command.specs.unit_inputs.declared.command_answers.ending.Ending.TheVariants.{Done, LaunchRefused}
 use Rattle.judge_command.specs.unit_inputs.declared.command_answers.stop.Stop.{Stop}
 use Rattle.judge_command.specs.unit_inputs.declared.command_answers.stop.Stop.TheVariants as stop
-use Rattle.judge_command.proofs.UnitInputs.FileCommands.{go_together, ready_is_admitted, stop_is_admitted}
-use Rattle.judge_command.proofs.UnitInputs.Refusing.{passes, stops, stops_as}
+use Rattle.judge_command.proofs.OfUnitInputs.FileCommands.{go_together, ready_is_admitted, stop_is_admitted}
+use Rattle.judge_command.proofs.OfUnitInputs.Refusing.{passes, stops, stops_as}
 use Rattle.deciding_lines.specs.Tried.{Tried}
 use Rattle.judge_command.specs.kernel_laws.Questions as asked
 use Rattle.judge_command.specs.kernel_laws.declared.question_types.question.Question.{Question}
@@ -23,8 +23,8 @@ use Rattle.judge_command.specs.unit_inputs.declared.inputs.UnitInputs.{UnitInput
 use Rattle.judge_command.specs.asked_service.declared.unit_launch.launching.UnitLaunch.{UnitLaunch}
 use Rattle.judge_command.specs.asked_service.declared.unit_launch.launching.UnitLaunch.TheVariants.{Launched, Refused}
 use Rattle.judge_command.specs.unit_inputs.Settled.{refusals_by}
-use Rattle.judge_command.proofs.UnitInputs.Steps as steps
-use Rattle.judge_command.proofs.UnitInputs.Steps.{AreRead, refusals_with}
+use Rattle.judge_command.proofs.OfUnitInputs.Steps as steps
+use Rattle.judge_command.proofs.OfUnitInputs.Steps.{AreRead, refusals_with}
 use Rattle.why_command.specs.Asking.{question_in, refused_question}
 use Rattle.judge_command.specs.unit_inputs.command_answers.ReadyTexts.{ending_of, text_of}
 use Rattle.why_command.specs.Prints.{PrintsWhy, TellsLaunch, TellsWhy, refusals_behind, why_laws, why_refusals}

@@ -12,13 +12,10 @@ ghost use Rattle.why_command.specs.Prints.{TellsLaunch, TellsService, TellsWhy};
 
 use crate::telling::denied_text;
 use deciding_lines::Trial;
-use judge_command::asked_service::started_units::start;
-use judge_command::asked_service::unit_launch::{UnitLaunch, refusal_line};
-use judge_command::asked_service::{Bounded, bound};
-use judge_command::launcher::Launched;
-use judge_command::open_calls::{Service, calls};
-use judge_command::report_text::open_lines;
-use judge_command::unit_inputs::command_answers::{Ending, ReadyText, Stop};
+use judge_command::{
+    Bounded, Ending, Launched, ReadyText, Service, Stop, UnitLaunch, bound, calls, open_lines,
+    refusal_line, start,
+};
 use std::alloc::{AllocError, Global};
 
 // A question that is open, with the calls that reach it.

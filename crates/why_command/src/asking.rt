@@ -4,10 +4,7 @@ ghost use Rattle.judge_command.specs.unit_inputs.command_answers.Stops.{IsAnswer
 ghost use Rattle.judge_command.specs.kernel_laws.Questions.{questions};
 ghost use Rattle.why_command.specs.Asking.{joined_words, question_in, refused_question, spaced};
 
-use judge_command::call_table::CallTable;
-use judge_command::kernel_laws::question_types::Question;
-use judge_command::site_table::SiteTable;
-use judge_command::unit_inputs::command_answers::{Stop, refuse};
+use judge_command::{CallTable, Question, SiteTable, Stop, refuse};
 use question_text::read_question;
 use std::alloc::{AllocError, Global};
 

@@ -5,9 +5,7 @@ ghost use Rattle.deciding_lines.specs.unit_lines.Without.{is_among, is_place};
 ghost use Rattle.why_command.specs.Lines.{by_line, by_lines, lines_at, lines_line, lines_text, place_words, told_unless};
 
 use deciding_lines::unit_lines::{UnitLine, lines};
-use judge_command::dropin_merge::unit_values::Place;
-use judge_command::dropin_merge::{Resolved, UnitFile};
-use judge_command::text_forms::push_word;
+use judge_command::{Place, Resolved, UnitFile, push_word};
 use std::alloc::{AllocError, Global};
 
 // The path of the file of this number.

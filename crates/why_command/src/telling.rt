@@ -8,12 +8,7 @@ ghost use Rattle.why_command.specs.Lines.{reason_text};
 
 use crate::lines::lines_text;
 use deciding_lines::Reason;
-use judge_command::call_table::CallTable;
-use judge_command::dropin_merge::Resolved;
-use judge_command::judge::Verdict;
-use judge_command::kernel_laws::question_types::Question;
-use judge_command::report_text::verdict_line;
-use judge_command::site_table::SiteTable;
+use judge_command::{CallTable, Question, Resolved, SiteTable, Verdict, verdict_line};
 use std::alloc::{AllocError, Global};
 
 // What denies it.

@@ -8,13 +8,10 @@ ghost use Rattle.asked_service.specs.launched_units.Launching.{Launches, LaysOut
 
 use crate::launched_units::refusal::UnitRefusal;
 use crate::unit_launch::{UnitLaunch, launch_unit};
-use judge::call_table::CallTable;
-use judge::dropin_merge::Resolved;
-use judge::exec_settings::{Settings, SettingsError, settings};
-use judge::launcher::Launched;
-use judge::mount_plan::{MountSteps, PlanError, plan};
-use judge::path_settings::Mentions;
-use judge::site_table::SiteTable;
+use judge::{
+    CallTable, Launched, Mentions, MountSteps, PlanError, Resolved, Settings, SettingsError,
+    SiteTable, plan, settings,
+};
 use std::alloc::Global;
 
 // The settings of a unit.

@@ -3,7 +3,7 @@
 ghost use Rattle.std.specs.Prelude.{◌≡◌, IfOk};
 ghost use Rattle.asked_service.specs.launched_units.Longer.{says, with_file};
 
-use judge::dropin_merge::Resolved;
+use judge::Resolved;
 use report_text::unit_grammar::{Assignments, Notes, UnitError, UnitText, read_unit};
 use std::alloc::{AllocError, Global};
 

@@ -6,8 +6,7 @@ ghost use Rattle.std.specs.Prelude.{◌≡◌};
 ghost use Rattle.asked_service.specs.declared.launched_units.refusal.UnitRefusal.TheVariants.{Memory};
 
 use crate::unit_launch::LaunchRefusal;
-use judge::exec_settings::SettingsError;
-use judge::mount_plan::PlanError;
+use judge::{PlanError, SettingsError};
 use std::alloc::AllocError;
 
 /// Why a unit is not launched.

@@ -5,9 +5,7 @@ ghost use Rattle.asked_service.specs.started_units.Starting.{StartsAs, TellsRefu
 
 use crate::launched_units::{UnitRefusal, launch_whole};
 use crate::unit_launch::{LaunchRefusal, UnitLaunch};
-use judge::call_table::CallTable;
-use judge::dropin_merge::Resolved;
-use judge::site_table::SiteTable;
+use judge::{CallTable, Resolved, SiteTable};
 use plan_command::plan_line;
 use plan_command::unit_inputs::command_answers::{Stop, refuse};
 use plan_command::unit_inputs::settings_line;

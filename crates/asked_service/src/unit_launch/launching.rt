@@ -7,11 +7,7 @@ ghost use Rattle.judge.specs.mount_plan.Host.{host_of};
 ghost use Rattle.asked_service.specs.unit_launch.Launching.{ComesTo};
 
 use crate::unit_launch::refusal::LaunchRefusal;
-use judge::call_table::CallTable;
-use judge::exec_settings::Settings;
-use judge::kern_mounts::MountStep;
-use judge::launcher::{LaunchError, Launched, launch};
-use judge::site_table::SiteTable;
+use judge::{CallTable, LaunchError, Launched, MountStep, Settings, SiteTable, launch};
 use std::alloc::{AllocError, Global};
 
 /// What the launch of a unit comes to.

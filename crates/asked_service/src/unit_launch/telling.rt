@@ -2,7 +2,7 @@
 ghost use Rattle.std.specs.Prelude.{◌≡◌};
 ghost use Rattle.asked_service.specs.unit_launch.Told.{told_of};
 
-use judge::kernel_model::World;
+use judge::World;
 use report_text::Launched;
 
 // What is told of a world that a launch of so many steps left.
@@ -27,7 +27,7 @@ fn told_by(world: &World, steps: u32) -> Launched
 
 /// What is told of a launched service: the effective ids of its first process, whether that has no_new_privs, and how many
 /// steps the launch took.
-pub fn told(service: &judge::launcher::Launched) -> Launched
+pub fn told(service: &judge::Launched) -> Launched
     ensures tells_the_first_process { result ≡ told_of service.now.world service.now.steps }
 {
     told_by(&service.world, service.steps)

@@ -5,10 +5,9 @@ ghost use Rattle.std.specs.Str.{bytes_eq};
 ghost use Rattle.deciding_lines.specs.unit_lines.Lines.{is_in_force};
 ghost use Rattle.deciding_lines.specs.unit_lines.Without.{file_without, is_among, is_place, is_taken, kept_of, left_of, without};
 
-use asked_service::dropin_merge::unit_values::Place;
-use asked_service::dropin_merge::{Resolved, UnitFile, UnitFiles};
-use asked_service::exec_settings::is_judged;
-use asked_service::unit_grammar::{Assignment, Assignments, Text, UnitText};
+use asked_service::{
+    Assignment, Assignments, Place, Resolved, Text, UnitFile, UnitFiles, UnitText, is_judged,
+};
 use std::alloc::{AllocError, Global};
 
 /// The section of a unit file that describes the service.

@@ -1,7 +1,6 @@
 //! An assignment in force.
 
-use asked_service::dropin_merge::unit_values::Place;
-use asked_service::unit_grammar::Text;
+use asked_service::{Place, Text};
 
 /// An assignment in force: a line of `[Service]` in a file of a unit, whose key is read.
 #[derive(Drop)]

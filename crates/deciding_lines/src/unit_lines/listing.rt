@@ -4,10 +4,7 @@ ghost use Rattle.std.specs.List.{cons_option};
 ghost use Rattle.deciding_lines.specs.unit_lines.Lines.{line_at, lines_of};
 
 use crate::unit_lines::line::UnitLine;
-use asked_service::dropin_merge::Resolved;
-use asked_service::dropin_merge::unit_values::{Place, service_assignments};
-use asked_service::exec_settings::is_judged;
-use asked_service::unit_grammar::{Assignment, Text};
+use asked_service::{Assignment, Place, Resolved, Text, is_judged, service_assignments};
 use std::alloc::{AllocError, Global};
 
 // Lists an assignment of the service, if its key is read.

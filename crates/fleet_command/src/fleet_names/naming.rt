@@ -6,8 +6,7 @@ ghost use Rattle.fleet_command.specs.fleet_names.Asking.{course, names_asks};
 
 use crate::fleet_names::collecting::{collect_all, in_byte_order};
 use crate::fleet_names::errors::NamesError;
-use score_command::host_io::Shelf;
-use score_command::unit_names::UnitName;
+use score_command::{Shelf, UnitName};
 use std::alloc::Global;
 
 /// The most units of a host.

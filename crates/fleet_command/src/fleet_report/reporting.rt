@@ -12,13 +12,7 @@ use crate::fleet_report::errors::FleetError;
 use crate::fleet_report::ordering::put_in_order;
 use crate::fleet_report::rows::FleetRow;
 use crate::fleet_report::scoring::row_of;
-use score_command::call_table::CallTable;
-use score_command::exposure_score::policy_file::Policy;
-use score_command::exposure_score::policy_weights::weighs;
-use score_command::exposure_score::{CustomTest, Stored};
-use score_command::host_io::Shelf;
-use score_command::site_table::SiteTable;
-use score_command::unit_names::UnitName;
+use score_command::{CallTable, CustomTest, Policy, Shelf, SiteTable, Stored, UnitName, weighs};
 use std::alloc::Global;
 
 // The rows of the names, one by one. The policy weighs something.

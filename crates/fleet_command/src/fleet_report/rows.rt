@@ -1,7 +1,5 @@
 //! What is reported of each unit.
-use score_command::dropin_merge::ResolveError;
-use score_command::exec_settings::SettingsError;
-use score_command::unit_names::UnitName;
+use score_command::{ResolveError, SettingsError, UnitName};
 
 /// What came of a unit. No refusal is a fault or want of memory.
 #[derive(Drop)]

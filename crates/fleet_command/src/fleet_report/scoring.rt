@@ -13,15 +13,10 @@ ghost use Rattle.fleet_command.specs.declared.fleet_report.errors.FleetError.The
 
 use crate::fleet_report::errors::FleetError;
 use crate::fleet_report::rows::{FleetOutcome, FleetRow};
-use score_command::call_table::CallTable;
-use score_command::dropin_merge::{ResolveError, Resolved, resolve};
-use score_command::exec_settings::{Settings, SettingsError, settings};
-use score_command::exposure_score::policy_file::Policy;
-use score_command::exposure_score::service_facts::facts;
-use score_command::exposure_score::{CustomTest, ScoreError, Stored, score};
-use score_command::host_io::Shelf;
-use score_command::site_table::SiteTable;
-use score_command::unit_names::UnitName;
+use score_command::{
+    CallTable, CustomTest, Policy, ResolveError, Resolved, ScoreError, Settings, SettingsError,
+    Shelf, SiteTable, Stored, UnitName, facts, resolve, score, settings,
+};
 use std::alloc::Global;
 
 // The exposure of a unit by its settings, which are accepted, and a policy that weighs something.

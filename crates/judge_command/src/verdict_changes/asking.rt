@@ -7,8 +7,7 @@ ghost use Rattle.judge_command.specs.verdict_changes.ByRule.{question_change};
 ghost use Rattle.judge_command.specs.verdict_changes.Found.{change_of};
 
 use crate::Asked;
-use asked_service::kernel_laws::question_types::Question;
-use asked_service::kernel_model::kernel_calls::Call;
+use asked_service::{Call, Question};
 use open_calls::{Service, calls};
 use std::alloc::AllocError;
 

@@ -6,7 +6,7 @@ ghost use Rattle.judge_command.specs.verdict_changes.ByRule.{blind_change, row_c
 ghost use Rattle.judge_command.specs.verdict_changes.Found.{turn_of};
 
 use crate::{Asked, is_named};
-use asked_service::site_table::Row;
+use asked_service::Row;
 
 /// What changes of a folder from one launched service to another.
 #[derive(Clone, Copy)]

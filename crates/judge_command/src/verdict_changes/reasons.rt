@@ -2,7 +2,7 @@
 ghost use Rattle.judge_command.specs.verdict_changes.ByRule.{ChangesAreTrue};
 
 use crate::truths;
-use asked_service::kernel_ways::blindness;
+use asked_service::blindness;
 
 /// What is found to change from one launched service to another changes, and nothing else does.
 pub fn changes_are_true()

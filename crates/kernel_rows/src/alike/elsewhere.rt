@@ -14,13 +14,9 @@ ghost use Rattle.asked_service.specs.site_table.declared.kinds.RowKind.TheVarian
 ghost use Rattle.asked_service.specs.unit_launch.Launching.{IsLaunched};
 
 use crate::alike::asked::Asked;
-use asked_service::abs_path::AbsPath;
-use asked_service::ceilings::{Ceiling, ceiling};
-use asked_service::exec_settings::Settings;
-use asked_service::judge::{alike, blind};
-use asked_service::kern_mounts::MountStep;
-use asked_service::launcher::{FilterProgram, Launched};
-use asked_service::site_table::RowKind;
+use asked_service::{
+    AbsPath, Ceiling, FilterProgram, Launched, MountStep, RowKind, Settings, alike, blind, ceiling,
+};
 use std::alloc::{AllocError, Global};
 
 // The law at these settings and their plan, which meet what it asks, and at any programs. It does nothing.

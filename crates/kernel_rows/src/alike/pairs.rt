@@ -1,7 +1,7 @@
 //! Pairs of sites, and whether a service can tell them apart.
 use crate::alike::asked::Asked;
 use crate::alike::traces::{Trace, trace_of};
-use asked_service::script_text::read_script;
+use asked_service::read_script;
 use row_tools::{inputs_of, said, site_of};
 use std::alloc::{AllocError, Global};
 

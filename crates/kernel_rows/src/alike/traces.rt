@@ -9,13 +9,8 @@ ghost use Rattle.asked_service.specs.unit_launch.Launching.{IsLaunched};
 use crate::alike::asked::Asked;
 use crate::alike::elsewhere::is_blind_there;
 use crate::replies::reply_text;
-use asked_service::exec_settings::{Settings, settings};
-use asked_service::kern_mounts::MountStep;
-use asked_service::kernel_model::World;
-use asked_service::kernel_model::kernel_calls::Call;
-use asked_service::launcher::Launched;
-use asked_service::mount_plan::plan;
 use asked_service::unit_launch::{UnitLaunch, launch_unit};
+use asked_service::{Call, Launched, MountStep, Settings, World, plan, settings};
 use row_tools::said;
 use std::alloc::{AllocError, Global};
 

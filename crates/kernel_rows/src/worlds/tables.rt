@@ -1,6 +1,5 @@
 //! The tables that every world is told.
-use asked_service::call_table::CallTable;
-use asked_service::site_table::SiteTable;
+use asked_service::{CallTable, SiteTable};
 use row_tools::{HeldText, calls_of, site_of};
 use std::alloc::{AllocError, Global};
 

@@ -7,8 +7,7 @@ ghost use Rattle.asked_service.specs.kernel_laws.Questions.{questions};
 ghost use Rattle.tighten_command.specs.tightening.Tried.{Finds, IsGranted, IsKept, IsShut};
 
 use crate::tightening::wishes::{StoredWish, Wished};
-use asked_service::kernel_laws::question_types::Question;
-use asked_service::{Bounded, VerdictRow};
+use asked_service::{Bounded, Question, VerdictRow};
 
 /// The first of these questions that is denied, counted from 1.
 pub fn first_denied(bounded: &Bounded<'_>, keep: &[Question]) -> Option<u64>

@@ -4,7 +4,7 @@ ghost use Rattle.std.specs.Prelude.{◌≡◌, ◌<◌, ◌≤◌, ◌∷◌, �
 ghost use Rattle.std.specs.List.{All};
 ghost use Rattle.tighten_command.specs.tightening.Items.{drop_in_text, has, in_order, line_of, lines, tightened};
 
-use asked_service::dropin_merge::Resolved;
+use asked_service::Resolved;
 use asked_service::launched_units::with_file;
 use std::alloc::{AllocError, Global};
 

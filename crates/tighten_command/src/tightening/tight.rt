@@ -4,11 +4,9 @@ ghost use Rattle.std.specs.Prelude.{◌≡◌};
 ghost use Rattle.tighten_command.specs.tightening.Errors.{error_of};
 ghost use Rattle.tighten_command.specs.declared.tightening.tight.TightenError.TheVariants.{Memory};
 
-use asked_service::exec_settings::SettingsError;
 use asked_service::launched_units::UnitRefusal;
-use asked_service::mount_plan::PlanError;
-use asked_service::text_forms::item_list::ItemList;
 use asked_service::unit_launch::LaunchRefusal;
+use asked_service::{ItemList, PlanError, SettingsError};
 use std::alloc::AllocError;
 
 /// Numbers of items, from 1; contracts see them as a list.

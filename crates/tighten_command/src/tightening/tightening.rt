@@ -12,13 +12,10 @@ use crate::tightening::searching::Held;
 use crate::tightening::tight::{Items, Tight, TightenError};
 use crate::tightening::trial::{Lack, Trial};
 use crate::tightening::wishes::{StoredWish, Wished};
-use asked_service::call_table::CallTable;
-use asked_service::dropin_merge::Resolved;
-use asked_service::kernel_laws::question_types::Question;
-use asked_service::kernel_ways::openness;
 use asked_service::launched_units::launch_whole;
-use asked_service::site_table::SiteTable;
-use asked_service::{Bounded, bound, count_open};
+use asked_service::{
+    Bounded, CallTable, Question, Resolved, SiteTable, bound, count_open, openness,
+};
 use question_text::questions::questions;
 use std::alloc::{AllocError, Global};
 

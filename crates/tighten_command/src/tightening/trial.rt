@@ -10,13 +10,10 @@ ghost use Rattle.tighten_command.specs.tightening.Tried.{IsKept};
 use crate::tightening::firsts::{first_denied, first_refused};
 use crate::tightening::items::tightened;
 use crate::tightening::wishes::{StoredWish, Wished};
-use asked_service::call_table::CallTable;
-use asked_service::dropin_merge::Resolved;
-use asked_service::kernel_laws::question_types::Question;
-use asked_service::kernel_ways::openness;
 use asked_service::launched_units::{UnitRefusal, launch_whole};
-use asked_service::site_table::SiteTable;
-use asked_service::{Bounded, bound, verdict_rows};
+use asked_service::{
+    Bounded, CallTable, Question, Resolved, SiteTable, bound, openness, verdict_rows,
+};
 use std::alloc::{AllocError, Global};
 
 /// What sets of items are tried on.

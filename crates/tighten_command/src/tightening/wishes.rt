@@ -4,9 +4,7 @@ ghost use Rattle.std.specs.Prelude.{◌≡◌, List, true, string_bytes};
 ghost use Rattle.tighten_command.specs.tightening.Open.{AreOpenIn};
 ghost use Rattle.tighten_command.specs.tightening.Wishes.{Wishes, wishes_by};
 
-use asked_service::VerdictRow;
-use asked_service::kernel_laws::question_types::Question;
-use asked_service::text_forms::item_list::ItemList;
+use asked_service::{ItemList, Question, VerdictRow};
 
 /// What a wish says of the verdicts on all questions.
 pub type Test = Box<dyn Fn(&[VerdictRow]) -> bool>;

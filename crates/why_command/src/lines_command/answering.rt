@@ -9,14 +9,10 @@ ghost use Rattle.why_command.specs.lines_command.Prints.{TellsLaunch, TellsLines
 use crate::lines_command::lines::lines_text;
 use crate::opening_lines::Judged;
 use deciding_lines::unit_lines::lines;
-use judge_command::ask;
-use judge_command::asked_service::started_units::start;
-use judge_command::asked_service::unit_launch::{UnitLaunch, refusal_line};
-use judge_command::call_table::CallTable;
-use judge_command::dropin_merge::Resolved;
-use judge_command::launcher::Launched;
-use judge_command::site_table::SiteTable;
-use judge_command::unit_inputs::command_answers::{Ending, ReadyText, Stop};
+use judge_command::{
+    CallTable, Ending, Launched, ReadyText, Resolved, SiteTable, Stop, UnitLaunch, ask,
+    refusal_line, start,
+};
 use std::alloc::{AllocError, Global};
 
 // What is told of a launched service: each line of the unit with what it denies by itself.

@@ -7,11 +7,7 @@ ghost use Rattle.why_command.specs.lines_command.Lines.{IsListed, alone_words, c
 
 use crate::opening_lines::{Alone, LineAlone};
 use crate::push_assignment;
-use judge_command::call_table::CallTable;
-use judge_command::dropin_merge::{Resolved, UnitFile};
-use judge_command::kernel_laws::question_types::Question;
-use judge_command::report_text::question_line;
-use judge_command::site_table::SiteTable;
+use judge_command::{CallTable, Question, Resolved, SiteTable, UnitFile, question_line};
 use std::alloc::{AllocError, Global};
 
 // What is told behind an assignment: how many questions it opens, or that it is needed.

@@ -8,14 +8,7 @@ ghost use Rattle.why_command.specs.opening_lines.Judging.{IsAloneOf, IsJudged, i
 use crate::opening_lines::judged::Judged;
 use crate::opening_lines::opened::opened;
 use deciding_lines::unit_lines::without;
-use judge_command::asked_service::bound;
-use judge_command::asked_service::started_units::start;
-use judge_command::asked_service::unit_launch::UnitLaunch;
-use judge_command::dropin_merge::unit_values::Place;
-use judge_command::kernel_laws::question_types::Question;
-use judge_command::launcher::Launched;
-use judge_command::truths;
-use judge_command::unit_inputs::command_answers::Stop;
+use judge_command::{Launched, Place, Question, Stop, UnitLaunch, bound, start, truths};
 use std::alloc::{AllocError, Global};
 
 /// What an assignment in force denies by itself.

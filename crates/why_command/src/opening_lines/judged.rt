@@ -1,9 +1,6 @@
 //! A unit that is launched, with all that it is asked.
 
-use judge_command::Asked;
-use judge_command::call_table::CallTable;
-use judge_command::dropin_merge::Resolved;
-use judge_command::site_table::SiteTable;
+use judge_command::{Asked, CallTable, Resolved, SiteTable};
 
 /// A unit that is launched, with all that it is asked; its lines are tried one by one.
 #[derive(Drop)]

@@ -5,8 +5,7 @@ ghost use Rattle.judge_command.specs.kernel_laws.Launched.{launch_of};
 ghost use Rattle.judge_command.specs.kernel_laws.Questions.{questions};
 ghost use Rattle.why_command.specs.opening_lines.ByRule.{is_opened, opened_at, opened_by};
 
-use judge_command::asked_service::Bounded;
-use judge_command::kernel_laws::question_types::Question;
+use judge_command::{Bounded, Question};
 use std::alloc::{AllocError, Global};
 
 // Whether a question is denied of the first and open of the second: of what is open already the second is not asked.

@@ -1,6 +1,6 @@
 use Rattle.std.proofs.Common.{refl}
 use Rattle.judge_command.specs.unit_inputs.declared.command_answers.stop.Stop.TheVariants as stop
-use Rattle.judge_command.proofs.UnitInputs.FileCommands.{at_stop}
+use Rattle.judge_command.proofs.OfUnitInputs.FileCommands.{at_stop}
 use Rattle.judge_command.specs.asked_service.declared.unit_launch.launching.UnitLaunch.TheVariants.{Launched}
 use Rattle.effect_command.specs.Prints.{TellsBoth}
 use Rattle.judge_command.specs.unit_inputs.command_answers.ReadyTexts.{IsReadyWith}

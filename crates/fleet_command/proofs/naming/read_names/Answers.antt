@@ -1,8 +1,8 @@
 use Rattle.std.proofs.Common.{Err, Global, Ok, Vec, rules}
-use Rattle.score_command.proofs.UnitInputs.Asking.{told_line}
+use Rattle.score_command.proofs.OfUnitInputs.Asking.{told_line}
 use Rattle.fleet_command.specs.fleet_names.Asking.{names_asks}
 use Rattle.fleet_command.specs.declared.fleet_names.errors.NamesError.TheVariants as naming
-use Rattle.score_command.proofs.UnitInputs.Ordering.{order_quiet}
+use Rattle.score_command.proofs.OfUnitInputs.Ordering.{order_quiet}
 use Rattle.score_command.specs.unit_names.Names.{Name}
 use Rattle.fleet_command.proofs.Asked.{named_so}
 use Rattle.fleet_command.proofs.naming.read_names.Goals as goal

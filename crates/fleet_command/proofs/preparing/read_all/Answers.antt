@@ -5,7 +5,7 @@ use Rattle.score_command.specs.host_io.Calls.{Whole}
 use Rattle.score_command.specs.exposure_score.declared.policy_file.policy.PolicyTest.{PolicyTest}
 use Rattle.score_command.specs.site_table.Table.{Site}
 use Rattle.std.proofs.Common.{Box, Global, List, Vec}
-use Rattle.score_command.proofs.UnitInputs.Ordering.{order_stopped}
+use Rattle.score_command.proofs.OfUnitInputs.Ordering.{order_stopped}
 use Rattle.score_command.specs.unit_names.Names.{Name}
 use Rattle.fleet_command.proofs.preparing.read_all.Goals as goal
 

@@ -1,5 +1,5 @@
 use Rattle.std.proofs.Common.{sym, ◌∙◌}
-use Rattle.asked_service.proofs.UnitInputs.Texts.{text_as}
+use Rattle.asked_service.proofs.OfUnitInputs.Texts.{text_as}
 use Rattle.asked_service.specs.report_text.Answers.{blind_line}
 use Rattle.judge_command.specs.Asked.{folder_text}
 use Rattle.judge_command.proofs.Texts.{named_text}

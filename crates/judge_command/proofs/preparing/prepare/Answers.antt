@@ -1,12 +1,12 @@
 use Rattle.std.proofs.Common.{◌≡◌, Some, ap, ◌∙◌}
 use Rattle.std.specs.Prelude.{IfSome}
 use Rattle.asked_service.specs.unit_inputs.command_answers.Stops.{Prepares}
-use Rattle.asked_service.proofs.UnitInputs.FileCommands.{at_stop}
+use Rattle.asked_service.proofs.OfUnitInputs.FileCommands.{at_stop}
 use Rattle.asked_service.specs.plan_command.Prints.{plan_refusals}
 use Rattle.judge_command.specs.Prepared.{IsPrepared}
 use Rattle.judge_command.proofs.Prepared.{is_prepared, stops_at_paths, stops_before_paths}
 use Rattle.asked_service.specs.unit_inputs.Asking.{input_asks}
-use Rattle.asked_service.proofs.UnitInputs.Ordering.{order_quiet_stopped}
+use Rattle.asked_service.proofs.OfUnitInputs.Ordering.{order_quiet_stopped}
 use Rattle.asked_service.specs.kern_mounts.declared.step.MountStep.{MountStep}
 use Rattle.std.proofs.Common.{List}
 use Rattle.asked_service.specs.unit_inputs.Inputs.{inputs_of, inputs_view}

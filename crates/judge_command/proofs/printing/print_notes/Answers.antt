@@ -1,6 +1,6 @@
 use Rattle.std.proofs.Common.{get_or, arith, refl, ◌∙◌}
 use Rattle.asked_service.specs.unit_grammar.declared.notes.NoteCause.TheVariants.{NoSection}
-use Rattle.asked_service.proofs.UnitInputs.Texts.{items_cut, items_more, text_at_error}
+use Rattle.asked_service.proofs.OfUnitInputs.Texts.{items_cut, items_more, text_at_error}
 use Rattle.asked_service.specs.report_text.Notes.{note_line}
 use Rattle.judge_command.proofs.printing.print_notes.Goals as goal
 

@@ -1,7 +1,7 @@
 use Rattle.std.proofs.Common.{ap, ◌∙◌}
 use Rattle.std.specs.Prelude.{IfSome}
 use Rattle.asked_service.specs.unit_inputs.command_answers.Stops.{Prepares}
-use Rattle.asked_service.proofs.UnitInputs.FileCommands.{at_stop}
+use Rattle.asked_service.proofs.OfUnitInputs.FileCommands.{at_stop}
 use Rattle.asked_service.specs.mount_plan.Host.{host_of}
 use Rattle.asked_service.specs.plan_command.Planned.{IsPlan}
 use Rattle.replay_command.specs.Prepared.{IsPrepared, replay_refusals}
@@ -12,7 +12,7 @@ use Rattle.asked_service.specs.unit_inputs.declared.settling.SettledUnit.{Settle
 use Rattle.asked_service.specs.kernel_model.declared.kernel_calls.call.Call.{Call}
 use Rattle.asked_service.specs.kern_mounts.declared.step.MountStep.{MountStep}
 use Rattle.std.proofs.Common.{List}
-use Rattle.asked_service.proofs.UnitInputs.Ordering.{order_quiet_stopped, stops_at_file, stops_before_file, with_file}
+use Rattle.asked_service.proofs.OfUnitInputs.Ordering.{order_quiet_stopped, stops_at_file, stops_before_file, with_file}
 use Rattle.replay_command.proofs.preparing.prepare.Goals as goal
 
 pub returns-in_err-plan-clause-prepares : goal.returns-in_err-plan-clause-prepares

@@ -1,6 +1,6 @@
 use Rattle.std.proofs.Common.{◌≡◌, ◌++◌, Err, length, subst}
 use Rattle.std.specs.Prelude.{IfOk}
-use Rattle.asked_service.proofs.UnitInputs.Texts.{text_at_error, text_cut, text_then}
+use Rattle.asked_service.proofs.OfUnitInputs.Texts.{text_at_error, text_cut, text_then}
 use Rattle.replay_command.specs.Lines.{run_text}
 use Rattle.asked_service.specs.report_text.Launches.{launched_line}
 use Rattle.asked_service.specs.unit_launch.Told.{told_of}

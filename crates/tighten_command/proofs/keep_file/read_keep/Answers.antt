@@ -2,8 +2,8 @@ use Rattle.std.proofs.Common.{ℕ, subst, [], ◌∷◌}
 use Rattle.std.specs.Prelude.{IfSome, List, Vec}
 use Rattle.std.specs.declared.alloc.Global.{Global}
 use Rattle.asked_service.specs.unit_inputs.command_answers.Asking.{input_file}
-use Rattle.asked_service.proofs.UnitInputs.Asking.{went_quiet}
-use Rattle.asked_service.proofs.UnitInputs.FileCommands.{at_stop}
+use Rattle.asked_service.proofs.OfUnitInputs.Asking.{went_quiet}
+use Rattle.asked_service.proofs.OfUnitInputs.FileCommands.{at_stop}
 use Rattle.asked_service.specs.unit_inputs.command_answers.Said.{IsSaid}
 use Rattle.asked_service.specs.kernel_laws.declared.question_types.question.Question.{Question}
 use Rattle.tighten_command.specs.KeepFiles.{IsKeepIn, IsKeepOf}

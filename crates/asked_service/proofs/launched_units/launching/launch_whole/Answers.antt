@@ -1,4 +1,4 @@
-use Rattle.asked_service.proofs.Launched.{launched_unit, refused_unit}
+use Rattle.asked_service.proofs.LaunchedWhole.{launched_unit, refused_unit}
 use Rattle.asked_service.proofs.launched_units.launching.launch_whole.Goals as goal
 
 pub returns-in-Launched : goal.returns-in-Launched

@@ -1,4 +1,4 @@
-use Rattle.asked_service.proofs.Launched.{longer_is}
+use Rattle.asked_service.proofs.LaunchedWhole.{longer_is}
 use Rattle.asked_service.proofs.launched_units.longer.with_file.Goals as goal
 
 pub returns : goal.returns

@@ -1,7 +1,7 @@
 use Rattle.std.proofs.Common.{ap, subst, List, ℕ, length, ◌≤◌}
 use Rattle.judge.specs.kernel_laws.Launched.{Launch}
-use Rattle.judge.proofs.Launcher.Conditions.{settings_can_be_launched}
-use Rattle.judge.proofs.Launcher.TwoAbis.{word_archs}
+use Rattle.judge.proofs.OfLauncher.Conditions.{settings_can_be_launched}
+use Rattle.judge.proofs.OfLauncher.TwoAbis.{word_archs}
 use Rattle.asked_service.proofs.OtherPrograms.{whichever}
 use Rattle.asked_service.proofs.Served.{served, runs_program}
 use Rattle.asked_service.proofs.unit_launch.launching.launch_unit.Goals as goal

@@ -1,7 +1,7 @@
 use Rattle.std.proofs.Common.{Err, rules}
 use Rattle.score_command.specs.host_io.Calls.{NamesIn}
 use Rattle.score_command.specs.host_io.declared.reading.ShelfError.TheVariants as shelf
-use Rattle.score_command.proofs.DropinMerge.Asking.{call_ends}
+use Rattle.score_command.proofs.OfDropinMerge.Asking.{call_ends}
 use Rattle.fleet_command.proofs.Taking.{lists_folder}
 use Rattle.fleet_command.proofs.fleet_names.listing.list_folder.Goals as goal
 

@@ -1,6 +1,6 @@
 use Rattle.std.proofs.Common.{arith}
 use Rattle.std.proofs.lemmas.Result.{err_from_is_err_and}
-use Rattle.score_command.proofs.HostIo.Calling.{told_cut}
+use Rattle.score_command.proofs.OfHostIo.Calling.{told_cut}
 use Rattle.fleet_command.specs.fleet_names.Asking.{names_asks}
 use Rattle.fleet_command.proofs.Named.{names_units, refuses_many}
 use Rattle.fleet_command.proofs.fleet_names.naming.fleet_names.Goals as goal

@@ -1,5 +1,5 @@
 use Rattle.score_command.specs.exposure_score.StoredTests.{stored_by}
-use Rattle.score_command.proofs.ExposureScore.ServiceFactsAccepted.{few_paths}
+use Rattle.score_command.proofs.OfExposureScore.ServiceFactsAccepted.{few_paths}
 use Rattle.fleet_command.proofs.Came.{weighs_each}
 use Rattle.fleet_command.proofs.fleet_report.scoring.exposure_of.Goals as goal
 

@@ -1,4 +1,4 @@
-use Rattle.asked_service.proofs.Judge.Folders.{dir_at}
+use Rattle.asked_service.proofs.OfJudge.Folders.{dir_at}
 use Rattle.kernel_rows.proofs.alike.elsewhere.is_blind_there.Goals as goal
 
 pub is_blind_at-requires-clause-folder : goal.is_blind_at-requires-clause-folder

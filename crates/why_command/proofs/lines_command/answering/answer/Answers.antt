@@ -1,7 +1,7 @@
 use Rattle.judge_command.specs.unit_inputs.command_answers.Stops.{Prepares}
-use Rattle.judge_command.proofs.UnitInputs.FileCommands.{at_stop}
+use Rattle.judge_command.proofs.OfUnitInputs.FileCommands.{at_stop}
 use Rattle.judge_command.specs.asked_service.started_units.Starting.{given, start_refusals}
-use Rattle.judge_command.proofs.UnitInputs.ReadyTexts.{ready_reads_nothing}
+use Rattle.judge_command.proofs.OfUnitInputs.ReadyTexts.{ready_reads_nothing}
 use Rattle.judge_command.specs.unit_inputs.command_answers.ReadyTexts.{ending_of, text_of}
 use Rattle.why_command.specs.lines_command.Prints.{TellsLaunch, TellsLines}
 use Rattle.why_command.proofs.LinesCommandTold.{answers_launch, answers_stop}

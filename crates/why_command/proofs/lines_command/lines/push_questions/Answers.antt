@@ -1,6 +1,6 @@
 use Rattle.std.specs.Prelude.{codes}
-use Rattle.judge_command.proofs.AskedService.Listed.{some_question}
-use Rattle.judge_command.proofs.ReportText.More.{told_more}
+use Rattle.judge_command.proofs.OfAskedService.Listed.{some_question}
+use Rattle.judge_command.proofs.OfReportText.More.{told_more}
 use Rattle.judge_command.specs.report_text.Answers.{question_line}
 use Rattle.why_command.proofs.lines_command.lines.push_questions.Goals as goal
 
