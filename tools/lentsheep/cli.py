@@ -8,6 +8,7 @@ from pathlib import Path
 from typing import Callable, Sequence
 
 from . import compare, expect
+from .ask import ask, asked, explain
 from .brief import brief
 from .gather import view_of
 from .jsonform import json_of
@@ -46,8 +47,10 @@ def main(words: Sequence[str]) -> int:
     except Wrong as wrong:
         print(f"{NAME}: {wrong}", file=sys.stderr)
         return 2
-    except BrokenPipeError:
+    except OSError as error:
+        # a full disk, a closed pipe: as the program does, and what is left in the buffer goes nowhere
         os.dup2(os.open(os.devnull, os.O_WRONLY), sys.stdout.fileno())
+        print(f"{NAME}: a write failed ({error.strerror}), and the text was cut", file=sys.stderr)
         return 5
     except KeyboardInterrupt:
         return 130
@@ -66,6 +69,10 @@ def _run(words: list[str]) -> int:
     if option == "--compare":
         return _compare(rest)
     program = Program(".", unproved)
+    if option == "--ask":
+        return ask(program, rest)
+    if option == "--explain" and rest:
+        return explain(program, int(rest[0]), rest[1:])
     if option in _VIEWS:
         return _VIEWS[option](program, _command(option, rest))
     if option in _VIEWS_WITH_FILE:
@@ -79,13 +86,14 @@ def _command(option: str, words: list[str]) -> list[str]:
     if not words:
         raise Wrong(f"{option} needs a command behind it")
     if option != "--json" and words[0] != "judge":
-        raise Wrong(f"{option} tells of judge alone")
+        what = f"{option} FILE" if option in _VIEWS_WITH_FILE else option
+        raise Wrong(f"{option} is a view of judge alone: write {COMMAND} {what} judge UNIT; --json prints all of {words[0]}")
     return words
 
 
 def _judged(program: Program, words: Sequence[str]) -> tuple[Run, Report | None]:
     """The run, and its report; where there are no answers the text goes out as it is, and there is no report."""
-    run = program.run(*words)
+    run = asked(program, words)
     if isinstance(run.printed, Report) and run.printed.answers:
         return run, run.printed
     write(run.text)
@@ -93,7 +101,7 @@ def _judged(program: Program, words: Sequence[str]) -> tuple[Run, Report | None]
 
 
 def _brief(program: Program, words: list[str]) -> int:
-    run = program.run(*words)
+    run = asked(program, words)
     if not isinstance(run.printed, Report) or run.printed.refusal or not run.text:
         write(run.text)
         return run.status
@@ -103,7 +111,7 @@ def _brief(program: Program, words: list[str]) -> int:
 
 
 def _json(program: Program, words: list[str]) -> int:
-    run = program.run(*words)
+    run = asked(program, words)
     is_told = isinstance(run.printed, Report) and run.printed.refusal is None
     write(json.dumps(json_of(run, view_of(program, run) if is_told else None), indent=1) + "\n")
     return run.status

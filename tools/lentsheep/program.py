@@ -42,22 +42,21 @@ class Program:
 
     def run(self, *words: str) -> Run:
         """Runs the program; what it says on standard error goes on as it is."""
-        how = ["--try"] if self.unproved else []
+        # ./sandbox names the program where it is built, and else builds it and runs it as it is
+        built = None if self.unproved else os.environ.get("LENTSHEEP_RUNS")
+        command = [built] if built else [str(SANDBOX), "--try"] if self.unproved else [str(SANDBOX)]
+        how = {**os.environ, "LENTSHEEP_PLAIN": "yes"}
         with doing("making " + " ".join(words)):
-            ended = subprocess.run([SANDBOX, *how, *words], cwd=self.folder, stdout=subprocess.PIPE, check=False)
+            ended = subprocess.run([*command, *words], cwd=self.folder, env=how, stdout=subprocess.PIPE, check=False)
         text = ended.stdout.decode("utf-8", "surrogateescape")
         status = ended.returncode if ended.returncode >= 0 else 128 - ended.returncode
         return Run(words, text, parse(text, words[0] if words else None), status)
 
     @contextlib.contextmanager
     def changed(self, files: Mapping[str, bytes]) -> Iterator["Program"]:
-        """The same folder with some files in the place of its own, in a folder that is gone afterwards."""
+        """The same folder with some files, by their paths below it, in the place of its own, in a folder that is gone afterwards."""
         with tempfile.TemporaryDirectory(prefix="lentsheep.") as place:
-            for name in os.listdir(self.folder):
-                if name not in files:
-                    os.symlink(os.path.abspath(os.path.join(self.folder, name)), os.path.join(place, name))
-            for name, data in files.items():
-                Path(place, name).write_bytes(data)
+            _overlay(os.path.abspath(self.folder), place, {tuple(name.split("/")): data for name, data in files.items()})
             yield Program(place, self.unproved)
 
     def read(self, name: str) -> bytes | None:
@@ -65,3 +64,18 @@ class Program:
         with contextlib.suppress(OSError):
             return Path(self.folder, name).read_bytes()
         return None
+
+
+def _overlay(folder: str, place: str, files: Mapping[tuple[str, ...], bytes]) -> None:
+    """Links what a folder has into another one, but for some files, which are written there."""
+    heads = {names[0] for names in files}
+    for name in os.listdir(folder) if os.path.isdir(folder) else []:
+        if name not in heads:
+            os.symlink(os.path.join(folder, name), os.path.join(place, name))
+    for head in sorted(heads):
+        below = {names[1:]: data for names, data in files.items() if names[0] == head}
+        if () in below:
+            Path(place, head).write_bytes(below[()])
+        else:
+            os.mkdir(os.path.join(place, head))
+            _overlay(os.path.join(folder, head), os.path.join(place, head), below)
