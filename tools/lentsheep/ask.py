@@ -53,6 +53,8 @@ def asked(program: Program, words: Sequence[str]) -> Run:
 
 def ask(program: Program, words: Sequence[str]) -> int:
     """Prints a run as it is, tells the rest, and gives its status."""
+    unit = words[1] if len(words) > 1 else ""
+    tell([f"{it.place}: {it.text}" for it in passed_over(Folder(program.folder).files(unit))])
     run = asked(program, words)
     write(run.text)
     return run.status

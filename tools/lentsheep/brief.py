@@ -14,6 +14,7 @@ from .partings import Direction, Parting
 from .places import Exceptional, described, is_below
 from .screen import LABEL, Page, braced, counted, covered, parted
 from .table import Table
+from .unit_lines import Passed
 from .values import PATH_KINDS, SWITCHES, Launched, LaunchKilled, LaunchPrivileged, LaunchRefused, Plan, Report
 from .words import escaped
 
@@ -37,12 +38,14 @@ class View:
     notes: Sequence[ToldNote] = ()
     partings: Sequence[Parting] = ()
     user_names: dict[int, str] = field(default_factory=dict)
+    #: lines of the unit's files that systemd passes over, too
+    passed: Sequence[Passed] = ()
 
 
 def brief(view: View, page: Page) -> list[str]:
     """The lines of the screen."""
     report = view.report
-    lines = _head(view, page)
+    lines = _wrong(view, page) + _head(view, page)
     if report.answers:
         lines += ["", *_causes(view, page), "", *_table(report, page), "", *_files(view, page), *_names(view, page)]
     lines += _blind(report, page) + _notes(view.notes, page) + _partings(view.partings, page)
@@ -187,21 +190,45 @@ def _blind(report: Report, page: Page) -> list[str]:
     return page.lines("blind", parted(braced([escaped(folder) for folder in topmost(report.blind)])))
 
 
+def wrong_lines(view: View) -> list[tuple[str, str]]:
+    """Lines of the unit that do not say what they seem to: where they stand, and what is wrong; in the order of files and lines."""
+    passed = {(it.file, it.line): it.text for it in view.passed}
+    places = {(told.note.file, told.note.line): told for told in view.notes if told.is_unknown or told.note.cause != "unjudged"}
+    order = {file: number for number, file in enumerate(dict.fromkeys(file for file, _ in [*places, *passed]))}
+    found = []
+    for at in sorted({*places, *passed}, key=lambda at: (order[at[0]], at[1])):
+        told = places.get(at)
+        if at in passed:
+            text = passed[at]
+        elif told and told.is_unknown:
+            text = f"no key of systemd{f' ({told.nearest}= is meant?)' if told.nearest else ''}: {told.text}"
+        else:
+            text = f"{_CAUSES.get(told.note.cause, told.note.cause)}: {told.text}" if told else ""
+        found.append((f"{escaped(at[0].rpartition('/')[2])}:{at[1]}", text))
+    return found
+
+
+_CAUSES = {
+    "value": "this value cannot be read", "no-equals": "no assignment", "no-section": "in front of all sections",
+    "specifier": "a specifier cannot be read", "unknown-name": "a name that the tables lack",
+}  # fmt: skip
+
+
+def _wrong(view: View, page: Page) -> list[str]:
+    """Above the verdict: what the unit does not say, though it looks so."""
+    found = wrong_lines(view)
+    lines = [page.line("note", f"{place}: {text}") for place, text in found[:6]]
+    if len(found) > 6:
+        lines.append(page.line("", f"and {counted(len(found) - 6, 'more line')} that cannot be read"))
+    return [*lines, ""] if lines else []
+
+
 def _notes(notes: Sequence[ToldNote], page: Page) -> list[str]:
-    lines: list[str] = []
-    by_themselves = [told for told in notes if told.is_unknown or told.note.cause != "unjudged"]
-    for told in sorted(by_themselves, key=lambda told: not told.nearest)[:6]:
-        cause = "no key of systemd" if told.is_unknown else told.note.cause
-        meant = f" ({told.nearest}= is meant?)" if told.nearest else ""
-        place = f"{escaped(told.note.file.rpartition('/')[2])}:{told.note.line}"
-        lines.append(page.line("note", f"{place} {cause}{meant}: {told.text}"))
-    if len(by_themselves) > 6:
-        lines.append(page.line("", f"and {counted(len(by_themselves) - 6, 'more line')} that cannot be read"))
-    rest = [told for told in notes if told not in by_themselves]
-    if rest:
-        keys = list(dict.fromkeys(told.key for told in rest if told.key))
-        lines += page.lines("not judged", [counted(len(rest), "line") + ":" * bool(keys), *keys], 2)
-    return lines
+    rest = [told for told in notes if told.note.cause == "unjudged" and not told.is_unknown]
+    if not rest:
+        return []
+    keys = list(dict.fromkeys(told.key for told in rest if told.key))
+    return page.lines("not judged", [counted(len(rest), "line") + ":" * bool(keys), *keys], 2)
 
 
 _DIRECTIONS = {

@@ -9,8 +9,8 @@ from typing import Callable, Sequence
 
 from . import compare, expect
 from .ask import ask, asked, explain
-from .brief import brief
-from .gather import view_of
+from .brief import brief, wrong_lines
+from .gather import notes_of, view_of
 from .jsonform import json_of
 from .page import page_of, read_names
 from .program import POLICY, TOP, Program, Run
@@ -165,6 +165,8 @@ def _with_rows(program: Program, words: list[str], report: Report, expectations:
 def _reasons(
     program: Program, words: list[str], report: Report, expectation: expect.Expectation, file: str
 ) -> list[str]:
+    if expectation.no_notes:
+        return [f"{place}: {text}" for place, text in wrong_lines(notes_of(program, report, words[1]))]
     if expectation.most is None:
         return expect.failures(expectation, report)
     policy = Path(file).parent / expectation.policy if expectation.policy else POLICY

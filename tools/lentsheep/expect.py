@@ -22,7 +22,7 @@ class Fault(Exception):
 
 @dataclass(frozen=True)
 class Expectation:
-    """A line: an answer, a blind folder, or the most that the exposure may be."""
+    """A line: an answer, a blind folder, the most that the exposure may be, or that no line of the unit is passed over."""
 
     line: int
     text: str
@@ -31,6 +31,7 @@ class Expectation:
     blind: str | None = None
     most: int | None = None
     policy: str | None = None
+    no_notes: bool = False
 
 
 def read_expectations(text: str) -> list[Expectation]:
@@ -50,6 +51,8 @@ def _expectation(number: int, line: str) -> Expectation:
         return Expectation(number, line, question, first == "open")
     if first == "blind" and rest.startswith("/") and " " not in rest:
         return Expectation(number, line, blind=unescaped(rest))
+    if line == "notes none":
+        return Expectation(number, line, no_notes=True)
     if found := _EXPOSURE.fullmatch(line):
         return Expectation(number, line, most=int(found[2]), policy=found[1] and unescaped(found[1]))
     raise Fault(f"line {number} is no expectation: {line}")

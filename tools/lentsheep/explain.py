@@ -120,7 +120,8 @@ def _of_no_unit(unit: str, folder: Folder) -> list[str]:
         return []
     places = [f"{place}/systemd/system" for place in ("etc", "run", "usr/lib")]
     known = [it for place in places if os.path.isdir(f"{folder.path}/{place}") for it in os.listdir(f"{folder.path}/{place}")]
-    meant = near(unit, [it for it in known if it.endswith(".service")])
+    stem = near(unit.removesuffix(".service"), [it.removesuffix(".service") for it in known if it.endswith(".service")])
+    meant = f"{stem}.service" if stem else ""
     here = sorted({it for it in known if it.endswith(".service")})
     more = f"; {meant} is meant?" if meant else f"; {', '.join(here[:3])} {'is' if len(here) == 1 else 'are'}" if here else ""
     return [f"no unit {unit} is below this folder{more}"]

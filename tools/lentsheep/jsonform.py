@@ -126,6 +126,7 @@ def _report(report: Report, view: View) -> Json:
         "unit": report.unit, "launch": _launch(report.launch), "summary": _counts(report.summary), "kinds": _kinds(report),
         "held": held_capabilities(report), "causes": [_cause(cause, report) for cause in causes(report, view.table)],
         "folders": _folders(view), "blind": list(report.blind), "topmost_blind": topmost(report.blind), "notes": notes,
+        "passed_over": [dict(it._asdict()) for it in view.passed],
         "partings": [
             {**parting._asdict(), "keys": list(parting.keys), "direction": parting.direction.value} for parting in view.partings
         ],

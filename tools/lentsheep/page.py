@@ -13,7 +13,7 @@ from pathlib import Path
 from typing import Iterable, Mapping, Optional, Sequence
 
 from .bpf import ACTIONS
-from .brief import View
+from .brief import View, wrong_lines
 from .causes import State, causes, closed_by, state_of, told
 from .page_filters import drawn
 from .page_tree import NONE, SIGNS, class_of, shown_tree
@@ -112,7 +112,7 @@ def glance(view: View) -> str:
     report = view.report
     if report.refusal:
         return f"<p><code>{escape(report.refusal.text)}</code></p>"
-    parts = [f"<p>{escape(told_launch(report))}</p>"]
+    parts = [wrong(view), f"<p>{escape(told_launch(report))}</p>"]
     if not report.whole:
         parts.append("<p><b>The text of the report was cut: what follows its last line is not known.</b></p>")
     if report.summary:
@@ -157,13 +157,17 @@ def blind(report: Report) -> str:
 
 
 def noted(view: View) -> str:
-    """What was passed over in the unit."""
+    """What was passed over in the unit and has no part in the answers."""
     rows = [
-        (escape(it.place), escape(it.note.cause), f"<code>{escape(it.text)}</code>",
-         f"{escape(it.nearest)}= is meant?" if it.nearest else "")
-        for it in view.notes
-    ]  # fmt: skip
-    return "<h3>Passed over in the unit</h3>" + table(("Line", "Cause", "Text", ""), rows) if rows else ""
+        (escape(it.place), escape(it.note.cause), f"<code>{escape(it.text)}</code>") for it in view.notes if not it.is_unknown
+    ]
+    return "<h3>Passed over in the unit</h3>" + table(("Line", "Cause", "Text"), rows) if rows else ""
+
+
+def wrong(view: View) -> str:
+    """Lines of the unit that do not say what they seem to."""
+    rows = [(escape(place), escape(text)) for place, text in wrong_lines(view)]
+    return "<h3>Lines of the unit that are not read</h3>" + table(("Line", "What is wrong"), rows) if rows else ""
 
 
 def parted(view: View) -> str:

@@ -110,7 +110,7 @@ def has_mark(text: str) -> bool:
 def near(word: str, known: Sequence[str]) -> str:
     """The word of a list that is meant; empty where none is near. Case does not count."""
     by_small = {it.lower(): it for it in sorted(known)}
-    found = difflib.get_close_matches(word.lower(), by_small, n=1, cutoff=0.8)
+    found = difflib.get_close_matches(word.lower(), by_small, n=1, cutoff=0.75)
     return by_small[found[0]] if found else ""
 
 
