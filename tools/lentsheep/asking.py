@@ -10,9 +10,9 @@ import re
 from dataclasses import dataclass, field
 from typing import Sequence
 
+from .nearest import nearest
 from .report import read_question
 from .table import Table
-from .unit_lines import near
 from .values import PATH_KINDS, SWITCHES, Question
 
 NAMED = ("call", "socket", "ns", "cap", "uid", "gid")
@@ -107,7 +107,7 @@ def _no_kind(first: str, rest: str) -> str:
         return f"cap {first.upper()} is meant?"
     if first.startswith("/"):
         return f"say what is asked of a path: see, read, write or exec {first}"
-    meant = near(first, [*PATH_KINDS, *NAMED, *SWITCHES]) or ("cap" if first.startswith("cap") else "")
+    meant = nearest(first, [*PATH_KINDS, *NAMED, *SWITCHES]) or ("cap" if first.startswith("cap") else "")
     if meant:
         return f"{' '.join(filter(None, [meant, rest]))} is meant?"
     return "the questions are see, read, write and exec PATH, call NAME, socket FAMILY, ns TYPE, cap NAME, uid N, gid N, " + (
@@ -143,7 +143,7 @@ def _of_call(kind: str, name: str, site: Site, table: Table, calls: frozenset[st
         return f"what {name}(2) does is asked by {_INSTEAD[name]}"
     if name.removeprefix("sys_") in calls:
         return "" if name in calls else f"call {name.removeprefix('sys_')} is meant?"
-    meant = near(name, sorted(calls))
+    meant = nearest(name, sorted(calls))
     if meant in _INSTEAD:
         return f"{meant} is meant? what {meant}(2) does is asked by {_INSTEAD[meant]}"
     return f"calls.txt has no call {name}{f'; call {meant} is meant?' if meant else ''}"
@@ -154,14 +154,14 @@ def _of_socket(kind: str, name: str, site: Site, table: Table, calls: frozenset[
     if name in families:
         return ""
     known = families or ["AF_UNIX", "AF_INET", "AF_INET6", "AF_NETLINK", "AF_PACKET"]
-    meant = f"AF_{name.upper()}" if f"AF_{name.upper()}" in known else near(name, known)
+    meant = f"AF_{name.upper()}" if f"AF_{name.upper()}" in known else nearest(name, known)
     return f"calls.txt has no family {name}{f'; socket {meant} is meant?' if meant else ''}"
 
 
 def _of_namespace(kind: str, name: str, site: Site, table: Table, calls: frozenset[str]) -> str:
     if name in NAMESPACES:
         return ""
-    meant = _OTHER_NAMES.get(name.lower()) or near(name, NAMESPACES)
+    meant = _OTHER_NAMES.get(name.lower()) or nearest(name, NAMESPACES)
     return f"there is no namespace {name}: {f'ns {meant} is meant?' if meant else 'the types are ' + ', '.join(NAMESPACES)}"
 
 
@@ -169,7 +169,7 @@ def _of_capability(kind: str, name: str, site: Site, table: Table, calls: frozen
     if name in CAPABILITIES:
         return ""
     whole = name.upper() if name.upper().startswith("CAP_") else f"CAP_{name.upper()}"
-    meant = whole if whole in CAPABILITIES else near(whole, CAPABILITIES)
+    meant = whole if whole in CAPABILITIES else nearest(whole, CAPABILITIES)
     return f"there is no capability {name}{f'; {meant} is meant?' if meant else ''}"
 
 

@@ -11,9 +11,10 @@ from typing import Callable, Sequence
 
 from . import asking
 from .bpf import action_name
+from .nearest import nearest
 from .report import parse
 from .table import Table, read_table
-from .unit_lines import Assignment, assignments_of, has_mark, lines_with, near
+from .unit_lines import Assignment, assignments_of, has_mark, lines_with
 from .unit_text import UnitFile, files_in_force
 from .values import Check, LaunchKilled, LaunchPrivileged, LaunchRefused, Printed, Refusal
 
@@ -120,7 +121,7 @@ def _of_no_unit(unit: str, folder: Folder) -> list[str]:
         return []
     places = [f"{place}/systemd/system" for place in ("etc", "run", "usr/lib")]
     known = [it for place in places if os.path.isdir(f"{folder.path}/{place}") for it in os.listdir(f"{folder.path}/{place}")]
-    stem = near(unit.removesuffix(".service"), [it.removesuffix(".service") for it in known if it.endswith(".service")])
+    stem = nearest(unit.removesuffix(".service"), [it.removesuffix(".service") for it in known if it.endswith(".service")])
     meant = f"{stem}.service" if stem else ""
     here = sorted({it for it in known if it.endswith(".service")})
     more = f"; {meant} is meant?" if meant else f"; {', '.join(here[:3])} {'is' if len(here) == 1 else 'are'}" if here else ""
@@ -229,7 +230,7 @@ def _of_no_filter(name: str, unit: str, again: Callable[..., str]) -> list[str]:
     found = parse(again("filter", unit), "filter")
     names = [it.name for it in getattr(found, "filters", ())]
     have = f"; its filters are {', '.join(dict.fromkeys(names))}" if names else "; it has no filter at all"
-    meant = near(name, names)
+    meant = nearest(name, names)
     return [f"{unit} has no filter {name}{f'; {meant} is meant?' if meant else have}"]
 
 
@@ -241,7 +242,7 @@ def _of_line(refusal: Refusal, folder: Folder) -> list[str]:
     text, why = lines[int(number) - 1], " ".join(refusal.cause[2:])
     if why == "name":
         names = text.split()[1:2]
-        meant = near(names[0].rpartition(":")[2], sorted(folder.calls)) if names else ""
+        meant = nearest(names[0].rpartition(":")[2], sorted(folder.calls)) if names else ""
         why = f"calls.txt has no call of this name{f'; {meant} is meant?' if meant else ''}"
     more = {
         "header": "a section is one line in brackets, as [Service]", "digits": "an instruction is 16 lower-case hex digits",

@@ -5,11 +5,11 @@ section of others, an assignment in front of all sections, a byte order mark.
 """
 from __future__ import annotations
 
-import difflib
 from typing import Iterator, NamedTuple, Sequence
 
 from sites import units
 
+from .nearest import nearest
 from .service_keys import SERVICE_KEYS
 from .unit_text import UnitFile
 
@@ -107,13 +107,6 @@ def has_mark(text: str) -> bool:
     return text.startswith(MARK)
 
 
-def near(word: str, known: Sequence[str]) -> str:
-    """The word of a list that is meant; empty where none is near. Case does not count."""
-    by_small = {it.lower(): it for it in sorted(known)}
-    found = difflib.get_close_matches(word.lower(), by_small, n=1, cutoff=0.75)
-    return by_small[found[0]] if found else ""
-
-
 def _keys_of(section: str) -> frozenset[str]:
     return {"Unit": UNIT_KEYS, "Install": INSTALL_KEYS, "Service": SERVICE_KEYS}.get(section, frozenset())
 
@@ -132,7 +125,7 @@ def _wrong_key(found: Assignment) -> str:
     for other in ("Unit", "Install"):
         if section != other and key in _keys_of(other):
             return f"{key}= is read in [{other}] alone, and stands in [{section}]"
-    meant = near(key, sorted(_keys_of(section))) or near(key, sorted(SERVICE_KEYS))
+    meant = nearest(key, sorted(_keys_of(section))) or nearest(key, sorted(SERVICE_KEYS))
     moved = f", in [Service]" if meant and meant not in _keys_of(section) else ""
     return f"no key of systemd{f' ({meant}= is meant{moved}?)' if meant else ''}: {found.text}"
 
@@ -157,7 +150,7 @@ def _passed_over(file: UnitFile) -> list[Passed]:
             section = line.strip("[]")
             is_known = section in SECTIONS
             if not is_known and not _is_of_others(section):
-                meant = near(section, SECTIONS)
+                meant = nearest(section, SECTIONS)
                 found.append(Passed(file.path, number, f"no section of a service{f' ([{meant}] is meant?)' if meant else ''}: {line}"))
         elif number in keys and not section:
             found.append(Passed(file.path, number, f"in front of all sections ([Service] is missing?): {keys[number].text}"))
