@@ -6,17 +6,17 @@ from __future__ import annotations
 
 import os
 import sys
-from typing import Sequence
+from typing import TYPE_CHECKING, Sequence
 
-from . import asking
-from .explain import Folder, explained, questions_of
 from .program import Program, Run
 from .report import parse, read_question
-from .site_text import with_rows
 from .terminal import NAME, write
-from .unit_lines import passed_over
-from .unit_text import UnitFile
 from .values import Question, Report
+
+# What is told of refusals and of questions is read where it is told.
+if TYPE_CHECKING:
+    from . import asking
+    from .explain import Folder
 
 #: Below which name a folder that is to be kept gets its file.
 KEPT_FILE = ".lentsheep-keeps-{}"
@@ -37,24 +37,31 @@ def root_of() -> str | None:
 
 def asked(program: Program, words: Sequence[str]) -> Run:
     """A run of these words, with what is to be told of it told."""
-    folder = Folder(program.folder, root_of())
-    files, notes = _files_for(program, words, folder)
+    files, notes = _files_for(program, words) if words[:1] in (["why"], ["tighten"], ["effect"]) else ({}, [])
     tell(notes)
-    if files:
-        with program.changed(files) as changed:
-            run = changed.run(*words)
-            there = Folder(changed.folder, folder.root)
-            tell(explained(words, run.text, run.status, there, lambda *others: changed.run(*others).text))
-    else:
-        run = program.run(*words)
+    if not files:
+        return _told(program, words)
+    with program.changed(files) as changed:
+        return _told(changed, words)
+
+
+def _told(program: Program, words: Sequence[str]) -> Run:
+    run = program.run(*words)
+    if run.status in (3, 7, 8) or run.command == "effect":
+        from .explain import Folder, explained
+
+        folder = Folder(program.folder, root_of())
         tell(explained(words, run.text, run.status, folder, lambda *others: program.run(*others).text))
     return run
 
 
 def ask(program: Program, words: Sequence[str]) -> int:
     """Prints a run as it is, tells the rest, and gives its status."""
+    from .unit_lines import passed_over
+    from .unit_text import files_in_force
+
     unit = words[1] if len(words) > 1 else ""
-    tell([f"{it.place}: {it.text}" for it in passed_over(Folder(program.folder).files(unit))])
+    tell([f"{it.place}: {it.text}" for it in passed_over(files_in_force(program.folder, unit))])
     run = asked(program, words)
     write(run.text)
     return run.status
@@ -62,15 +69,15 @@ def ask(program: Program, words: Sequence[str]) -> int:
 
 def explain(program: Program, status: int, words: Sequence[str]) -> int:
     """Tells what is to be told of a run that ended with a status, which is made once more."""
-    folder = Folder(program.folder, root_of())
-    run = program.run(*words)
-    if run.status == status:
-        tell(explained(words, run.text, status, folder, lambda *others: program.run(*others).text))
+    _told(program, words)
     return status
 
 
-def _files_for(program: Program, words: Sequence[str], folder: Folder) -> tuple[dict[str, bytes], list[str]]:
+def _files_for(program: Program, words: Sequence[str]) -> tuple[dict[str, bytes], list[str]]:
     """Files in the place of those of the folder for a run, and what is told of it."""
+    from .explain import Folder
+
+    folder = Folder(program.folder, root_of())
     if words[:1] == ["why"] and len(words) > 2:
         return _site_for([read_question(" ".join(words[2:]))], program, folder), []
     if words[:1] == ["tighten"] and len(words) == 3:
@@ -82,6 +89,9 @@ def _files_for(program: Program, words: Sequence[str], folder: Folder) -> tuple[
 
 def _site_for(questions: Sequence[Question | None], program: Program, folder: Folder) -> dict[str, bytes]:
     """The site with rows for questions of paths that it has not; nothing where it needs none."""
+    from . import asking
+    from .site_text import with_rows
+
     site, known = program.read("site.toml"), folder.site
     rows = list(filter(None, (asking.row_of(question, known, folder.root) for question in questions)))
     if site is None or not rows:
@@ -91,6 +101,8 @@ def _site_for(questions: Sequence[Question | None], program: Program, folder: Fo
 
 def _kept_for(name: str, program: Program, folder: Folder) -> tuple[dict[str, bytes], list[str]]:
     """The site and the file of what is kept, in which a folder that is to be written or run stands for a file of it."""
+    from .explain import questions_of
+
     text = folder.text(name)
     known, lines, notes, questions = folder.site, text.split("\n"), [], []
     for number, line in questions_of(text):
@@ -115,6 +127,9 @@ def _is_folder(path: str, site: asking.Site, root: str | None) -> bool:
 
 def _unread_of(program: Program, unit: str, name: str, folder: Folder) -> list[str]:
     """The lines of a drop-in that are not read: those that systemd passes over too, and those of which a report has a note."""
+    from .unit_lines import passed_over
+    from .unit_text import UnitFile
+
     text = folder.text(name)
     if not text:
         return []

@@ -1,24 +1,18 @@
 """The command line of the views, as `./sandbox` hands it over."""
 from __future__ import annotations
 
-import json
 import os
 import sys
-from pathlib import Path
-from typing import Callable, Sequence
+from typing import TYPE_CHECKING, Callable, Sequence
 
-from . import compare, expect
 from .ask import ask, asked, explain
-from .brief import brief, wrong_lines
-from .gather import notes_of, view_of
-from .jsonform import json_of
-from .page import page_of, read_names
 from .program import POLICY, TOP, Program, Run
-from .report import parse
-from .screen import Page
-from .site_text import with_rows
 from .terminal import COMMAND, NAME, Paint, show, wants_colour, width_of, write
 from .values import Filters, Report, Score
+
+# What one view needs alone is read where it is made, so that the others do not wait for it.
+if TYPE_CHECKING:
+    from .expect import Expectation
 
 HELP = f"""\
 usage: {COMMAND} [--root DIR ..] --brief judge UNIT          the verdict in one screen
@@ -58,7 +52,7 @@ def main(words: Sequence[str]) -> int:
 
 def _run(words: list[str]) -> int:
     if "--root" in words[:4]:
-        with_root = str(TOP / "tools" / "with-root")
+        with_root = f"{TOP}/tools/with-root"
         os.execv(with_root, [with_root, *words])
     unproved = words[:1] == ["--try"]
     words = words[unproved:]
@@ -105,12 +99,21 @@ def _brief(program: Program, words: list[str]) -> int:
     if not isinstance(run.printed, Report) or run.printed.refusal or not run.text:
         write(run.text)
         return run.status
+    from .brief import brief
+    from .gather import view_of
+    from .screen import Page
+
     screen = Page(width_of(sys.stdout), Paint(wants_colour(sys.stdout)))
     show("\n".join(brief(view_of(program, run), screen)) + "\n")
     return run.status
 
 
 def _json(program: Program, words: list[str]) -> int:
+    import json
+
+    from .gather import view_of
+    from .jsonform import json_of
+
     run = asked(program, words)
     is_told = isinstance(run.printed, Report) and run.printed.refusal is None
     write(json.dumps(json_of(run, view_of(program, run) if is_told else None), indent=1) + "\n")
@@ -118,6 +121,9 @@ def _json(program: Program, words: list[str]) -> int:
 
 
 def _html(program: Program, file: str, words: list[str]) -> int:
+    from .gather import view_of
+    from .page import page_of, read_names
+
     run, report = _judged(program, words)
     if report and run.status == 0:
         filters = program.run("filter", *words[1:]).printed
@@ -127,6 +133,8 @@ def _html(program: Program, file: str, words: list[str]) -> int:
 
 
 def _write(program: Program, file: str, words: list[str]) -> int:
+    from . import expect
+
     run, report = _judged(program, words)
     if report and run.status == 0:
         _text_to(file, expect.baseline(report))
@@ -134,6 +142,8 @@ def _write(program: Program, file: str, words: list[str]) -> int:
 
 
 def _expect(program: Program, file: str, words: list[str]) -> int:
+    from . import expect
+
     try:
         expectations = expect.read_expectations(_text_of(file))
     except expect.Fault as fault:
@@ -152,8 +162,11 @@ def _expect(program: Program, file: str, words: list[str]) -> int:
     return 1 if failed else 0
 
 
-def _with_rows(program: Program, words: list[str], report: Report, expectations: list[expect.Expectation]) -> Report:
+def _with_rows(program: Program, words: list[str], report: Report, expectations: list[Expectation]) -> Report:
     """The report of a site with rows for what is expected; the one that is there where it has them or cannot have them."""
+    from . import expect
+    from .site_text import with_rows
+
     rows, site = expect.rows_for(expectations, report), program.read("site.toml")
     if not rows or site is None:
         return report
@@ -163,15 +176,21 @@ def _with_rows(program: Program, words: list[str], report: Report, expectations:
 
 
 def _reasons(
-    program: Program, words: list[str], report: Report, expectation: expect.Expectation, file: str
+    program: Program, words: list[str], report: Report, expectation: Expectation, file: str
 ) -> list[str]:
+    from . import expect
+
     if expectation.no_notes:
+        from .brief import wrong_lines
+        from .gather import notes_of
+
         return [f"{place}: {text}" for place, text in wrong_lines(notes_of(program, report, words[1]))]
     if expectation.most is None:
         return expect.failures(expectation, report)
-    policy = Path(file).parent / expectation.policy if expectation.policy else POLICY
+    policy = os.path.join(os.path.dirname(file), expectation.policy) if expectation.policy else POLICY
     try:
-        data = policy.read_bytes()
+        with open(policy, "rb") as text:
+            data = text.read()
     except OSError as error:
         raise Wrong(f"{policy}: {error.strerror}") from None
     with program.changed({"policy.json": data}) as changed:
@@ -183,6 +202,9 @@ def _reasons(
 
 
 def _compare(files: list[str]) -> int:
+    from . import compare
+    from .report import parse
+
     if len(files) != 2:
         raise Wrong("--compare needs two reports behind it")
     reports = []
@@ -198,14 +220,16 @@ def _compare(files: list[str]) -> int:
 
 def _text_of(file: str) -> str:
     try:
-        return Path(file).read_bytes().decode("utf-8", "surrogateescape")
+        with open(file, "rb") as text:
+            return text.read().decode("utf-8", "surrogateescape")
     except OSError as error:
         raise Wrong(f"{file}: {error.strerror}") from None
 
 
 def _text_to(file: str, text: str) -> None:
     try:
-        Path(file).write_bytes(text.encode("utf-8", "surrogateescape"))
+        with open(file, "wb") as page:
+            page.write(text.encode("utf-8", "surrogateescape"))
     except OSError as error:
         raise Wrong(f"{file}: {error.strerror}") from None
 

@@ -6,7 +6,6 @@ from __future__ import annotations
 
 import errno
 import os
-from pathlib import Path
 from typing import Callable, Sequence
 
 from . import asking
@@ -44,7 +43,8 @@ class Folder:
     def text(self, name: str) -> str:
         """The text of a file; empty where there is none."""
         try:
-            return Path(self.path, name).read_bytes().decode("utf-8", "replace")
+            with open(os.path.join(self.path, name), "rb") as file:
+                return file.read().decode("utf-8", "replace")
         except OSError:
             return ""
 
@@ -254,7 +254,8 @@ def _of_line(refusal: Refusal, folder: Folder) -> list[str]:
 
 def _of_no_text(what: str, folder: Folder) -> list[str]:
     try:
-        data = Path(folder.path, what).read_bytes()
+        with open(os.path.join(folder.path, what), "rb") as file:
+            data = file.read()
         data.decode("utf-8")
     except UnicodeDecodeError as error:
         return [f"{what}:{data[: error.start].count(10) + 1}: byte {error.start + 1} is no UTF-8"]

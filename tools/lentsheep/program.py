@@ -4,18 +4,16 @@ from __future__ import annotations
 import contextlib
 import os
 import subprocess
-import tempfile
 from dataclasses import dataclass
-from pathlib import Path
 from typing import Iterator, Mapping
 
 from .report import parse
 from .terminal import doing
 from .values import Printed
 
-TOP = Path(__file__).resolve().parent.parent.parent
-SANDBOX = TOP / "sandbox"
-POLICY = TOP / "tables" / "policy" / "systemd.json"
+TOP = os.path.dirname(os.path.dirname(os.path.dirname(os.path.realpath(__file__))))
+SANDBOX = f"{TOP}/sandbox"
+POLICY = f"{TOP}/tables/policy/systemd.json"
 
 
 @dataclass(frozen=True)
@@ -44,7 +42,7 @@ class Program:
         """Runs the program; what it says on standard error goes on as it is."""
         # ./sandbox names the program where it is built, and else builds it and runs it as it is
         built = None if self.unproved else os.environ.get("LENTSHEEP_RUNS")
-        command = [built] if built else [str(SANDBOX), "--try"] if self.unproved else [str(SANDBOX)]
+        command = [built] if built else [SANDBOX, "--try"] if self.unproved else [SANDBOX]
         how = {**os.environ, "LENTSHEEP_PLAIN": "yes"}
         with doing("making " + " ".join(words)):
             ended = subprocess.run([*command, *words], cwd=self.folder, env=how, stdout=subprocess.PIPE, check=False)
@@ -55,14 +53,16 @@ class Program:
     @contextlib.contextmanager
     def changed(self, files: Mapping[str, bytes]) -> Iterator["Program"]:
         """The same folder with some files, by their paths below it, in the place of its own, in a folder that is gone afterwards."""
+        import tempfile
+
         with tempfile.TemporaryDirectory(prefix="lentsheep.") as place:
             _overlay(os.path.abspath(self.folder), place, {tuple(name.split("/")): data for name, data in files.items()})
             yield Program(place, self.unproved)
 
     def read(self, name: str) -> bytes | None:
         """The bytes of a file of the folder; None where there is none."""
-        with contextlib.suppress(OSError):
-            return Path(self.folder, name).read_bytes()
+        with contextlib.suppress(OSError), open(os.path.join(self.folder, name), "rb") as file:
+            return file.read()
         return None
 
 
@@ -75,7 +75,8 @@ def _overlay(folder: str, place: str, files: Mapping[tuple[str, ...], bytes]) ->
     for head in sorted(heads):
         below = {names[1:]: data for names, data in files.items() if names[0] == head}
         if () in below:
-            Path(place, head).write_bytes(below[()])
+            with open(os.path.join(place, head), "wb") as file:
+                file.write(below[()])
         else:
             os.mkdir(os.path.join(place, head))
             _overlay(os.path.join(folder, head), os.path.join(place, head), below)

@@ -2,7 +2,6 @@
 from __future__ import annotations
 
 from dataclasses import dataclass, field
-from pathlib import Path
 
 
 @dataclass(frozen=True)
@@ -20,7 +19,8 @@ class Table:
 def read_table(folder: str) -> Table:
     """The table of a folder that the program reads."""
     try:
-        text = Path(folder, "calls.txt").read_text("utf-8", "replace")
+        with open(f"{folder}/calls.txt", encoding="utf-8", errors="replace") as file:
+            text = file.read()
     except OSError:
         return Table()
     table = Table()

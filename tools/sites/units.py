@@ -263,17 +263,18 @@ def add_assignment(says, key, value):
         add_words(says, key, words(value))
 
 
-def said(root, name, told):
-    """What the files of a unit say, whether or not a later assignment takes it back."""
+def said(root, name, told, dropin=None):
+    """What the files of a unit, and the text of a further drop-in, say, whether or not a later assignment takes it back."""
     says = Says([], [], [], [], [], set(), set())
+    texts = []
     for path in sources(root, name)[0]:
         if is_mask(root, path):
             continue
         try:
-            text = root.read(path).decode("utf-8")
+            texts.append(root.read(path).decode("utf-8"))
         except (OSError, ValueError):
             told.add("files of units that could not be read", path)
-            continue
+    for text in texts + ([dropin] if dropin else []):
         for key, value in assignments(text):
             value = expanded(name, value)
             if value:
