@@ -8,8 +8,10 @@ from __future__ import annotations
 from dataclasses import dataclass, field
 from typing import Iterable, Sequence
 
-from .causes import Cause, State, causes, closed_by, held_capabilities, state_of, told
+from .causes import State, causes, held_capabilities, state_of
+from .harm import Group, Tried, closing, first_keys, groups
 from .notes import ToldNote
+from .parting_sides import bears_on
 from .partings import Direction, Parting
 from .places import Exceptional, described, is_below
 from .screen import LABEL, Page, braced, counted, covered, parted
@@ -40,6 +42,10 @@ class View:
     user_names: dict[int, str] = field(default_factory=dict)
     #: lines of the unit's files that systemd passes over, too
     passed: Sequence[Passed] = ()
+    #: what lines close that were tried; None where none was
+    tried: Tried | None = None
+    #: whether the unit sets a key that makes up a sandbox
+    has_sandbox: bool = True
 
 
 def brief(view: View, page: Page) -> list[str]:
@@ -48,7 +54,7 @@ def brief(view: View, page: Page) -> list[str]:
     lines = _wrong(view, page) + _head(view, page)
     if report.answers:
         lines += ["", *_causes(view, page), "", *_table(report, page), "", *_files(view, page), *_names(view, page)]
-    lines += _blind(report, page) + _notes(view.notes, page) + _partings(view.partings, page)
+    lines += _blind(report, page) + _notes(view.notes, page) + _partings(view, page)
     if not report.whole:
         lines.append(page.line("cut", "the report ends early, so nothing is told of what it does not have"))
     return lines
@@ -82,27 +88,41 @@ def _launch(view: View) -> str:
 
 
 def _causes(view: View, page: Page) -> list[str]:
-    found = causes(view.report, view.table)
+    found = groups(causes(view.report, view.table))
+    lines = _without_sandbox(view, page)
     if not found:
-        return [page.line("why open", "each open answer needs one call and no privilege, or nothing")]
-    lines = []
-    for cause in found[:MOST_CAUSES]:
-        lines += _cause(cause, view.report, page, "" if lines else "why open")
+        return lines or [page.line("why open", "each open answer needs one call and no privilege, or nothing")]
+    for group in found[:MOST_CAUSES]:
+        lines += _cause(group, view, page, "" if lines else "why open")
     if rest := found[MOST_CAUSES:]:
-        answers = counted(sum(cause.count for cause in rest), "answer")
+        # of other ids one answer stands for all
+        answers = counted(sum(1 if group.gives == "ids" else group.count for group in rest), "answer")
         lines.append(page.line("", f"and {counted(len(rest), 'further cause')}, of {answers}"))
     return lines
 
 
-def _cause(cause: Cause, report: Report, page: Page, label: str) -> list[str]:
+def _without_sandbox(view: View, page: Page) -> list[str]:
+    """One line, of a unit that sets no key of a sandbox, and the lines that would close most."""
+    if view.has_sandbox:
+        return []
+    # a value with spaces is not broken
+    keys = [f"{line} ({count})" for line, count in first_keys(view.tried)]
+    told = [*parted(["the unit sets no key of a sandbox;", *(["close most:"] if keys else [])], ""), *parted(keys)]
+    return page.lines("why open", told)
+
+
+def _cause(group: Group, view: View, page: Page, label: str) -> list[str]:
     """A cause, with its kinds and calls where it is the first, or the calls are more than one."""
-    shown = [f"{cause.example.question.text}:", *parted([call.text for call in cause.example.calls], ";")]
-    kinds = ", ".join(f"{kind} {count}" for kind, count in cause.kinds.items())
-    lines = [page.line(label, f"{counted(cause.count, 'answer')}, since {told(cause)}")]
-    if label or len(cause.example.calls) > 1:
+    example = group.example
+    shown = [f"{example.question.text}:", *parted([call.text for call in example.calls], ";")]
+    kinds = ", ".join(f"{kind} {count}" for kind, count in group.kinds.items())
+    count = f"other {next(iter(group.kinds), 'id')}s" if group.gives == "ids" else counted(group.count, "answer")
+    lines = page.lines(label, f"{count}, since {group.told}".split(" "), 2)
+    if group.gives != "ids" and (label or len(example.calls) > 1):
         lines += [page.line("", f"  {kinds}; as"), *page.lines("", shown, 4, "  ")]
-    closing = " or ".join(closed_by(cause, report))
-    return lines + ([page.line("", f"  closed by {closing}")] if closing else [])
+    lines_that_close = closing(group, view.report, view.tried)
+    told = f"closed by {' or '.join(lines_that_close)}".split(" ") if lines_that_close else []
+    return lines + page.lines("", told, 4, "  ")
 
 
 def _table(report: Report, page: Page) -> list[str]:
@@ -238,12 +258,13 @@ _DIRECTIONS = {
 }
 
 
-def _partings(found: Sequence[Parting], page: Page) -> list[str]:
+def _partings(view: View, page: Page) -> list[str]:
+    found = [parting for parting in view.partings if not view.report.answers or bears_on(parting, view.report)]
     lines: list[str] = []
     for direction, text in _DIRECTIONS.items():
         names = [_parting_name(parting) for parting in found if parting.direction == direction]
         if names:
-            lines += page.lines("" if lines else "partings", [text, *parted(names)])
+            lines += page.lines("" if lines else "partings", [text, *parted(names)], len(names) + 1)
     return lines
 
 

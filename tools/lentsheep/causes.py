@@ -57,6 +57,7 @@ class Cause:
     example: Answer
     #: how many the answers are
     count: int
+    answers: tuple[Answer, ...] = ()
 
 
 def before_last(answer: Answer) -> tuple[Call, ...]:
@@ -125,7 +126,7 @@ def _cause(members: list[tuple[Answer, list[Need]]]) -> Cause:
     shown = [answer for answer in shown if answer.question.kind == kind]
     example = min(shown, key=lambda answer: sum(len(call.text) for call in answer.calls))
     first = members[0][1][0]
-    return Cause(first, dict(kinds.most_common()), dict(then.most_common()), tuple(programs), example, len(members))
+    return Cause(first, dict(kinds.most_common()), dict(then.most_common()), tuple(programs), example, len(members), tuple(answer for answer, _ in members))
 
 
 def _second(needs: list[Need]) -> str:

@@ -99,12 +99,12 @@ def _brief(program: Program, words: list[str]) -> int:
     if not isinstance(run.printed, Report) or run.printed.refusal or not run.text:
         write(run.text)
         return run.status
-    from .brief import brief
+    from .brief import MOST_CAUSES, brief
     from .gather import view_of
     from .screen import Page
 
     screen = Page(width_of(sys.stdout), Paint(wants_colour(sys.stdout)))
-    show("\n".join(brief(view_of(program, run), screen)) + "\n")
+    show("\n".join(brief(view_of(program, run, MOST_CAUSES), screen)) + "\n")
     return run.status
 
 

@@ -2,17 +2,21 @@
 from __future__ import annotations
 
 from .brief import View
+from .causes import causes
+from .harm import FIRST_KEYS, candidates, groups, has_sandbox
 from .notes import told_notes
 from .partings import files_in_force, partings
 from .program import Program, Run
 from .site_text import user_names
 from .table import read_table
+from .tries import tried
 from .unit_lines import passed_over
+from .unit_text import Said
 from .values import Plan, Report
 
 
-def view_of(program: Program, run: Run) -> View:
-    """What is told of a report."""
+def view_of(program: Program, run: Run, most: int | None = None) -> View:
+    """What is told of a report; what closes a cause is tried for so many of them, or for all."""
     report = run.printed
     assert isinstance(report, Report)
     if not report.answers:
@@ -23,7 +27,12 @@ def view_of(program: Program, run: Run) -> View:
     unit = run.words[1] if len(run.words) > 1 else ""
     files = files_in_force(program.folder, unit)
     names = user_names((program.read("site.toml") or b"").decode("utf-8", "replace"))
-    return View(report, plan, read_table(program.folder), told_notes(report.notes, files), partings(files), names, passed_over(files))
+    table, is_protected = read_table(program.folder), has_sandbox(Said(files))
+    lines = [line for group in groups(causes(report, table))[:most] for line in candidates(group, report)]
+    lines += [] if is_protected else FIRST_KEYS
+    known = tried(program, unit, files, lines) if report.answers and run.status == 0 else None
+    notes, passed = told_notes(report.notes, files), passed_over(files)
+    return View(report, plan, table, notes, partings(files), names, passed, known, is_protected)
 
 
 def notes_of(program: Program, report: Report, unit: str) -> View:

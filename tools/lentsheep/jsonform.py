@@ -7,7 +7,9 @@ from typing import Any
 from .bpf import described as described_instruction
 from .brief import COLUMNS, View, topmost
 from .calls import Call
-from .causes import Cause, State, causes, closed_by, held_capabilities, state_of, told
+from .causes import Cause, State, causes, held_capabilities, state_of, told
+from .harm import Group, Tried, closing, gives, groups
+from .parting_sides import bears_on
 from .places import described
 from .program import Run
 from .values import (
@@ -77,11 +79,11 @@ def _counts(counts: Counts | None) -> Json | None:
     return None if counts is None else dataclasses.asdict(counts)
 
 
-def _cause(cause: Cause, report: Report) -> Json:
+def _cause(cause: Cause, report: Report, tried: Tried | None) -> Json:
     return {
         "count": cause.count, "need": cause.need.kind, "by": cause.need.by, "text": told(cause), "kinds": cause.kinds,
         "then": cause.then, "programs": list(cause.programs), "example": _answer(cause.example),
-        "closed_by": closed_by(cause, report),
+        "gives": gives(cause), "closed_by": closing(Group(gives(cause), (cause,)), report, tried),
     }  # fmt: skip
 
 
@@ -124,11 +126,13 @@ def _report(report: Report, view: View) -> Json:
     ]
     return {
         "unit": report.unit, "launch": _launch(report.launch), "summary": _counts(report.summary), "kinds": _kinds(report),
-        "held": held_capabilities(report), "causes": [_cause(cause, report) for cause in causes(report, view.table)],
+        "held": held_capabilities(report), "causes": [
+            _cause(cause, report, view.tried) for group in groups(causes(report, view.table)) for cause in group.causes
+        ],
         "folders": _folders(view), "blind": list(report.blind), "topmost_blind": topmost(report.blind), "notes": notes,
         "passed_over": [dict(it._asdict()) for it in view.passed],
         "partings": [
-            {**parting._asdict(), "keys": list(parting.keys), "direction": parting.direction.value} for parting in view.partings
+            {**parting._asdict(), "keys": list(parting.keys), "direction": parting.direction.value, "bears": bears_on(parting, report)} for parting in view.partings
         ],
         "answers": [_answer(answer) for answer in report.answers],
     }  # fmt: skip

@@ -14,7 +14,8 @@ from typing import Iterable, Mapping, Optional, Sequence
 
 from .bpf import ACTIONS
 from .brief import View, wrong_lines
-from .causes import State, causes, closed_by, state_of, told
+from .causes import State, causes, state_of
+from .harm import closing, groups
 from .page_filters import drawn
 from .page_tree import NONE, SIGNS, class_of, shown_tree
 from .values import KINDS, SWITCHES, Answer, Filters, Launched, LaunchKilled, LaunchPrivileged, LaunchRefused, Plan, Report
@@ -138,9 +139,9 @@ def counts(report: Report) -> str:
 def why(view: View) -> str:
     """Why answers are open that are shown in steps alone, and what closes them."""
     rows = [
-        (str(cause.count), escape(told(cause)), " or ".join(f"<code>{escape(it)}</code>" for it in closed_by(cause, view.report)),
-         "<br>".join(f"<code>{escape(it.text)}</code>" for it in cause.example.calls))
-        for cause in causes(view.report, view.table)
+        (str(group.count), escape(group.told), " or ".join(f"<code>{escape(it)}</code>" for it in closing(group, view.report, view.tried)),
+         "<br>".join(f"<code>{escape(it.text)}</code>" for it in group.example.calls))
+        for group in groups(causes(view.report, view.table))
     ]  # fmt: skip
     return "<h3>Why open</h3>" + table(("Answers", "since", "closed by", "as"), rows) if rows else ""
 

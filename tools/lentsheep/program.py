@@ -5,7 +5,7 @@ import contextlib
 import os
 import subprocess
 from dataclasses import dataclass
-from typing import Iterator, Mapping
+from typing import Iterator, Mapping, Sequence
 
 from .report import parse
 from .terminal import doing
@@ -38,14 +38,30 @@ class Program:
         self.folder = folder
         self.unproved = unproved
 
+    @property
+    def built(self) -> str | None:
+        """The program as ./sandbox names it where it is built; None where ./sandbox builds it and runs it."""
+        return None if self.unproved else os.environ.get("LENTSHEEP_RUNS")
+
+    def _command(self, words: Sequence[str]) -> list[str]:
+        return [*([self.built] if self.built else [SANDBOX, "--try"] if self.unproved else [SANDBOX]), *words]
+
+    def run_many(self, many: Sequence[Sequence[str]]) -> list[str]:
+        """What the program prints of each of several words, as many at a time as there are processors."""
+        texts: list[str] = []
+        how = {"cwd": self.folder, "env": {**os.environ, "LENTSHEEP_PLAIN": "yes"}, "stderr": subprocess.DEVNULL}
+        at_once = max(1, min(8, os.cpu_count() or 1))
+        with doing("trying what closes them"):
+            for at in range(0, len(many), at_once):
+                runs = [subprocess.Popen(self._command(words), stdout=subprocess.PIPE, **how) for words in many[at : at + at_once]]
+                texts += [run.communicate()[0].decode("utf-8", "surrogateescape") for run in runs]
+        return texts
+
     def run(self, *words: str) -> Run:
         """Runs the program; what it says on standard error goes on as it is."""
-        # ./sandbox names the program where it is built, and else builds it and runs it as it is
-        built = None if self.unproved else os.environ.get("LENTSHEEP_RUNS")
-        command = [built] if built else [SANDBOX, "--try"] if self.unproved else [SANDBOX]
         how = {**os.environ, "LENTSHEEP_PLAIN": "yes"}
         with doing("making " + " ".join(words)):
-            ended = subprocess.run([*command, *words], cwd=self.folder, env=how, stdout=subprocess.PIPE, check=False)
+            ended = subprocess.run(self._command(words), cwd=self.folder, env=how, stdout=subprocess.PIPE, check=False)
         text = ended.stdout.decode("utf-8", "surrogateescape")
         status = ended.returncode if ended.returncode >= 0 else 128 - ended.returncode
         return Run(words, text, parse(text, words[0] if words else None), status)

@@ -77,10 +77,10 @@ why open    3 answers, since it can change mounts (CAP_SYS_ADMIN is held)
               write /etc/passwd: 1 mount / /proc 0 0 0 4096; 1 mount / /proc 0 0 0 4128;
               1 open /proc/etc/passwd 0 1
               closed by CapabilityBoundingSet=~CAP_SYS_ADMIN or SystemCallFilter=~@mount
-            1 answer, since it can make calls that ask for a capability (CAP_SYS_TIME is held)
-              closed by CapabilityBoundingSet=~CAP_SYS_TIME
             1 answer, since it can make namespaces (CAP_SYS_ADMIN is held)
               closed by CapabilityBoundingSet=~CAP_SYS_ADMIN or RestrictNamespaces=yes
+            1 answer, since it can make calls that ask for a capability (CAP_SYS_TIME is held)
+              closed by CapabilityBoundingSet=~CAP_SYS_TIME
 
              see read write exec call socket ns switch cap uid gid all
 denied         -    -     -    -    1      -  -      1   1   1   -   4

@@ -147,9 +147,6 @@ why open    34 answers, since it can change mounts (CAP_SYS_ADMIN is held)
               1 open /proc/dev/mem 0 1
               closed by CapabilityBoundingSet=~CAP_SYS_ADMIN or SystemCallFilter=~@mount
             6 answers, since it can make namespaces (CAP_SYS_ADMIN is held)
-            5 answers, since it can make calls that ask for a capability (CAP_SYS_ADMIN is held)
-            3 answers, since it can make calls that ask for a capability (CAP_SYS_BOOT is held)
-            and 7 further causes, of 12 answers
 see, read   open everywhere but in steps in /dev, /home, /root, /tmp, /run/user, /usr/lib/modules,
             /var/tmp and open in /dev/null
 write       in steps everywhere but open in /dev/null, /proc
