@@ -8,7 +8,7 @@ from typing import TYPE_CHECKING, Callable, Sequence
 from .ask import ask, asked, explain
 from .program import POLICY, TOP, Program, Run
 from .terminal import COMMAND, NAME, Paint, show, wants_colour, width_of, write
-from .values import Filters, Report, Score
+from .values import Filters, Fleet, Report, Score
 
 # What one view needs alone is read where it is made, so that the others do not wait for it.
 if TYPE_CHECKING:
@@ -16,8 +16,10 @@ if TYPE_CHECKING:
 
 HELP = f"""\
 usage: {COMMAND} [--root DIR ..] --brief judge UNIT          the verdict in one screen
+       {COMMAND} [--root DIR ..] --brief fleet               the units of most exposure, why, and what to add first
        {COMMAND} [--root DIR ..] --json COMMAND UNIT ..      all that a command prints, as JSON (docs/JSON.md)
        {COMMAND} [--root DIR ..] --html FILE judge UNIT      a page that stands by itself
+       {COMMAND} [--root DIR ..] --html FILE fleet           a page of all units, and one of each in FILE-units
        {COMMAND} [--root DIR ..] --expect FILE judge UNIT    what does not hold of what FILE expects of the report
        {COMMAND} [--root DIR ..] --write FILE judge UNIT     writes what the unit is denied into FILE, for --expect
        {COMMAND} --compare OLD NEW                           what opened and closed between two reports
@@ -79,6 +81,8 @@ def _run(words: list[str]) -> int:
 def _command(option: str, words: list[str]) -> list[str]:
     if not words:
         raise Wrong(f"{option} needs a command behind it")
+    if option in ("--brief", "--html") and words[0] == "fleet":
+        return words
     if option != "--json" and words[0] != "judge":
         what = f"{option} FILE" if option in _VIEWS_WITH_FILE else option
         raise Wrong(f"{option} is a view of judge alone: write {COMMAND} {what} judge UNIT; --json prints all of {words[0]}")
@@ -95,6 +99,8 @@ def _judged(program: Program, words: Sequence[str]) -> tuple[Run, Report | None]
 
 
 def _brief(program: Program, words: list[str]) -> int:
+    if words[0] == "fleet":
+        return _brief_fleet(program, words)
     run = asked(program, words)
     if not isinstance(run.printed, Report) or run.printed.refusal or not run.text:
         write(run.text)
@@ -105,6 +111,45 @@ def _brief(program: Program, words: list[str]) -> int:
 
     screen = Page(width_of(sys.stdout), Paint(wants_colour(sys.stdout)))
     show("\n".join(brief(view_of(program, run, MOST_CAUSES), screen)) + "\n")
+    return run.status
+
+
+def _brief_fleet(program: Program, words: list[str]) -> int:
+    from .fleet_view import MOST, brief_fleet
+    from .screen import Page
+
+    run = asked(program, words)
+    if not isinstance(run.printed, Fleet) or not run.printed.whole or run.printed.refusal:
+        write(run.text)
+        return run.status
+    most = os.environ.get("LENTSHEEP_TOP", "")
+    screen = Page(width_of(sys.stdout), Paint(wants_colour(sys.stdout)))
+    show("\n".join(brief_fleet(program, run.printed, screen, int(most) if most.isdigit() else MOST)) + "\n")
+    return run.status
+
+
+def _html_fleet(program: Program, file: str, words: list[str]) -> int:
+    from .fleet_view import folder_of, index_of, page_name, ranked, why
+    from .page import STYLE
+    from .table import read_table
+
+    run = asked(program, words)
+    if not isinstance(run.printed, Fleet) or not run.printed.whole or run.printed.refusal:
+        write(run.text)
+        return run.status
+    folder, table, rows = folder_of(file), read_table(program.folder), []
+    try:
+        os.makedirs(folder, exist_ok=True)
+    except OSError as error:
+        raise Wrong(f"{folder}: {error.strerror}") from None
+    for unit in ranked(program, run.printed, None):
+        name = page_name(unit.row.unit)
+        is_told = bool(unit.report and unit.report.answers)
+        if is_told:
+            _page_to(f"{folder}/{name}", program, program.run("judge", unit.row.unit))
+        link = f"{os.path.basename(folder)}/{name}" if is_told else ""
+        rows.append((unit, link, *why(program, unit, table)))
+    _text_to(file, index_of(rows, run.printed, STYLE))
     return run.status
 
 
@@ -121,15 +166,22 @@ def _json(program: Program, words: list[str]) -> int:
 
 
 def _html(program: Program, file: str, words: list[str]) -> int:
+    if words[0] == "fleet":
+        return _html_fleet(program, file, words)
+    run, report = _judged(program, words)
+    if report and run.status == 0:
+        _page_to(file, program, run)
+    return run.status
+
+
+def _page_to(file: str, program: Program, run: Run) -> None:
+    """Writes the page of a report."""
     from .gather import view_of
     from .page import page_of, read_names
 
-    run, report = _judged(program, words)
-    if report and run.status == 0:
-        filters = program.run("filter", *words[1:]).printed
-        names = read_names((program.read("calls.txt") or b"").decode("utf-8", "replace"))
-        _text_to(file, page_of(view_of(program, run), filters if isinstance(filters, Filters) else None, names))
-    return run.status
+    filters = program.run("filter", *run.words[1:]).printed
+    names = read_names((program.read("calls.txt") or b"").decode("utf-8", "replace"))
+    _text_to(file, page_of(view_of(program, run), filters if isinstance(filters, Filters) else None, names))
 
 
 def _write(program: Program, file: str, words: list[str]) -> int:

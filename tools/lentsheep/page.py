@@ -21,6 +21,7 @@ from .page_tree import NONE, SIGNS, class_of, shown_tree
 from .values import KINDS, SWITCHES, Answer, Filters, Launched, LaunchKilled, LaunchPrivileged, LaunchRefused, Plan, Report
 
 HERE = Path(__file__).resolve().parent
+STYLE = (HERE / "page.css").read_text("utf-8")
 # The architecture of x86-64 (linux/audit.h), where no program says another.
 X86_64 = 0xC000003E
 POLICY = "default-src 'none'; style-src 'unsafe-inline'; script-src 'unsafe-inline'"
@@ -58,7 +59,7 @@ def document(unit: str, sections: list[tuple[str, str, str]], data: str) -> str:
 <meta name="viewport" content="width=device-width">
 <title>{escape(unit)}: what its sandbox leaves open</title>
 <style>
-{(HERE / "page.css").read_text("utf-8")}</style>
+{STYLE}</style>
 </head>
 <body>
 <a class="skip" href="#files">To the files</a>

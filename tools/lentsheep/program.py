@@ -46,12 +46,12 @@ class Program:
     def _command(self, words: Sequence[str]) -> list[str]:
         return [*([self.built] if self.built else [SANDBOX, "--try"] if self.unproved else [SANDBOX]), *words]
 
-    def run_many(self, many: Sequence[Sequence[str]]) -> list[str]:
+    def run_many(self, many: Sequence[Sequence[str]], what: str = "trying what closes them") -> list[str]:
         """What the program prints of each of several words, as many at a time as there are processors."""
         texts: list[str] = []
         how = {"cwd": self.folder, "env": {**os.environ, "LENTSHEEP_PLAIN": "yes"}, "stderr": subprocess.DEVNULL}
         at_once = max(1, min(8, os.cpu_count() or 1))
-        with doing("trying what closes them"):
+        with doing(what):
             for at in range(0, len(many), at_once):
                 runs = [subprocess.Popen(self._command(words), stdout=subprocess.PIPE, **how) for words in many[at : at + at_once]]
                 texts += [run.communicate()[0].decode("utf-8", "surrogateescape") for run in runs]

@@ -147,8 +147,8 @@ def joined_lines(text):
         yield whole
 
 
-def assignments(text):
-    """The keys and values of [Service]."""
+def all_assignments(text):
+    """The sections, keys and values of a file."""
     section = None
     for line in joined_lines(text):
         line = line.strip(SPACES)
@@ -156,8 +156,15 @@ def assignments(text):
             section = line
             continue
         key, equals, value = line.partition("=")
-        if section == "[Service]" and equals:
-            yield key.strip(SPACES), value.strip(SPACES)
+        if equals:
+            yield section, key.strip(SPACES), value.strip(SPACES)
+
+
+def assignments(text):
+    """The keys and values of [Service]."""
+    for section, key, value in all_assignments(text):
+        if section == "[Service]":
+            yield key, value
 
 
 def unescaped(text):
