@@ -10,6 +10,7 @@ from typing import Iterable, Sequence
 
 from .causes import State, causes, held_capabilities, state_of
 from .harm import Group, Tried, closing, first_keys, groups
+from .identity import Identity
 from .notes import ToldNote
 from .parting_sides import bears_on
 from .partings import Direction, Parting
@@ -46,6 +47,8 @@ class View:
     tried: Tried | None = None
     #: whether the unit sets a key that makes up a sandbox
     has_sandbox: bool = True
+    #: the program and the sums of what it read
+    identity: Identity | None = None
 
 
 def brief(view: View, page: Page) -> list[str]:
@@ -55,6 +58,8 @@ def brief(view: View, page: Page) -> list[str]:
     if report.answers:
         lines += ["", *_causes(view, page), "", *_table(report, page), "", *_files(view, page), *_names(view, page)]
     lines += _blind(report, page) + _notes(view.notes, page) + _partings(view, page)
+    if view.identity:
+        lines += page.lines("made by", [view.identity.words[0], *parted(view.identity.words[1:])])
     if not report.whole:
         lines.append(page.line("cut", "the report ends early, so nothing is told of what it does not have"))
     return lines

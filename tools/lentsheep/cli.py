@@ -157,11 +157,15 @@ def _json(program: Program, words: list[str]) -> int:
     import json
 
     from .gather import view_of
+    from .identity import identity
     from .jsonform import json_of
+    from .unit_text import files_in_force
 
     run = asked(program, words)
     is_told = isinstance(run.printed, Report) and run.printed.refusal is None
-    write(json.dumps(json_of(run, view_of(program, run) if is_told else None), indent=1) + "\n")
+    view = view_of(program, run) if is_told else None
+    made_by = view.identity if view else identity(program, files_in_force(program.folder, words[1] if len(words) > 1 else ""))
+    write(json.dumps(json_of(run, view, made_by), indent=1) + "\n")
     return run.status
 
 

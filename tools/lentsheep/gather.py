@@ -4,6 +4,7 @@ from __future__ import annotations
 from .brief import View
 from .causes import causes
 from .harm import FIRST_KEYS, candidates, groups, has_sandbox
+from .identity import identity
 from .notes import told_notes
 from .partings import files_in_force, partings
 from .program import Program, Run
@@ -32,7 +33,7 @@ def view_of(program: Program, run: Run, most: int | None = None) -> View:
     lines += [] if is_protected else FIRST_KEYS
     known = tried(program, unit, files, lines) if report.answers and run.status == 0 else None
     notes, passed = told_notes(report.notes, files), passed_over(files)
-    return View(report, plan, table, notes, partings(files), names, passed, known, is_protected)
+    return View(report, plan, table, notes, partings(files), names, passed, known, is_protected, identity(program, files))
 
 
 def notes_of(program: Program, report: Report, unit: str) -> View:

@@ -9,6 +9,7 @@ from .brief import COLUMNS, View, topmost
 from .calls import Call
 from .causes import Cause, State, causes, held_capabilities, state_of, told
 from .harm import Group, Tried, closing, gives, groups
+from .identity import Identity
 from .parting_sides import bears_on
 from .places import described
 from .program import Run
@@ -23,13 +24,15 @@ VERSION = 1
 Json = dict[str, Any]
 
 
-def json_of(run: Run, view: View | None = None) -> Json:
+def json_of(run: Run, view: View | None = None, made_by: Identity | None = None) -> Json:
     """All that a run printed; of a report also what its view tells."""
     printed = run.printed
     found: Json = {
         "version": VERSION, "command": printed.command, "words": list(run.words), "status": run.status, "whole": printed.whole,
         "refusal": _refusal(printed.refusal), "unread": list(printed.unread),
     }  # fmt: skip
+    if made_by is not None:
+        found["made_by"] = {"version": made_by.version, "proved_by": made_by.proved_by, "sums": made_by.sums}
     if printed.refusal is None:
         found["result"] = _result(printed, view)
     return found

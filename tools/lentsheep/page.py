@@ -121,7 +121,15 @@ def glance(view: View) -> str:
         parts.append(f"<p>Answers: {report.summary.denied} denied, {report.summary.open} open.</p>")
     lists = why(view) + blind(report) + noted(view)
     parts.append(f'<div class="columns"><div>{counts(report)}</div><div class="wide">{lists}</div></div>')
-    return "".join(parts) + parted(view)
+    return "".join(parts) + parted(view) + made_by(view)
+
+
+def made_by(view: View) -> str:
+    """The program, and the sums of what it read."""
+    if view.identity is None:
+        return ""
+    rows = [(escape(name), f"<code>{total}</code>") for name, total in view.identity.sums.items()]
+    return f"<h3>Made by</h3><p>{escape(view.identity.build)}</p>" + table(("File", "SHA-256"), rows)
 
 
 def counts(report: Report) -> str:
