@@ -135,8 +135,10 @@ def _table(report: Report, page: Page) -> list[str]:
     for at, (_, kinds) in enumerate(COLUMNS):
         for answer in report.of_kind(*kinds):
             counts[state_of(answer)][at] += 1
-    opens = [once + steps for once, steps in zip(counts[State.OPEN], counts[State.STEPS])]
-    rows = (("denied", counts[State.DENIED], "green"), ("open", opens, "red"), ("in steps", counts[State.STEPS], "yellow"))
+    opens = list(map(sum, zip(counts[State.OPEN], counts[State.STEPS], counts[State.MODES])))
+    rows = [("denied", counts[State.DENIED], "green"), ("open", opens, "red"), ("in steps", counts[State.STEPS], "yellow")]
+    # of those that are open, as the report has them
+    rows += [("by modes", counts[State.MODES], "green")] if any(counts[State.MODES]) else []
     headings = [heading for heading, _ in COLUMNS] + ["all"]
     numbers = [[*row, sum(row)] for _, row, _ in rows]
     widths = [max(map(len, map(str, column))) + 1 for column in zip(headings, *numbers)]

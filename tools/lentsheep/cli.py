@@ -208,6 +208,8 @@ def _expect(program: Program, file: str, words: list[str]) -> int:
     if report is None or run.status != 0:
         return run.status
     report = _with_rows(program, words, report, expectations)
+    if any(expectation.with_modes for expectation in expectations):
+        report = _with_modes(program, words[1], report)
     failed = 0
     for expectation in expectations:
         reasons = _reasons(program, words, report, expectation, file)
@@ -229,6 +231,17 @@ def _with_rows(program: Program, words: list[str], report: Report, expectations:
     with program.changed({"site.toml": with_rows(site, rows)}) as changed:
         again = changed.run(*words)
     return again.printed if again.status == 0 and isinstance(again.printed, Report) else report
+
+
+def _with_modes(program: Program, unit: str, report: Report) -> Report:
+    """The report with what file modes close; they are to be beside the site."""
+    from .modes import FILE, read_modes, with_modes
+    from .unit_text import Said, files_in_force
+
+    modes = read_modes(program.read(FILE))
+    if modes is None:
+        raise Wrong(f"with-modes needs {FILE} beside the site: --root makes it")
+    return with_modes(report, modes, Said(files_in_force(program.folder, unit)))
 
 
 def _reasons(

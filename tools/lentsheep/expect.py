@@ -32,6 +32,7 @@ class Expectation:
     most: int | None = None
     policy: str | None = None
     no_notes: bool = False
+    with_modes: bool = False
 
 
 def read_expectations(text: str) -> list[Expectation]:
@@ -46,9 +47,10 @@ def read_expectations(text: str) -> list[Expectation]:
 
 def _expectation(number: int, line: str) -> Expectation:
     first, _, rest = line.partition(" ")
-    question = read_question(rest) if first in ("open", "denied") else None
-    if question:
-        return Expectation(number, line, question, first == "open")
+    with_modes = rest.endswith(" with-modes")
+    question = read_question(rest.removesuffix(" with-modes")) if first in ("open", "denied") else None
+    if question and (not with_modes or question.kind in ("read", "write", "exec")):
+        return Expectation(number, line, question, first == "open", with_modes=with_modes)
     if first == "blind" and rest.startswith("/") and " " not in rest:
         return Expectation(number, line, blind=unescaped(rest))
     if line == "notes none":
@@ -109,7 +111,10 @@ def failures(expectation: Expectation, report: Report) -> list[str]:
         answers = [answer for answer in report.of_kind(question.kind) if is_below(answer.question.name, question.name)]
     if not answers:
         return ["the report does not ask this"]
-    return [_shown(answer) for answer in answers if answer.is_open != expectation.is_open][:3]
+    def is_open(answer: Answer) -> bool:
+        return answer.is_open and not (expectation.with_modes and answer.by_modes)
+
+    return [_shown(answer) for answer in answers if is_open(answer) != expectation.is_open][:3]
 
 
 def _seen_below(folder: str, report: Report) -> list[Answer]:

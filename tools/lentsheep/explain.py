@@ -113,7 +113,7 @@ def _of_lines(files: Sequence[UnitFile], keys: Sequence[str], is_meant: Callable
     return [f"{found[-1].place}: {found[-1].text}{text}"] if found else []
 
 
-_PRIVILEGED = ": such a command runs outside the sandbox, so there is nothing to judge; only the first command of ExecStart= is judged"
+_PRIVILEGED = ": a command with this prefix has privileges that the unit's settings do not give, so it is not judged"
 
 
 def _of_no_unit(unit: str, folder: Folder) -> list[str]:

@@ -98,7 +98,7 @@ def _kinds(report: Report) -> Json:
             states = [state_of(answer) for answer in report.of_kind(kind)]
             found[kind] = {
                 "denied": states.count(State.DENIED), "open": len(states) - states.count(State.DENIED),
-                "in_steps": states.count(State.STEPS),
+                "in_steps": states.count(State.STEPS), "by_modes": states.count(State.MODES),
             }  # fmt: skip
     return found
 
@@ -117,6 +117,7 @@ def _folders(view: View) -> Json:
 
 
 def _report(report: Report, view: View) -> Json:
+    report = view.report
     notes = [
         {
             "file": it.note.file, "line": it.note.line, "cause": it.note.cause, "key": it.key, "text": it.text,
