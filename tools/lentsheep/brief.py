@@ -258,7 +258,7 @@ def _notes(notes: Sequence[ToldNote], page: Page) -> list[str]:
     return page.lines("not judged", [counted(len(rest), "line") + ":" * bool(keys), *keys], 2)
 
 
-_DIRECTIONS = {
+DIRECTIONS = {
     Direction.DENIED_HERE: "systemd opens what is denied here:",
     Direction.OPEN_HERE: "systemd denies what is open here:",
     Direction.EITHER: "systemd parts either way:",
@@ -268,7 +268,7 @@ _DIRECTIONS = {
 def _partings(view: View, page: Page) -> list[str]:
     found = [parting for parting in view.partings if not view.report.answers or bears_on(parting, view.report)]
     lines: list[str] = []
-    for direction, text in _DIRECTIONS.items():
+    for direction, text in DIRECTIONS.items():
         names = [_parting_name(parting) for parting in found if parting.direction == direction]
         if names:
             lines += page.lines("" if lines else "partings", [text, *parted(names)], len(names) + 1)

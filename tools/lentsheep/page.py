@@ -13,9 +13,10 @@ from pathlib import Path
 from typing import Iterable, Mapping, Optional, Sequence
 
 from .bpf import ACTIONS
-from .brief import View, wrong_lines
+from .brief import DIRECTIONS, View, wrong_lines
 from .causes import State, causes, state_of
 from .harm import closing, groups
+from .parting_sides import bears_on
 from .page_filters import drawn
 from .page_tree import NONE, SIGNS, class_of, shown_tree
 from .values import KINDS, SWITCHES, Answer, Filters, Launched, LaunchKilled, LaunchPrivileged, LaunchRefused, Plan, Report
@@ -106,7 +107,9 @@ def table(head: Iterable[str], rows: Iterable[Sequence[str]], kind: str = "") ->
     """A table, of texts that are escaped already."""
     cells = ("".join(f'<td class="{kind}">{cell}</td>' for cell in row) for row in rows)
     body = "".join(f"<tr>{row}</tr>" for row in cells)
-    return f"<table><thead><tr>{''.join(f'<th>{cell}</th>' for cell in head)}</tr></thead><tbody>{body}</tbody></table>"
+    heads = "".join(f"<th>{cell}</th>" for cell in head)
+    # what is wider than the screen scrolls within it
+    return f'<div class="scroll" tabindex="0"><table><thead><tr>{heads}</tr></thead><tbody>{body}</tbody></table></div>'
 
 
 def glance(view: View) -> str:
@@ -119,6 +122,7 @@ def glance(view: View) -> str:
         parts.append("<p><b>The text of the report was cut: what follows its last line is not known.</b></p>")
     if report.summary:
         parts.append(f"<p>Answers: {report.summary.denied} denied, {report.summary.open} open.</p>")
+    parts.append(parted_in_short(view))
     lists = why(view) + blind(report) + noted(view)
     parts.append(f'<div class="columns"><div>{counts(report)}</div><div class="wide">{lists}</div></div>')
     return "".join(parts) + parted(view) + made_by(view)
@@ -133,16 +137,24 @@ def made_by(view: View) -> str:
 
 
 def counts(report: Report) -> str:
-    """How the questions of each kind stand."""
+    """How the questions of each kind stand, with the counts of the screen: what is open in steps or closed by modes is open, too."""
     kinds = [kind for kind in KINDS if kind not in SWITCHES]
     groups = [(kind, report.of_kind(kind)) for kind in kinds] + [("switches", report.of_kind(*SWITCHES))]
-    stand = {kind: Counter(state_of(it).value for it in found) for kind, found in groups if found}
-    states = [state.value for state in State]
+    stand = {kind: Counter(state_of(it) for it in found) for kind, found in groups if found}
+    of_all: Counter = sum(stand.values(), Counter())
+    shown = [State.STEPS] + [State.MODES] * bool(of_all[State.MODES])
     rows = [
-        (kind, *(f'<span class="{class_of(state)}">{found[state] or "–"}</span>' for state in states))
-        for kind, found in stand.items()
-    ]
-    return table(("Kind", *states), rows)
+        (kind, cell(found[State.DENIED], "denied"), cell(sum(found.values()) - found[State.DENIED], "open"),
+         *(cell(found[state], class_of(state.value)) for state in shown))
+        for kind, found in [*stand.items(), ("all", of_all)]
+    ]  # fmt: skip
+    heads = {State.STEPS: "of these in steps", State.MODES: "of these closed by modes"}
+    return table(("Kind", "denied", "open", *(heads[state] for state in shown)), rows)
+
+
+def cell(count: int, kind: str) -> str:
+    """A count in its colour."""
+    return f'<span class="{kind}">{count or "–"}</span>'
 
 
 def why(view: View) -> str:
@@ -180,13 +192,24 @@ def wrong(view: View) -> str:
     return "<h3>Lines of the unit that are not read</h3>" + table(("Line", "What is wrong"), rows) if rows else ""
 
 
+def parted_in_short(view: View) -> str:
+    """The partings that an answer is on the side of, by their names."""
+    found = [parting for parting in view.partings if bears_on(parting, view.report)]
+    lines = []
+    for direction, text in DIRECTIONS.items():
+        names = [f'<a href="#partings" title="{escape(it.text)}">{escape(it.name)}</a>' for it in found if it.direction == direction]
+        if names:
+            lines.append(f"<p>{escape(text)} {', '.join(names)}</p>")
+    return "".join(lines)
+
+
 def parted(view: View) -> str:
     """Where systemd may part from the judgement of this unit."""
     rows = [
         (it.name, escape(" ".join(f"{key}=" for key in it.keys)), it.direction.value, escape(it.text), escape(it.versions))
         for it in view.partings
     ]
-    return "<h3>Where systemd may part from this</h3>" + table(("Parting", "Keys", "Which", "What", "systemd"), rows) if rows else ""
+    return '<h3 id="partings">Where systemd may part from this</h3>' + table(("Parting", "Keys", "Which", "What", "systemd"), rows) if rows else ""
 
 
 def legend() -> str:
