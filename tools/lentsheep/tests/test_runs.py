@@ -149,9 +149,6 @@ why open    34 answers, since it can change mounts (CAP_SYS_ADMIN is held)
               1 open /proc/dev/mem 0 1
               closed by CapabilityBoundingSet=~CAP_SYS_ADMIN or SystemCallFilter=~@mount
             6 answers, since it can make namespaces (CAP_SYS_ADMIN is held)
-            5 answers, since it can make calls that ask for a capability (CAP_SYS_ADMIN is held)
-            3 answers, since it can make calls that ask for a capability (CAP_SYS_BOOT is held)
-            and 7 further causes, of 12 answers
 see, read   open everywhere but in steps in /dev, /home, /root, /tmp, /run/user, /usr/lib/modules,
             /var/tmp and open in /dev/null
 write       in steps everywhere but open in /dev/null, /proc
@@ -417,16 +414,17 @@ expectations 4 failed 2
     def test_wrong_words_and_refusals(self):
         hardened = EXAMPLES / "hardened"
         bad = self.write("bad", "denies write /etc\n")
+        no_unit = "sandbox: no unit no.service is below this folder; web.service is\n"
         for words, status, text in [
             (["--brief"], 2, "sandbox: --brief needs a command behind it\n"),
-            (["--brief", "plan", "web.service"], 2, "sandbox: --brief tells of judge alone\n"),
+            (["--brief", "plan", "web.service"], 2, "sandbox: --brief is a view of judge alone: write ./sandbox --brief judge UNIT; --json prints all of plan\n"),
             (["--expect", "none", "judge", "web.service"], 2, "sandbox: none: No such file or directory\n"),
             (["--expect", bad, "judge", "web.service"], 2, f"sandbox: {bad}: line 1 is no expectation: denies write /etc\n"),
             (["--expect", bad], 2, "sandbox: --expect needs a file and a command behind it\n"),
             (["--compare", bad], 2, "sandbox: --compare needs two reports behind it\n"),
             (["--compare", bad, bad], 2, f"sandbox: {bad} is no whole text of judge\n"),
-            (["--brief", "judge", "no.service"], 3, "refused no.service not-found\n"),
-            (["--write", bad, "judge", "no.service"], 3, "refused no.service not-found\n"),
+            (["--brief", "judge", "no.service"], 3, f"refused no.service not-found\n{no_unit}"),
+            (["--write", bad, "judge", "no.service"], 3, f"refused no.service not-found\n{no_unit}"),
             (["--brief", "judge"], 2, "refused words\nsandbox: write ./sandbox judge UNIT (./sandbox --help)\n"),
         ]:  # fmt: skip
             self.assertEqual((status, text), run(hardened, *words), words)
