@@ -196,15 +196,20 @@ def site():
     return "\n".join(lines) + "\n"
 
 
-def run(folder, *words):
-    """Runs a view in a folder: its status and what it printed."""
-    ended = subprocess.run([VIEW, *words], cwd=folder, env=HOW, capture_output=True, text=True, check=False)
+def run(folder, *words, by=None):
+    """Runs a view in a folder, as ./sandbox does: its status and what it printed."""
+    how = {**HOW, "LENTSHEEP_RUNS": os.path.abspath(BUILT), "XDG_CACHE_HOME": CACHE.name}
+    ended = subprocess.run([VIEW, *words], cwd=folder, env=by or how, capture_output=True, text=True, check=False)
     return ended.returncode, ended.stdout + ended.stderr
 
 
 def judged(folder, unit):
     """What judge prints in a folder."""
     return subprocess.run([TOP / "sandbox", "judge", unit], cwd=folder, env=HOW, stdout=subprocess.PIPE, check=False).stdout
+
+
+# What lines close is tried once for all tests.
+CACHE = tempfile.TemporaryDirectory(prefix="test-runs-")
 
 
 @unittest.skipUnless(os.access(BUILT, os.X_OK), "the program was not built, and LENTSHEEP_PROGRAM names none")
@@ -362,7 +367,7 @@ expectations 5 failed 4
             (["--write", bad, "judge", "no.service"], 3, f"refused no.service not-found\n{no_unit}"),
             (["--brief", "judge"], 2, "refused words\nsandbox: write ./sandbox judge UNIT (./sandbox --help)\n"),
         ]:  # fmt: skip
-            self.assertEqual((status, text), run(hardened, *words), words)
+            self.assertEqual((status, text), run(hardened, *words, by=HOW), words)
         self.assertEqual(0, run(hardened, "--brief", "--help")[0])
 
 
