@@ -257,7 +257,7 @@ _CAUSES = {
 def _wrong(view: View, page: Page) -> list[str]:
     """Above the verdict: what the unit does not say, though it looks so."""
     found = wrong_lines(view)
-    lines = [page.line("note", f"{place}: {text}") for place, text in found[:6]]
+    lines = [line for place, text in found[:6] for line in page.lines("note", f"{place}: {text}".split(" "), 2)]
     if len(found) > 6:
         lines.append(page.line("", f"and {counted(len(found) - 6, 'more line')} that cannot be read"))
     return [*lines, ""] if lines else []

@@ -5,6 +5,8 @@ answers: those of which a run of `effect` said so.
 """
 from __future__ import annotations
 
+import dataclasses
+from collections import Counter
 from dataclasses import dataclass
 from typing import Mapping, Optional, Sequence
 
@@ -16,7 +18,7 @@ from .values import Answer, Report
 Tried = Mapping[str, "frozenset[str]"]
 
 KERNEL = frozenset({"CAP_SYS_MODULE", "CAP_SYS_RAWIO", "CAP_SYS_BOOT", "CAP_BPF"})
-DISKS = frozenset({"CAP_DAC_READ_SEARCH", "CAP_SYS_ADMIN"})
+DISKS = frozenset({"swapon", "swapoff", "open_by_handle_at", "quotactl"})
 # What a group gives, in the order in which groups are told, and lines that may close one besides those of its causes.
 _KINDS = {
     "mounts": "mounts", "unmounts": "mounts", "programs": "privileges", "capset": "privileges", "namespaces": "privileges",
@@ -24,7 +26,7 @@ _KINDS = {
 }  # fmt: skip
 ORDER = ("kernel", "mounts", "disks", "privileges", "machine", "ids")
 _CALLS = {
-    "kernel": "it can change the kernel or start another", "disks": "it can reach disks by calls beside files",
+    "kernel": "it can change the kernel or start another", "disks": "it can reach disks beside their files",
     "machine": "it can make calls that ask for a capability",
 }  # fmt: skip
 _FILTERS = {"kernel": "SystemCallFilter=~@module @raw-io @reboot"}
@@ -84,11 +86,29 @@ class Group:
         return f"{_CALLS[self.gives]} ({listed} {'is' if len(held) == 1 else 'are'} held)"
 
 
-def gives(cause: Cause) -> str:
-    """What a cause gives."""
-    if cause.need.kind == "calls":
-        return "kernel" if cause.need.by in KERNEL else "disks" if cause.need.by in DISKS else "machine"
-    return _KINDS.get(cause.need.kind, "machine")
+def gives(cause: Cause, answer: Answer) -> str:
+    """What a cause gives by an answer."""
+    if cause.need.kind != "calls":
+        return _KINDS.get(cause.need.kind, "machine")
+    if cause.need.by in KERNEL:
+        return "kernel"
+    return "disks" if answer.question.kind == "call" and answer.question.name in DISKS else "machine"
+
+
+def _parted(cause: Cause) -> list[tuple[str, Cause]]:
+    """A cause by what it gives by its answers."""
+    parts: dict[str, list[Answer]] = {}
+    for answer in cause.answers:
+        parts.setdefault(gives(cause, answer), []).append(answer)
+    if len(parts) == 1:
+        return [(next(iter(parts)), cause)]
+    return [
+        (kind, dataclasses.replace(
+            cause, answers=tuple(answers), count=len(answers), kinds=dict(Counter(it.question.kind for it in answers)),
+            example=cause.example if cause.example in answers else answers[0],
+        ))
+        for kind, answers in parts.items()
+    ]  # fmt: skip
 
 
 def groups(causes: Sequence[Cause]) -> list[Group]:
@@ -99,10 +119,11 @@ def groups(causes: Sequence[Cause]) -> list[Group]:
     calls: dict[str, list[Cause]] = {}
     found = []
     for cause in causes:
-        if cause.need.kind == "calls":
-            calls.setdefault(gives(cause), []).append(cause)
-        else:
-            found.append(Group(gives(cause), (cause,)))
+        if cause.need.kind != "calls":
+            found.append(Group(gives(cause, cause.example), (cause,)))
+            continue
+        for kind, part in _parted(cause):
+            calls.setdefault(kind, []).append(part)
     found += [Group(kind, tuple(members)) for kind, members in calls.items()]
     return sorted(found, key=lambda group: (ORDER.index(group.gives), -group.count))
 

@@ -62,4 +62,4 @@ def identity(program: Program, files: Sequence[UnitFile]) -> Identity:
             sums[name] = sum_of(data)
     for file in files:
         sums[file.path] = sum_of(file.text.encode("utf-8", "surrogateescape"))
-    return Identity(program.run("--version").text.strip(), proved_by(program.built), sums)
+    return Identity((program.run("--version").text.splitlines() or [""])[0], proved_by(program.built), sums)

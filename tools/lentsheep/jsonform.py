@@ -8,7 +8,7 @@ from .bpf import described as described_instruction
 from .brief import COLUMNS, View, topmost
 from .calls import Call
 from .causes import Cause, State, causes, held_capabilities, state_of, told
-from .harm import Group, Tried, closing, gives, groups
+from .harm import Group, Tried, closing, groups
 from .identity import Identity
 from .parting_sides import bears_on
 from .partings import Parting, doubted
@@ -83,11 +83,11 @@ def _counts(counts: Counts | None) -> Json | None:
     return None if counts is None else dataclasses.asdict(counts)
 
 
-def _cause(cause: Cause, report: Report, tried: Tried | None) -> Json:
+def _cause(cause: Cause, group: Group, report: Report, tried: Tried | None) -> Json:
     return {
         "count": cause.count, "need": cause.need.kind, "by": cause.need.by, "text": told(cause), "kinds": cause.kinds,
         "then": cause.then, "programs": list(cause.programs), "example": _answer(cause.example),
-        "gives": gives(cause), "closed_by": closing(Group(gives(cause), (cause,)), report, tried),
+        "gives": group.gives, "closed_by": closing(Group(group.gives, (cause,)), report, tried),
     }  # fmt: skip
 
 
@@ -132,7 +132,7 @@ def _report(report: Report, view: View) -> Json:
     return {
         "unit": report.unit, "launch": _launch(report.launch), "summary": _counts(report.summary), "kinds": _kinds(report),
         "held": held_capabilities(report), "causes": [
-            _cause(cause, report, view.tried) for group in groups(causes(report, view.table)) for cause in group.causes
+            _cause(cause, group, report, view.tried) for group in groups(causes(report, view.table)) for cause in group.causes
         ],
         "folders": _folders(view), "blind": list(report.blind), "topmost_blind": topmost(report.blind), "notes": notes,
         "passed_over": [dict(it._asdict()) for it in view.passed],

@@ -23,7 +23,7 @@ from lentsheep.terminal import Paint
 from lentsheep.unit_text import Said, UnitFile, files_in_force
 from lentsheep.values import Question
 
-CAPABILITIES = {"init_module": "CAP_SYS_MODULE", "reboot": "CAP_SYS_BOOT", "swapon": "CAP_SYS_ADMIN", "settimeofday": "CAP_SYS_TIME"}
+CAPABILITIES = {"init_module": "CAP_SYS_MODULE", "reboot": "CAP_SYS_BOOT", "swapon": "CAP_SYS_ADMIN", "settimeofday": "CAP_SYS_TIME", "AF_PHONET": "CAP_SYS_ADMIN"}
 REPORT = """\
 unit web.service
 launched uid 0 gid 0 nnp no steps 9
@@ -38,6 +38,8 @@ open call settimeofday
   1 settimeofday
 open call swapon
   1 swapon
+open socket AF_PHONET
+  1 socket 35
 open ns net
   1 unshare 1073741824
 denied map-wx
@@ -49,7 +51,7 @@ open uid 3
   1 setuid 3
 open gid 1
   1 setgid 1
-summary denied 1 open 10
+summary denied 1 open 11
 """
 BUILT = os.environ.get("LENTSHEEP_PROGRAM") or str(TOP / "crates/sandbox_cli/out/sandbox_cli")
 
@@ -64,27 +66,29 @@ class Harm(unittest.TestCase):
 
     def test_order(self):
         report = parse(REPORT, "judge")
-        found = harm.groups(causes(report, Table({}, CAPABILITIES)))
+        found = harm.groups(causes(report, Table({}, CAPABILITIES, {35: "AF_PHONET"})))
         # three uids are no more than one: what changes the kernel comes first
         self.assertEqual(["kernel", "mounts", "disks", "privileges", "machine", "ids", "ids"], [group.gives for group in found])
-        self.assertEqual([2, 1, 1, 1, 1, 3, 1], [group.count for group in found])
+        self.assertEqual([2, 1, 1, 1, 2, 3, 1], [group.count for group in found])
+        # one capability gives disks by one call, and no disk by a family of sockets
+        self.assertEqual(["call swapon", "socket AF_PHONET"], [found[2].answers[0].question.text, found[4].answers[0].question.text])
         self.assertEqual("it can change the kernel or start another (CAP_SYS_BOOT and CAP_SYS_MODULE are held)", found[0].told)
 
     def test_screen(self):
         report = parse(REPORT, "judge")
-        text = screen(View(report, table=Table({}, CAPABILITIES)))
+        text = screen(View(report, table=Table({}, CAPABILITIES, {35: "AF_PHONET"})))
         for line in [
             "why open    2 answers, since it can change the kernel or start another (CAP_SYS_BOOT and",
             "              closed by CapabilityBoundingSet=~CAP_SYS_BOOT CAP_SYS_MODULE or",
             "            1 answer, since it can change mounts (CAP_SYS_ADMIN is held)",
-            # the machine, and of uids and of gids one each
-            "            and 3 further causes, of 3 answers",
+            # two of the machine, and of uids and of gids one each
+            "            and 3 further causes, of 4 answers",
         ]:
             self.assertIn(line, text.splitlines())
 
     def test_what_was_tried(self):
         report = parse(REPORT, "judge")
-        (kernel, *_) = harm.groups(causes(report, Table({}, CAPABILITIES)))
+        (kernel, *_) = harm.groups(causes(report, Table({}, CAPABILITIES, {35: "AF_PHONET"})))
         bounding, calls = "CapabilityBoundingSet=~CAP_SYS_BOOT CAP_SYS_MODULE", "SystemCallFilter=~@module @raw-io @reboot"
         both = frozenset({"call init_module", "call reboot"})
         for tried, wanted in [
@@ -92,7 +96,7 @@ class Harm(unittest.TestCase):
             ({bounding: frozenset(), calls: frozenset()}, []), ({}, []),
         ]:  # fmt: skip
             self.assertEqual(wanted, harm.closing(kernel, report, tried))
-        self.assertNotIn("closed by", screen(View(report, table=Table({}, CAPABILITIES), tried={})))
+        self.assertNotIn("closed by", screen(View(report, table=Table({}, CAPABILITIES, {35: "AF_PHONET"}), tried={})))
 
     def test_a_unit_without_a_sandbox(self):
         report = parse(REPORT, "judge")

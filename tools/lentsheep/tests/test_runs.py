@@ -39,12 +39,14 @@ UNITS = {
         "ExecStart=/usr/sbin/cupsd -l",
         """\
 launched    as uid 0 (root), gid 0, with all 41 capabilities, no_new_privs off
-why open    6 answers, since it can make calls that ask for a capability (CAP_SYS_ADMIN is held)
-              call 5, socket 1; as
-              call swapon: 1 swapon
+why open    the unit sets no key of a sandbox; close most: CapabilityBoundingSet= (77),
+            8 answers, since it can change the kernel or start another (CAP_SYS_BOOT, CAP_SYS_MODULE
+              closed by CapabilityBoundingSet=~CAP_SYS_BOOT CAP_SYS_MODULE CAP_SYS_RAWIO or
+              SystemCallFilter=~@module @raw-io @reboot
+            3 answers, since it can reach disks beside their files (CAP_DAC_READ_SEARCH and
             6 answers, since it can make namespaces (CAP_SYS_ADMIN is held)
-            3 answers, since it can make calls that ask for a capability (CAP_SYS_BOOT is held)
-            and 10 further causes, of 18 answers
+            13 answers, since it can make calls that ask for a capability (CAP_NET_ADMIN,
+            and 2 further causes, of 2 answers
 files       open everywhere
 namespaces  open 6 but denied 1: user
 switches    open all 6
@@ -78,14 +80,12 @@ uids        in steps 3 but open 1: 983
         "NoNewPrivileges=true",
         """\
 launched    as uid 0 (root), gid 0, with 7 capabilities, no_new_privs on
-why open    3 answers, since it can take other user ids (CAP_SETUID is held)
-              uid 3; as
-              uid 945: 1 setuid 945
+why open    3 answers, since it can make calls that ask for a capability (CAP_SYSLOG and
+            CAP_SYS_TIME are held)
+              closed by CapabilityBoundingSet=~CAP_SYSLOG CAP_SYS_TIME
+            other uids, since it can take other user ids (CAP_SETUID is held)
               closed by CapabilityBoundingSet=~CAP_SETUID or SystemCallFilter=~@setuid
-            3 answers, since it can take other groups (CAP_SETGID is held)
-            2 answers, since it can make calls that ask for a capability (CAP_SYS_TIME is held)
-              closed by CapabilityBoundingSet=~CAP_SYS_TIME
-            1 answer, since it can make calls that ask for a capability (CAP_SYSLOG is held)
+            other gids, since it can take other groups (CAP_SETGID is held)
 see, read   open everywhere but denied in /dev, /home, /root, /tmp, /run/user, /var/tmp
             and open in /dev/null
 write       denied everywhere but open in /dev/null, /proc/kmsg, /sbin/fstrim
@@ -143,7 +143,9 @@ blind       /usr/lib/modules, of which 1 holds only without what `partings` name
         "ProtectKernelModules=true\nRestrictRealtime=true\nNoNewPrivileges=true",
         """\
 launched    as uid 0 (root), gid 0, with 38 capabilities, no_new_privs on
-why open    34 answers, since it can change mounts (CAP_SYS_ADMIN is held)
+why open    3 answers, since it can change the kernel or start another (CAP_SYS_BOOT is held)
+              call 3; as
+            34 answers, since it can change mounts (CAP_SYS_ADMIN is held)
               write 12, see 11, read 11; as
               write /dev/mem: 1 mount / /proc 0 0 0 4096; 1 mount / /proc 0 0 0 4128;
               1 open /proc/dev/mem 0 1
@@ -215,15 +217,20 @@ def site():
     return "\n".join(lines) + "\n"
 
 
-def run(folder, *words):
-    """Runs a view in a folder: its status and what it printed."""
-    ended = subprocess.run([VIEW, *words], cwd=folder, env=HOW, capture_output=True, text=True, check=False)
+def run(folder, *words, by=None):
+    """Runs a view in a folder, as ./sandbox does: its status and what it printed."""
+    how = {**HOW, "LENTSHEEP_RUNS": os.path.abspath(BUILT), "XDG_CACHE_HOME": CACHE.name}
+    ended = subprocess.run([VIEW, *words], cwd=folder, env=by or how, capture_output=True, text=True, check=False)
     return ended.returncode, ended.stdout + ended.stderr
 
 
 def judged(folder, unit):
     """What judge prints in a folder."""
     return subprocess.run([TOP / "sandbox", "judge", unit], cwd=folder, env=HOW, stdout=subprocess.PIPE, check=False).stdout
+
+
+# What lines close is tried once for all tests.
+CACHE = tempfile.TemporaryDirectory(prefix="test-runs-")
 
 
 @unittest.skipUnless(os.access(BUILT, os.X_OK), "the program was not built, and LENTSHEEP_PROGRAM names none")
@@ -427,7 +434,7 @@ expectations 4 failed 2
             (["--write", bad, "judge", "no.service"], 3, f"refused no.service not-found\n{no_unit}"),
             (["--brief", "judge"], 2, "refused words\nsandbox: write ./sandbox judge UNIT (./sandbox --help)\n"),
         ]:  # fmt: skip
-            self.assertEqual((status, text), run(hardened, *words), words)
+            self.assertEqual((status, text), run(hardened, *words, by=HOW), words)
         self.assertEqual(0, run(hardened, "--brief", "--help")[0])
 
 
