@@ -70,14 +70,14 @@ def _run(words: list[str]) -> int:
         return _VIEWS[option](program, _command(option, rest))
     if option in _VIEWS_WITH_FILE:
         if len(rest) < 2:
-            raise Wrong(f"{option} needs a file and a command behind it")
+            raise Wrong(f"{option} needs a file and a command after it")
         return _VIEWS_WITH_FILE[option](program, rest[0], _command(option, rest[1:]))
-    raise Wrong(f"no word {option} ({COMMAND} --brief --help tells the words)")
+    raise Wrong(f"unknown option {option} ({COMMAND} --brief --help lists the options)")
 
 
 def _command(option: str, words: list[str]) -> list[str]:
     if not words:
-        raise Wrong(f"{option} needs a command behind it")
+        raise Wrong(f"{option} needs a command after it")
     if option != "--json" and words[0] != "judge":
         raise Wrong(f"{option} tells of judge alone")
     return words
@@ -174,12 +174,12 @@ def _reasons(
 
 def _compare(files: list[str]) -> int:
     if len(files) != 2:
-        raise Wrong("--compare needs two reports behind it")
+        raise Wrong("--compare needs two reports after it")
     reports = []
     for file in files:
         report = parse(_text_of(file), "judge")
         if not isinstance(report, Report) or not report.whole or report.refusal or report.unread:
-            raise Wrong(f"{file} is no whole text of judge")
+            raise Wrong(f"{file} is not a complete output of judge")
         reports.append(report)
     found = compare.changes(*reports)
     show("\n".join(compare.lines_of(found)) + "\n")
