@@ -40,7 +40,7 @@ def entries_of(root, folder, told):
     except FileNotFoundError:
         return
     except OSError as error:
-        told.add(f"folders that could not be read ({error.strerror}), whose files are not known", folder)
+        told.add(f"folders that could not be read ({error.strerror}), so their files are unknown", folder)
         return
     for entry in entries:
         try:
