@@ -61,7 +61,7 @@ def brief(view: View, page: Page) -> list[str]:
     if view.identity:
         lines += page.lines("made by", [view.identity.words[0], *parted(view.identity.words[1:])])
     if not report.whole:
-        lines.append(page.line("cut", "the report ends early, so nothing is told of what it does not have"))
+        lines.append(page.line("cut", "the report ends early; what it lacks is not shown"))
     return lines
 
 
@@ -89,7 +89,7 @@ def _launch(view: View) -> str:
     if isinstance(launch, LaunchPrivileged):
         return f"no: {escaped(launch.program)} has a set-id bit or capabilities"
     if not isinstance(launch, Launched):
-        return "not told"
+        return "not in the report"
     name = view.user_names.get(launch.uid, "root" if launch.uid == 0 else "")
     who = f"uid {launch.uid}" + (f" ({name})" if name else "") + f", gid {launch.gid}"
     held = held_capabilities(view.report)

@@ -15,21 +15,27 @@ if TYPE_CHECKING:
     from .expect import Expectation
 
 HELP = f"""\
-usage: {COMMAND} [--root DIR ..] --brief judge UNIT          the verdict in one screen
-       {COMMAND} [--root DIR ..] --brief fleet               the units of most exposure, why, and what to add first
-       {COMMAND} [--root DIR ..] --json COMMAND UNIT ..      all that a command prints, as JSON (docs/JSON.md)
-       {COMMAND} [--root DIR ..] --html FILE judge UNIT      a page that stands by itself
-       {COMMAND} [--root DIR ..] --html FILE fleet           a page of all units, and one of each in FILE-units
-       {COMMAND} [--root DIR ..] --expect FILE judge UNIT    what does not hold of what FILE expects of the report
+usage: {COMMAND} [--root DIR ..] --brief judge UNIT          prints the verdict in one screen
+       {COMMAND} [--root DIR ..] --brief fleet               prints the units of most exposure, why, and what to add first
+       {COMMAND} [--root DIR ..] --json COMMAND UNIT ..      prints the output of a command as JSON (docs/JSON.md)
+       {COMMAND} [--root DIR ..] --html FILE judge UNIT      writes the report as one page
+       {COMMAND} [--root DIR ..] --html FILE fleet           writes a page of all units, and one of each into FILE-units
+       {COMMAND} [--root DIR ..] --expect FILE judge UNIT    prints the lines of FILE that do not hold of the report
        {COMMAND} [--root DIR ..] --write FILE judge UNIT     writes what the unit is denied into FILE, for --expect
-       {COMMAND} --compare OLD NEW                           what opened and closed between two reports
+       {COMMAND} --compare OLD NEW                           prints what opened and closed between two outputs of judge
 
-A line of FILE is one of a report, as `denied write /etc/shadow`, `open write /var/lib/web` and `blind /srv`, or
-`exposure <= 40`; `#` begins a comment. Behind `denied` and `blind` lines `as-run` asks that they hold whatever systemd does
-otherwise (docs/PROFILE.md); without it such lines are told on standard error. OLD and NEW are texts of judge.
+Lines of FILE (`#` begins a comment):
 
-The status is the program's; where it is 0, it is 1 where an expectation does not hold, or something opened between the reports.
-It is 2 for wrong words.
+  denied write /etc/shadow              a line of the report; a path with files below it means all of them
+  denied write /etc/fstab with-modes    denied, or closed by the file's mode (docs/VIEWS.md)
+  denied write /etc/shadow as-run       denied whatever systemd does otherwise (docs/PROFILE.md); also after a blind line
+  open write /var/lib/web
+  blind /srv
+  notes none                            no line of the unit is ignored by mistake
+  exposure <= 40                        by tables/policy/systemd.json, or `exposure POLICY <= 40`
+
+Standard error lists the lines without as-run that systemd may open. The exit status is the program's. If that is 0, it is 1 if a
+line of FILE does not hold, or if something opened between the reports. It is 2 for a usage error.
 """
 
 
@@ -74,14 +80,14 @@ def _run(words: list[str]) -> int:
         return _VIEWS[option](program, _command(option, rest))
     if option in _VIEWS_WITH_FILE:
         if len(rest) < 2:
-            raise Wrong(f"{option} needs a file and a command behind it")
+            raise Wrong(f"{option} needs a file and a command after it")
         return _VIEWS_WITH_FILE[option](program, rest[0], _command(option, rest[1:]))
-    raise Wrong(f"no word {option} ({COMMAND} --brief --help tells the words)")
+    raise Wrong(f"unknown option {option} ({COMMAND} --brief --help lists the options)")
 
 
 def _command(option: str, words: list[str]) -> list[str]:
     if not words:
-        raise Wrong(f"{option} needs a command behind it")
+        raise Wrong(f"{option} needs a command after it")
     if option in ("--brief", "--html") and words[0] == "fleet":
         return words
     if option != "--json" and words[0] != "judge":
@@ -283,12 +289,12 @@ def _compare(files: list[str]) -> int:
     from .report import parse
 
     if len(files) != 2:
-        raise Wrong("--compare needs two reports behind it")
+        raise Wrong("--compare needs two reports after it")
     reports = []
     for file in files:
         report = parse(_text_of(file), "judge")
         if not isinstance(report, Report) or not report.whole or report.refusal or report.unread:
-            raise Wrong(f"{file} is no whole text of judge")
+            raise Wrong(f"{file} is not a complete output of judge")
         reports.append(report)
     found = compare.changes(*reports)
     show("\n".join(compare.lines_of(found)) + "\n")

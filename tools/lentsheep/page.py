@@ -101,7 +101,7 @@ def told_launch(report: Report) -> str:
         return f"Not launched: a filter ends it at step {launch.step}."
     if isinstance(launch, LaunchPrivileged):
         return f"Not launched: {launch.program} has a set-id bit or capabilities."
-    return "The report does not tell the launch."
+    return "The report does not have the launch."
 
 
 def table(head: Iterable[str], rows: Iterable[Sequence[str]], kind: str = "") -> str:
@@ -267,7 +267,7 @@ def mounts(plan: Plan) -> str:
          "" if it.executable is None else "exec" if it.executable else "noexec")
         for it in plan.mounts
     ]  # fmt: skip
-    return table(("Place", "What stands there", "", ""), rows, "code")
+    return table(("Place", "What is there", "", ""), rows, "code")
 
 
 def pictures(filters: Filters, names: Mapping[str, int]) -> str:

@@ -25,7 +25,7 @@ def add_running(rows):
     for path, kind in [(path, kind) for kind, paths in places.RUNNING.items() for path in paths.split()]:
         path = path.encode()
         if not rows.root.stands(path):
-            rows.told.add("rows of what a running system has, since nothing is in this /proc", path)
+            rows.told.add("rows of every running system, since this /proc is empty", path)
         rows.add(path, made=kind)
 
 
@@ -36,7 +36,7 @@ def tell_links(rows, path):
         return
     target = rows.root.real(path)
     if target != path:
-        rows.told.add("paths of the units that lead through links, and are judged apart from what they lead to", path)
+        rows.told.add("paths of the units that lead through links, and are judged apart from their targets", path)
 
 
 def add_said(rows, says):
@@ -176,11 +176,11 @@ def read_people(root, says, told):
     try:
         passwd = root.read(b"/etc/passwd")
     except OSError as error:
-        raise Fault(f"{root.folder.decode(errors='replace')} has no etc/passwd that can be read ({error.strerror})")
+        raise Fault(f"{root.folder.decode(errors='replace')} has no readable etc/passwd ({error.strerror})")
     try:
         group = root.read(b"/etc/group")
     except OSError as error:
-        told.add(f"without groups, since there is no file that can be read ({error.strerror})", b"/etc/group")
+        told.add(f"without groups, since the file is not readable ({error.strerror})", b"/etc/group")
         group = b""
     groups = people.read_groups(group, told)
     users = people.read_users(passwd, groups, told)
@@ -196,7 +196,7 @@ def all_said(unit_root, names, told, dropin=None):
     for text in names:
         name = units.read_name(text)
         if name is None or units.fragment(unit_root, name) is None:
-            told.add("units that are not there", text.encode("utf-8", "surrogateescape"))
+            told.add("units that do not exist", text.encode("utf-8", "surrogateescape"))
         else:
             found.append(units.said(unit_root, name, told, dropin))
     return found
@@ -205,7 +205,7 @@ def all_said(unit_root, names, told, dropin=None):
 def tell_owner(root, told):
     """Tells a root that another user unpacked, who then owns its set-user-ID programs."""
     if root.status(b"/").st_uid != 0:
-        told.add("not owned by root, so that set-user-ID bits may stand for other uids once it runs", b"/")
+        told.add("not owned by root, so set-user-ID bits may mean other uids once it runs", b"/")
 
 
 def make_site(head, root, unit_root, names, also, full, told, keep=None, dropin=None):
@@ -222,5 +222,5 @@ def make_site(head, root, unit_root, names, also, full, told, keep=None, dropin=
     counts = f"{len(rows.rows)} rows, {len(users)} users, {len(groups)} groups"
     text = toml.site_text([*head, *machine.kernel_heads(root), counts, *told.lines()], *numbers, rows.rows, users, groups)
     if len(text) > toml.LONGEST:
-        raise Fault(f"the site has {len(text)} bytes, and the program reads {toml.LONGEST}")
+        raise Fault(f"the site has {len(text)} bytes, but the program reads at most {toml.LONGEST}")
     return text

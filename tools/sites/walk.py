@@ -55,7 +55,7 @@ def look_into(root, folder, device, found, told, seen):
     except FileNotFoundError:
         return below, links
     except OSError as error:
-        told.add(f"folders that could not be read ({error.strerror}), whose files are not known", folder)
+        told.add(f"folders that could not be read ({error.strerror}), so their files are unknown", folder)
         return below, links
     is_telling = False
     for entry in entries:

@@ -423,13 +423,13 @@ expectations 4 failed 2
         bad = self.write("bad", "denies write /etc\n")
         no_unit = "sandbox: no unit no.service is below this folder; web.service is\n"
         for words, status, text in [
-            (["--brief"], 2, "sandbox: --brief needs a command behind it\n"),
+            (["--brief"], 2, "sandbox: --brief needs a command after it\n"),
             (["--brief", "plan", "web.service"], 2, "sandbox: --brief is a view of judge alone: write ./sandbox --brief judge UNIT; --json prints all of plan\n"),
             (["--expect", "none", "judge", "web.service"], 2, "sandbox: none: No such file or directory\n"),
             (["--expect", bad, "judge", "web.service"], 2, f"sandbox: {bad}: line 1 is no expectation: denies write /etc\n"),
-            (["--expect", bad], 2, "sandbox: --expect needs a file and a command behind it\n"),
-            (["--compare", bad], 2, "sandbox: --compare needs two reports behind it\n"),
-            (["--compare", bad, bad], 2, f"sandbox: {bad} is no whole text of judge\n"),
+            (["--expect", bad], 2, "sandbox: --expect needs a file and a command after it\n"),
+            (["--compare", bad], 2, "sandbox: --compare needs two reports after it\n"),
+            (["--compare", bad, bad], 2, f"sandbox: {bad} is not a complete output of judge\n"),
             (["--brief", "judge", "no.service"], 3, f"refused no.service not-found\n{no_unit}"),
             (["--write", bad, "judge", "no.service"], 3, f"refused no.service not-found\n{no_unit}"),
             (["--brief", "judge"], 2, "refused words\nsandbox: write ./sandbox judge UNIT (./sandbox --help)\n"),
