@@ -97,7 +97,7 @@ def _of_refusal(refusal: Refusal, words: Sequence[str], files: Sequence[UnitFile
         "not-found": lambda: _of_no_unit(unit, folder), "masked": lambda: [f"{unit} is masked: its file is empty or a link to /dev/null"],
         "missing": lambda: [_of_missing(refusal.what)], "no-command": lambda: _of_no_command(unit, files),
         "privileged-command": lambda: _of_lines(files, ("ExecStart",), lambda it: it.value.startswith(("+", "!", "|")), _PRIVILEGED),
-        "outside": lambda: _of_outside(name, unit, files), "no-user": lambda: _of_no_name("user", name, files),
+        "outside": lambda: _of_outside(name, unit, files, folder), "no-user": lambda: _of_no_name("user", name, files),
         "no-group": lambda: _of_no_name("group", name, files), "no-path": lambda: _of_no_path(name, unit, files, folder),
         "kind": lambda: _of_kind(name, files), "no-set": lambda: [_of_no_set(name)], "keep": lambda: _of_keep(name, words, folder),
         "wish": lambda: [_of_wish(name)], "no-filter": lambda: _of_no_filter(name, unit, again), "line": lambda: _of_line(refusal, folder),
@@ -146,14 +146,16 @@ def _of_no_command(unit: str, files: Sequence[UnitFile]) -> list[str]:
     return [f"{unit} has no ExecStart= in force, so that nothing is started that could be judged"]
 
 
-def _of_outside(key: str, unit: str, files: Sequence[UnitFile]) -> list[str]:
+def _of_outside(key: str, unit: str, files: Sequence[UnitFile], folder: Folder) -> list[str]:
     found = lines_with(files, key)
     if not found:
         return [f"{key}= is not modelled"]
     line = found[-1]
     if key == "ExecStart":
-        program = line.value.split(" ")[0].lstrip("-:@")
-        return [f"{line.place}: {line.text}: write the whole path of {program}, as ExecStart=/usr/bin/{program.rpartition('/')[2]}"]
+        name = line.value.split(" ")[0].lstrip("-:@").rpartition("/")[2]
+        places = [f"/{place}/{name}" for place in ("usr/bin", "usr/sbin", "usr/lib/systemd", "usr/local/bin")]
+        there = [it for it in places if it in folder.site.rows or folder.root and os.path.exists(folder.root.rstrip("/") + it)]
+        return [f"{line.place}: {line.text}: write the whole path of {name}, as ExecStart={(there or places)[0]}"]
     if key not in _OUTSIDE:
         return [f"{line.place}: {line.text}: the model cannot have this of /; name the folders below it"]
     copy = f"judge a copy of {unit} without this line, by its path with --root"
@@ -171,7 +173,7 @@ def _paths_of(value: str) -> list[str]:
     """The paths that the words of a value name."""
     found = []
     for word in value.replace('"', " ").replace("'", " ").split():
-        found += [part.lstrip("-+") for part in word.split(":")]
+        found += [part.lstrip("-+").rstrip("/") or "/" for part in word.split(":")]
     return found
 
 
