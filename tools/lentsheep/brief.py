@@ -10,7 +10,7 @@ from typing import Iterable, Sequence
 
 from .causes import Cause, State, causes, closed_by, held_capabilities, state_of, told
 from .notes import ToldNote
-from .partings import Direction, Parting
+from .partings import Direction, Parting, doubted
 from .places import Exceptional, described, is_below
 from .screen import LABEL, Page, braced, counted, covered, parted
 from .table import Table
@@ -44,8 +44,8 @@ def brief(view: View, page: Page) -> list[str]:
     report = view.report
     lines = _head(view, page)
     if report.answers:
-        lines += ["", *_causes(view, page), "", *_table(report, page), "", *_files(view, page), *_names(view, page)]
-    lines += _blind(report, page) + _notes(view.notes, page) + _partings(view.partings, page)
+        lines += ["", *_causes(view, page), "", *_table(view, page), "", *_files(view, page), *_names(view, page)]
+    lines += _blind(view, page) + _notes(view.notes, page) + _partings(view.partings, page)
     if not report.whole:
         lines.append(page.line("cut", "the report ends early; what it lacks is not shown"))
     return lines
@@ -56,8 +56,14 @@ def _head(view: View, page: Page) -> list[str]:
     if report.refusal:
         return [page.line("refused", report.refusal.text[len("refused ") :])]
     counts = report.summary
-    verdict = f"denied {counts.denied}, open {counts.open}" if counts else "no answers"
-    return [page.line("unit", f"{escaped(report.unit)}: {verdict}"), page.line("launched", _launch(view))]
+    held = _held_less(len(doubted(view.partings)))
+    verdict = f"denied {counts.denied},{held and f' {held},'} open {counts.open}" if counts else "no answers"
+    return [*page.lines("unit", f"{escaped(report.unit)}: {verdict}".split()), page.line("launched", _launch(view))]
+
+
+def _held_less(number: int) -> str:
+    """What is said of denied answers or blind folders that systemd may open; nothing where there are none."""
+    return f"of which {number} hold{'s' if number == 1 else ''} only without what `partings` names" if number else ""
 
 
 def _launch(view: View) -> str:
@@ -102,13 +108,17 @@ def _cause(cause: Cause, report: Report, page: Page, label: str) -> list[str]:
     return lines + ([page.line("", f"  closed by {closing}")] if closing else [])
 
 
-def _table(report: Report, page: Page) -> list[str]:
+def _table(view: View, page: Page) -> list[str]:
+    report, names = view.report, doubted(view.partings)
     counts = {state: [0] * len(COLUMNS) for state in State}
+    parting = [sum(question.kind in kinds for question in names) for _, kinds in COLUMNS]
     for at, (_, kinds) in enumerate(COLUMNS):
         for answer in report.of_kind(*kinds):
             counts[state_of(answer)][at] += 1
     opens = [once + steps for once, steps in zip(counts[State.OPEN], counts[State.STEPS])]
-    rows = (("denied", counts[State.DENIED], "green"), ("open", opens, "red"), ("in steps", counts[State.STEPS], "yellow"))
+    rows = [("denied", counts[State.DENIED], "green"), ("open", opens, "red"), ("in steps", counts[State.STEPS], "yellow")]
+    if names:
+        rows.insert(1, ("  parting", parting, "yellow"))
     headings = [heading for heading, _ in COLUMNS] + ["all"]
     numbers = [[*row, sum(row)] for _, row, _ in rows]
     widths = [max(map(len, map(str, column))) + 1 for column in zip(headings, *numbers)]
@@ -183,8 +193,11 @@ def topmost(folders: Iterable[str]) -> list[str]:
     return found
 
 
-def _blind(report: Report, page: Page) -> list[str]:
-    return page.lines("blind", parted(braced([escaped(folder) for folder in topmost(report.blind)])))
+def _blind(view: View, page: Page) -> list[str]:
+    folders = topmost(view.report.blind)
+    shown = {folder for parting in view.partings if parting.opens for folder in parting.blind}
+    held = _held_less(len(shown & set(folders)))
+    return page.lines("blind", parted(braced([escaped(folder) for folder in folders]) + [held] * bool(held)))
 
 
 def _notes(notes: Sequence[ToldNote], page: Page) -> list[str]:
@@ -214,10 +227,29 @@ _DIRECTIONS = {
 def _partings(found: Sequence[Parting], page: Page) -> list[str]:
     lines: list[str] = []
     for direction, text in _DIRECTIONS.items():
-        names = [_parting_name(parting) for parting in found if parting.direction == direction]
-        if names:
-            lines += page.lines("" if lines else "partings", [text, *parted(names)])
+        here = [parting for parting in found if parting.direction == direction]
+        if not here:
+            continue
+        touching = [parting for parting in here if parting.opens and (parting.answers or parting.blind)]
+        others = [_parting_name(parting) for parting in here if parting not in touching]
+        label = "" if lines else "partings"
+        if touching:
+            lines.append(page.line(label, text))
+            lines += [line for parting in touching for line in page.lines("", _touching(parting), 3, "  ")]
+            if others:
+                lines += page.lines("", ["and of no answer here:", *parted(others)], 3, "  ")
+        else:
+            lines += page.lines(label, [text, *parted(others)])
     return lines
+
+
+def _touching(parting: Parting) -> list[str]:
+    """A parting with what it touches and what closes it, in parts that are not broken."""
+    touched = [counted(len(parting.answers or ()), "answer")] * bool(parting.answers)
+    touched += [counted(len(topmost(parting.blind)), "blind folder")] * bool(parting.blind)
+    closing = [word for at, line in enumerate(parting.closed_by) for word in ["or"] * (at > 0) + [line]]
+    text = ", ".join(touched) + ";" * bool(closing)
+    return [*_parting_name(parting).split(), *text.split()] + (["closed", "by", *closing] if closing else [])
 
 
 def _parting_name(parting: Parting) -> str:

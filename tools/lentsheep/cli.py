@@ -9,7 +9,7 @@ from typing import Callable, Sequence
 
 from . import compare, expect
 from .brief import brief
-from .gather import view_of
+from .gather import partings_of, view_of
 from .jsonform import json_of
 from .page import page_of, read_names
 from .program import POLICY, TOP, Program, Run
@@ -20,18 +20,20 @@ from .terminal import COMMAND, NAME, Paint, show, wants_colour, width_of, write
 from .values import Filters, Report, Score
 
 HELP = f"""\
-usage: {COMMAND} [--root DIR ..] --brief judge UNIT          the verdict in one screen
-       {COMMAND} [--root DIR ..] --json COMMAND UNIT ..      all that a command prints, as JSON (docs/JSON.md)
-       {COMMAND} [--root DIR ..] --html FILE judge UNIT      a page that stands by itself
-       {COMMAND} [--root DIR ..] --expect FILE judge UNIT    what does not hold of what FILE expects of the report
+usage: {COMMAND} [--root DIR ..] --brief judge UNIT          prints the verdict in one screen
+       {COMMAND} [--root DIR ..] --json COMMAND UNIT ..      prints the output of a command as JSON (docs/JSON.md)
+       {COMMAND} [--root DIR ..] --html FILE judge UNIT      writes the report as one page
+       {COMMAND} [--root DIR ..] --expect FILE judge UNIT    prints the lines of FILE that do not hold of the report
        {COMMAND} [--root DIR ..] --write FILE judge UNIT     writes what the unit is denied into FILE, for --expect
-       {COMMAND} --compare OLD NEW                           what opened and closed between two reports
+       {COMMAND} --compare OLD NEW                           prints what opened and closed between two reports
 
-A line of FILE is one of a report, as `denied write /etc/shadow`, `open write /var/lib/web` and `blind /srv`, or
-`exposure <= 40`; `#` begins a comment. OLD and NEW are texts of judge.
+A line of FILE is a line of a report, such as `denied write /etc/shadow`, `open write /var/lib/web` and `blind /srv`, or
+`exposure <= 40`. `#` begins a comment. `as-run` after a `denied` or `blind` line requires that it holds whatever systemd does
+otherwise (docs/PROFILE.md); lines without it that may not hold there are listed on standard error. OLD and NEW are outputs of
+judge.
 
-The status is the program's; where it is 0, it is 1 where an expectation does not hold, or something opened between the reports.
-It is 2 for wrong words.
+The exit status is the program's if that is not 0. Otherwise it is 1 if an expectation does not hold, or if something opened
+between the reports. It is 2 for a usage error.
 """
 
 
@@ -134,9 +136,15 @@ def _expect(program: Program, file: str, words: list[str]) -> int:
     if report is None or run.status != 0:
         return run.status
     report = _with_rows(program, words, report, expectations)
+    found = partings_of(program, run, report)
     failed = 0
     for expectation in expectations:
         reasons = _reasons(program, words, report, expectation, file)
+        doubting = ", ".join(expect.doubts(expectation, report, found)) if not reasons else ""
+        if doubting and expectation.as_run:
+            reasons = [f"it holds only without {doubting}"]
+        elif doubting:
+            print(f"{file}:{expectation.line}: {expectation.text} holds only without {doubting}", file=sys.stderr)
         failed += bool(reasons)
         if reasons:
             write(f"{file}:{expectation.line}: {expectation.text}\n" + "".join(f"  {reason}\n" for reason in reasons))

@@ -1,6 +1,7 @@
 """Expectations of a report: `denied write /etc/shadow`, `open write /var/lib/web`, `blind /srv`, `exposure <= 40`.
 
-Lines are those of a report; `#` begins a comment. A path with files below it stands for all of them.
+Lines are those of a report; `#` begins a comment. A path with files below it stands for all of them. `as-run` behind a line that
+denies or is blind asks that no parting of systemd touches it.
 """
 from __future__ import annotations
 
@@ -8,6 +9,7 @@ import re
 from dataclasses import dataclass
 from typing import Sequence
 
+from .partings import Parting, doubted
 from .places import is_below
 from .report import read_question
 from .values import PATH_KINDS, Answer, Question, Report
@@ -31,6 +33,8 @@ class Expectation:
     blind: str | None = None
     most: int | None = None
     policy: str | None = None
+    #: whether it is to hold whatever systemd does otherwise
+    as_run: bool = False
 
 
 def read_expectations(text: str) -> list[Expectation]:
@@ -45,11 +49,13 @@ def read_expectations(text: str) -> list[Expectation]:
 
 def _expectation(number: int, line: str) -> Expectation:
     first, _, rest = line.partition(" ")
+    as_run = first in ("denied", "blind") and rest.endswith(" as-run")
+    rest = rest.removesuffix(" as-run") if as_run else rest
     question = read_question(rest) if first in ("open", "denied") else None
     if question:
-        return Expectation(number, line, question, first == "open")
+        return Expectation(number, line, question, first == "open", as_run=as_run)
     if first == "blind" and rest.startswith("/") and " " not in rest:
-        return Expectation(number, line, blind=unescaped(rest))
+        return Expectation(number, line, blind=unescaped(rest), as_run=as_run)
     if found := _EXPOSURE.fullmatch(line):
         return Expectation(number, line, most=int(found[2]), policy=found[1] and unescaped(found[1]))
     raise Fault(f"line {number} is no expectation: {line}")
@@ -99,14 +105,35 @@ def failures(expectation: Expectation, report: Report) -> list[str]:
         if any(is_below(expectation.blind, folder) for folder in report.blind):
             return []
         return [_shown(answer) for answer in _seen_below(expectation.blind, report)] or ["it is not blind"]
-    question = expectation.question
-    assert question is not None
-    answers = [answer for answer in report.of_kind(question.kind) if answer.question.name == question.name]
-    if not answers and question.kind in PATH_KINDS:
-        answers = [answer for answer in report.of_kind(question.kind) if is_below(answer.question.name, question.name)]
+    assert expectation.question is not None
+    answers = _answers(expectation.question, report)
     if not answers:
         return ["the report does not ask this"]
     return [_shown(answer) for answer in answers if answer.is_open != expectation.is_open][:3]
+
+
+def _answers(question: Question, report: Report) -> list[Answer]:
+    """The answers that a question stands for: its own, else those of the paths below its path."""
+    answers = [answer for answer in report.of_kind(question.kind) if answer.question.name == question.name]
+    if not answers and question.kind in PATH_KINDS:
+        answers = [answer for answer in report.of_kind(question.kind) if is_below(answer.question.name, question.name)]
+    return answers
+
+
+def doubts(expectation: Expectation, report: Report, found: Sequence[Parting]) -> list[str]:
+    """The partings by which systemd may open what a line denies, or show what it has as blind; none of other lines."""
+    if expectation.blind is not None:
+        return [it.name for it in found if it.opens and any(_are_one_way(expectation.blind, folder) for folder in it.blind)]
+    if expectation.question is None or expectation.is_open:
+        return []
+    names = doubted(found)
+    doubting = [names.get(answer.question, []) for answer in _answers(expectation.question, report)]
+    return list(dict.fromkeys(name for each in doubting for name in each))
+
+
+def _are_one_way(path: str, folder: str) -> bool:
+    """Whether one of two paths lies at or below the other."""
+    return is_below(path, folder) or is_below(folder, path)
 
 
 def _seen_below(folder: str, report: Report) -> list[Answer]:

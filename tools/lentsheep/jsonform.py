@@ -8,6 +8,7 @@ from .bpf import described as described_instruction
 from .brief import COLUMNS, View, topmost
 from .calls import Call
 from .causes import Cause, State, causes, closed_by, held_capabilities, state_of, told
+from .partings import Parting, doubted
 from .places import described
 from .program import Run
 from .values import (
@@ -112,6 +113,7 @@ def _folders(view: View) -> Json:
 
 
 def _report(report: Report, view: View) -> Json:
+    names = doubted(view.partings)
     notes = [
         {
             "file": it.note.file, "line": it.note.line, "cause": it.note.cause, "key": it.key, "text": it.text,
@@ -126,11 +128,23 @@ def _report(report: Report, view: View) -> Json:
         "unit": report.unit, "launch": _launch(report.launch), "summary": _counts(report.summary), "kinds": _kinds(report),
         "held": held_capabilities(report), "causes": [_cause(cause, report) for cause in causes(report, view.table)],
         "folders": _folders(view), "blind": list(report.blind), "topmost_blind": topmost(report.blind), "notes": notes,
-        "partings": [
-            {**parting._asdict(), "keys": list(parting.keys), "direction": parting.direction.value} for parting in view.partings
-        ],
-        "answers": [_answer(answer) for answer in report.answers],
+        "partings": [_parting(parting) for parting in view.partings],
+        "doubted": len(names),
+        "answers": [{**_answer(it), **_doubt(names.get(it.question, []))} for it in report.answers],
     }  # fmt: skip
+
+
+def _parting(parting: Parting) -> Json:
+    return {
+        "name": parting.name, "keys": list(parting.keys), "direction": parting.direction.value, "versions": parting.versions,
+        "text": parting.text, "answers": None if parting.answers is None else len(parting.answers), "blind": list(parting.blind),
+        "closed_by": list(parting.closed_by),
+    }  # fmt: skip
+
+
+def _doubt(names: list[str]) -> Json:
+    """The partings by which systemd may open a denied answer, where there are some."""
+    return {"partings": names} if names else {}
 
 
 def _plan(plan: Plan) -> Json:

@@ -7,8 +7,14 @@ const items = all('[data-a]');
 // The lines of the report that an item stands for.
 const placesOf = (item) => item.dataset.a.split(' ').filter(Boolean).map(Number);
 const linesOf = (item) => placesOf(item).map((at) => data.answers[at]);
+// What is told of one answer: its line, its calls, and the partings by which systemd may open it.
+const toldOf = (at) => {
+  const [line, ...calls] = data.answers[at];
+  const doubts = data.doubts[at] ? ['  only without ' + data.doubts[at].join(', ')] : [];
+  return [line, ...calls.map((call) => '  ' + call), ...doubts].join('\n');
+};
 const tell = (item) => {
-  told.textContent = linesOf(item).map(([line, ...calls]) => [line, ...calls.map((call) => '  ' + call)].join('\n')).join('\n');
+  told.textContent = placesOf(item).map(toldOf).join('\n');
 };
 
 // One item of each group is reached by the tab key, and the others by the arrows.

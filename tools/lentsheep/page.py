@@ -17,6 +17,7 @@ from .brief import View
 from .causes import State, causes, closed_by, state_of, told
 from .page_filters import drawn
 from .page_tree import NONE, SIGNS, class_of, shown_tree
+from .partings import Parting, doubted
 from .values import KINDS, SWITCHES, Answer, Filters, Launched, LaunchKilled, LaunchPrivileged, LaunchRefused, Plan, Report
 
 HERE = Path(__file__).resolve().parent
@@ -42,7 +43,7 @@ def page_of(view: View, filters: Optional[Filters] = None, names: Optional[Mappi
         sections.append(section("mounts", "Mounts", mounts(view.plan)))
     if filters and filters.filters:
         sections.append(section("filters", "Filters", pictures(filters, names)))
-    text = document(report.unit, sections, data_of(report, filters, names))
+    text = document(report.unit, sections, data_of(view, filters, names))
     return text.encode("utf-8", "replace").decode("utf-8")
 
 
@@ -116,10 +117,16 @@ def glance(view: View) -> str:
     if not report.whole:
         parts.append("<p><b>The text of the report was cut: what follows its last line is not known.</b></p>")
     if report.summary:
-        parts.append(f"<p>Answers: {report.summary.denied} denied, {report.summary.open} open.</p>")
+        parts.append(f"<p>Answers: {report.summary.denied} denied{held_less(view)}, {report.summary.open} open.</p>")
     lists = why(view) + blind(report) + noted(view)
     parts.append(f'<div class="columns"><div>{counts(report)}</div><div class="wide">{lists}</div></div>')
     return "".join(parts) + parted(view)
+
+
+def held_less(view: View) -> str:
+    """How many of the denied answers systemd may open."""
+    number = len(doubted(view.partings))
+    return f", of which {number} {'holds' if number == 1 else 'hold'} only without the partings below" if number else ""
 
 
 def counts(report: Report) -> str:
@@ -169,10 +176,18 @@ def noted(view: View) -> str:
 def parted(view: View) -> str:
     """Where systemd may part from the judgement of this unit."""
     rows = [
-        (it.name, escape(" ".join(f"{key}=" for key in it.keys)), it.direction.value, escape(it.text), escape(it.versions))
+        (it.name, escape(" ".join(f"{key}=" for key in it.keys)), it.direction.value, escape(it.text), touched(it),
+         " or ".join(f"<code>{escape(line)}</code>" for line in it.closed_by), escape(it.versions))
         for it in view.partings
-    ]
-    return "<h3>Where systemd may part from this</h3>" + table(("Parting", "Keys", "Which", "What", "systemd"), rows) if rows else ""
+    ]  # fmt: skip
+    head = ("Parting", "Keys", "Which", "What", "Answers", "closed by", "systemd")
+    return "<h3>Where systemd may part from this</h3>" + table(head, rows) if rows else ""
+
+
+def touched(parting: Parting) -> str:
+    """How many answers a parting touches, and which folders are not blind by it."""
+    number = "" if parting.answers is None else str(len(parting.answers))
+    return number + "".join(f"<br><code>{escape(it)}</code>" for it in topmost(parting.blind))
 
 
 def legend() -> str:
@@ -234,12 +249,14 @@ def pictures(filters: Filters, names: Mapping[str, int]) -> str:
     return field + "".join(drawings)
 
 
-def data_of(report: Report, filters: Optional[Filters], names: Mapping[str, int]) -> str:
+def data_of(view: View, filters: Optional[Filters], names: Mapping[str, int]) -> str:
     """What the page's program reads, as JSON that may stand in HTML."""
+    report, doubts = view.report, doubted(view.partings)
     programs = filters.filters if filters else ()
     first = next((it.k for one in programs for it in one.program if it.code == 0x15), X86_64)
     data = {
         "answers": [[f"{it.verdict} {it.question.text}", *(call.text for call in it.calls)] for it in report.answers],
+        "doubts": {at: doubts[it.question] for at, it in enumerate(report.answers) if it.question in doubts},
         "programs": [[one.name, [[it.code, it.jt, it.jf, it.k] for it in one.program]] for one in programs],
         "names": dict(names),
         "arch": first,

@@ -2,7 +2,11 @@
 from __future__ import annotations
 
 from dataclasses import dataclass, field
+from functools import lru_cache
 from pathlib import Path
+
+#: The tables of this tree, with the groups of systemd 257; those of 252 are in a folder of their own.
+TABLES = Path(__file__).resolve().parents[2] / "tables" / "x86-64"
 
 
 @dataclass(frozen=True)
@@ -15,6 +19,8 @@ class Table:
     capabilities: dict[str, str] = field(default_factory=dict)
     #: families by their numbers
     families: dict[int, str] = field(default_factory=dict)
+    #: how many ABIs it has
+    abis: int = 1
 
 
 def read_table(folder: str) -> Table:
@@ -23,7 +29,13 @@ def read_table(folder: str) -> Table:
         text = Path(folder, "calls.txt").read_text("utf-8", "replace")
     except OSError:
         return Table()
-    table = Table()
+    return table_of(text)
+
+
+def table_of(text: str) -> Table:
+    """What the text of a table says."""
+    abis = sum(line.startswith("abi ") for line in text.split("\n"))
+    table = Table(abis=abis or 1)
     for line in text.split("\n"):
         words = line.split()
         if words[:1] == ["group"] and len(words) > 2:
@@ -35,3 +47,9 @@ def read_table(folder: str) -> Table:
             if words[0] == "family" and words[2].isdecimal():
                 table.families[int(words[2])] = words[1]
     return table
+
+
+@lru_cache(maxsize=None)
+def read_groups(version: int = 257) -> dict[str, frozenset[str]]:
+    """The groups of a version of systemd; none where this tree has no table of it."""
+    return read_table(str(TABLES / str(version) if version != 257 else TABLES)).groups

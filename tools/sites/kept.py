@@ -53,14 +53,14 @@ def heads_of(text):
 
 
 def fresh(file, head, root, unit_root, names):
-    """The text of the file, if it is a site with this first line that is newer than what it was made from."""
+    """The text of the file, if it is a site with these first lines that is newer than what it was made from."""
     try:
         with open(file, "rb") as site:
             text = site.read()
         written = os.stat(file).st_mtime_ns
     except OSError:
         return None
-    is_ours = text.startswith(f"# {head}\n".encode())
+    is_ours = text.startswith("".join(f"# {line}\n" for line in head).encode())
     return text if is_ours and all(changed(it) < written for it in files_behind(root, unit_root, names)) else None
 
 

@@ -6,6 +6,7 @@ import re
 import stat
 from typing import NamedTuple
 
+from sites.others import is_of_another
 from sites.privileges import NONE, is_program, privileges_of
 from sites.root import folded, parts_of
 
@@ -16,11 +17,32 @@ LONGEST = 250
 OF_A_PROCESS = re.compile(rb"/proc/[0-9]+(/|$)")
 
 
+# The numbers of terminals (Documentation/admin-guide/devices.txt): tty, /dev/tty and its like, and pseudo terminals.
+TERMINALS = (2, 3, 4, 5, *range(136, 144))
+
+
 class Row(NamedTuple):
-    """A kind, `dir`, `file` or `exe`, and what the program gives."""
+    """A kind, `dir`, `file` or `exe`, what the program gives, and what a file is that is none: a socket, a pipe, a device, a disk
+    or a terminal."""
 
     kind: str
     gives: object = NONE
+    special: str = ""
+
+
+def special_of(status):
+    """What has this status where it is no folder and no plain file."""
+    mode = status.st_mode
+    if stat.S_ISCHR(mode):
+        return "terminal" if os.major(status.st_rdev) in TERMINALS else "device"
+    return "socket" if stat.S_ISSOCK(mode) else "pipe" if stat.S_ISFIFO(mode) else "disk" if stat.S_ISBLK(mode) else ""
+
+
+def made_row(path, kind):
+    """The row of what a running system has at a path."""
+    terminals, sockets = (b"/dev/tty", b"/dev/ptmx"), (b"/dev/log",)
+    special = "terminal" if path in terminals else "socket" if path in sockets else "device"
+    return Row(kind, special=special if kind == "file" and path.startswith(b"/dev/") else "")
 
 
 def kind_of(mode):
@@ -52,9 +74,10 @@ def fault_of(path):
 class Rows:
     """Rows of a root by their paths, in the order in which they were added."""
 
-    def __init__(self, root, told):
+    def __init__(self, root, told, units=()):
         self.root = root
         self.told = told
+        self.units = frozenset(units)
         self.rows = {}
 
     def is_full(self):
@@ -66,7 +89,7 @@ class Rows:
         target = self.root.real(path)
         file = self.root.outside(target)
         status = os.lstat(file)
-        return target, Row(kind_of(status.st_mode), privileges_of(file, status, path, self.told))
+        return target, Row(kind_of(status.st_mode), privileges_of(file, status, path, self.told), special_of(status))
 
     def leave(self, path):
         """Counts a path for which there is no room."""
@@ -80,6 +103,9 @@ class Rows:
     def put(self, path, row):
         """Takes a row with the parents that it lacks, if there is room for all of them."""
         if path in self.rows:
+            return
+        if is_of_another(path, self.units):
+            self.told.add("left out, folders that systemd keeps for units that are not judged", path)
             return
         if self.is_full():
             self.leave(path)
@@ -121,7 +147,7 @@ class Rows:
         elif wanted:
             self.told.add("named paths that do not exist", path)
         if made and error.errno != errno.ENOTDIR:
-            self.put(path, Row(made))
+            self.put(path, made_row(path, made))
 
     def add_pattern(self, pattern):
         """Takes the rows of all paths of a pattern in which `*` stands for any part of a name."""

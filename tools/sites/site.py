@@ -1,7 +1,7 @@
 """The site of a root: which rows it has, in the order in which they are chosen, and which users and groups."""
 import stat
 
-from sites import people, places, toml, units
+from sites import machine, people, places, toml, units
 from sites.root import folded
 from sites.rows import Rows, Row, fault_of, parents_of
 from sites.spaces import user_namespaces
@@ -202,15 +202,15 @@ def tell_owner(root, told):
 
 
 def make_site(head, root, unit_root, names, also, full, told):
-    """The bytes of site.toml, which begin with what it has, what it leaves out, and what of the root is otherwise."""
+    """The bytes of site.toml, which begin with these lines, what it has, what it leaves out, and what of the root is otherwise."""
     says = all_said(unit_root, names, told)
     users, groups = read_people(root, says, told)
-    rows = Rows(root, told)
+    rows = Rows(root, told, names)
     tell_owner(root, told)
     add_rows(rows, says, also, full)
     numbers = people.dynamic_uid(users, groups), user_namespaces(root, told)
     counts = f"{len(rows.rows)} rows, {len(users)} users, {len(groups)} groups"
-    text = toml.site_text([head, counts, *told.lines()], *numbers, rows.rows, users, groups)
+    text = toml.site_text([*head, *machine.kernel_heads(root), counts, *told.lines()], *numbers, rows.rows, users, groups)
     if len(text) > toml.LONGEST:
         raise Fault(f"the site has {len(text)} bytes, but the program reads at most {toml.LONGEST}")
     return text

@@ -17,7 +17,7 @@ def table(kind, fields):
 
 def row_text(path, row):
     """The table of a row; its path is text."""
-    fields = [("path", quoted(path)), ("kind", quoted(row.kind))]
+    fields = [("path", quoted(path)), ("kind", quoted(row.kind) + (f"  # {row.special}" if row.special else ""))]
     gives = row.gives
     if gives.setuid is not None:
         fields.append(("setuid", gives.setuid))

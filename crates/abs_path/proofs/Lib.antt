@@ -7,3 +7,8 @@ pub mod Stripped
 pub mod Putting
 pub mod Given
 pub mod Plain
+pub mod Pieces
+pub mod Ways
+pub mod Lasts
+pub mod Nodes
+pub mod On

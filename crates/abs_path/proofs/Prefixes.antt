@@ -1,5 +1,5 @@
 -- Prefixes of paths, by whole parts.
-use Rattle.std.proofs.Common.{◌≡◌, ℕ, suc, ◌≤◌, Bool, true, false, List, [], ◌∷◌, ◌++◌, ◌⊎◌, inl, inr, length, cond, Some, None, refl, sym, ap, ◌∙◌, arith, append-nil}
+use Rattle.std.proofs.Common.{◌≡◌, ℕ, suc, Bool, true, false, List, [], ◌∷◌, ◌++◌, ◌⊎◌, inl, inr, length, cond, Some, None, refl, sym, ap, ◌∙◌, arith, append-nil}
 use Rattle.std.specs.Prelude.{◌==◌, ◌&&◌, not}
 use Rattle.std.specs.Str.{bytes_eq}
 use Rattle.std.proofs.lemmas.Bool.{and_parts, and_from, false≢true}
@@ -55,13 +55,6 @@ prefix_chain (x ∷ one) (y ∷ other) (z ∷ path) h g =
       | inl w ↦ inl (and_from _ _ (part_itself x y same) w)
       | inr w ↦ inr (and_from _ _ (part_itself y x (sym same)) w)
     ]
-
--- a prefix is not longer
-pub prefix_length : (front path : Path) → is_prefix front path ≡ true → length front ≤ length path
-prefix_length [] path h = omega arith
-prefix_length (part ∷ front) [] h = absurd (false≢true h)
-prefix_length (part ∷ front) (first ∷ path) h =
-    let more = prefix_length front path (and_parts (bytes_eq part first) (is_prefix front path) h).1 in omega arith
 
 -- the rest behind a prefix is the rest up to a path between, and then the rest behind that
 pub rest_through : (one other path : Path) → is_prefix one other ≡ true → is_prefix other path ≡ true → rest_of one path ≡ rest_of one other ++ rest_of other path

@@ -243,9 +243,6 @@ read_parts text tail clean level e = ap parts_of e ∙ parts-tail (parts_of text
 pub joined_length : (text rest : List ℕ) (path : Path) → IsTail text → IsRest rest → parts_of text ≡ path → length (tail_of (path ++ parts_of rest)) ≡ length text + length rest
 joined_length text rest path h g e = subst (λ (p : Path). length (tail_of (p ++ parts_of rest)) ≡ length text + length rest) e (ap length (joined_text text rest h g) ∙ length-append text rest)
 
-pub tail_short : (bytes : List ℕ) → IsTail bytes → length (tail_of (parts_of bytes)) ≤ 512
-tail_short bytes h = omega (arith, ap length h.whole, h.short)
-
 normal-drop : (n : ℕ) (path : Path) → is_normal path ≡ true → is_normal (drop n path) ≡ true
 normal-drop zero path h = h
 normal-drop (suc n) [] h = refl

@@ -4,3 +4,4 @@ pub mod ByteOrder
 pub mod Read
 pub mod Plain
 pub mod Held
+pub mod place_tree

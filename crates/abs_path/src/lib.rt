@@ -8,6 +8,7 @@ mod error;
 pub mod laws;
 mod order;
 mod path;
+pub mod place_tree;
 mod text;
 
 pub use error::{JoinError, PathError};

@@ -3,8 +3,8 @@ use Rattle.std.proofs.Common.{◌≡◌, ◌∙◌, ℕ, ◌+◌, ◌<◌, true,
 use Rattle.std.specs.Prelude.{cond, filter}
 use Rattle.std.proofs.lemmas.List.{map-append, take_more}
 use Rattle.std.proofs.lemmas.List.Elements.{filter-append}
-use Rattle.kernel_model.specs.World.{World}
-use Rattle.question_types.specs.declared.question.Question.{Question}
+use Rattle.judge.specs.kernel_model.World.{World}
+use Rattle.judge.specs.kernel_laws.declared.question_types.question.Question.{Question}
 use Rattle.asked_service.specs.Asked.{is_open_by}
 use Rattle.asked_service.specs.Rows.{count_open, rows_of}
 use Rattle.asked_service.specs.declared.rows.VerdictRow.{VerdictRow}

@@ -2,12 +2,12 @@
 use Rattle.std.proofs.Common.{◌≡◌, ◌∙◌, ℕ, zero, suc, ◌<◌, Bool, true, false, List, [], ◌∷◌, arith, get_or, map, ap, ap₂, refl, sym, subst}
 use Rattle.std.specs.Prelude.{◌↔◌, Contains}
 use Rattle.std.specs.List.{AllByRecursion}
-use Rattle.judge.specs.declared.answer.Verdict.{Verdict}
-use Rattle.judge.specs.declared.answer.Verdict.TheVariants as verdict
-use Rattle.kernel_laws.specs.Questions as asked
-use Rattle.kernel_model.specs.World.{World}
-use Rattle.kernel_ways.specs.Laws.{IsExact, IsServedWorld, QuestionsAreExact}
-use Rattle.question_types.specs.declared.question.Question.{Question}
+use Rattle.judge.specs.kernel_laws.declared.question_types.verdict.Verdict.{Verdict}
+use Rattle.judge.specs.kernel_laws.declared.question_types.verdict.Verdict.TheVariants as verdict
+use Rattle.judge.specs.kernel_laws.Questions as asked
+use Rattle.judge.specs.kernel_model.World.{World}
+use Rattle.judge.specs.kernel_ways.Laws.{IsExact, IsServedWorld, QuestionsAreExact}
+use Rattle.judge.specs.kernel_laws.declared.question_types.question.Question.{Question}
 use Rattle.asked_service.specs.Asked.{is_open_by}
 use Rattle.asked_service.specs.Rows.{AreRows, IsSo, rows_of}
 

@@ -2,12 +2,12 @@
 use Rattle.std.proofs.Common.{◌≡◌, ℕ, ◌<◌, List, get_or, length, subst}
 use Rattle.std.specs.Prelude.{Contains}
 use Rattle.std.proofs.lemmas.List.Elements.{Contains-get_or}
-use Rattle.call_table.specs.Table as calls
-use Rattle.kernel_laws.specs.Questions.{questions}
-use Rattle.question_types.specs.declared.question.Question.{Question}
-use Rattle.question_types.specs.declared.question.Question.TheVariants.{Path}
-use Rattle.question_types.specs.declared.wish.Wish.TheVariants.{See}
-use Rattle.site_table.specs.Table.{Site}
+use Rattle.judge.specs.call_table.Table as calls
+use Rattle.judge.specs.kernel_laws.Questions.{questions}
+use Rattle.judge.specs.kernel_laws.declared.question_types.question.Question.{Question}
+use Rattle.judge.specs.kernel_laws.declared.question_types.question.Question.TheVariants.{Path}
+use Rattle.judge.specs.kernel_laws.declared.question_types.wish.Wish.TheVariants.{See}
+use Rattle.judge.specs.site_table.Table.{Site}
 
 -- what stands at no place
 abbrev pub some_question : Question

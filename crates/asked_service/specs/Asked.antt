@@ -1,11 +1,11 @@
 -- A launched service that is asked, and how a question is decided.
 use Rattle.std.specs.Prelude.{Bool}
-use Rattle.ceilings.specs.Own.{IsCeilingOf}
-use Rattle.kernel_laws.specs.Bound.{is_open}
-use Rattle.kernel_laws.specs.Launched.{launch_of}
-use Rattle.kernel_model.specs.World.{World}
-use Rattle.kernel_ways.specs.Laws.{IsServedWorld}
-use Rattle.question_types.specs.declared.question.Question.{Question}
+use Rattle.judge.specs.ceilings.Own.{IsCeilingOf}
+use Rattle.judge.specs.kernel_laws.Bound.{is_open}
+use Rattle.judge.specs.kernel_laws.Launched.{launch_of}
+use Rattle.judge.specs.kernel_model.World.{World}
+use Rattle.judge.specs.kernel_ways.Laws.{IsServedWorld}
+use Rattle.judge.specs.kernel_laws.declared.question_types.question.Question.{Question}
 use Rattle.asked_service.specs.declared.bounding.Bounded.{Bounded}
 
 -- its own ceiling

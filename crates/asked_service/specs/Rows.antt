@@ -1,15 +1,15 @@
 -- Verdicts on the questions of a launched service, and those of a unit.
 use Rattle.std.specs.Prelude.{◌≡◌, ◌↔◌, ℕ, Bool, false, not, List, filter, length, map}
 use Rattle.std.specs.List.{AllByRecursion}
-use Rattle.call_table.specs.Table as calls
-use Rattle.dropin_merge.specs.declared.resolved.Resolved.{Resolved}
-use Rattle.kernel_laws.specs.Denied.{IsDenied}
-use Rattle.kernel_laws.specs.Questions as asked
-use Rattle.kernel_model.specs.World.{World}
-use Rattle.launched_units.specs.Launching.{IsLaunchedUnit}
-use Rattle.launcher.specs.declared.launched.Launched.{Launched as Service}
-use Rattle.question_types.specs.declared.question.Question.{Question}
-use Rattle.site_table.specs.Table.{Site}
+use Rattle.judge.specs.call_table.Table as calls
+use Rattle.judge.specs.dropin_merge.declared.resolved.Resolved.{Resolved}
+use Rattle.judge.specs.kernel_laws.Denied.{IsDenied}
+use Rattle.judge.specs.kernel_laws.Questions as asked
+use Rattle.judge.specs.kernel_model.World.{World}
+use Rattle.asked_service.specs.launched_units.Launching.{IsLaunchedUnit}
+use Rattle.judge.specs.launcher.declared.launched.Launched.{Launched as Service}
+use Rattle.judge.specs.kernel_laws.declared.question_types.question.Question.{Question}
+use Rattle.judge.specs.site_table.Table.{Site}
 use Rattle.asked_service.specs.Asked.{is_open_by}
 use Rattle.asked_service.specs.declared.rows.VerdictRow.{VerdictRow}
 

@@ -1,17 +1,17 @@
 //! A launched service with what bounds its processes, for verdicts on a few questions.
 
 ghost use Rattle.std.specs.Prelude.{◌≡◌, ◌↔◌, true, Contains, IfOk};
-ghost use Rattle.kernel_laws.specs.Launched.{launch_of};
-ghost use Rattle.kernel_laws.specs.Questions.{questions};
-ghost use Rattle.kernel_ways.specs.Laws.{IsServedWorld};
+ghost use Rattle.judge.specs.kernel_laws.Launched.{launch_of};
+ghost use Rattle.judge.specs.kernel_laws.Questions.{questions};
+ghost use Rattle.judge.specs.kernel_ways.Laws.{IsServedWorld};
 ghost use Rattle.asked_service.specs.Asked.{IsBounded, is_open_by};
 ghost use Rattle.asked_service.specs.Rows.{IsSo};
 
-use ceilings::{Ceiling, ceiling};
+use judge::ceilings::{Ceiling, ceiling};
+use judge::kernel_laws::question_types::Question;
+use judge::kernel_ways::openness;
+use judge::launcher::Launched;
 use judge::{Verdict, verdict};
-use kernel_ways::openness;
-use launcher::Launched;
-use question_types::Question;
 use std::alloc::{AllocError, Global};
 
 /// A launched service, with what bounds its processes.

@@ -1,13 +1,13 @@
 //! The verdicts on all questions that are asked of a service.
 
 ghost use Rattle.std.specs.Prelude.{◌≡◌, ◌≤◌, IfOk, length, map};
-ghost use Rattle.kernel_laws.specs.Questions.{questions};
+ghost use Rattle.judge.specs.kernel_laws.Questions.{questions};
 ghost use Rattle.asked_service.specs.Asked.{IsBounded};
 ghost use Rattle.asked_service.specs.Rows.{AreRows, count_open, rows_of};
 
 use crate::bounding::Bounded;
-use kernel_ways::openness;
-use question_types::Question;
+use judge::kernel_laws::question_types::Question;
+use judge::kernel_ways::openness;
 use std::alloc::{AllocError, Global};
 
 /// A question, and whether it is open.

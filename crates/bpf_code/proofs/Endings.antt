@@ -95,12 +95,6 @@ run_by_ends code input at regs result _ (continues _ skip _ after insn _ count f
     ∙ ap (λ o. goes_on o (run_from (drop (at + 1) code) input)) effect
     ∙ ap counted (run_from-skip (drop (at + 1) code) input skip after ∙ ap (λ l. run_from l input 0 after) (drop_further code (at + 1) skip) ∙ run_by_ends code input (at + 1 + skip) after result count more)
 
--- from one place a program ends in one way
-pub one_end : (code : List Insn) (input : CallData) (at : ℕ) (regs : Regs) (result other count steps : ℕ) → Ends code input at regs result count → Ends code input at regs other steps → (result ≡ other) × (count ≡ steps)
-one_end code input at regs result other count steps h k =
-    let e = sym (run_by_ends code input at regs result count h) ∙ run_by_ends code input at regs other steps k in
-    (same_result _ _ _ _ e, same_count _ _ _ _ e)
-
 -- the same for a whole program
 pub answers_by_run : (code : List Insn) (input : CallData) (answer count : ℕ) → run_from code input 0 start_regs ≡ Some (answer, count) → Answers code input answer
 answers_by_run code input answer count e = (count, ends_by_run code input 0 start_regs answer count e)

@@ -2,7 +2,7 @@
 ghost use Rattle.std.specs.Prelude.{◌≡◌};
 ghost use Rattle.call_rules.specs.Action.{word_of};
 
-use linux_numbers::actions::{ALLOW, ERRNO, KILL_PROCESS};
+use text_forms::linux_numbers::actions::{ALLOW, ERRNO, KILL_PROCESS};
 
 /// What a filter does with a call.
 #[derive(Clone, Copy, Debug, PartialEq, Eq)]

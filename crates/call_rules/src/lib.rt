@@ -10,5 +10,7 @@ mod decide;
 mod rules;
 
 pub use actions::Action;
+pub use bpf_code;
 pub use decide::action;
 pub use rules::{CallRule, CallRules, Case, Cases, RuleSet, Test, Tests, are_ascending};
+pub use text_forms;

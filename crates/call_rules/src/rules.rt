@@ -4,8 +4,8 @@ ghost use Rattle.std.specs.Prelude.{◌≡◌, ◌≤◌, ◌↔◌, map, IsTrue
 ghost use Rattle.std.specs.List.Sorted.{IsStrictlyIncreasing};
 
 use crate::actions::Action;
-use item_list::{Held, HeldList, ItemList};
 use std::marker::Model;
+use text_forms::item_list::{Held, HeldList, ItemList};
 
 /// A test of an argument: the low 32 bits of argument `arg`, from 0 to 5, and `mask` are `value`.
 #[derive(Clone, Copy)]

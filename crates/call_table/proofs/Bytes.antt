@@ -1,7 +1,7 @@
 -- Bytes that are text, and bytes that are not.
 use Rattle.std.proofs.Common.{◌≡◌, ℕ, Bool, true, false, cond, Some, None, Result, Err, List, refl, sym, ap, ◌∙◌, subst}
 use Rattle.std.proofs.lemmas.Option.{none-some, same_Some}
-use Rattle.line_text.specs.Lines.{Line, is_text, text_of, lines_of}
+use Rattle.text_forms.specs.line_text.Lines.{Line, is_text, text_of, lines_of}
 use Rattle.call_table.specs.Table.{Table}
 use Rattle.call_table.specs.declared.causes.CallsError.{CallsError}
 use Rattle.call_table.specs.declared.causes.CallsError.TheVariants.{NotText}

@@ -1,6 +1,5 @@
 pub mod Adding
 pub mod AllCalls
-pub mod Among
 pub mod Answered
 pub mod Befores
 pub mod Bytes
@@ -17,3 +16,7 @@ pub mod Places
 pub mod Standing
 pub mod Steps
 pub mod Versions
+pub mod Lines
+pub mod Cuts
+pub mod Back
+pub use Rattle.text_forms.proofs as TextForms

@@ -11,7 +11,7 @@ use Rattle.call_table.specs.declared.causes.CallsCause.{CallsCause}
 use Rattle.call_table.specs.declared.causes.CallsError.{CallsError}
 use Rattle.call_table.specs.declared.causes.CallsError.TheVariants.{NotText, Line as AtLine, NoAbi, NoCall, Memory}
 use Rattle.call_table.specs.Before.{with_before}
-use Rattle.line_text.specs.Lines.{Line}
+use Rattle.text_forms.specs.line_text.Lines.{Line}
 use Rattle.call_table.specs.Table.{Table}
 use Rattle.call_table.specs.Facts.{IsTable}
 use Rattle.call_table.specs.Faults.{cause_of}

@@ -13,7 +13,7 @@ use Rattle.call_table.specs.declared.causes.CallsCause.{CallsCause}
 use Rattle.call_table.specs.declared.causes.CallsError.{CallsError}
 use Rattle.call_table.specs.declared.causes.CallsError.TheVariants.{NotText}
 use Rattle.call_table.specs.Before.{with_before}
-use Rattle.line_text.specs.Lines.{Line, is_skipped, counted_from, lines_of, is_text}
+use Rattle.text_forms.specs.line_text.Lines.{Line, is_skipped, counted_from, lines_of, is_text}
 use Rattle.call_table.specs.Kinds.{Kind, abi, call, family, group, malformed}
 use Rattle.call_table.specs.Numbers.{arch_of}
 use Rattle.call_table.specs.Faults.{abi_fault, cause_of}

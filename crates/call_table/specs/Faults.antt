@@ -5,7 +5,7 @@ use Rattle.std.specs.Option.{option_map, option_map_or}
 use Rattle.std.specs.Str.{bytes_eq}
 use Rattle.call_table.specs.Kinds.{Entry, Kind, abi, call, family, group, malformed}
 use Rattle.call_table.specs.Numbers.{arch_of, number_of, cap_of}
-use Rattle.call_names.specs.Known.{is_known as is_known_call}
+use Rattle.call_table.specs.call_names.Known.{is_known as is_known_call}
 use Rattle.call_table.specs.Lookups.{has_name, has_number, named}
 use Rattle.call_table.specs.Members.{has_group, is_known}
 use Rattle.call_table.specs.Table.{Abi, Table, every_call}

@@ -14,3 +14,6 @@ pub mod Progress
 pub mod Reading
 pub mod Table
 pub mod Views
+pub mod call_names
+pub mod call_words
+pub use Rattle.text_forms.specs as text_forms

@@ -2,7 +2,7 @@
 use Rattle.std.specs.Prelude.{◌≡◌, ◌⊎◌, ℕ, Bool, true, false, Some, None, List, [], ◌∷◌, ◌++◌, slice_get}
 use Rattle.std.specs.List.{Contains, list_any}
 use Rattle.std.specs.List.Sorted.{IsStrictlyIncreasing}
-use Rattle.line_text.specs.Lines.{Line, is_text, lines_of}
+use Rattle.text_forms.specs.line_text.Lines.{Line, is_text, lines_of}
 use Rattle.call_table.specs.Kinds.{abi, group}
 use Rattle.call_table.specs.Numbers.{arch_of}
 use Rattle.call_table.specs.Names.{behind_at}

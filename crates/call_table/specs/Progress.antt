@@ -1,7 +1,7 @@
 -- What a step of the reading answers.
 use Rattle.std.specs.Prelude.{◌≡◌, ℕ, ◌<◌, ◌≤◌, ◌||◌, Bool, true, false, Option, Some, None, is_some, IfSome, option_and_then, Result, Ok, Err, List, [], ◌∷◌, ◌++◌, length}
 use Rattle.std.specs.List.{cons_option, list_any}
-use Rattle.line_text.specs.Lines.{Line}
+use Rattle.text_forms.specs.line_text.Lines.{Line}
 use Rattle.call_table.specs.Kinds.{Entry, Kind}
 use Rattle.call_table.specs.Numbers.{cap_of}
 use Rattle.call_table.specs.Lookups.{has_name, has_number, named}

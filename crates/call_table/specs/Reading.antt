@@ -4,7 +4,7 @@ use Rattle.std.specs.List.{filter_map, list_any, cons_option}
 use Rattle.std.specs.Option.{option_map, option_or}
 use Rattle.std.specs.Str.{bytes_eq}
 use Rattle.call_table.specs.Before.{with_before}
-use Rattle.line_text.specs.Lines.{Line, is_text, lines_of, words_of}
+use Rattle.text_forms.specs.line_text.Lines.{Line, is_text, lines_of, words_of}
 use Rattle.call_table.specs.Kinds.{Entry, Kind, abi, call, family, group, malformed, kind_of}
 use Rattle.call_table.specs.Numbers.{arch_of, number_of, cap_of}
 use Rattle.call_table.specs.Lookups.{has_name}

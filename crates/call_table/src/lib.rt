@@ -10,6 +10,8 @@
 #![tactic(auto)]
 
 mod by_number;
+pub mod call_names;
+pub mod call_words;
 mod causes;
 mod kinds;
 mod listed;
@@ -27,3 +29,4 @@ pub use listed::{CallLine, GroupLine, Members};
 pub use names::{Name, behind_at};
 pub use reader::{read_calls, same_reading};
 pub use table::CallTable;
+pub use text_forms;

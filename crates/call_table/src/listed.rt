@@ -1,7 +1,7 @@
 // The lines of a table: a call or a family, and a group of calls.
 use crate::names::Name;
-use item_list::ItemList;
 use name_table::{NameTable, Named};
+use text_forms::item_list::ItemList;
 
 /// A call or a family of sockets.
 #[derive(Drop)]

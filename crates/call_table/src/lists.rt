@@ -2,7 +2,7 @@
 ghost use Rattle.std.specs.Prelude.{◌≡◌, ◌≤◌, ◌++◌, ◌∷◌, [], None, true, false, OnOk, map, length};
 ghost use Rattle.std.specs.List.{cons_option, All};
 ghost use Rattle.std.specs.Option.{option_map};
-ghost use Rattle.line_text.specs.Views.{line_view};
+ghost use Rattle.text_forms.specs.line_text.Views.{line_view};
 ghost use Rattle.call_table.specs.Views.{made, made_second, lines_seen};
 ghost use Rattle.call_table.specs.Table.{second_calls};
 ghost use Rattle.call_table.specs.Kinds.{abi, call, seen, seen_entry};
@@ -12,6 +12,7 @@ ghost use Rattle.call_table.specs.Faults.{is_same_cap, has_other_cap, entry_faul
 ghost use Rattle.call_table.specs.Reading.{listed_as, line_kind};
 ghost use Rattle.call_table.specs.Progress.{Steps, ReadsCap, ChecksCap, ChecksEntry, with_kind};
 
+use crate::call_names::is_known;
 use crate::causes::{CallsCause, CallsError};
 use crate::kinds::{Entry, Kind, kind_of_words};
 use crate::listed::{CallLine, CallLines, GroupLine, GroupLines};
@@ -19,9 +20,8 @@ use crate::lookups::{has_number, named};
 use crate::members::find_members;
 use crate::names::Name;
 use crate::numbers::{read_arch, read_cap, read_number};
-use call_names::is_known;
-use line_text::{Line, words};
 use std::alloc::{AllocError, Global};
+use text_forms::line_text::{Line, words};
 
 /// The most calls of an ABI.
 const MOST_CALLS: usize = 512;

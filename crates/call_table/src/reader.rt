@@ -3,7 +3,7 @@
 // The lines come from `line_text`, what each is from `kinds`; `lists` judges a line by those before it.
 ghost use Rattle.std.specs.Prelude.{◌≡◌, ◌≢◌, true, map, IfOk, IfErr, Ok, Err};
 ghost use Rattle.call_table.specs.declared.causes.CallsError.TheVariants.{Memory};
-ghost use Rattle.line_text.specs.Views.{line_view};
+ghost use Rattle.text_forms.specs.line_text.Views.{line_view};
 ghost use Rattle.call_table.specs.Kinds.{kind_of};
 ghost use Rattle.call_table.specs.Table.{Table};
 ghost use Rattle.call_table.specs.Reading.{is_version_by, is_version, is_first_version, with_version, table_from, table_of_lines, table_of};
@@ -16,8 +16,8 @@ use crate::lists::Lists;
 use crate::names::Name;
 use crate::numbers::read_arch;
 use crate::table::CallTable;
-use line_text::{Line, read_lines, read_text, words};
 use std::alloc::{AllocError, Global};
+use text_forms::line_text::{Line, read_lines, read_text, words};
 
 // The name and the architecture of the first abi line.
 #[tactic(auto, unfolding(crate::specs::Reading::line_kind))]

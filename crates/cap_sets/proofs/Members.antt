@@ -1,5 +1,5 @@
 -- The members of what the operations make, and the order of sets.
-use Rattle.std.proofs.Common.{◌≡◌, ℕ, ◌+◌, ◌<◌, ◌%◌, Bool, true, false, arith, eqb, min, max, ap, sym, ◌∙◌, Decides}
+use Rattle.std.proofs.Common.{◌≡◌, ℕ, ◌+◌, ◌<◌, ◌%◌, Bool, true, false, arith, eqb, min, max, ap, sym, ◌∙◌}
 use Rattle.std.specs.Prelude.{◌&&◌, ◌||◌, ◌==◌, not, nat_le}
 use Rattle.std.specs.Int.{bit_at}
 use Rattle.std.specs.Int.RustNames.{bit_and}
@@ -68,9 +68,6 @@ cut_same a b w = same_sets (cut b a) a (λ number. let h = w.each number in grin
 pub within-from_IsWithin : (a b : ℕ) → IsWithin a b → within a b ≡ true
 unfolding within cut
 within-from_IsWithin a b w = eq-eqb (bit_and b a) a (cut_same a b w)
-
-pub Decides-within : (a b : ℕ) → Decides (within a b) (IsWithin a b)
-Decides-within a b = (IsWithin-from_within a b, within-from_IsWithin a b)
 
 -- ---- the order of sets
 pub within_self : (a : ℕ) → IsWithin a a

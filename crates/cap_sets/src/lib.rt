@@ -9,4 +9,5 @@ pub mod laws;
 mod names;
 mod set;
 
+pub use linux_numbers;
 pub use set::CapSet;

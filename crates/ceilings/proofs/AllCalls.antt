@@ -5,8 +5,8 @@ use Rattle.std.specs.List.{list_any}
 use Rattle.std.specs.Option.{option_map_or, option_or, option_to_list}
 use Rattle.std.proofs.lemmas.List.Folds.{find-append}
 use Rattle.std.proofs.lemmas.Option.{slice_get_past}
-use Rattle.call_table.specs.Table.{Abi, Table, abis, arch_of, calls_in, every_call, second_calls}
-use Rattle.call_table.specs.declared.listed.CallLine.{CallLine}
+use Rattle.kernel_ways.specs.call_table.Table.{Abi, Table, abis, arch_of, calls_in, every_call, second_calls}
+use Rattle.kernel_ways.specs.call_table.declared.listed.CallLine.{CallLine}
 
 second_are : (second : Option Abi) → second_calls second ≡ option_map_or (λ found. found.calls) (slice_get (option_to_list second) 0) []
 second_are None = refl

@@ -3,13 +3,13 @@ use Rattle.std.proofs.Common.{◌≡◌, ℕ, Bool, true, false, List, refl, ap,
 use Rattle.std.specs.Prelude.{Contains}
 use Rattle.std.proofs.lemmas.Bool.{or_from, eqb-true}
 use Rattle.std.proofs.lemmas.Map.Views.{Contains-from_any}
-use Rattle.cap_sets.specs.Sets.{has}
-use Rattle.kernel_laws.specs.Bound.{caps_at, power_of, any_uid, any_gid}
-use Rattle.kernel_laws.specs.Denied.{IsDenied}
-use Rattle.kernel_laws.specs.Launched.{launch_of, IsLaunchedWorld}
-use Rattle.question_types.specs.declared.question.Question.TheVariants.{Cap, Uid, Gid}
-use Rattle.kernel_laws.proofs.Verdict.{denial_is_sound}
-use Rattle.kernel_model.specs.World.{World}
+use Rattle.kernel_ways.specs.cap_sets.Sets.{has}
+use Rattle.kernel_ways.specs.kernel_laws.Bound.{caps_at, power_of, any_uid, any_gid}
+use Rattle.kernel_ways.specs.kernel_laws.Denied.{IsDenied}
+use Rattle.kernel_ways.specs.kernel_laws.Launched.{launch_of, IsLaunchedWorld}
+use Rattle.kernel_ways.specs.kernel_laws.declared.question_types.question.Question.TheVariants.{Cap, Uid, Gid}
+use Rattle.kernel_ways.proofs.KernelLaws.Verdict.{denial_is_sound}
+use Rattle.kernel_ways.specs.kernel_model.World.{World}
 use Rattle.kernel_ways.specs.Spared.{uids_of, gids_of}
 use Rattle.ceilings.proofs.Given.{has_id}
 use Rattle.ceilings.proofs.Spares.{uid_either, gid_either}

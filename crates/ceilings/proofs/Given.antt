@@ -4,11 +4,11 @@ use Rattle.std.specs.Prelude.{not, ◌&&◌, ◌||◌}
 use Rattle.std.specs.List.{list_any}
 use Rattle.std.proofs.lemmas.Bool.Decides.{nat_tests}
 use Rattle.std.proofs.lemmas.List.Folds.{list_any-append}
-use Rattle.site_table.specs.declared.row.Row.{Row}
-use Rattle.kernel_laws.specs.Bound.{is_owner, can_run, owned_by, grouped_by, power_of}
-use Rattle.kernel_laws.specs.Launched.{Launch}
-use Rattle.kernel_laws.specs.Questions.{some_ids}
-use Rattle.question_types.specs.declared.power.Power.{Power}
+use Rattle.kernel_ways.specs.site_table.declared.row.Row.{Row}
+use Rattle.kernel_ways.specs.kernel_laws.Bound.{is_owner, can_run, owned_by, grouped_by, power_of}
+use Rattle.kernel_ways.specs.kernel_laws.Launched.{Launch}
+use Rattle.kernel_ways.specs.kernel_laws.Questions.{some_ids}
+use Rattle.kernel_ways.specs.kernel_laws.declared.question_types.power.Power.{Power}
 use Rattle.ceilings.specs.declared.ids.IdKind.{IdKind}
 use Rattle.ceilings.specs.declared.ids.IdKind.TheVariants.{User, Group}
 use Rattle.ceilings.specs.Owners.{set_id, given_at, given_ids, uids_at, gids_at}

@@ -3,26 +3,26 @@ use Rattle.std.proofs.Common.{◌≡◌, ℕ, ◌+◌, Bool, true, false, [], �
 use Rattle.std.specs.Prelude.{not, ◌&&◌, is_some}
 use Rattle.std.specs.List.{list_any}
 use Rattle.std.proofs.lemmas.Bool.{and_parts, and_from}
-use Rattle.abs_path.specs.Paths.{Path}
-use Rattle.abs_path.specs.Prefix.{is_prefix, rest_of}
-use Rattle.cap_sets.specs.Sets.{has, union, IsWithin}
-use Rattle.cap_sets.proofs.Members.{none_within, union_within, within_union_left, within_union_right, within_self, within_through}
-use Rattle.linux_numbers.specs.Capabilities.{cap_setuid}
-use Rattle.site_table.specs.declared.row.Row.{Row}
-use Rattle.site_table.specs.Kinds.{is_exe}
-use Rattle.kern_mounts.specs.Entry.{leads_to}
-use Rattle.kern_mounts.specs.Split.{Table}
-use Rattle.kern_mounts.specs.declared.step.What.{What}
-use Rattle.kern_mounts.specs.declared.step.What.TheVariants.{Host, Empty, Hidden}
-use Rattle.kern_mounts.specs.declared.step.MountStep.{MountStep}
-use Rattle.kernel_laws.specs.Bound.{gathered, when, is_barred, can_run, file_gain, gain_at, caps_before}
-use Rattle.kernel_laws.specs.Launched.{Launch}
-use Rattle.question_types.specs.declared.wish.Wish.{Wish}
-use Rattle.question_types.specs.declared.wish.Wish.TheVariants.{Exec as ToExec}
-use Rattle.question_types.specs.declared.power.Power.{Power}
-use Rattle.question_types.specs.declared.power.Power.TheVariants.{None as Nowise, Unmount as Unmounting, Mount as Mounting}
-use Rattle.kernel_laws.specs.Reach.{fits, shows_row, serves, reach_from, reaches}
-use Rattle.kernel_laws.proofs.Bound.{gathered_has, gathered_within, within_when}
+use Rattle.kernel_ways.specs.abs_path.Paths.{Path}
+use Rattle.kernel_ways.specs.abs_path.Prefix.{is_prefix, rest_of}
+use Rattle.kernel_ways.specs.cap_sets.Sets.{has, union, IsWithin}
+use Rattle.kernel_ways.proofs.Caps.Members.{none_within, union_within, within_union_left, within_union_right, within_self, within_through}
+use Rattle.kernel_ways.specs.linux_numbers.Capabilities.{cap_setuid}
+use Rattle.kernel_ways.specs.site_table.declared.row.Row.{Row}
+use Rattle.kernel_ways.specs.site_table.Kinds.{is_exe}
+use Rattle.kernel_ways.specs.kern_mounts.Entry.{leads_to}
+use Rattle.kernel_ways.specs.kern_mounts.Split.{Table}
+use Rattle.kernel_ways.specs.kern_mounts.declared.step.What.{What}
+use Rattle.kernel_ways.specs.kern_mounts.declared.step.What.TheVariants.{Host, Empty, Hidden}
+use Rattle.kernel_ways.specs.kern_mounts.declared.step.MountStep.{MountStep}
+use Rattle.kernel_ways.specs.kernel_laws.Bound.{gathered, when, is_barred, can_run, file_gain, gain_at, caps_before}
+use Rattle.kernel_ways.specs.kernel_laws.Launched.{Launch}
+use Rattle.kernel_ways.specs.kernel_laws.declared.question_types.wish.Wish.{Wish}
+use Rattle.kernel_ways.specs.kernel_laws.declared.question_types.wish.Wish.TheVariants.{Exec as ToExec}
+use Rattle.kernel_ways.specs.kernel_laws.declared.question_types.power.Power.{Power}
+use Rattle.kernel_ways.specs.kernel_laws.declared.question_types.power.Power.TheVariants.{None as Nowise, Unmount as Unmounting, Mount as Mounting}
+use Rattle.kernel_ways.specs.kernel_laws.Reach.{fits, shows_row, serves, reach_from, reaches}
+use Rattle.kernel_ways.proofs.KernelLaws.Bound.{gathered_has, gathered_within, within_when}
 use Rattle.kernel_ways.specs.Spared.{caps_by}
 
 serves_grow : (row : Path) (wish : Wish) (entry : MountStep) (later : Table) → serves false row wish entry later ≡ true → serves true row wish entry later ≡ true

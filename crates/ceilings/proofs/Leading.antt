@@ -1,22 +1,21 @@
 -- The first entries that lead to a row: which of them are looked at, and where the search for a wish begins.
-use Rattle.std.proofs.Common.{◌≡◌, ◌≤◌, ◌<◌, ◌∙◌, inl, inr, ℕ, zero, suc, Bool, true, false, List, [], ◌∷◌, ◌++◌, Some, None, refl, cond, ap, sym, ◌+◌, ◌-◌, length, drop, map, get_or, arith, eqb, append-nil, append_assoc}
+use Rattle.std.proofs.Common.{◌≡◌, ◌≤◌, ◌<◌, ◌∙◌, inl, inr, ℕ, zero, suc, Bool, true, false, List, [], ◌∷◌, ◌++◌, Some, None, refl, cond, ap, sym, ◌+◌, ◌-◌, length, drop, map, get_or, arith, eqb, append_assoc}
 use Rattle.std.specs.Prelude.{slice_get, not, ◌||◌, ◌&&◌}
 use Rattle.std.specs.List.{list_any}
 use Rattle.std.proofs.lemmas.Bool.{or_from, cases_lt}
 use Rattle.std.proofs.lemmas.Bool.Decides.{nat_tests}
-use Rattle.abs_path.specs.Paths.{Path}
-use Rattle.abs_path.specs.Prefix.{is_prefix, is_same, rest_of}
-use Rattle.abs_path.proofs.Prefixes.{prefix_and_rest, same_path}
-use Rattle.kern_mounts.specs.Entry.{Belongs, leads_to}
-use Rattle.kern_mounts.specs.Split.{Table}
-use Rattle.kern_mounts.specs.declared.step.MountStep.{MountStep}
-use Rattle.kern_mounts.specs.declared.step.What.TheVariants.{Host}
-use Rattle.question_types.specs.declared.wish.Wish.{Wish}
-use Rattle.question_types.specs.declared.wish.Wish.TheVariants.{See as ToSee, Read as ToRead, Write as ToWrite, Exec as ToExec}
-use Rattle.question_types.specs.declared.power.Power.TheVariants.{None as Nowise}
-use Rattle.kernel_laws.specs.Reach.{fits, shows_row, reach_from, reach}
-use Rattle.reach_paths.proofs.Looping.{from_here, none_from}
-use Rattle.ceilings.specs.Leads.{is_elsewhere, is_moved, lead_to, leads_of}
+use Rattle.kernel_ways.specs.abs_path.Paths.{Path}
+use Rattle.kernel_ways.specs.abs_path.Prefix.{is_prefix, is_same, rest_of}
+use Rattle.kernel_ways.proofs.AbsPath.Prefixes.{prefix_and_rest, same_path}
+use Rattle.kernel_ways.specs.kern_mounts.Entry.{Belongs, leads_to}
+use Rattle.kernel_ways.specs.kern_mounts.Split.{Table}
+use Rattle.kernel_ways.specs.kern_mounts.declared.step.MountStep.{MountStep}
+use Rattle.kernel_ways.specs.kern_mounts.declared.step.What.TheVariants.{Host}
+use Rattle.kernel_ways.specs.kernel_laws.declared.question_types.wish.Wish.{Wish}
+use Rattle.kernel_ways.specs.kernel_laws.declared.question_types.wish.Wish.TheVariants.{See as ToSee}
+use Rattle.kernel_ways.specs.kernel_laws.Reach.{fits, shows_row, reach_from}
+use Rattle.kernel_ways.proofs.ReachPaths.Looping.{from_here}
+use Rattle.ceilings.specs.Leads.{is_elsewhere, is_moved}
 
 -- ---- entries behind a number
 any_behind : (p : MountStep → Bool) (table : Table) (from k : ℕ) (d : MountStep) → from ≤ k → k < length table → p (get_or table k d) ≡ true → list_any p (drop from table) ≡ true
@@ -162,17 +161,6 @@ module _ (row : Path) (wish : Wish) where
       let all : at - 0 ≡ at = omega arith in
       sym (seen_from table 0 at (sym e) ∙ ap (λ k. reach_from false row wish (drop k table) at) all)
 
--- ---- what is found of a row, for each wish
-pub lead_is : (table : Table) (row : Path) (wish : Wish) → lead_to (leads_of table row) wish ≡ reach Nowise table row wish
-lead_is table row ToSee = refl
-lead_is table row ToRead = alike table 0
-  where
-    alike : (table : Table) (n : ℕ) → reach_from false row ToSee table n ≡ reach_from false row ToRead table n
-    alike [] n = refl
-    alike (entry ∷ table) n = ap (cond (shows_row false entry table row entry.what) (Some n)) (alike table (n + 1))
-lead_is table row ToWrite = refl
-lead_is table row ToExec = refl
-
 -- ---- a list that is made entry by entry
 mapped : (table : Table) (at : ℕ) (entry : MountStep) (d : Bool) → slice_get table at ≡ Some entry → get_or (map is_moved table) at d ≡ is_moved entry
 mapped [] at entry d e = cc
@@ -188,6 +176,3 @@ moved_more table at entry list moved e is =
     append_assoc list (moved ∷ []) (map is_moved (drop (at + 1) table))
     ∙ ap (λ b. list ++ b ∷ map is_moved (drop (at + 1) table)) is
     ∙ ap (λ (t : Table). list ++ map is_moved t) (sym (from_here table at entry e))
-
-pub moved_all : (table : Table) (at : ℕ) (list : List Bool) → length table ≤ at → list ++ map is_moved (drop at table) ≡ list
-moved_all table at list h = ap (λ (t : Table). list ++ map is_moved t) (none_from table at h) ∙ append-nil list

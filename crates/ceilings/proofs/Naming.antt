@@ -3,11 +3,11 @@ use Rattle.std.proofs.Common.{◌≡◌, ◌<◌, ◌∙◌, ℕ, zero, suc, Boo
 use Rattle.std.specs.Prelude.{find, slice_get, ◌&&◌}
 use Rattle.std.specs.Option.{option_or}
 use Rattle.std.specs.Str.{bytes_eq}
-use Rattle.abs_path.proofs.Prefixes.{same_part, part_itself}
-use Rattle.call_table.proofs.AllCalls.{front_call}
-use Rattle.call_table.specs.Lookups.{AreOnce, place_named}
-use Rattle.call_table.specs.Table.{Table, calls_in, every_call}
-use Rattle.call_table.specs.declared.listed.CallLine.{CallLine}
+use Rattle.kernel_ways.proofs.AbsPath.Prefixes.{same_part, part_itself}
+use Rattle.kernel_ways.proofs.CallTable.AllCalls.{front_call}
+use Rattle.kernel_ways.specs.call_table.Lookups.{AreOnce, place_named}
+use Rattle.kernel_ways.specs.call_table.Table.{Table, calls_in, every_call}
+use Rattle.kernel_ways.specs.call_table.declared.listed.CallLine.{CallLine}
 use Rattle.ceilings.proofs.AllCalls.{found_in_all}
 
 module _ (q p : CallLine → Bool) where

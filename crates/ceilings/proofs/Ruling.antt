@@ -3,11 +3,11 @@ use Rattle.std.proofs.Common.{◌≡◌, ◌∙◌, Bool, true, false, List, ref
 use Rattle.std.specs.Prelude.{◌||◌}
 use Rattle.std.specs.List.{list_any}
 use Rattle.std.proofs.lemmas.List.Folds.{list_any-append}
-use Rattle.call_table.proofs.AllCalls.{second_are}
-use Rattle.call_table.specs.Table.{Table, calls_in, every_call, second_calls}
-use Rattle.call_table.specs.declared.listed.CallLine.{CallLine}
-use Rattle.question_types.specs.declared.kind.CallKind.{CallKind}
-use Rattle.kernel_laws.specs.Launched.{Launch, lets, lets_line}
+use Rattle.kernel_ways.proofs.CallTable.AllCalls.{second_are}
+use Rattle.kernel_ways.specs.call_table.Table.{Table, calls_in, every_call, second_calls}
+use Rattle.kernel_ways.specs.call_table.declared.listed.CallLine.{CallLine}
+use Rattle.kernel_ways.specs.kernel_laws.declared.question_types.kind.CallKind.{CallKind}
+use Rattle.kernel_ways.specs.kernel_laws.Launched.{Launch, lets, lets_line}
 
 pub some_in_all : (p : CallLine → Bool) (table : Table) → (list_any p table.calls || list_any p (calls_in table 1)) ≡ list_any p (every_call table)
 some_in_all p table = sym (list_any-append p table.calls (second_calls table.second) ∙ ap (λ (lines : List CallLine). list_any p table.calls || list_any p lines) (second_are table.second))

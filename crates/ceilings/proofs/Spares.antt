@@ -4,14 +4,14 @@ use Rattle.std.proofs.Common.{◌≡◌, ℕ, Bool, true, false, refl, cond, ap,
 use Rattle.std.specs.Prelude.{◌==◌, not, ◌&&◌, ◌||◌}
 use Rattle.std.specs.List.{list_any}
 use Rattle.std.proofs.lemmas.Bool.{and_from}
-use Rattle.linux_numbers.specs.Capabilities.{cap_sys_admin, cap_setuid}
-use Rattle.cap_sets.specs.Sets.{has, union}
-use Rattle.cap_sets.proofs.Members.{within_union_left, within_self}
-use Rattle.kernel_laws.specs.Bound.{when, caps_before, caps_at, power_by, power_of, any_uid, any_gid, owned_by, ceiling}
-use Rattle.question_types.specs.declared.kind.CallKind.TheVariants.{ChangesMounts, RemovesMounts, TakesUid}
-use Rattle.question_types.specs.declared.power.Power.{Power}
-use Rattle.question_types.specs.declared.power.Power.TheVariants.{None as Nowise}
-use Rattle.kernel_laws.specs.Launched.{Launch, lets}
+use Rattle.kernel_ways.specs.linux_numbers.Capabilities.{cap_sys_admin, cap_setuid}
+use Rattle.kernel_ways.specs.cap_sets.Sets.{has, union}
+use Rattle.kernel_ways.proofs.Caps.Members.{within_union_left, within_self}
+use Rattle.kernel_ways.specs.kernel_laws.Bound.{when, caps_before, caps_at, power_by, power_of, any_uid, any_gid, owned_by, ceiling}
+use Rattle.kernel_ways.specs.kernel_laws.declared.question_types.kind.CallKind.TheVariants.{ChangesMounts, RemovesMounts, TakesUid}
+use Rattle.kernel_ways.specs.kernel_laws.declared.question_types.power.Power.{Power}
+use Rattle.kernel_ways.specs.kernel_laws.declared.question_types.power.Power.TheVariants.{None as Nowise}
+use Rattle.kernel_ways.specs.kernel_laws.Launched.{Launch, lets}
 use Rattle.kernel_ways.specs.Spared.{power_using, uids_of, gids_of}
 use Rattle.ceilings.proofs.Growing.{caps_grow}
 

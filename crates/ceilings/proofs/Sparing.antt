@@ -5,10 +5,10 @@ use Rattle.std.specs.Prelude.{Contains}
 use Rattle.std.proofs.lemmas.Bool.{eqb-true}
 use Rattle.std.proofs.lemmas.Bool.Decides.{nat_tests}
 use Rattle.std.proofs.lemmas.Map.Views.{list_any-from_Contains}
-use Rattle.question_types.specs.declared.kind.CallKind.TheVariants.{TakesUid, TakesGid}
-use Rattle.question_types.specs.declared.question.Question.TheVariants.{Uid, Gid}
-use Rattle.kernel_laws.specs.Launched.{launch_of, lets}
-use Rattle.kernel_model.specs.World.{World}
+use Rattle.kernel_ways.specs.kernel_laws.declared.question_types.kind.CallKind.TheVariants.{TakesUid, TakesGid}
+use Rattle.kernel_ways.specs.kernel_laws.declared.question_types.question.Question.TheVariants.{Uid, Gid}
+use Rattle.kernel_ways.specs.kernel_laws.Launched.{launch_of, lets}
+use Rattle.kernel_ways.specs.kernel_model.World.{World}
 use Rattle.kernel_ways.specs.Laws.{IsServedWorld}
 use Rattle.kernel_ways.specs.Spared.{uids_of, gids_of}
 use Rattle.kernel_ways.proofs.SparedLaws.{ids_are_bounded}

@@ -2,10 +2,10 @@
 use Rattle.std.proofs.Common.{◌≡◌, ◌<◌, ◌≤◌, ℕ, suc, Bool, true, false, List, ◌+◌, refl, ap, ◌∙◌, sym, length, drop, get_or, drop-cons, add-one}
 use Rattle.std.specs.Prelude.{◌||◌}
 use Rattle.std.proofs.lemmas.List.{drop_all}
-use Rattle.cap_sets.specs.Sets.{has, none, union}
-use Rattle.cap_sets.proofs.Members.{has_none, has_union, same_sets}
-use Rattle.site_table.specs.declared.row.Row.{Row}
-use Rattle.kernel_laws.specs.Bound.{gathered, when}
+use Rattle.kernel_ways.specs.cap_sets.Sets.{has, none, union}
+use Rattle.kernel_ways.proofs.Caps.Members.{has_none, has_union, same_sets}
+use Rattle.kernel_ways.specs.site_table.declared.row.Row.{Row}
+use Rattle.kernel_ways.specs.kernel_laws.Bound.{gathered, when}
 
 or_assoc : (x y z : Bool) → ((x || y) || z) ≡ (x || (y || z))
 or_assoc true y z = refl

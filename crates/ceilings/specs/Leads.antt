@@ -1,16 +1,16 @@
 -- Which entries of a mount table lead to a row as the table stands, by what is wished of it.
 use Rattle.std.specs.Prelude.{◌≡◌, ℕ, Bool, false, not, List, map, Option}
-use Rattle.abs_path.specs.Paths.{Path}
-use Rattle.abs_path.specs.Prefix.{is_same}
-use Rattle.kern_mounts.specs.Split.{Table}
-use Rattle.kern_mounts.specs.declared.step.MountStep.{MountStep}
-use Rattle.kern_mounts.specs.declared.step.What.{What}
-use Rattle.kern_mounts.specs.declared.step.What.TheVariants.{Host, Empty, Hidden}
-use Rattle.kernel_laws.specs.Launched.{Launch}
-use Rattle.question_types.specs.declared.wish.Wish.{Wish}
-use Rattle.question_types.specs.declared.wish.Wish.TheVariants.{See as ToSee, Read as ToRead, Write as ToWrite, Exec as ToExec}
-use Rattle.question_types.specs.declared.power.Power.TheVariants.{None as Nowise}
-use Rattle.kernel_laws.specs.Reach.{reach}
+use Rattle.kernel_ways.specs.abs_path.Paths.{Path}
+use Rattle.kernel_ways.specs.abs_path.Prefix.{is_same}
+use Rattle.kernel_ways.specs.kern_mounts.Split.{Table}
+use Rattle.kernel_ways.specs.kern_mounts.declared.step.MountStep.{MountStep}
+use Rattle.kernel_ways.specs.kern_mounts.declared.step.What.{What}
+use Rattle.kernel_ways.specs.kern_mounts.declared.step.What.TheVariants.{Host, Empty, Hidden}
+use Rattle.kernel_ways.specs.kernel_laws.Launched.{Launch}
+use Rattle.kernel_ways.specs.kernel_laws.declared.question_types.wish.Wish.{Wish}
+use Rattle.kernel_ways.specs.kernel_laws.declared.question_types.wish.Wish.TheVariants.{See as ToSee, Read as ToRead, Write as ToWrite, Exec as ToExec}
+use Rattle.kernel_ways.specs.kernel_laws.declared.question_types.power.Power.TheVariants.{None as Nowise}
+use Rattle.kernel_ways.specs.kernel_laws.Reach.{reach}
 use Rattle.ceilings.specs.declared.leads.RowLeads.{RowLeads}
 
 -- the entry that is found for a wish: who may see a row may read it

@@ -1,8 +1,8 @@
 -- A ceiling is that of a launched service: what each of its parts is.
 use Rattle.std.specs.Prelude.{◌≡◌, ℕ, ◌==◌}
 use Rattle.std.specs.List.{list_any}
-use Rattle.kernel_laws.specs.Bound.{caps_at, power_of, any_uid, any_gid}
-use Rattle.kernel_laws.specs.Launched.{Launch}
+use Rattle.kernel_ways.specs.kernel_laws.Bound.{caps_at, power_of, any_uid, any_gid}
+use Rattle.kernel_ways.specs.kernel_laws.Launched.{Launch}
 use Rattle.ceilings.specs.declared.bounds.Ceiling.{Ceiling}
 use Rattle.ceilings.specs.Leads.{AreLeads}
 use Rattle.ceilings.specs.Passing.{ArePathCalls}

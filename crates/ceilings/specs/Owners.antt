@@ -1,10 +1,10 @@
 -- The ids that the programs of a site give to who runs them, execve(2), row by row.
 use Rattle.std.specs.Prelude.{ℕ, List, [], ◌∷◌, ◌++◌, map, Option, None, if◌then◌else◌}
-use Rattle.site_table.specs.declared.row.Row.{Row}
-use Rattle.kernel_laws.specs.Bound.{can_run}
-use Rattle.kernel_laws.specs.Launched.{Launch}
-use Rattle.kernel_laws.specs.Questions.{some_ids}
-use Rattle.question_types.specs.declared.power.Power.{Power}
+use Rattle.kernel_ways.specs.site_table.declared.row.Row.{Row}
+use Rattle.kernel_ways.specs.kernel_laws.Bound.{can_run}
+use Rattle.kernel_ways.specs.kernel_laws.Launched.{Launch}
+use Rattle.kernel_ways.specs.kernel_laws.Questions.{some_ids}
+use Rattle.kernel_ways.specs.kernel_laws.declared.question_types.power.Power.{Power}
 use Rattle.ceilings.specs.declared.ids.IdKind.{IdKind}
 use Rattle.ceilings.specs.declared.ids.IdKind.TheVariants.{User, Group}
 

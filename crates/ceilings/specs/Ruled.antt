@@ -1,8 +1,8 @@
 -- The rules of the lines of a table of calls, by their positions: those of the native ABI, and those of the other.
 use Rattle.std.specs.Prelude.{◌≡◌, map}
-use Rattle.call_table.specs.Table.{calls_in}
-use Rattle.kernel_calls.specs.Rules.{rule_of}
-use Rattle.kernel_laws.specs.Launched.{Launch}
+use Rattle.kernel_ways.specs.call_table.Table.{calls_in}
+use Rattle.kernel_ways.specs.kernel_model.kernel_calls.Rules.{rule_of}
+use Rattle.kernel_ways.specs.kernel_laws.Launched.{Launch}
 use Rattle.ceilings.specs.declared.ruled.LineRules.{LineRules}
 
 pub record AreRules (launch : Launch) (rules : LineRules) : Type 0 where

@@ -1,12 +1,12 @@
 -- Ids that are had without a use of a capability, credentials(7).
 use Rattle.std.specs.Prelude.{ℕ, Bool, List, Contains}
-use Rattle.kernel_calls.specs.declared.call.Call.{Call}
-use Rattle.kernel_calls.specs.Calls.{AreCalls}
-use Rattle.kernel_model.specs.Runs.{run}
-use Rattle.kernel_model.specs.World.{World}
-use Rattle.kernel_laws.specs.Denied.{Holds, Shows}
-use Rattle.question_types.specs.declared.question.Question.{Question}
-use Rattle.kernel_laws.specs.Spared.{AllSpare}
+use Rattle.kernel_ways.specs.kernel_model.declared.kernel_calls.call.Call.{Call}
+use Rattle.kernel_ways.specs.kernel_model.kernel_calls.Calls.{AreCalls}
+use Rattle.kernel_ways.specs.kernel_model.Runs.{run}
+use Rattle.kernel_ways.specs.kernel_model.World.{World}
+use Rattle.kernel_ways.specs.kernel_laws.Denied.{Holds, Shows}
+use Rattle.kernel_ways.specs.kernel_laws.declared.question_types.question.Question.{Question}
+use Rattle.kernel_ways.specs.kernel_laws.Spared.{AllSpare}
 
 -- these ids and no other, of all lists of calls that use CAP_SETUID and CAP_SETGID only where they may: some such list shows each of
 -- them, and none leads to another. The first word says whether CAP_SETUID may be used, and the second whether CAP_SETGID may.

@@ -2,21 +2,21 @@
 
 ghost use Rattle.std.specs.Prelude.{◌≡◌, ◌&&◌, find, option_copied, slice_get, Some};
 ghost use Rattle.std.specs.Str.{bytes_eq};
-ghost use Rattle.call_table.specs.Table.{arch_of, every_call};
-ghost use Rattle.kernel_calls.specs.Rules.{rule_of};
-ghost use Rattle.question_types.specs.declared.kind.CallKind.TheVariants.{PlainCall};
-ghost use Rattle.kernel_laws.specs.Launched.{launch_of, lets_line, lets_rule, lets_words};
+ghost use Rattle.kernel_ways.specs.call_table.Table.{arch_of, every_call};
+ghost use Rattle.kernel_ways.specs.kernel_model.kernel_calls.Rules.{rule_of};
+ghost use Rattle.kernel_ways.specs.kernel_laws.declared.question_types.kind.CallKind.TheVariants.{PlainCall};
+ghost use Rattle.kernel_ways.specs.kernel_laws.Launched.{launch_of, lets_line, lets_rule, lets_words};
 
 use crate::kinds::words;
-use bpf_code::{CallData, Decision};
-use call_names::{KnownCall, known_call};
-use call_table::{CallLine, CallTable};
-use kernel_calls::Rule;
-use kernel_model::World;
-use question_types::CallKind;
+use kernel_ways::bpf_code::{CallData, Decision};
+use kernel_ways::call_table::call_names::{KnownCall, known_call};
+use kernel_ways::call_table::{CallLine, CallTable};
+use kernel_ways::kernel_laws::question_types::CallKind;
+use kernel_ways::kernel_model::World;
+use kernel_ways::kernel_model::kernel_calls::Rule;
 
 /// The rule of a line of the table, by its name; None where the kernel lacks the call.
-#[tactic(auto, unfolding(kernel_calls::specs::Rules::rule_of))]
+#[tactic(auto, unfolding(kernel_ways::specs::kernel_model::kernel_calls::Rules::rule_of))]
 pub fn rule_of(line: &CallLine) -> Option<Rule>
     ensures by_its_name { result ≡ rule_of line.now }
 {

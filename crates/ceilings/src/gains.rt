@@ -1,21 +1,21 @@
 //! The capabilities that can become effective, capabilities(7).
 
 ghost use Rattle.std.specs.Prelude.{◌≡◌, ◌&&◌};
-ghost use Rattle.linux_numbers.specs.Capabilities.{cap_setuid};
-ghost use Rattle.cap_sets.specs.Sets.{has, union};
-ghost use Rattle.kernel_laws.specs.Bound.{when, caps_before, file_gain, gain_at};
-ghost use Rattle.kernel_laws.specs.Launched.{IsLaunchedWorld, launch_of};
+ghost use Rattle.kernel_ways.specs.linux_numbers.Capabilities.{cap_setuid};
+ghost use Rattle.kernel_ways.specs.cap_sets.Sets.{has, union};
+ghost use Rattle.kernel_ways.specs.kernel_laws.Bound.{when, caps_before, file_gain, gain_at};
+ghost use Rattle.kernel_ways.specs.kernel_laws.Launched.{IsLaunchedWorld, launch_of};
 ghost use Rattle.ceilings.specs.Passing.{ArePassing};
 ghost use Rattle.kernel_ways.specs.Spared.{caps_by};
 
 use crate::first::launched_process;
 use crate::passing::Passing;
 use crate::programs::can_run;
-use cap_sets::CapSet;
-use kernel_model::World;
-use linux_numbers::capabilities::CAP_SETUID;
-use question_types::Power;
-use site_table::Row;
+use kernel_ways::cap_sets::CapSet;
+use kernel_ways::kernel_laws::question_types::Power;
+use kernel_ways::kernel_model::World;
+use kernel_ways::linux_numbers::capabilities::CAP_SETUID;
+use kernel_ways::site_table::Row;
 
 // What execve of a row, and capset after it, make effective: all of the bounding set for a program that is run as root; else
 // the file's capabilities of the bounding set, by its effective bit or by capset.

@@ -1,15 +1,15 @@
 //! The ids that processes of a service can have without taking any by CAP_SETUID or CAP_SETGID, credentials(7).
 
 ghost use Rattle.std.specs.Prelude.{◌≡◌, ◌++◌, IfOk, OnOk};
-ghost use Rattle.kernel_laws.specs.Launched.{IsLaunchedWorld, launch_of};
+ghost use Rattle.kernel_ways.specs.kernel_laws.Launched.{IsLaunchedWorld, launch_of};
 ghost use Rattle.ceilings.specs.Owners.{set_id, given_at, given_ids, uids_at, gids_at};
 
 use crate::first::launched_process;
 use crate::programs::can_run;
-use item_list::ItemList;
-use kernel_model::World;
-use question_types::Power;
-use site_table::Row;
+use kernel_ways::kernel_laws::question_types::Power;
+use kernel_ways::kernel_model::World;
+use kernel_ways::site_table::Row;
+use kernel_ways::text_forms::item_list::ItemList;
 use std::alloc::{AllocError, Global};
 
 /// Ids of users or of groups, which contracts see as a list.

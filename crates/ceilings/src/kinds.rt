@@ -1,13 +1,13 @@
 //! Kinds of calls, and the words with which a call asks for its kind first.
 
 ghost use Rattle.std.specs.Prelude.{◌≡◌, ◌<◌};
-ghost use Rattle.kernel_calls.specs.declared.rule.Rule.TheVariants.{Known, Plain};
-ghost use Rattle.kernel_laws.specs.Kinds.{one_word, words};
-ghost use Rattle.question_types.specs.declared.kind.CallKind.TheVariants.{ForPath};
+ghost use Rattle.kernel_ways.specs.kernel_model.declared.kernel_calls.rule.Rule.TheVariants.{Known, Plain};
+ghost use Rattle.kernel_ways.specs.kernel_laws.Kinds.{one_word, words};
+ghost use Rattle.kernel_ways.specs.kernel_laws.declared.question_types.kind.CallKind.TheVariants.{ForPath};
 
-use call_names::CallRule;
-use kernel_calls::Rule;
-use question_types::{CallKind, Wish};
+use kernel_ways::call_table::call_names::CallRule;
+use kernel_ways::kernel_laws::question_types::{CallKind, Wish};
+use kernel_ways::kernel_model::kernel_calls::Rule;
 
 /// PROT_WRITE and PROT_EXEC of mmap(2).
 const WRITE_AND_EXEC: u64 = 6;

@@ -1,18 +1,18 @@
 //! Which entries of the launched mount table lead to the rows of the site, found once for each row.
 
 ghost use Rattle.std.specs.Prelude.{◌≡◌, slice_get, Some};
-ghost use Rattle.site_table.specs.declared.row.Row.{Row};
-ghost use Rattle.kernel_laws.specs.Launched.{IsLaunchedWorld, Launch, launch_of};
-ghost use Rattle.kernel_laws.specs.Reach.{reach};
+ghost use Rattle.kernel_ways.specs.site_table.declared.row.Row.{Row};
+ghost use Rattle.kernel_ways.specs.kernel_laws.Launched.{IsLaunchedWorld, Launch, launch_of};
+ghost use Rattle.kernel_ways.specs.kernel_laws.Reach.{reach};
 ghost use Rattle.ceilings.specs.Leads.{lead_to, leads_of};
 ghost use Rattle.ceilings.specs.Own.{IsCeilingOf};
 
 use crate::bounds::Ceiling;
 use crate::first::launched_table;
-use kernel_model::World;
-use question_types::{Power, Wish};
-use reach_paths::reach;
-use site_table::Row;
+use kernel_ways::kernel_laws::question_types::{Power, Wish};
+use kernel_ways::kernel_model::World;
+use kernel_ways::reach_paths::reach;
+use kernel_ways::site_table::Row;
 
 /// The first entries of a mount table that lead to a row, by their numbers, where some do.
 #[derive(Clone, Copy)]

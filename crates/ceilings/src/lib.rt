@@ -24,6 +24,11 @@ pub use bounds::Ceiling;
 pub use calls::{lets_line, passing_line, plain_line, plain_line_at, rule_of};
 pub use first::{launched_process, launched_table};
 pub use ids::IdList;
+pub use kernel_ways;
+pub use kernel_ways::{
+    abs_path, call_table, cap_sets, dropin_merge, exec_settings, kern_mounts, kernel_laws,
+    kernel_model, launcher, linux_numbers, mount_plan, path_settings, reach_paths, site_table,
+};
 pub use kinds::words;
 pub use leads::{RowLeads, reach_by};
 pub use making::ceiling;

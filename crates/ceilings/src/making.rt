@@ -1,15 +1,15 @@
 //! How a ceiling is made.
 
 ghost use Rattle.std.specs.Prelude.{◌≡◌, ℕ, ◌≤◌, ◌&&◌, true, false, Contains, IfOk};
-ghost use Rattle.linux_numbers.specs.Capabilities.{cap_sys_admin};
-ghost use Rattle.cap_sets.specs.Sets.{has};
-ghost use Rattle.kernel_laws.specs.Bound.{power_by};
-ghost use Rattle.kernel_laws.specs.Denied.{IsDenied};
-ghost use Rattle.question_types.specs.declared.kind.CallKind.TheVariants.{ChangesMounts, RemovesMounts, TakesUid, TakesGid};
-ghost use Rattle.question_types.specs.declared.question.Question.TheVariants.{Cap, Uid, Gid};
-ghost use Rattle.kernel_laws.specs.Launched.{IsLaunchedWorld, launch_of, lets};
+ghost use Rattle.kernel_ways.specs.linux_numbers.Capabilities.{cap_sys_admin};
+ghost use Rattle.kernel_ways.specs.cap_sets.Sets.{has};
+ghost use Rattle.kernel_ways.specs.kernel_laws.Bound.{power_by};
+ghost use Rattle.kernel_ways.specs.kernel_laws.Denied.{IsDenied};
+ghost use Rattle.kernel_ways.specs.kernel_laws.declared.question_types.kind.CallKind.TheVariants.{ChangesMounts, RemovesMounts, TakesUid, TakesGid};
+ghost use Rattle.kernel_ways.specs.kernel_laws.declared.question_types.question.Question.TheVariants.{Cap, Uid, Gid};
+ghost use Rattle.kernel_ways.specs.kernel_laws.Launched.{IsLaunchedWorld, launch_of, lets};
 ghost use Rattle.kernel_ways.specs.Laws.{IsServedWorld, IsShown};
-ghost use Rattle.site_table.specs.Ids.{greatest_id};
+ghost use Rattle.kernel_ways.specs.site_table.Ids.{greatest_id};
 ghost use Rattle.ceilings.specs.Own.{IsCeilingOf};
 ghost use Rattle.ceilings.specs.Sparing.{AreHadSparing};
 
@@ -20,9 +20,9 @@ use crate::passing::{Passing, PathCalls};
 use crate::powers::power_using;
 use crate::ruled::LineRules;
 use crate::searching::all_leads;
-use cap_sets::CapSet;
-use launcher::Launched;
-use linux_numbers::capabilities::{CAP_SETGID, CAP_SETUID};
+use kernel_ways::cap_sets::CapSet;
+use kernel_ways::launcher::Launched;
+use kernel_ways::linux_numbers::capabilities::{CAP_SETGID, CAP_SETUID};
 use std::alloc::{AllocError, Global};
 
 // Whether every id can be taken, by a capability and a call that passes.

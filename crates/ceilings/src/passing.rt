@@ -1,13 +1,13 @@
 //! Kinds of calls that the filters of a launched service let through.
 
 ghost use Rattle.std.specs.Prelude.{◌≡◌};
-ghost use Rattle.kernel_laws.specs.Launched.{launch_of};
+ghost use Rattle.kernel_ways.specs.kernel_laws.Launched.{launch_of};
 ghost use Rattle.ceilings.specs.Passing.{ArePassing, ArePathCalls, passes};
 ghost use Rattle.ceilings.specs.Ruled.{AreRules};
 
 use crate::ruled::LineRules;
-use kernel_model::World;
-use question_types::{CallKind, Wish};
+use kernel_ways::kernel_laws::question_types::{CallKind, Wish};
+use kernel_ways::kernel_model::World;
 
 /// What processes can ask of paths: whether some call passes that sees, reads, writes or executes what a path finds.
 #[derive(Clone, Copy)]

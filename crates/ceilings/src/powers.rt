@@ -1,16 +1,16 @@
 //! How far a service can change its mount tables.
 
 ghost use Rattle.std.specs.Prelude.{◌≡◌};
-ghost use Rattle.kernel_laws.specs.Bound.{power_by};
-ghost use Rattle.kernel_laws.specs.Launched.{IsLaunchedWorld, launch_of};
+ghost use Rattle.kernel_ways.specs.kernel_laws.Bound.{power_by};
+ghost use Rattle.kernel_ways.specs.kernel_laws.Launched.{IsLaunchedWorld, launch_of};
 ghost use Rattle.ceilings.specs.Passing.{ArePassing};
 ghost use Rattle.kernel_ways.specs.Spared.{power_using};
 
 use crate::gains::caps_by;
 use crate::passing::Passing;
-use kernel_model::World;
-use linux_numbers::capabilities::CAP_SYS_ADMIN;
-use question_types::Power;
+use kernel_ways::kernel_laws::question_types::Power;
+use kernel_ways::kernel_model::World;
+use kernel_ways::linux_numbers::capabilities::CAP_SYS_ADMIN;
 
 // By whether CAP_SYS_ADMIN can be had on the launched table, and which calls pass.
 fn power_by(has_admin: bool, mounts: bool, unmounts: bool) -> Power

@@ -2,15 +2,15 @@
 
 ghost use Rattle.std.specs.Prelude.{◌≡◌, map, IfOk};
 ghost use Rattle.std.specs.List.{list_any};
-ghost use Rattle.kernel_calls.specs.Rules.{rule_of};
-ghost use Rattle.kernel_laws.specs.Launched.{can_make_user, launch_of, lets, lets_line};
+ghost use Rattle.kernel_ways.specs.kernel_model.kernel_calls.Rules.{rule_of};
+ghost use Rattle.kernel_ways.specs.kernel_laws.Launched.{can_make_user, launch_of, lets, lets_line};
 ghost use Rattle.ceilings.specs.Ruled.{AreRules};
 
 use crate::calls::{lets_rule, rule_of};
-use call_table::CallLine;
-use kernel_calls::Rule;
-use kernel_model::World;
-use question_types::{CallKind, NamespaceType};
+use kernel_ways::call_table::CallLine;
+use kernel_ways::kernel_laws::question_types::{CallKind, NamespaceType};
+use kernel_ways::kernel_model::World;
+use kernel_ways::kernel_model::kernel_calls::Rule;
 use std::alloc::{AllocError, Global};
 
 /// The rules of all calls, by their positions; None where the kernel lacks the call.

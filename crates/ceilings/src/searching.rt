@@ -5,22 +5,22 @@
 
 ghost use Rattle.std.specs.Prelude.{◌≡◌, ◌+◌, ◌<◌, ◌≤◌, ◌&&◌, ◌++◌, false, not, drop, length, map, slice_get, IfOk, OnOk, Some};
 ghost use Rattle.std.specs.List.{list_any};
-ghost use Rattle.abs_path.specs.Prefix.{is_prefix, rest_of};
-ghost use Rattle.linux_numbers.specs.Limits.{mount_max};
-ghost use Rattle.kern_mounts.specs.Entry.{Belongs, leads_to};
-ghost use Rattle.kern_mounts.specs.Mounts.{steps_of};
-ghost use Rattle.kernel_laws.specs.Launched.{IsLaunchedWorld, launch_of};
-ghost use Rattle.kernel_laws.specs.Reach.{fits, reach_from, shows_row};
+ghost use Rattle.kernel_ways.specs.abs_path.Prefix.{is_prefix, rest_of};
+ghost use Rattle.kernel_ways.specs.linux_numbers.Limits.{mount_max};
+ghost use Rattle.kernel_ways.specs.kern_mounts.Entry.{Belongs, leads_to};
+ghost use Rattle.kernel_ways.specs.kern_mounts.Mounts.{steps_of};
+ghost use Rattle.kernel_ways.specs.kernel_laws.Launched.{IsLaunchedWorld, launch_of};
+ghost use Rattle.kernel_ways.specs.kernel_laws.Reach.{fits, reach_from, shows_row};
 ghost use Rattle.ceilings.specs.Leads.{AreLeads, is_moved, leads_of};
 
 use crate::first::launched_table;
 use crate::leads::RowLeads;
-use abs_path::AbsPath;
-use kern_mounts::{Flags, MountStep, MountTable, What};
-use kernel_model::World;
-use question_types::Wish;
-use reach_paths::is_covered;
-use site_table::Row;
+use kernel_ways::abs_path::AbsPath;
+use kernel_ways::kern_mounts::{Flags, MountStep, MountTable, What};
+use kernel_ways::kernel_laws::question_types::Wish;
+use kernel_ways::kernel_model::World;
+use kernel_ways::reach_paths::is_covered;
+use kernel_ways::site_table::Row;
 use std::alloc::{AllocError, Global};
 
 // Whether what is wished may be done on a mount with these flags, mount(2).

@@ -3,8 +3,8 @@ use Rattle.std.proofs.Common.{◌≡◌, ◌∙◌, ℕ, Bool, true, false, cond
 use Rattle.std.specs.Prelude.{◌&&◌, option_map}
 use Rattle.std.specs.Option.{option_map_or}
 use Rattle.std.specs.Str.{bytes_eq}
-use Rattle.abs_path.specs.Prefix.{after}
-use Rattle.call_table.specs.Table.{Abi}
+use Rattle.unit_inputs.specs.abs_path.Prefix.{after}
+use Rattle.unit_inputs.specs.call_table.Table.{Abi}
 
 -- a text is a front with an end behind it where that end stands behind the front
 abbrev Agrees : List ℕ → List ℕ → List ℕ → Type 0
@@ -30,7 +30,3 @@ not_joined front text end is = agrees front text end ∙ ap (λ found. option_ma
 pub with_abi : (test : List ℕ → Bool) (found : Option Abi) (name : List ℕ) → Some name ≡ option_map (λ abi. abi.name) found → option_map_or (λ (abi : Abi). test abi.name) found false ≡ test name
 with_abi test None name is = cc
 with_abi test (Some abi) name is = let same : name ≡ abi.name = cc in ap test (sym same)
-
-pub without_abi : (test : List ℕ → Bool) (found : Option Abi) → None ≡ option_map (λ (abi : Abi). abi.name) found → option_map_or (λ (abi : Abi). test abi.name) found false ≡ false
-without_abi test None is = refl
-without_abi test (Some abi) is = cc

@@ -3,23 +3,23 @@ use Rattle.std.proofs.Common.{◌≡◌, ◌∙◌, ℕ, Bool, true, false, cond
 use Rattle.std.specs.Prelude.{find, option_map}
 use Rattle.std.specs.List.{All}
 use Rattle.std.proofs.lemmas.List.Elements.{All-head, All-tail}
-use Rattle.bpf_code.specs.Meaning.{Answers}
-use Rattle.bpf_code.specs.declared.machine.CallData.{CallData}
-use Rattle.bpf_code.specs.declared.machine.Insn.{Insn}
-use Rattle.call_rules.specs.Action.{word_of}
-use Rattle.call_rules.specs.Sizes.{CanCompile}
-use Rattle.call_table.specs.Table.{Table}
-use Rattle.command_answers.specs.declared.stop.Stop.{Stop}
-use Rattle.command_answers.specs.Said.{IsSaid}
-use Rattle.command_answers.proofs.Said.{said_as}
-use Rattle.exec_settings.specs.AreSettings.{AreFilters, HasWantedRules}
+use Rattle.filter_check.specs.bpf_code.Meaning.{Answers}
+use Rattle.filter_check.specs.bpf_code.declared.machine.CallData.{CallData}
+use Rattle.filter_check.specs.bpf_code.declared.machine.Insn.{Insn}
+use Rattle.filter_check.specs.call_rules.Action.{word_of}
+use Rattle.filter_check.specs.call_rules.Sizes.{CanCompile}
+use Rattle.unit_inputs.specs.call_table.Table.{Table}
+use Rattle.unit_inputs.specs.declared.command_answers.stop.Stop.{Stop}
+use Rattle.unit_inputs.specs.command_answers.Said.{IsSaid}
+use Rattle.unit_inputs.proofs.Said.{said_as}
+use Rattle.unit_inputs.specs.exec_settings.AreSettings.{AreFilters, HasWantedRules}
 use Rattle.filter_check.specs.Finding.{DiffersAt, Finds, foreign, too_many, same, differs, memory, wanted_by}
 use Rattle.filter_check.specs.declared.outcome.CheckError.{CheckError}
 use Rattle.filter_check.specs.declared.outcome.Outcome.{Outcome}
-use Rattle.filter_rules.specs.Installed.{place_of}
-use Rattle.filter_rules.specs.Names.{Place}
-use Rattle.filter_rules.specs.declared.installed.Filter.{Filter}
-use Rattle.filter_rules.specs.declared.settings.FilterSettings.{FilterSettings}
+use Rattle.unit_inputs.specs.filter_settings.filter_rules.Installed.{place_of}
+use Rattle.unit_inputs.specs.filter_settings.filter_rules.Names.{Place}
+use Rattle.unit_inputs.specs.filter_settings.declared.filter_rules.installed.Filter.{Filter}
+use Rattle.unit_inputs.specs.filter_settings.declared.filter_rules.settings.FilterSettings.{FilterSettings}
 use Rattle.check_command.specs.Comparing.{Compares, ComparesNamed, not_compared, is_compared, is_on, wanted_word}
 use Rattle.check_command.specs.Naming.{means, named_place}
 use Rattle.check_command.specs.declared.ready.Checked.{Checked}

@@ -1,18 +1,18 @@
 -- Over the same files and words there is one answer.
 use Rattle.std.proofs.Common.{◌≡◌, ◌∙◌, ℕ, List, [], ◌∷◌, Some, None, Result, Ok, Err, refl, sym, ap, subst}
-use Rattle.host_io.specs.Files.{Files}
-use Rattle.bpf_code.specs.declared.machine.CallData.{CallData}
-use Rattle.bpf_code.specs.declared.machine.Insn.{Insn}
-use Rattle.call_table.specs.Table.{Table}
-use Rattle.command_answers.specs.Stops.{first_refusal, refusal_in}
-use Rattle.dropin_merge.specs.declared.resolved.Resolved.{Resolved}
-use Rattle.exec_settings.specs.Dynamic.{unit_filters}
+use Rattle.unit_inputs.specs.host_io.Files.{Files}
+use Rattle.filter_check.specs.bpf_code.declared.machine.CallData.{CallData}
+use Rattle.filter_check.specs.bpf_code.declared.machine.Insn.{Insn}
+use Rattle.unit_inputs.specs.call_table.Table.{Table}
+use Rattle.unit_inputs.specs.command_answers.Stops.{first_refusal, refusal_in}
+use Rattle.unit_inputs.specs.dropin_merge.declared.resolved.Resolved.{Resolved}
+use Rattle.unit_inputs.specs.exec_settings.Dynamic.{unit_filters}
 use Rattle.filter_check.proofs.OneAnswer.{one_finding}
 use Rattle.filter_check.specs.declared.outcome.CheckError.TheVariants.{Memory}
 use Rattle.filter_check.specs.declared.outcome.Outcome.{Outcome}
-use Rattle.filter_lines.specs.declared.error.FileError.TheVariants as file
-use Rattle.filter_rules.specs.declared.settings.FilterSettings.{FilterSettings}
-use Rattle.site_table.specs.Table.{Site}
+use Rattle.filter_check.specs.declared.filter_lines.error.FileError.TheVariants as file
+use Rattle.unit_inputs.specs.filter_settings.declared.filter_rules.settings.FilterSettings.{FilterSettings}
+use Rattle.unit_inputs.specs.site_table.Table.{Site}
 use Rattle.unit_inputs.specs.CallsRefusals.{calls_in}
 use Rattle.unit_inputs.specs.Inputs.{Inputs, all_three, input_refusals, inputs_of}
 use Rattle.unit_inputs.specs.SiteRefusals.{site_in}

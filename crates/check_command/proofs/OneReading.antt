@@ -4,16 +4,16 @@ use Rattle.std.specs.Prelude.{◌≢◌, flat_map, slice_get}
 use Rattle.std.specs.List.{All}
 use Rattle.std.proofs.lemmas.Bool.{cases_lt}
 use Rattle.std.proofs.lemmas.List.Elements.{All-head, All-tail}
-use Rattle.bpf_code.specs.Reading.{Refuses}
-use Rattle.bpf_code.specs.declared.machine.Insn.{Insn}
-use Rattle.bpf_code.specs.declared.program.ProgramError.{ProgramError}
-use Rattle.bpf_code.specs.declared.program.ProgramError.TheVariants as program
-use Rattle.bpf_code.proofs.Refusals.{accepted_unrefused, refusal_alone}
-use Rattle.filter_lines.specs.Digits.{hex_byte, hex_digit}
-use Rattle.filter_lines.specs.Lines.{AreLines, IsFirstOther, IsLine, lines_in}
-use Rattle.filter_lines.specs.Reading.{Reads, ReadsCode, ReadsLines, code_lines, is_program, no_memory, no_memory_lines, no_program, not_text, other_line, text_lines}
-use Rattle.filter_lines.specs.declared.error.FileError.{FileError}
-use Rattle.filter_lines.specs.declared.error.FileError.TheVariants.{Digits, Program, Memory}
+use Rattle.filter_check.specs.bpf_code.Reading.{Refuses}
+use Rattle.filter_check.specs.bpf_code.declared.machine.Insn.{Insn}
+use Rattle.filter_check.specs.bpf_code.declared.program.ProgramError.{ProgramError}
+use Rattle.filter_check.specs.bpf_code.declared.program.ProgramError.TheVariants as program
+use Rattle.filter_check.proofs.BpfCode.Refusals.{accepted_unrefused, refusal_alone}
+use Rattle.filter_check.specs.filter_lines.Digits.{hex_byte, hex_digit}
+use Rattle.filter_check.specs.filter_lines.Lines.{AreLines, IsFirstOther, IsLine, lines_in}
+use Rattle.filter_check.specs.filter_lines.Reading.{Reads, ReadsCode, ReadsLines, code_lines, is_program, no_memory, no_memory_lines, no_program, not_text, other_line, text_lines}
+use Rattle.filter_check.specs.declared.filter_lines.error.FileError.{FileError}
+use Rattle.filter_check.specs.declared.filter_lines.error.FileError.TheVariants.{Digits, Program, Memory}
 use Rattle.check_command.proofs.Once.{same_err, true_false}
 
 abbrev Answer : Type 0

@@ -1,13 +1,13 @@
 -- What is read for a comparison, and the first refusal.
 use Rattle.std.proofs.Common.{◌≡◌, ℕ, List, Option, Some, None, Result, Ok, Err, sym, subst}
 use Rattle.std.specs.Prelude.{IfSome}
-use Rattle.host_io.specs.Files.{Files}
-use Rattle.bpf_code.specs.declared.machine.Insn.{Insn}
-use Rattle.command_answers.specs.Stops.{IsAnswer, Prepares, first_refusal}
-use Rattle.command_answers.specs.declared.stop.Stop.{Stop}
-use Rattle.command_answers.specs.declared.stop.Stop.TheVariants as stop
-use Rattle.command_answers.specs.Said.{IsSaid}
-use Rattle.command_answers.proofs.Said.{said_as}
+use Rattle.unit_inputs.specs.host_io.Files.{Files}
+use Rattle.filter_check.specs.bpf_code.declared.machine.Insn.{Insn}
+use Rattle.unit_inputs.specs.command_answers.Stops.{IsAnswer, Prepares, first_refusal}
+use Rattle.unit_inputs.specs.declared.command_answers.stop.Stop.{Stop}
+use Rattle.unit_inputs.specs.declared.command_answers.stop.Stop.TheVariants as stop
+use Rattle.unit_inputs.specs.command_answers.Said.{IsSaid}
+use Rattle.unit_inputs.proofs.Said.{said_as}
 use Rattle.unit_inputs.specs.FileRefusals.{bytes_in}
 use Rattle.unit_inputs.specs.Inputs.{input_refusals, inputs_view}
 use Rattle.unit_inputs.specs.declared.inputs.UnitInputs.{UnitInputs}

@@ -1,14 +1,14 @@
 -- What is ready, and the line of a refusal, are what the definitions admit, and the laws go together.
 use Rattle.std.proofs.Common.{ℕ, List, Option, Some, None, Result, Ok, Err, refl, sym, subst, inl, inr}
 use Rattle.std.specs.Prelude.{IfSome, IsTrue}
-use Rattle.host_io.specs.Files.{Files}
-use Rattle.command_answers.specs.Endings.{is_answer, is_whole}
-use Rattle.command_answers.specs.Laws.{GoTogether, IsAdmitted}
-use Rattle.command_answers.specs.declared.ending.Ending.{Ending}
-use Rattle.command_answers.specs.declared.stop.Stop.{Stop}
-use Rattle.command_answers.specs.declared.stop.Stop.TheVariants as stop
-use Rattle.command_answers.specs.Said.{IsSaid}
-use Rattle.exec_settings.specs.Dynamic.{unit_filters}
+use Rattle.unit_inputs.specs.host_io.Files.{Files}
+use Rattle.unit_inputs.specs.command_answers.Endings.{is_answer, is_whole}
+use Rattle.unit_inputs.specs.command_answers.Laws.{GoTogether, IsAdmitted}
+use Rattle.unit_inputs.specs.declared.command_answers.ending.Ending.{Ending}
+use Rattle.unit_inputs.specs.declared.command_answers.stop.Stop.{Stop}
+use Rattle.unit_inputs.specs.declared.command_answers.stop.Stop.TheVariants as stop
+use Rattle.unit_inputs.specs.command_answers.Said.{IsSaid}
+use Rattle.unit_inputs.specs.exec_settings.Dynamic.{unit_filters}
 use Rattle.filter_check.specs.declared.outcome.Outcome.{Outcome}
 use Rattle.filter_check.specs.declared.outcome.Outcome.TheVariants as outcome
 use Rattle.check_command.specs.Answers.{Answers, compared, refused_before}

@@ -1,8 +1,8 @@
 -- What `check` is to answer over some files.
 use Rattle.std.specs.Prelude.{◌≡◌, ℕ, List, Result, Err}
-use Rattle.host_io.specs.Files.{Files}
-use Rattle.bpf_code.specs.declared.machine.Insn.{Insn}
-use Rattle.exec_settings.specs.Dynamic.{unit_filters}
+use Rattle.unit_inputs.specs.host_io.Files.{Files}
+use Rattle.filter_check.specs.bpf_code.declared.machine.Insn.{Insn}
+use Rattle.unit_inputs.specs.exec_settings.Dynamic.{unit_filters}
 use Rattle.filter_check.specs.declared.outcome.Outcome.{Outcome}
 use Rattle.unit_inputs.specs.Inputs.{Inputs}
 use Rattle.check_command.specs.Comparing.{ComparesNamed}

@@ -1,14 +1,14 @@
 -- The lines of files that are refused, and of filters that are not on.
 use Rattle.std.specs.Prelude.{ℕ, List, [], ◌++◌, codes}
 use Rattle.std.specs.Fmt.{decimal}
-use Rattle.text_forms.specs.Escaped.{escaped_word}
-use Rattle.bpf_code.specs.declared.program.ProgramError.{ProgramError}
-use Rattle.bpf_code.specs.declared.program.ProgramError.TheVariants as program
-use Rattle.command_answers.specs.Refusals.{refused_line}
+use Rattle.unit_inputs.specs.text_forms.Escaped.{escaped_word}
+use Rattle.filter_check.specs.bpf_code.declared.program.ProgramError.{ProgramError}
+use Rattle.filter_check.specs.bpf_code.declared.program.ProgramError.TheVariants as program
+use Rattle.unit_inputs.specs.command_answers.Refusals.{refused_line}
 use Rattle.filter_check.specs.declared.outcome.CheckError.{CheckError}
 use Rattle.filter_check.specs.declared.outcome.CheckError.TheVariants.{Form, TooManyPaths, Memory}
-use Rattle.filter_lines.specs.declared.error.FileError.{FileError}
-use Rattle.filter_lines.specs.declared.error.FileError.TheVariants as file
+use Rattle.filter_check.specs.declared.filter_lines.error.FileError.{FileError}
+use Rattle.filter_check.specs.declared.filter_lines.error.FileError.TheVariants as file
 
 -- a cause, and the instruction, from 0
 abbrev pub placed : List ℕ → ℕ → List ℕ

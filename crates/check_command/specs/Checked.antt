@@ -1,6 +1,6 @@
 -- The outcome of a comparison, ready to be printed.
 use Rattle.std.specs.Prelude.{ℕ, List}
-use Rattle.command_answers.specs.declared.ending.Ending.{Ending}
+use Rattle.unit_inputs.specs.declared.command_answers.ending.Ending.{Ending}
 use Rattle.check_command.specs.Lines.{ending_by, outcome_text}
 use Rattle.check_command.specs.declared.ready.Checked.{Checked}
 

@@ -1,16 +1,16 @@
 -- What the comparison of a program with a filter of a unit comes to.
 use Rattle.std.specs.Prelude.{◌≡◌, ◌≢◌, ℕ, List, Some, None, Result, Ok, Err}
-use Rattle.bpf_code.specs.declared.machine.CallData.{CallData}
-use Rattle.bpf_code.specs.declared.machine.Insn.{Insn}
-use Rattle.call_rules.specs.Action.{word_of}
-use Rattle.call_table.specs.Table.{Table}
+use Rattle.filter_check.specs.bpf_code.declared.machine.CallData.{CallData}
+use Rattle.filter_check.specs.bpf_code.declared.machine.Insn.{Insn}
+use Rattle.filter_check.specs.call_rules.Action.{word_of}
+use Rattle.unit_inputs.specs.call_table.Table.{Table}
 use Rattle.filter_check.specs.Finding.{Finds}
 use Rattle.filter_check.specs.declared.outcome.CheckError.{CheckError}
 use Rattle.filter_check.specs.declared.outcome.CheckError.TheVariants.{Memory}
 use Rattle.filter_check.specs.declared.outcome.Outcome.{Outcome}
-use Rattle.filter_rules.specs.Names.{Place}
-use Rattle.filter_rules.specs.Wanted.{wanted_action}
-use Rattle.filter_rules.specs.declared.settings.FilterSettings.{FilterSettings}
+use Rattle.unit_inputs.specs.filter_settings.filter_rules.Names.{Place}
+use Rattle.unit_inputs.specs.filter_settings.filter_rules.Wanted.{wanted_action}
+use Rattle.unit_inputs.specs.filter_settings.declared.filter_rules.settings.FilterSettings.{FilterSettings}
 use Rattle.check_command.specs.Causes.{check_line, no_filter_line}
 use Rattle.check_command.specs.Naming.{named_place}
 

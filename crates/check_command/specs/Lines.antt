@@ -1,9 +1,9 @@
 -- The lines of comparisons.
 use Rattle.std.specs.Prelude.{ℕ, List, [], ◌∷◌, ◌++◌, codes, flat_map}
 use Rattle.std.specs.Fmt.{decimal}
-use Rattle.bpf_code.specs.declared.machine.CallData.{CallData}
-use Rattle.command_answers.specs.declared.ending.Ending.{Ending}
-use Rattle.command_answers.specs.declared.ending.Ending.TheVariants as ending
+use Rattle.filter_check.specs.bpf_code.declared.machine.CallData.{CallData}
+use Rattle.unit_inputs.specs.declared.command_answers.ending.Ending.{Ending}
+use Rattle.unit_inputs.specs.declared.command_answers.ending.Ending.TheVariants as ending
 use Rattle.filter_check.specs.declared.outcome.Outcome.{Outcome}
 use Rattle.filter_check.specs.declared.outcome.Outcome.TheVariants.{Same, Differs}
 

@@ -2,10 +2,10 @@
 use Rattle.std.specs.Prelude.{ℕ, ◌==◌, ◌&&◌, ◌||◌, Bool, false, List, ◌∷◌, ◌++◌, find, Option}
 use Rattle.std.specs.Option.{option_map_or}
 use Rattle.std.specs.Str.{bytes_eq}
-use Rattle.call_table.specs.Table.{Table, abi_at}
-use Rattle.filter_rules.specs.Installed.{installed}
-use Rattle.filter_rules.specs.Names.{Place, text_of}
-use Rattle.filter_rules.specs.declared.settings.FilterSettings.{FilterSettings}
+use Rattle.unit_inputs.specs.call_table.Table.{Table, abi_at}
+use Rattle.unit_inputs.specs.filter_settings.filter_rules.Installed.{installed}
+use Rattle.unit_inputs.specs.filter_settings.filter_rules.Names.{Place, text_of}
+use Rattle.unit_inputs.specs.filter_settings.declared.filter_rules.settings.FilterSettings.{FilterSettings}
 
 -- `NAME` is the program of that filter for the native ABI
 abbrev pub means_native : List ℕ → Place → Bool

@@ -1,10 +1,10 @@
 -- What a comparison is made from, or what is refused before it.
 use Rattle.std.specs.Prelude.{◌≡◌, ℕ, List, Some, None, Result, Ok, Err}
-use Rattle.host_io.specs.Files.{Files}
-use Rattle.bpf_code.specs.declared.machine.Insn.{Insn}
-use Rattle.command_answers.specs.Stops.{first_refusal}
-use Rattle.command_answers.specs.declared.stop.Stop.{Stop}
-use Rattle.command_answers.specs.declared.stop.Stop.TheVariants as stop
+use Rattle.unit_inputs.specs.host_io.Files.{Files}
+use Rattle.filter_check.specs.bpf_code.declared.machine.Insn.{Insn}
+use Rattle.unit_inputs.specs.command_answers.Stops.{first_refusal}
+use Rattle.unit_inputs.specs.declared.command_answers.stop.Stop.{Stop}
+use Rattle.unit_inputs.specs.declared.command_answers.stop.Stop.TheVariants as stop
 use Rattle.unit_inputs.specs.Inputs.{Inputs, input_refusals, inputs_of, inputs_view}
 use Rattle.unit_inputs.specs.Settled.{refusals_of}
 use Rattle.check_command.specs.Programs.{IsProgramIn}

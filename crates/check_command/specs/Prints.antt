@@ -1,11 +1,11 @@
 -- What `check` prints, by the files.
 use Rattle.std.specs.Prelude.{◌≡◌, ◌⊎◌, ℕ, IsSome, List, Option, Some, None, Ok, Err}
-use Rattle.host_io.specs.Files.{Files}
-use Rattle.command_answers.specs.Laws.{Laws}
-use Rattle.command_answers.specs.declared.ending.Ending.{Ending}
-use Rattle.command_answers.specs.declared.ending.Ending.TheVariants.{Done, Refused, Differs}
+use Rattle.unit_inputs.specs.host_io.Files.{Files}
+use Rattle.unit_inputs.specs.command_answers.Laws.{Laws}
+use Rattle.unit_inputs.specs.declared.command_answers.ending.Ending.{Ending}
+use Rattle.unit_inputs.specs.declared.command_answers.ending.Ending.TheVariants.{Done, Refused, Differs}
 use Rattle.filter_check.specs.declared.outcome.Outcome.{Outcome}
-use Rattle.unit_names.specs.Cutting.{name_of}
+use Rattle.unit_inputs.specs.unit_names.Cutting.{name_of}
 use Rattle.check_command.specs.Answers.{Answers}
 use Rattle.check_command.specs.Lines.{ending_by, outcome_text}
 

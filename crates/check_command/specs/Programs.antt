@@ -1,10 +1,10 @@
 -- The program of a file, or the line of its refusal.
 use Rattle.std.specs.Prelude.{◌≡◌, ◌≢◌, ℕ, List, Result, Ok, Err}
-use Rattle.host_io.specs.Files.{Files}
-use Rattle.bpf_code.specs.declared.machine.Insn.{Insn}
-use Rattle.filter_lines.specs.Reading.{Reads}
-use Rattle.filter_lines.specs.declared.error.FileError.{FileError}
-use Rattle.filter_lines.specs.declared.error.FileError.TheVariants.{Memory}
+use Rattle.unit_inputs.specs.host_io.Files.{Files}
+use Rattle.filter_check.specs.bpf_code.declared.machine.Insn.{Insn}
+use Rattle.filter_check.specs.filter_lines.Reading.{Reads}
+use Rattle.filter_check.specs.declared.filter_lines.error.FileError.{FileError}
+use Rattle.filter_check.specs.declared.filter_lines.error.FileError.TheVariants.{Memory}
 use Rattle.unit_inputs.specs.FileRefusals.{bytes_in}
 use Rattle.check_command.specs.Causes.{file_line}
 

@@ -1,10 +1,10 @@
 //! The comparison of a program with a filter of a unit.
 ghost use Rattle.std.specs.Prelude.{◌≡◌, IfOk, IsErrOf};
-ghost use Rattle.call_rules.specs.Sizes.{CanCompile};
-ghost use Rattle.exec_settings.specs.Dynamic.{unit_filters};
+ghost use Rattle.filter_check.specs.call_rules.Sizes.{CanCompile};
+ghost use Rattle.unit_inputs.specs.exec_settings.Dynamic.{unit_filters};
 ghost use Rattle.filter_check.specs.Finding.{wanted_by};
 ghost use Rattle.unit_inputs.specs.Settled.{AreSettled};
-ghost use Rattle.command_answers.specs.Said.{IsSaid};
+ghost use Rattle.unit_inputs.specs.command_answers.Said.{IsSaid};
 ghost use Rattle.check_command.specs.Causes.{check_cause, check_line, no_filter_line};
 ghost use Rattle.check_command.specs.Comparing.{Compares, ComparesNamed};
 ghost use Rattle.check_command.specs.Prepared.{inputs_in};
@@ -12,12 +12,12 @@ ghost use Rattle.check_command.specs.Prepared.{inputs_in};
 use crate::naming::named_filter;
 use crate::preparing::Prepared;
 use crate::ready::Checked;
-use bpf_code::Program;
-use call_rules::RuleSet;
-use command_answers::{Stop, refuse, refused_line};
+use filter_check::bpf_code::Program;
+use filter_check::call_rules::RuleSet;
 use filter_check::{CheckError, check};
 use std::alloc::{AllocError, Global};
-use text_forms::push_word;
+use unit_inputs::command_answers::{Stop, refuse, refused_line};
+use unit_inputs::text_forms::push_word;
 
 // Why a program is not compared.
 fn check_cause(alloc: Global, error: CheckError) -> Result<Vec<u8>, AllocError>

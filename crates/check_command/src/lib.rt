@@ -17,5 +17,6 @@ mod programs;
 mod ready;
 
 pub use command::prepare;
+pub use filter_check::bpf_code;
 pub use laws::one_answer;
 pub use ready::Checked;

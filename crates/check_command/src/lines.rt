@@ -2,10 +2,10 @@
 ghost use Rattle.std.specs.Prelude.{◌≡◌, ◌++◌, flat_map, IfOk, OnOk};
 ghost use Rattle.check_command.specs.Lines.{arg_text, differs_line, outcome_text, same_line};
 
-use bpf_code::CallData;
 use filter_check::Outcome;
+use filter_check::bpf_code::CallData;
 use std::alloc::{AllocError, Global};
-use text_forms::push_u64;
+use unit_inputs::text_forms::push_u64;
 
 // How many paths a program has that decides every call alike.
 fn same_line(alloc: Global, count: u32) -> Result<Vec<u8>, AllocError>

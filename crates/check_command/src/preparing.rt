@@ -1,16 +1,16 @@
 //! What `check` reads, and what it takes from that.
 ghost use Rattle.std.specs.Prelude.{IfOk, IfSome};
-ghost use Rattle.command_answers.specs.Asking.{course};
+ghost use Rattle.unit_inputs.specs.command_answers.Asking.{course};
 ghost use Rattle.unit_inputs.specs.Asking.{AsksInOrder, asks_with_file};
 ghost use Rattle.unit_inputs.specs.ReadsFor.{ReadsFor};
 ghost use Rattle.unit_inputs.specs.Settled.{AreSettled};
 ghost use Rattle.check_command.specs.Prepared.{IsPrepared, inputs_in};
 
 use crate::programs::read_program;
-use bpf_code::Program;
-use command_answers::Stop;
-use host_io::Shelf;
+use filter_check::bpf_code::Program;
 use std::alloc::Global;
+use unit_inputs::command_answers::Stop;
+use unit_inputs::host_io::Shelf;
 use unit_inputs::{SettledUnit, read_inputs, settle};
 
 /// All that a comparison is made from.

@@ -1,17 +1,17 @@
 //! The program of a file, with the lines of its refusals.
 ghost use Rattle.std.specs.Prelude.{◌≡◌, ◌∷◌, [], IfOk, IfSome, IsErrOf};
-ghost use Rattle.host_io.specs.Calls.{Went};
-ghost use Rattle.command_answers.specs.Asking.{course, input_file};
-ghost use Rattle.command_answers.specs.Stops.{HasReadCause};
-ghost use Rattle.command_answers.specs.Said.{IsSaid};
+ghost use Rattle.unit_inputs.specs.host_io.Calls.{Went};
+ghost use Rattle.unit_inputs.specs.command_answers.Asking.{course, input_file};
+ghost use Rattle.unit_inputs.specs.command_answers.Stops.{HasReadCause};
+ghost use Rattle.unit_inputs.specs.command_answers.Said.{IsSaid};
 ghost use Rattle.check_command.specs.Causes.{file_cause, file_line, placed, program_cause};
 ghost use Rattle.check_command.specs.Programs.{IsProgramIn, IsProgramOf};
 
-use bpf_code::{Program, ProgramError};
-use command_answers::{Stop, refuse, refused_line};
-use filter_lines::{FileError, read_program as read_bytes};
-use host_io::Shelf;
+use filter_check::bpf_code::{Program, ProgramError};
+use filter_check::filter_lines::{FileError, read_program as read_bytes};
 use std::alloc::{AllocError, Global};
+use unit_inputs::command_answers::{Stop, refuse, refused_line};
+use unit_inputs::host_io::Shelf;
 use unit_inputs::read_input;
 
 // A cause, and the number of the instruction.

@@ -1,7 +1,8 @@
 //! What printed filters answer: the text of `filter` is read back, program by program, and each is asked of the calls of a row.
-use bpf_code::{CallData, Program, run};
+use crate::sought::push_line;
 use row_tools::{bytes_of, number, number32};
 use std::alloc::{AllocError, Global};
+use top_call::bpf_code::{CallData, Program, run};
 
 /// The architecture of x86-64, and that of i386 (audit(7)).
 const X86_64: u32 = 0xc000_003e;
@@ -67,8 +68,7 @@ pub fn answers(alloc: Global, text: &str, asked: &[String]) -> Result<String, Al
                 name.clear();
                 name.push_str(head_of(rest))?;
                 if name.is_empty() {
-                    said.push_str(line)?;
-                    said.push('\n')?;
+                    push_line(&mut said, "", line)?;
                 }
             }
         }

@@ -1,8 +1,9 @@
 //! The lists of calls below the open questions of a report, each put through `replay`.
 use crate::rows::Rows;
 use crate::runs::run_over;
-use host_io::are_files;
+use crate::sought::push_line;
 use std::alloc::{AllocError, Global};
+use top_call::host_io::are_files;
 
 /// Where the script of a list lies.
 const SCRIPT: &str = "list";
@@ -45,8 +46,7 @@ fn push_list(
     if are_done(replay.as_str(), script.lines().count()) {
         return Ok(done.push(1)?);
     }
-    said.push_str(question)?;
-    said.push('\n')?;
+    push_line(said, "", question)?;
     said.push_str(replay.as_str())
 }
 
@@ -69,8 +69,7 @@ pub fn circle(alloc: Global, rows: &Rows) -> Result<String, AllocError> {
     for line in report.as_str().lines() {
         match line.strip_prefix("  ") {
             Some(call) => {
-                script.push_str(call)?;
-                script.push('\n')?;
+                push_line(&mut script, "", call)?;
             }
             None => {
                 push_list(

@@ -73,10 +73,8 @@ fn faultless(alloc: Global, files: &Files, words: &[&str]) -> Result<Printed, Al
 // The status, and the text with a sign where it does not end with a line feed.
 fn whole(alloc: Global, files: &Files, words: &[&str]) -> Result<String, AllocError> {
     let printed = faultless(alloc, files, words)?;
-    shown(alloc, printed.code, printed.text.as_str())
-}
-
-fn shown(alloc: Global, code: u8, text: &str) -> Result<String, AllocError> {
+    let code = printed.code;
+    let text = printed.text.as_str();
     match text.strip_suffix('\n') {
         Some(line) => format!(in alloc; "-> {code}\n{line}"),
         None => format!(in alloc; "-> {code} (cut)\n{text}"),
@@ -160,16 +158,11 @@ fn prefixes(
 ) -> Result<String, AllocError> {
     let mut spans = Spans::new(alloc);
     let length = files.length(path);
-    for count in 0..length {
+    for count in 0..=length {
         let cut = files.cut(alloc, path, count)?;
-        let told = ended(
-            alloc,
-            &run_over(alloc, cut, words, &Faults::none(alloc, TAKE))?,
-        )?;
-        spans.add(alloc, count as u64, told.as_str())?;
+        let printed = run_over(alloc, cut, words, &Faults::none(alloc, TAKE))?;
+        spans.add(alloc, count as u64, ended(alloc, &printed)?.as_str())?;
     }
-    let told = ended(alloc, &faultless(alloc, files, words)?)?;
-    spans.add(alloc, length as u64, told.as_str())?;
     spans.text(alloc)
 }
 

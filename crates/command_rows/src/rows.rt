@@ -47,19 +47,29 @@ impl Rows {
     // Follows a line that is no run.
     fn step(&mut self, alloc: Global, line: &str) -> Result<(), AllocError> {
         match line.split_once(' ') {
-            Some(("word", rest)) => Ok(self.words.push(said(alloc, rest)?)?),
-            Some(("ask", rest)) => Ok(self.asked.push(said(alloc, rest)?)?),
-            Some(("seek", rest)) => Ok(self.sought.push(said(alloc, rest)?)?),
+            Some(("word", rest)) => push_text(alloc, &mut self.words, rest),
+            Some(("ask", rest)) => push_text(alloc, &mut self.asked, rest),
+            Some(("seek", rest)) => push_text(alloc, &mut self.sought, rest),
             Some(("take", rest)) => {
                 self.faults.take = number(rest);
                 Ok(())
             }
-            Some(("fail-read", rest)) => Ok(self.faults.reads.push(number(rest))?),
-            Some(("fail-put", rest)) => Ok(self.faults.puts.push(number(rest))?),
+            Some(("fail-read", rest)) => push_number(&mut self.faults.reads, rest),
+            Some(("fail-put", rest)) => push_number(&mut self.faults.puts, rest),
             Some(("wish", answer)) => Ok(self.faults.wishes.push(answer == "yes")?),
             _ => self.files.follow(alloc, line),
         }
     }
+}
+
+fn push_text(alloc: Global, list: &mut Vec<String>, text: &str) -> Result<(), AllocError> {
+    list.push(said(alloc, text)?)?;
+    Ok(())
+}
+
+fn push_number(list: &mut Vec<u64>, word: &str) -> Result<(), AllocError> {
+    list.push(number(word))?;
+    Ok(())
 }
 
 impl Follow for Rows {

@@ -1,12 +1,12 @@
 //! A run over files in memory, with faults or without.
-use asked_service::VerdictRow;
-use exposure_score::{CustomTest, Facts, ambient_count, writable_paths};
-use host_io::{MemShelf, MemSink, are_files};
-use question_types::{Question, Wish};
 use row_tools::said;
 use std::alloc::{AllocError, Global};
-use tighten::StoredWish;
+use top_call::asked_service::VerdictRow;
+use top_call::exposure_score::{CustomTest, Facts, ambient_count, writable_paths};
+use top_call::host_io::{MemShelf, MemSink, are_files};
+use top_call::kernel_laws::question_types::{Question, Wish};
 use top_call::run;
+use top_call::tighten_command::tightening::StoredWish;
 
 /// What fails in a run, how much the sink takes at once, and what wishes answer.
 #[derive(Drop)]

@@ -1,28 +1,30 @@
 //! Which lines a report has, for reports that are too long for a row.
 use std::alloc::{AllocError, Global};
 
+/// Puts a line behind a text, with a front.
+pub fn push_line(text: &mut String, front: &str, line: &str) -> Result<(), AllocError> {
+    text.push_str(front)?;
+    text.push_str(line)?;
+    text.push('\n')
+}
+
 // Whether the text has the line, and what is set in below it.
 fn push_sought(said: &mut String, text: &str, sought: &str) -> Result<(), AllocError> {
     let mut has = false;
     let mut below = false;
     for line in text.lines() {
         if below && line.starts_with("  ") {
-            said.push_str(line)?;
-            said.push('\n')?;
+            push_line(said, "", line)?;
         } else {
             below = line == sought;
             if below {
                 has = true;
-                said.push_str("has ")?;
-                said.push_str(line)?;
-                said.push('\n')?;
+                push_line(said, "has ", line)?;
             }
         }
     }
     if !has {
-        said.push_str("lacks ")?;
-        said.push_str(sought)?;
-        said.push('\n')?;
+        push_line(said, "lacks ", sought)?;
     }
     Ok(())
 }

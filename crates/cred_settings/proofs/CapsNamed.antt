@@ -7,8 +7,8 @@ use Rattle.std.proofs.lemmas.Bool.{false_from_ne_true, lt-ltb}
 use Rattle.std.proofs.lemmas.List.Quantifiers.{position-Some}
 use Rattle.std.proofs.lemmas.List.Sums.{position_or_len_is}
 use Rattle.std.proofs.lemmas.Slice.Eq.{bytes_eq-Decides}
-use Rattle.cap_sets.specs.Names.{names, name_of, in_lower_case}
-use Rattle.cap_sets.proofs.Naming.{distinct}
+use Rattle.site_table.specs.cap_sets.Names.{names, name_of, in_lower_case}
+use Rattle.site_table.proofs.Caps.Naming.{distinct}
 use Rattle.cred_settings.specs.CapNames.{cap_named}
 
 no_cap : (word : List ℕ) → ((k : ℕ) → k ≤ 40 → in_lower_case (name_of k) ≡ in_lower_case word → ⊥) → None ≡ cap_named word

@@ -4,7 +4,7 @@ use Rattle.std.specs.Prelude.{nat_le, find, option_map, option_and_then, unwrap_
 use Rattle.std.specs.Option.{option_map_or, option_or}
 use Rattle.std.specs.List.{AllByRecursion, filter_map, cons_option}
 use Rattle.std.proofs.lemmas.Bool.Decides.{nat_tests}
-use Rattle.text_forms.specs.Numbers.{decimal_value}
+use Rattle.dropin_merge.specs.text_forms.Numbers.{decimal_value}
 use Rattle.dropin_merge.specs.declared.resolved.Resolved.{Resolved}
 use Rattle.site_table.specs.declared.accounts.User.{User}
 use Rattle.site_table.specs.declared.accounts.Group.{Group}

@@ -4,12 +4,12 @@ use Rattle.std.specs.Prelude.{◌==◌, ◌||◌, ◌&&◌, not, fold, unwrap_or
 use Rattle.std.specs.List.{list_any, filter_map, cons_option}
 use Rattle.std.proofs.lemmas.Bool.{le-leb}
 use Rattle.std.proofs.lemmas.List.Sums.{fold-append}
-use Rattle.unit_grammar.specs.Before.{with_before, last_of}
-use Rattle.unit_values.specs.declared.lines.Line.{Line}
-use Rattle.unit_values.specs.declared.listed.Listed.{Listed}
-use Rattle.unit_values.specs.Listed.{is_reset}
-use Rattle.cap_sets.specs.Sets.{has, none, all, union}
-use Rattle.cap_sets.proofs.Members.{has_union, has_minus, has_none, has_all}
+use Rattle.dropin_merge.specs.unit_grammar.Before.{with_before, last_of}
+use Rattle.dropin_merge.specs.declared.unit_values.lines.Line.{Line}
+use Rattle.dropin_merge.specs.declared.unit_values.listed.Listed.{Listed}
+use Rattle.dropin_merge.specs.unit_values.Listed.{is_reset}
+use Rattle.site_table.specs.cap_sets.Sets.{has, none, all, union}
+use Rattle.site_table.proofs.Caps.Members.{has_union, has_minus, has_none, has_all}
 use Rattle.cred_settings.specs.CapNames.{named_caps}
 use Rattle.cred_settings.specs.CapLists.{with_plain, with_inverted, with_line, with_listed, caps_by}
 use Rattle.cred_settings.specs.Writings.{is_name_of}

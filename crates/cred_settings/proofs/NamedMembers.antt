@@ -6,9 +6,9 @@ use Rattle.std.specs.List.{list_any, filter_map, cons_option}
 use Rattle.std.proofs.lemmas.Bool.{false_from_ne_true, eqb-true, eq-eqb}
 use Rattle.std.proofs.lemmas.List.Quantifiers.{position-Some}
 use Rattle.std.proofs.lemmas.Slice.Eq.{bytes_eq-Decides}
-use Rattle.cap_sets.specs.Names.{names, name_of, in_lower_case}
-use Rattle.cap_sets.specs.Sets.{has, none, union, single}
-use Rattle.cap_sets.proofs.Members.{has_none, has_with}
+use Rattle.site_table.specs.cap_sets.Names.{names, name_of, in_lower_case}
+use Rattle.site_table.specs.cap_sets.Sets.{has, none, union, single}
+use Rattle.site_table.proofs.Caps.Members.{has_none, has_with}
 use Rattle.cred_settings.specs.CapNames.{cap_named, named_caps}
 use Rattle.cred_settings.specs.Writings.{is_name_of}
 use Rattle.cred_settings.proofs.CapsNamed.{the_cap}

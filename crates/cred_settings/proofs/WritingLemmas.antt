@@ -3,10 +3,10 @@ use Rattle.std.proofs.Common.{◌≡◌, ◌≢◌, ℕ, Bool, true, false, cond
 use Rattle.std.specs.Prelude.{fold, ◌||◌}
 use Rattle.std.proofs.lemmas.List.Sums.{fold-append}
 use Rattle.std.proofs.lemmas.Bool.{eq-eqb, ne_eqb, eqb-true}
-use Rattle.unit_values.specs.declared.listed.Listed.{Listed}
-use Rattle.unit_values.specs.Listed.{is_reset}
-use Rattle.cap_sets.specs.Sets.{has, none, all, union, minus}
-use Rattle.cap_sets.proofs.Members.{same_sets, has_union, has_none}
+use Rattle.dropin_merge.specs.declared.unit_values.listed.Listed.{Listed}
+use Rattle.dropin_merge.specs.unit_values.Listed.{is_reset}
+use Rattle.site_table.specs.cap_sets.Sets.{has, none, all, union, minus}
+use Rattle.site_table.proofs.Caps.Members.{same_sets, has_union, has_none}
 use Rattle.cred_settings.specs.CapNames.{named_caps}
 use Rattle.cred_settings.specs.CapLists.{with_plain, with_line, with_listed, caps_by}
 use Rattle.cred_settings.specs.Writings.{IsLine}

@@ -1,8 +1,8 @@
 -- systemd.exec(5), AmbientCapabilities=: the capabilities that a service starts with in its ambient set (capabilities(7)).
 use Rattle.std.specs.Prelude.{ℕ, List, codes}
 use Rattle.dropin_merge.specs.declared.resolved.Resolved.{Resolved}
-use Rattle.unit_values.specs.declared.value.FileNote.{FileNote}
-use Rattle.cap_sets.specs.Sets.{none}
+use Rattle.dropin_merge.specs.declared.unit_values.value.FileNote.{FileNote}
+use Rattle.site_table.specs.cap_sets.Sets.{none}
 use Rattle.cred_settings.specs.CapLists.{unit_caps, unit_caps_notes}
 
 -- the default is none

@@ -1,8 +1,8 @@
 -- systemd.exec(5), CapabilityBoundingSet=: the capabilities that a service can come to at all (capabilities(7)).
 use Rattle.std.specs.Prelude.{ℕ, List, codes}
 use Rattle.dropin_merge.specs.declared.resolved.Resolved.{Resolved}
-use Rattle.unit_values.specs.declared.value.FileNote.{FileNote}
-use Rattle.cap_sets.specs.Sets.{all}
+use Rattle.dropin_merge.specs.declared.unit_values.value.FileNote.{FileNote}
+use Rattle.site_table.specs.cap_sets.Sets.{all}
 use Rattle.cred_settings.specs.CapLists.{unit_caps, unit_caps_notes}
 
 -- the default is all

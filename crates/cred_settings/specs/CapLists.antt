@@ -1,11 +1,11 @@
 -- systemd.exec(5), CapabilityBoundingSet= and AmbientCapabilities=: a set of capabilities, by lines that add to it or take off.
 use Rattle.std.specs.Prelude.{ℕ, ◌==◌, cond, List, [], ◌∷◌, ◌++◌, flat_map, fold}
 use Rattle.dropin_merge.specs.declared.resolved.Resolved.{Resolved}
-use Rattle.unit_values.specs.declared.value.FileNote.{FileNote}
-use Rattle.unit_values.specs.declared.lines.Line.{Line}
-use Rattle.unit_values.specs.declared.listed.Listed.{Listed}
-use Rattle.unit_values.specs.Listed.{is_reset, unit_listed, unit_listed_notes}
-use Rattle.cap_sets.specs.Sets.{none, all, union, minus}
+use Rattle.dropin_merge.specs.declared.unit_values.value.FileNote.{FileNote}
+use Rattle.dropin_merge.specs.declared.unit_values.lines.Line.{Line}
+use Rattle.dropin_merge.specs.declared.unit_values.listed.Listed.{Listed}
+use Rattle.dropin_merge.specs.unit_values.Listed.{is_reset, unit_listed, unit_listed_notes}
+use Rattle.site_table.specs.cap_sets.Sets.{none, all, union, minus}
 use Rattle.cred_settings.specs.CapNames.{named_caps, word_notes}
 
 -- a plain line takes the place of a set that equals its default, and is united with any other

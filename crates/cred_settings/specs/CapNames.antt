@@ -2,12 +2,12 @@
 use Rattle.std.specs.Prelude.{ℕ, is_some, cond, List, [], ◌∷◌, Option, position, fold}
 use Rattle.std.specs.List.{filter_map}
 use Rattle.std.specs.Str.{bytes_eq}
-use Rattle.unit_grammar.specs.declared.notes.NoteCause.TheVariants.{UnknownName}
-use Rattle.unit_values.specs.declared.value.FileNote.{FileNote}
-use Rattle.unit_values.specs.declared.value.Value.{Value}
-use Rattle.unit_values.specs.Notes.{note_at}
-use Rattle.cap_sets.specs.Names.{names, in_lower_case}
-use Rattle.cap_sets.specs.Sets.{none, union, single}
+use Rattle.dropin_merge.specs.unit_grammar.declared.notes.NoteCause.TheVariants.{UnknownName}
+use Rattle.dropin_merge.specs.declared.unit_values.value.FileNote.{FileNote}
+use Rattle.dropin_merge.specs.declared.unit_values.value.Value.{Value}
+use Rattle.dropin_merge.specs.unit_values.Notes.{note_at}
+use Rattle.site_table.specs.cap_sets.Names.{names, in_lower_case}
+use Rattle.site_table.specs.cap_sets.Sets.{none, union, single}
 
 -- the number of the capability of this name, in any case
 unfoldable pub cap_named : List ℕ → Option ℕ

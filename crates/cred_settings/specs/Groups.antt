@@ -2,9 +2,9 @@
 use Rattle.std.specs.Prelude.{ℕ, codes, List, [], ◌∷◌, Option, None, option_map, unwrap_or}
 use Rattle.std.specs.Option.{option_or}
 use Rattle.dropin_merge.specs.declared.resolved.Resolved.{Resolved}
-use Rattle.unit_values.specs.declared.value.FileNote.{FileNote}
-use Rattle.unit_values.specs.Values.{notes_of}
-use Rattle.unit_values.specs.Lasting.{unit_last_text}
+use Rattle.dropin_merge.specs.declared.unit_values.value.FileNote.{FileNote}
+use Rattle.dropin_merge.specs.unit_values.Values.{notes_of}
+use Rattle.dropin_merge.specs.unit_values.Lasting.{unit_last_text}
 use Rattle.site_table.specs.Table.{Site, group_named}
 use Rattle.cred_settings.specs.declared.accounts.Account.{Account}
 use Rattle.cred_settings.specs.declared.accounts.Account.TheVariants.{Dynamic, Fixed}

@@ -1,7 +1,7 @@
 -- systemd.exec(5), User/Group Identity: the ids that a service runs with.
 use Rattle.std.specs.Prelude.{ℕ, Bool, not, is_some, find, List, ◌++◌, Option, Some, None, Result, Ok, Err}
 use Rattle.dropin_merge.specs.declared.resolved.Resolved.{Resolved}
-use Rattle.unit_values.specs.declared.value.FileNote.{FileNote}
+use Rattle.dropin_merge.specs.declared.unit_values.value.FileNote.{FileNote}
 use Rattle.site_table.specs.Table.{Site}
 use Rattle.cred_settings.specs.declared.accounts.Identity.{Identity}
 use Rattle.cred_settings.specs.declared.accounts.Account.{Account}

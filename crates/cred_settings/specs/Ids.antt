@@ -1,6 +1,6 @@
 -- Numbers of users and groups (credentials(7)): decimal, 0 to 4,294,967,294; the number above stands for none in the calls that set ids.
 use Rattle.std.specs.Prelude.{ℕ, nat_le, cond, List, Option, Some, None, option_and_then}
-use Rattle.text_forms.specs.Numbers.{decimal_value}
+use Rattle.dropin_merge.specs.text_forms.Numbers.{decimal_value}
 use Rattle.site_table.specs.Ids.{greatest_id}
 
 abbrev pub id_in_range : ℕ → Option ℕ

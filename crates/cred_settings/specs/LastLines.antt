@@ -1,11 +1,11 @@
 -- What the lines of a list of capabilities say of one of them (systemd.exec(5), CapabilityBoundingSet=).
 use Rattle.std.specs.Prelude.{ℕ, ◌==◌, Bool, true, false, cond, Option, Some, None, List, [], ◌∷◌, unwrap_or}
 use Rattle.std.specs.List.{list_any, filter_map}
-use Rattle.unit_grammar.specs.Before.{with_before, last_of}
-use Rattle.unit_values.specs.declared.lines.Line.{Line}
-use Rattle.unit_values.specs.declared.listed.Listed.{Listed}
-use Rattle.unit_values.specs.Listed.{is_reset}
-use Rattle.cap_sets.specs.Sets.{has}
+use Rattle.dropin_merge.specs.unit_grammar.Before.{with_before, last_of}
+use Rattle.dropin_merge.specs.declared.unit_values.lines.Line.{Line}
+use Rattle.dropin_merge.specs.declared.unit_values.listed.Listed.{Listed}
+use Rattle.dropin_merge.specs.unit_values.Listed.{is_reset}
+use Rattle.site_table.specs.cap_sets.Sets.{has}
 use Rattle.cred_settings.specs.CapLists.{caps_by}
 use Rattle.cred_settings.specs.Writings.{is_name_of}
 

@@ -1,10 +1,10 @@
 -- systemd.exec(5), NoNewPrivileges=: whether execve(2) can give no new privileges (prctl(2), PR_SET_NO_NEW_PRIVS).
 use Rattle.std.specs.Prelude.{ℕ, Bool, ◌==◌, ◌&&◌, ◌||◌, not, List, codes}
 use Rattle.dropin_merge.specs.declared.resolved.Resolved.{Resolved}
-use Rattle.unit_values.specs.declared.value.FileNote.{FileNote}
-use Rattle.unit_values.specs.Flags.{unit_flag, unit_flag_notes}
-use Rattle.cap_sets.specs.Sets.{has}
-use Rattle.linux_numbers.specs.Capabilities.{cap_sys_admin}
+use Rattle.dropin_merge.specs.declared.unit_values.value.FileNote.{FileNote}
+use Rattle.dropin_merge.specs.unit_values.Flags.{unit_flag, unit_flag_notes}
+use Rattle.site_table.specs.cap_sets.Sets.{has}
+use Rattle.dropin_merge.specs.linux_numbers.Capabilities.{cap_sys_admin}
 
 -- it is in effect where it is set, and where a filter is on for a service that may install none without it: one whose
 -- ambient set lacks CAP_SYS_ADMIN (seccomp(2), capabilities(7))

@@ -2,9 +2,9 @@
 use Rattle.std.specs.Prelude.{ℕ, Bool, cond, codes, List, [], ◌∷◌, Option, Some, None, option_map}
 use Rattle.std.specs.Option.{option_map_or, option_or}
 use Rattle.dropin_merge.specs.declared.resolved.Resolved.{Resolved}
-use Rattle.unit_values.specs.declared.value.FileNote.{FileNote}
-use Rattle.unit_values.specs.Values.{notes_of}
-use Rattle.unit_values.specs.Lasting.{unit_last_text}
+use Rattle.dropin_merge.specs.declared.unit_values.value.FileNote.{FileNote}
+use Rattle.dropin_merge.specs.unit_values.Values.{notes_of}
+use Rattle.dropin_merge.specs.unit_values.Lasting.{unit_last_text}
 use Rattle.site_table.specs.declared.accounts.User.{User}
 use Rattle.site_table.specs.Table.{Site, user_named, user_with}
 use Rattle.cred_settings.specs.declared.accounts.Identity.{Identity}

@@ -1,9 +1,9 @@
 -- Common writings of lists of capabilities (systemd.exec(5), CapabilityBoundingSet=).
 use Rattle.std.specs.Prelude.{◌≡◌, ℕ, Bool, false, List}
 use Rattle.std.specs.Str.{bytes_eq}
-use Rattle.unit_values.specs.declared.listed.Listed.{Listed}
-use Rattle.unit_values.specs.Listed.{is_reset}
-use Rattle.cap_sets.specs.Names.{name_of, in_lower_case}
+use Rattle.dropin_merge.specs.declared.unit_values.listed.Listed.{Listed}
+use Rattle.dropin_merge.specs.unit_values.Listed.{is_reset}
+use Rattle.site_table.specs.cap_sets.Names.{name_of, in_lower_case}
 
 -- a line of these words, with `~` before them or without
 pub record IsLine (inverted : Bool) (words : List (List ℕ)) (one : Listed) : Type 0 where

@@ -3,10 +3,10 @@ ghost use Rattle.std.specs.Prelude.{◌≡◌, IfOk};
 ghost use Rattle.cred_settings.specs.Bounding.{bounding_of, bounding_notes};
 
 use crate::cap_lists::cap_set_of_key;
-use cap_sets::CapSet;
 use dropin_merge::Resolved;
+use dropin_merge::unit_values::Said;
+use site_table::cap_sets::CapSet;
 use std::alloc::{AllocError, Global};
-use unit_values::Said;
 
 /// The capabilities that a service can come to at all, by CapabilityBoundingSet=; without it all.
 ///

@@ -2,10 +2,10 @@
 ghost use Rattle.std.specs.Prelude.{◌≡◌, ◌≤◌, ◌++◌, IfSome, OnOk, flat_map};
 ghost use Rattle.cred_settings.specs.CapNames.{cap_named, named_caps, word_notes};
 
-use cap_sets::CapSet;
+use dropin_merge::unit_grammar::{NoteCause, Text};
+use dropin_merge::unit_values::{FileNote, Value, note_value};
+use site_table::cap_sets::CapSet;
 use std::alloc::AllocError;
-use unit_grammar::{NoteCause, Text};
-use unit_values::{FileNote, Value, note_value};
 
 fn cap_named(word: &str) -> Option<u8>
     ensures number { result ≡ cap_named word.now }

@@ -2,9 +2,9 @@
 ghost use Rattle.std.specs.Prelude.{◌≡◌};
 ghost use Rattle.cred_settings.specs.declared.error.IdentityError.TheVariants.{Memory};
 
+use dropin_merge::unit_grammar::Text;
 use std::alloc::AllocError;
 use thiserror::Error;
-use unit_grammar::Text;
 
 /// Why the users and groups of a unit are refused.
 #[derive(Debug, Drop, Error)]

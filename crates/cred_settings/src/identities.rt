@@ -14,10 +14,10 @@ use crate::error::IdentityError;
 use crate::groups::gid_meant;
 use crate::users::account;
 use dropin_merge::Resolved;
+use dropin_merge::unit_grammar::Text;
+use dropin_merge::unit_values::{Said, Words, last_text_of_key, words_of_key};
 use site_table::SiteTable;
 use std::alloc::{AllocError, Global};
-use unit_grammar::Text;
-use unit_values::{Said, Words, last_text_of_key, words_of_key};
 
 // The refusal of a user.
 fn no_such_user(alloc: Global, word: &str) -> IdentityError

@@ -1,9 +1,9 @@
 //! Laws of users, groups and capabilities, each the contract of a function that does nothing.
 ghost use Rattle.std.specs.Prelude.{◌≡◌, ◌≢◌, ℕ, ◌≤◌, ◌++◌, [], ◌∷◌, List, Bool, true, false, Ok, Err};
 ghost use Rattle.std.specs.List.{list_any};
-ghost use Rattle.unit_values.specs.declared.listed.Listed.{Listed};
-ghost use Rattle.unit_values.specs.Listed.{is_reset};
-ghost use Rattle.cap_sets.specs.Sets.{has, none, all, union, minus};
+ghost use Rattle.dropin_merge.specs.declared.unit_values.listed.Listed.{Listed};
+ghost use Rattle.dropin_merge.specs.unit_values.Listed.{is_reset};
+ghost use Rattle.site_table.specs.cap_sets.Sets.{has, none, all, union, minus};
 ghost use Rattle.dropin_merge.specs.declared.resolved.Resolved.{Resolved};
 ghost use Rattle.site_table.specs.Table.{Site, IsSite};
 ghost use Rattle.cred_settings.specs.declared.accounts.Identity.{Identity};

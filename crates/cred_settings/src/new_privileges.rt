@@ -2,11 +2,11 @@
 ghost use Rattle.std.specs.Prelude.{◌≡◌, IfOk};
 ghost use Rattle.cred_settings.specs.NewPrivileges.{is_in_effect, is_set_by, new_privileges_notes};
 
-use cap_sets::CapSet;
 use dropin_merge::Resolved;
-use linux_numbers::capabilities::CAP_SYS_ADMIN;
+use dropin_merge::linux_numbers::capabilities::CAP_SYS_ADMIN;
+use dropin_merge::unit_values::{Said, flag_of_key};
+use site_table::cap_sets::CapSet;
 use std::alloc::{AllocError, Global};
-use unit_values::{Said, flag_of_key};
 
 /// Whether NoNewPrivileges= is in effect: where it is set, and where a filter is on for a service whose uid is not 0
 /// and whose ambient set lacks CAP_SYS_ADMIN.

@@ -5,25 +5,25 @@ use Rattle.std.specs.declared.alloc.AllocError.{AllocError}
 use Rattle.asked_service.proofs.Exact.{all_at}
 use Rattle.asked_service.specs.Asked.{IsBounded, is_open_by}
 use Rattle.asked_service.specs.declared.bounding.Bounded.{Bounded}
-use Rattle.command_answers.specs.Stops.{Prepares}
-use Rattle.command_answers.specs.declared.stop.Stop.{Stop}
-use Rattle.command_answers.specs.declared.stop.Stop.TheVariants as stop
-use Rattle.call_table.specs.Table as calls
-use Rattle.dropin_merge.specs.declared.resolved.Resolved.{Resolved}
-use Rattle.kernel_laws.specs.Bound.{is_open}
-use Rattle.kernel_laws.specs.Launched.{Launch, launch_of}
-use Rattle.kernel_laws.specs.Questions as asked
-use Rattle.kernel_model.specs.World.{World}
-use Rattle.kernel_ways.specs.Laws.{IsExact, IsServedWorld, QuestionsAreExact}
-use Rattle.launcher.specs.declared.launched.Launched.{Launched as Service}
-use Rattle.question_types.specs.declared.question.Question.{Question}
-use Rattle.site_table.specs.Table.{Site}
-use Rattle.started_units.specs.Starting.{StartsAs, first_start, given, start_refusals}
-use Rattle.unit_inputs.specs.Inputs.{Inputs}
-use Rattle.unit_launch.specs.declared.launching.UnitLaunch.{UnitLaunch}
-use Rattle.unit_launch.specs.declared.launching.UnitLaunch.TheVariants.{Launched}
-use Rattle.unit_lines.specs.Without.{without}
-use Rattle.unit_values.specs.declared.value.Place.{Place}
+use Rattle.asked_service.specs.unit_inputs.command_answers.Stops.{Prepares}
+use Rattle.asked_service.specs.unit_inputs.declared.command_answers.stop.Stop.{Stop}
+use Rattle.asked_service.specs.unit_inputs.declared.command_answers.stop.Stop.TheVariants as stop
+use Rattle.asked_service.specs.call_table.Table as calls
+use Rattle.asked_service.specs.dropin_merge.declared.resolved.Resolved.{Resolved}
+use Rattle.asked_service.specs.kernel_laws.Bound.{is_open}
+use Rattle.asked_service.specs.kernel_laws.Launched.{Launch, launch_of}
+use Rattle.asked_service.specs.kernel_laws.Questions as asked
+use Rattle.asked_service.specs.kernel_model.World.{World}
+use Rattle.asked_service.specs.kernel_ways.Laws.{IsExact, IsServedWorld, QuestionsAreExact}
+use Rattle.asked_service.specs.launcher.declared.launched.Launched.{Launched as Service}
+use Rattle.asked_service.specs.kernel_laws.declared.question_types.question.Question.{Question}
+use Rattle.asked_service.specs.site_table.Table.{Site}
+use Rattle.asked_service.specs.started_units.Starting.{StartsAs, first_start, given, start_refusals}
+use Rattle.asked_service.specs.unit_inputs.Inputs.{Inputs}
+use Rattle.asked_service.specs.declared.unit_launch.launching.UnitLaunch.{UnitLaunch}
+use Rattle.asked_service.specs.declared.unit_launch.launching.UnitLaunch.TheVariants.{Launched}
+use Rattle.deciding_lines.specs.unit_lines.Without.{without}
+use Rattle.asked_service.specs.dropin_merge.declared.unit_values.value.Place.{Place}
 use Rattle.deciding_lines.specs.Deciding.{IsLineOf, IsReasonAt, unit_refused as not_settled}
 use Rattle.deciding_lines.specs.Tried.{IsDeniedWithout, IsOpenWithout, IsRefusal, IsSaid, TellsOpen, Tried, denied, inputs_without, unit_refused}
 use Rattle.deciding_lines.specs.declared.reason.Reason.{Reason}

@@ -2,7 +2,7 @@
 use Rattle.std.proofs.Common.{◌≡◌, ◌∙◌, ◌⊎◌, inl, inr, ◌+◌, ◌≤◌, Bool, true, false, List, [], ◌∷◌, ◌++◌, Result, Ok, Err, Vec, Global, length, refl, sym, ap, subst, arith, append_assoc, append-nil, length-append}
 use Rattle.std.specs.Prelude.{IfOk}
 use Rattle.std.specs.declared.alloc.AllocError.{AllocError}
-use Rattle.unit_values.specs.declared.value.Place.{Place}
+use Rattle.asked_service.specs.dropin_merge.declared.unit_values.value.Place.{Place}
 use Rattle.deciding_lines.specs.Deciding.{AreDeciding}
 use Rattle.deciding_lines.specs.Searching.{EachMatters, IsHeld, IsRound, TriesBack}
 use Rattle.deciding_lines.specs.Tried.{IsOpenWithout, IsShutWithout, TellsOpen, Tried}

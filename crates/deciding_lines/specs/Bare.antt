@@ -1,10 +1,10 @@
 -- All assignments in force of a unit, but those that say what is launched (systemd.service(5), ExecStart=).
 use Rattle.std.specs.Prelude.{Bool, codes, if◌then◌else◌, List, [], ◌∷◌, flat_map}
 use Rattle.std.specs.Str.{bytes_eq}
-use Rattle.dropin_merge.specs.declared.resolved.Resolved.{Resolved}
-use Rattle.unit_lines.specs.Lines.{lines_of}
-use Rattle.unit_lines.specs.declared.line.UnitLine.{UnitLine}
-use Rattle.unit_values.specs.declared.value.Place.{Place}
+use Rattle.asked_service.specs.dropin_merge.declared.resolved.Resolved.{Resolved}
+use Rattle.deciding_lines.specs.unit_lines.Lines.{lines_of}
+use Rattle.deciding_lines.specs.declared.unit_lines.line.UnitLine.{UnitLine}
+use Rattle.asked_service.specs.dropin_merge.declared.unit_values.value.Place.{Place}
 
 abbrev pub is_command : UnitLine → Bool
 is_command line = bytes_eq line.key (codes "ExecStart")

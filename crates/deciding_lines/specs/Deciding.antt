@@ -1,13 +1,13 @@
 -- Which assignments in force of a unit deny a question.
 use Rattle.std.specs.Prelude.{◌≡◌, ℕ, List, ◌∷◌, ◌++◌, Some}
-use Rattle.command_answers.specs.declared.stop.Stop.{Stop}
-use Rattle.command_answers.specs.declared.stop.Stop.TheVariants as stop
-use Rattle.started_units.specs.Starting.{StartsAs, first_start}
-use Rattle.unit_inputs.specs.Inputs.{Inputs}
-use Rattle.unit_launch.specs.Refusals as launch
-use Rattle.unit_launch.specs.declared.launching.UnitLaunch.TheVariants.{Refused}
-use Rattle.unit_launch.specs.declared.refusal.LaunchRefusal.{LaunchRefusal}
-use Rattle.unit_values.specs.declared.value.Place.{Place}
+use Rattle.asked_service.specs.unit_inputs.declared.command_answers.stop.Stop.{Stop}
+use Rattle.asked_service.specs.unit_inputs.declared.command_answers.stop.Stop.TheVariants as stop
+use Rattle.asked_service.specs.started_units.Starting.{StartsAs, first_start}
+use Rattle.asked_service.specs.unit_inputs.Inputs.{Inputs}
+use Rattle.asked_service.specs.unit_launch.Refusals as launch
+use Rattle.asked_service.specs.declared.unit_launch.launching.UnitLaunch.TheVariants.{Refused}
+use Rattle.asked_service.specs.declared.unit_launch.refusal.LaunchRefusal.{LaunchRefusal}
+use Rattle.asked_service.specs.dropin_merge.declared.unit_values.value.Place.{Place}
 use Rattle.deciding_lines.specs.Bare.{bare_places}
 use Rattle.deciding_lines.specs.Tried.{IsDeniedWithout, IsOpenWithout, IsShutWithout, Tried, inputs_without}
 use Rattle.deciding_lines.specs.declared.reason.Reason.{Reason}

@@ -1,6 +1,6 @@
 -- A search for lines of which each matters.
 use Rattle.std.specs.Prelude.{◌≡◌, ◌⊎◌, ◌+◌, ◌≤◌, List, ◌∷◌, ◌++◌, length}
-use Rattle.unit_values.specs.declared.value.Place.{Place}
+use Rattle.asked_service.specs.dropin_merge.declared.unit_values.value.Place.{Place}
 use Rattle.deciding_lines.specs.Tried.{IsOpenWithout, IsShutWithout, Tried}
 
 -- a line that stands between others is put back, or stays away

@@ -2,10 +2,10 @@
 ghost use Rattle.std.specs.Prelude.{◌≡◌, ◌++◌, IfOk, OnOk};
 ghost use Rattle.deciding_lines.specs.Bare.{bare_places, is_command, place_unless_command, places_of};
 
-use dropin_merge::Resolved;
+use crate::unit_lines::{UnitLine, lines};
+use asked_service::dropin_merge::Resolved;
+use asked_service::dropin_merge::unit_values::Place;
 use std::alloc::{AllocError, Global};
-use unit_lines::{UnitLine, lines};
-use unit_values::Place;
 
 /// The key that says what is launched.
 const COMMAND: &str = "ExecStart";

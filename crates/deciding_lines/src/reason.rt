@@ -1,19 +1,19 @@
 //! Why a question is denied of a unit.
 ghost use Rattle.std.specs.Prelude.{IfOk};
-ghost use Rattle.started_units.specs.Starting.{StartsAs};
-ghost use Rattle.unit_launch.specs.declared.launching.UnitLaunch.TheVariants.{Launched as Started};
+ghost use Rattle.asked_service.specs.started_units.Starting.{StartsAs};
+ghost use Rattle.asked_service.specs.declared.unit_launch.launching.UnitLaunch.TheVariants.{Launched as Started};
 ghost use Rattle.deciding_lines.specs.Deciding.{IsLineOf, IsReason, IsReasonAt};
 ghost use Rattle.deciding_lines.specs.Tried.{CanBeTried, inputs_without, tried_of};
 
 use crate::bare::bare_places;
 use crate::trial::{Trial, is_open_of};
-use command_answers::Stop;
-use launcher::Launched;
-use started_units::start;
+use crate::unit_lines::without;
+use asked_service::dropin_merge::unit_values::Place;
+use asked_service::launcher::Launched;
+use asked_service::started_units::start;
+use asked_service::unit_inputs::command_answers::Stop;
+use asked_service::unit_launch::{UnitLaunch, refusal_line};
 use std::alloc::{AllocError, Global};
-use unit_launch::{UnitLaunch, refusal_line};
-use unit_lines::without;
-use unit_values::Place;
 
 /// What denies a question that is denied.
 #[derive(Drop)]

@@ -5,8 +5,8 @@ ghost use Rattle.deciding_lines.specs.Searching.{IsRound, TriesBack};
 ghost use Rattle.deciding_lines.specs.Tried.{CanBeTried, IsOpenWithout, tried_of};
 
 use crate::trial::Trial;
+use asked_service::dropin_merge::unit_values::Place;
 use std::alloc::{AllocError, Global};
-use unit_values::Place;
 
 // Places, one behind the other.
 fn joined(alloc: Global, before: &[Place], behind: &[Place]) -> Result<Vec<Place>, AllocError>

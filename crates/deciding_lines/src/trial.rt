@@ -1,23 +1,23 @@
 //! A unit without some of its lines, asked one question.
 ghost use Rattle.std.specs.Prelude.{◌≡◌, Contains, IfOk, false};
-ghost use Rattle.kernel_laws.specs.Questions.{questions};
-ghost use Rattle.kernel_ways.specs.Laws.{IsServedWorld};
-ghost use Rattle.started_units.specs.Starting.{StartsAs};
+ghost use Rattle.asked_service.specs.kernel_laws.Questions.{questions};
+ghost use Rattle.asked_service.specs.kernel_ways.Laws.{IsServedWorld};
+ghost use Rattle.asked_service.specs.started_units.Starting.{StartsAs};
 ghost use Rattle.deciding_lines.specs.Tried.{CanBeTried, IsRefusal, IsSaid, TellsOpen, inputs_without, tried_of};
 
+use crate::unit_lines::without;
 use asked_service::bound;
-use call_table::CallTable;
-use command_answers::Stop;
-use dropin_merge::Resolved;
-use kernel_ways::openness;
-use launcher::Launched;
-use question_types::Question;
-use site_table::SiteTable;
-use started_units::start;
+use asked_service::call_table::CallTable;
+use asked_service::dropin_merge::Resolved;
+use asked_service::dropin_merge::unit_values::Place;
+use asked_service::kernel_laws::question_types::Question;
+use asked_service::kernel_ways::openness;
+use asked_service::launcher::Launched;
+use asked_service::site_table::SiteTable;
+use asked_service::started_units::start;
+use asked_service::unit_inputs::command_answers::Stop;
+use asked_service::unit_launch::UnitLaunch;
 use std::alloc::{AllocError, Global};
-use unit_launch::UnitLaunch;
-use unit_lines::without;
-use unit_values::Place;
 
 /// What sets of lines are tried on, and what is asked.
 #[derive(Drop)]

@@ -2,20 +2,20 @@
 use Rattle.std.proofs.Common.{◌≡◌, ℕ, ◌≤◌, Bool, true, false, cond, Option, Some, None, Result, Ok, Err, List, length, refl, ap, ◌∙◌, subst}
 use Rattle.std.specs.Prelude.{nat_le}
 use Rattle.std.proofs.lemmas.Bool.{leb-true}
-use Rattle.host_io.specs.Files.{Files, bytes_at}
-use Rattle.call_table.specs.Reading.{table_of}
-use Rattle.call_table.specs.Table.{Table}
-use Rattle.call_table.specs.declared.causes.CallsError.{CallsError}
-use Rattle.command_answers.specs.ReadFiles.{Content, Holds, IsMissing, IsTooLarge, content_of, content_at, table_path}
-use Rattle.command_answers.specs.Stops.{and_then, or_line}
-use Rattle.dropin_merge.specs.declared.resolved.Resolved.{Resolved}
-use Rattle.site_table.specs.Table.{Site}
+use Rattle.replay_command.specs.host_io.Files.{Files, bytes_at}
+use Rattle.replay_command.specs.call_table.Reading.{table_of}
+use Rattle.replay_command.specs.call_table.Table.{Table}
+use Rattle.replay_command.specs.call_table.declared.causes.CallsError.{CallsError}
+use Rattle.replay_command.specs.unit_inputs.command_answers.ReadFiles.{Content, Holds, IsMissing, IsTooLarge, content_of, content_at, table_path}
+use Rattle.replay_command.specs.unit_inputs.command_answers.Stops.{and_then, or_line}
+use Rattle.trace_profile.specs.dropin_merge.declared.resolved.Resolved.{Resolved}
+use Rattle.replay_command.specs.site_table.Table.{Site}
 use Rattle.trace_profile.specs.PlainNames.{HasPlainNames}
-use Rattle.unit_inputs.specs.CallsRefusals.{calls_in, calls_line, calls_said}
-use Rattle.unit_inputs.specs.FileRefusals.{bytes_held}
-use Rattle.unit_inputs.specs.Inputs.{Inputs, all_three, inputs_of}
-use Rattle.unit_inputs.specs.SiteRefusals.{site_in}
-use Rattle.unit_inputs.specs.UnitRefusals.{unit_in}
+use Rattle.replay_command.specs.unit_inputs.CallsRefusals.{calls_in, calls_line, calls_said}
+use Rattle.replay_command.specs.unit_inputs.FileRefusals.{bytes_held}
+use Rattle.replay_command.specs.unit_inputs.Inputs.{Inputs, all_three, inputs_of}
+use Rattle.replay_command.specs.unit_inputs.SiteRefusals.{site_in}
+use Rattle.replay_command.specs.unit_inputs.UnitRefusals.{unit_in}
 use Rattle.derive_command.proofs.PlainTables.{table_is_plain}
 
 -- a table of bytes that are few

@@ -8,17 +8,17 @@ use Rattle.std.specs.Str.Parse.{digits_value}
 use Rattle.std.proofs.lemmas.Bool.Decides.{nat_tests}
 use Rattle.std.proofs.lemmas.List.Elements.{recursion_from_All}
 use Rattle.std.proofs.lemmas.List.Quantifiers.{position-Some}
-use Rattle.line_text.specs.Lines.{Line, is_text, lines_of}
-use Rattle.call_table.specs.Kinds.{Kind, abi, call, family, group, malformed}
-use Rattle.call_table.specs.Lookups.{has_name, place_named}
-use Rattle.call_table.specs.Names.{is_name}
-use Rattle.call_table.specs.Numbers.{arch_of, is_lower_hex}
-use Rattle.call_table.specs.Reading.{Head, line_kind, table_behind, fault_of, missing_call, unless_missing, unless_fault, table_of_rest, with_arch, with_abi, table_from, is_version, table_of_lines, table_of}
-use Rattle.call_table.specs.Table.{Table, every_call}
-use Rattle.call_table.specs.declared.listed.CallLine.{CallLine}
-use Rattle.call_table.specs.declared.causes.CallsError.{CallsError}
-use Rattle.call_table.specs.declared.causes.CallsError.TheVariants.{NotText}
-use Rattle.call_table.proofs.Places.{some_line}
+use Rattle.replay_command.specs.text_forms.line_text.Lines.{Line, is_text, lines_of}
+use Rattle.replay_command.specs.call_table.Kinds.{Kind, abi, call, family, group, malformed}
+use Rattle.replay_command.specs.call_table.Lookups.{has_name, place_named}
+use Rattle.replay_command.specs.call_table.Names.{is_name}
+use Rattle.replay_command.specs.call_table.Numbers.{arch_of, is_lower_hex}
+use Rattle.replay_command.specs.call_table.Reading.{Head, line_kind, table_behind, fault_of, missing_call, unless_missing, unless_fault, table_of_rest, with_arch, with_abi, table_from, is_version, table_of_lines, table_of}
+use Rattle.replay_command.specs.call_table.Table.{Table, every_call}
+use Rattle.replay_command.specs.call_table.declared.listed.CallLine.{CallLine}
+use Rattle.replay_command.specs.call_table.declared.causes.CallsError.{CallsError}
+use Rattle.replay_command.specs.call_table.declared.causes.CallsError.TheVariants.{NotText}
+use Rattle.replay_command.proofs.CallTable.Places.{some_line}
 use Rattle.trace_profile.specs.Extended.{name_at, is_first_line}
 use Rattle.trace_profile.specs.Names.{AreNames}
 use Rattle.trace_profile.specs.PlainNames.{HasPlainNames}

@@ -1,55 +1,50 @@
 -- What is ready, and the line of a refusal, are what the definitions admit.
-use Rattle.std.proofs.Common.{◌≡◌, ◌∙◌, ℕ, Option, Some, None, List, [], ◌∷◌, Result, Ok, Err, Vec, Global, refl, sym, ap, subst, inl, inr}
-use Rattle.std.specs.Prelude.{◌⊎◌, IfOk, IfSome, IsTrue, option_map}
-use Rattle.std.specs.declared.alloc.AllocError.{AllocError}
-use Rattle.host_io.specs.Files.{Files}
-use Rattle.call_table.specs.Table.{Table}
-use Rattle.kernel_calls.specs.declared.call.Call.{Call}
-use Rattle.command_answers.specs.Endings.{is_answer}
-use Rattle.command_answers.specs.Laws.{AcceptsFiles, GoTogether, IsAdmitted, laws_over}
-use Rattle.command_answers.specs.Stops.{IsAnswer, Prepares, first_refusal, stop_of}
-use Rattle.command_answers.specs.declared.ending.Ending.{Ending}
-use Rattle.command_answers.specs.declared.ending.Ending.TheVariants.{Done, LaunchRefused}
-use Rattle.command_answers.specs.declared.stop.Stop.{Stop}
-use Rattle.command_answers.specs.declared.stop.Stop.TheVariants as stop
-use Rattle.command_answers.proofs.FileCommands.{go_together, ready_is_admitted, stop_is_admitted}
-use Rattle.command_answers.proofs.Refusing.{stops_as}
-use Rattle.exec_settings.specs.Mounts.{unit_mentions}
-use Rattle.exec_settings.specs.Refusals.{refusal_of}
-use Rattle.exec_settings.specs.declared.errors.SettingsError.{SettingsError}
-use Rattle.launched_units.specs.Launching.{FitsMentions, IsRefusedUnit, RefusesPath}
-use Rattle.mount_plan.specs.Answers.{Plans}
-use Rattle.mount_plan.specs.Host.{host_of}
-use Rattle.kern_mounts.specs.declared.step.MountStep.{MountStep}
-use Rattle.mount_plan.specs.declared.error.PlanError.{PlanError}
-use Rattle.plan_command.specs.Refusals.{error_line}
+use Rattle.std.proofs.Common.{◌≡◌, ◌∙◌, ℕ, Option, Some, None, List, ◌∷◌, Result, Ok, Err, refl, sym, ap, subst, inl, inr}
+use Rattle.std.specs.Prelude.{◌⊎◌, IfSome, IsTrue, option_map}
+use Rattle.replay_command.specs.host_io.Files.{Files}
+use Rattle.replay_command.specs.call_table.Table.{Table}
+use Rattle.replay_command.specs.kernel_model.declared.kernel_calls.call.Call.{Call}
+use Rattle.replay_command.specs.unit_inputs.command_answers.Endings.{is_answer}
+use Rattle.replay_command.specs.unit_inputs.command_answers.Laws.{AcceptsFiles, GoTogether, IsAdmitted, laws_over}
+use Rattle.replay_command.specs.unit_inputs.command_answers.Stops.{IsAnswer, Prepares, first_refusal}
+use Rattle.replay_command.specs.unit_inputs.declared.command_answers.ending.Ending.{Ending}
+use Rattle.replay_command.specs.unit_inputs.declared.command_answers.ending.Ending.TheVariants.{Done, LaunchRefused}
+use Rattle.replay_command.specs.unit_inputs.declared.command_answers.stop.Stop.{Stop}
+use Rattle.replay_command.specs.unit_inputs.declared.command_answers.stop.Stop.TheVariants as stop
+use Rattle.replay_command.proofs.UnitInputs.FileCommands.{go_together, ready_is_admitted, stop_is_admitted}
+use Rattle.replay_command.proofs.UnitInputs.Refusing.{stops_as}
+use Rattle.replay_command.specs.exec_settings.Mounts.{unit_mentions}
+use Rattle.replay_command.specs.exec_settings.Refusals.{refusal_of}
+use Rattle.replay_command.specs.exec_settings.declared.errors.SettingsError.{SettingsError}
+use Rattle.replay_command.specs.asked_service.launched_units.Launching.{FitsMentions, IsRefusedUnit, RefusesPath}
+use Rattle.replay_command.specs.mount_plan.Answers.{Plans}
+use Rattle.replay_command.specs.mount_plan.Host.{host_of}
+use Rattle.replay_command.specs.kern_mounts.declared.step.MountStep.{MountStep}
+use Rattle.replay_command.specs.mount_plan.declared.error.PlanError.{PlanError}
+use Rattle.replay_command.specs.plan_command.Refusals.{error_line}
 use Rattle.replay_command.specs.Scripts.{script_in}
-use Rattle.started_units.specs.Starting.{start_refusals}
-use Rattle.started_units.proofs.Started as started
+use Rattle.replay_command.specs.asked_service.started_units.Starting.{start_refusals}
+use Rattle.replay_command.proofs.AskedService.Started as started
 use Rattle.trace_profile.specs.Derived.{IsDerived, IsOnlyOne}
 use Rattle.trace_profile.specs.PlainNames.{HasPlainNames}
 use Rattle.trace_profile.specs.Extended.{drop_in_text, open_unit}
 use Rattle.trace_profile.specs.Scripts.{first_seccomp}
-use Rattle.unit_inputs.specs.Inputs.{Inputs, input_refusals, inputs_of, inputs_view}
-use Rattle.unit_inputs.specs.declared.inputs.UnitInputs.{UnitInputs}
-use Rattle.unit_launch.specs.Refusals.{refusal_line}
-use Rattle.unit_launch.specs.declared.refusal.LaunchRefusal.{LaunchRefusal}
-use Rattle.unit_inputs.specs.SettingsRefusals.{settings_line}
-use Rattle.unit_inputs.specs.Settled.{refusals_by}
-use Rattle.unit_inputs.proofs.Steps as steps
-use Rattle.unit_inputs.proofs.Steps.{AreRead, refusals_with}
-use Rattle.command_answers.specs.ReadyTexts.{ending_of, text_of}
+use Rattle.replay_command.specs.unit_inputs.Inputs.{Inputs, input_refusals, inputs_of, inputs_view}
+use Rattle.replay_command.specs.unit_inputs.declared.inputs.UnitInputs.{UnitInputs}
+use Rattle.replay_command.specs.asked_service.unit_launch.Refusals.{refusal_line}
+use Rattle.replay_command.specs.asked_service.declared.unit_launch.refusal.LaunchRefusal.{LaunchRefusal}
+use Rattle.replay_command.specs.unit_inputs.SettingsRefusals.{settings_line}
+use Rattle.replay_command.specs.unit_inputs.Settled.{refusals_by}
+use Rattle.replay_command.proofs.UnitInputs.Steps as steps
+use Rattle.replay_command.proofs.UnitInputs.Steps.{AreRead, refusals_with}
+use Rattle.replay_command.specs.unit_inputs.command_answers.ReadyTexts.{ending_of, text_of}
 use Rattle.derive_command.specs.Prints.{PrintsAnswer, PrintsDerived, derived, refused, derive_laws}
 use Rattle.derive_command.specs.Refusals.{derive_refusals, opened, refusals_behind, refusals_behind_script, refusals_by_script, seccomp_line}
 use Rattle.derive_command.specs.Telling.{AnswersCalls, allowed, not_launched}
-use Rattle.command_answers.specs.declared.ready_text.ReadyText.{ReadyText}
+use Rattle.replay_command.specs.unit_inputs.declared.command_answers.ready_text.ReadyText.{ReadyText}
 use Rattle.derive_command.proofs.PlainInputs.{inputs_are_plain}
 
 -- ---- behind the script
--- the line of the first refusal stops
-pub stops_with : {T : Type 0} (P : T → Type 0) (refusals : List (Option (List ℕ))) (line : Result (Vec ℕ Global) AllocError) (text : List ℕ) → first_refusal refusals ≡ Some text → IfOk line (λ l. l.items ≡ text) → Prepares P refusals (Err (stop_of line))
-stops_with P refusals (Err none) text is said = tt
-stops_with P refusals (Ok line) text is said = is ∙ ap Some (sym said)
 
 module _ (unit path : List ℕ) (inputs : Inputs) (script : List Call) where
   abbrev pub opened_settings : Option SettingsError

@@ -2,8 +2,8 @@
 use Rattle.std.proofs.Common.{◌≡◌, ℕ, List, Result, Ok, Err, Vec, Global, sym, subst}
 use Rattle.std.specs.Prelude.{IfOk}
 use Rattle.std.specs.declared.alloc.AllocError.{AllocError}
-use Rattle.command_answers.specs.Stops.{stop_of}
-use Rattle.command_answers.specs.declared.stop.Stop.{Stop}
+use Rattle.replay_command.specs.unit_inputs.command_answers.Stops.{stop_of}
+use Rattle.replay_command.specs.unit_inputs.declared.command_answers.stop.Stop.{Stop}
 use Rattle.derive_command.specs.Telling.{StopsWith}
 
 -- a stop is that of its line

@@ -1,25 +1,25 @@
 -- What is told, and what that answers.
 use Rattle.std.proofs.Common.{◌≡◌, ◌∙◌, ℕ, List, Some, Result, Ok, Err, sym, ap}
 use Rattle.std.specs.Prelude.{IsErrOf}
-use Rattle.call_table.specs.Table.{Table}
-use Rattle.dropin_merge.specs.declared.resolved.Resolved.{Resolved}
-use Rattle.kernel_calls.specs.declared.call.Call.{Call}
-use Rattle.command_answers.specs.Stops.{Prepares, first_refusal}
-use Rattle.command_answers.specs.declared.ending.Ending.{Ending}
-use Rattle.command_answers.specs.declared.ending.Ending.TheVariants.{Done, LaunchRefused}
-use Rattle.command_answers.specs.declared.stop.Stop.{Stop}
-use Rattle.command_answers.specs.declared.stop.Stop.TheVariants as stop
-use Rattle.site_table.specs.Table.{Site}
+use Rattle.replay_command.specs.call_table.Table.{Table}
+use Rattle.trace_profile.specs.dropin_merge.declared.resolved.Resolved.{Resolved}
+use Rattle.replay_command.specs.kernel_model.declared.kernel_calls.call.Call.{Call}
+use Rattle.replay_command.specs.unit_inputs.command_answers.Stops.{Prepares, first_refusal}
+use Rattle.replay_command.specs.unit_inputs.declared.command_answers.ending.Ending.{Ending}
+use Rattle.replay_command.specs.unit_inputs.declared.command_answers.ending.Ending.TheVariants.{Done, LaunchRefused}
+use Rattle.replay_command.specs.unit_inputs.declared.command_answers.stop.Stop.{Stop}
+use Rattle.replay_command.specs.unit_inputs.declared.command_answers.stop.Stop.TheVariants as stop
+use Rattle.replay_command.specs.site_table.Table.{Site}
 use Rattle.trace_profile.specs.Derived.{Derives}
 use Rattle.trace_profile.specs.Extended.{drop_in_text}
 use Rattle.trace_profile.specs.declared.derived.DeriveError.{DeriveError}
 use Rattle.trace_profile.specs.declared.derived.DeriveError.TheVariants.{Seccomp, Settings, Plan, Launch, Memory}
 use Rattle.trace_profile.specs.declared.derived.Derived.{Derived}
-use Rattle.started_units.specs.Starting.{given}
-use Rattle.command_answers.specs.ReadyTexts.{ending_of, text_of}
+use Rattle.replay_command.specs.asked_service.started_units.Starting.{given}
+use Rattle.replay_command.specs.unit_inputs.command_answers.ReadyTexts.{ending_of, text_of}
 use Rattle.derive_command.specs.Refusals.{refusals_behind_script}
 use Rattle.derive_command.specs.Telling.{AnswersCalls, IsOutOfMemory, IsReady, StopsWith, Tells}
-use Rattle.command_answers.specs.declared.ready_text.ReadyText.{ReadyText}
+use Rattle.replay_command.specs.unit_inputs.declared.command_answers.ready_text.ReadyText.{ReadyText}
 use Rattle.derive_command.proofs.Prepared.{answers_derived, answers_refused, at_paths, at_seccomp, at_settings}
 
 -- nothing was read

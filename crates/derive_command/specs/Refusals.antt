@@ -1,18 +1,18 @@
 -- What `derive` refuses, in the order of refusals.
 use Rattle.std.specs.Prelude.{ℕ, List, [], ◌∷◌, ◌++◌, codes, Option, Some, Result, Ok, Err, option_map}
 use Rattle.std.specs.Fmt.{decimal}
-use Rattle.host_io.specs.Files.{Files}
-use Rattle.call_table.specs.Table.{Table}
-use Rattle.dropin_merge.specs.declared.resolved.Resolved.{Resolved}
-use Rattle.kernel_calls.specs.declared.call.Call.{Call}
-use Rattle.command_answers.specs.Refusals.{refused_line}
+use Rattle.replay_command.specs.host_io.Files.{Files}
+use Rattle.replay_command.specs.call_table.Table.{Table}
+use Rattle.trace_profile.specs.dropin_merge.declared.resolved.Resolved.{Resolved}
+use Rattle.replay_command.specs.kernel_model.declared.kernel_calls.call.Call.{Call}
+use Rattle.replay_command.specs.unit_inputs.command_answers.Refusals.{refused_line}
 use Rattle.replay_command.specs.Scripts.{script_in}
-use Rattle.site_table.specs.Table.{Site}
-use Rattle.started_units.specs.Starting.{start_refusals}
+use Rattle.replay_command.specs.site_table.Table.{Site}
+use Rattle.replay_command.specs.asked_service.started_units.Starting.{start_refusals}
 use Rattle.trace_profile.specs.Extended.{open_unit}
 use Rattle.trace_profile.specs.Scripts.{first_seccomp}
-use Rattle.unit_inputs.specs.Inputs.{Inputs, input_refusals, inputs_of}
-use Rattle.unit_inputs.specs.Settled.{refusals_by}
+use Rattle.replay_command.specs.unit_inputs.Inputs.{Inputs, input_refusals, inputs_of}
+use Rattle.replay_command.specs.unit_inputs.Settled.{refusals_by}
 
 -- the first call, from 1, that asks to push a program, seccomp(2)
 abbrev pub seccomp_cause : ℕ → List ℕ

@@ -1,23 +1,23 @@
 -- What is told of a list that is derived, and of why none is; want of memory tells nothing.
 use Rattle.std.specs.Prelude.{◌≡◌, ℕ, List, Result, Ok, Err}
-use Rattle.kernel_calls.specs.declared.call.Call.{Call}
-use Rattle.command_answers.specs.declared.ending.Ending.{Ending}
-use Rattle.command_answers.specs.declared.ending.Ending.TheVariants.{Done, LaunchRefused}
-use Rattle.command_answers.specs.declared.stop.Stop.{Stop}
-use Rattle.command_answers.specs.declared.stop.Stop.TheVariants as stop
-use Rattle.launched_units.specs.Launching.{IsRefusedUnit}
-use Rattle.plan_command.specs.Refusals.{error_line}
+use Rattle.replay_command.specs.kernel_model.declared.kernel_calls.call.Call.{Call}
+use Rattle.replay_command.specs.unit_inputs.declared.command_answers.ending.Ending.{Ending}
+use Rattle.replay_command.specs.unit_inputs.declared.command_answers.ending.Ending.TheVariants.{Done, LaunchRefused}
+use Rattle.replay_command.specs.unit_inputs.declared.command_answers.stop.Stop.{Stop}
+use Rattle.replay_command.specs.unit_inputs.declared.command_answers.stop.Stop.TheVariants as stop
+use Rattle.replay_command.specs.asked_service.launched_units.Launching.{IsRefusedUnit}
+use Rattle.replay_command.specs.plan_command.Refusals.{error_line}
 use Rattle.trace_profile.specs.Derived.{IsDerived, IsOnlyOne}
 use Rattle.trace_profile.specs.Extended.{drop_in_text, open_unit}
 use Rattle.trace_profile.specs.PlainNames.{HasPlainNames}
 use Rattle.trace_profile.specs.declared.derived.DeriveError.{DeriveError}
 use Rattle.trace_profile.specs.declared.derived.DeriveError.TheVariants.{Seccomp, Settings, Plan, Launch, Memory}
-use Rattle.unit_inputs.specs.Inputs.{Inputs}
-use Rattle.unit_launch.specs.Refusals.{refusal_line}
-use Rattle.unit_launch.specs.declared.refusal.LaunchRefusal.{LaunchRefusal}
-use Rattle.unit_inputs.specs.SettingsRefusals.{settings_line}
+use Rattle.replay_command.specs.unit_inputs.Inputs.{Inputs}
+use Rattle.replay_command.specs.asked_service.unit_launch.Refusals.{refusal_line}
+use Rattle.replay_command.specs.asked_service.declared.unit_launch.refusal.LaunchRefusal.{LaunchRefusal}
+use Rattle.replay_command.specs.unit_inputs.SettingsRefusals.{settings_line}
 use Rattle.derive_command.specs.Refusals.{seccomp_line}
-use Rattle.command_answers.specs.declared.ready_text.ReadyText.{ReadyText}
+use Rattle.replay_command.specs.unit_inputs.declared.command_answers.ready_text.ReadyText.{ReadyText}
 
 -- a refusal with this line
 abbrev pub StopsWith : List ℕ → Result ReadyText Stop → Type 0

@@ -1,26 +1,26 @@
 //! What `derive` prints.
 
 ghost use Rattle.std.specs.Prelude.{IsErrOf};
-ghost use Rattle.command_answers.specs.Stops.{Prepares};
-ghost use Rattle.unit_launch.specs.Refusals.{refusal_line};
+ghost use Rattle.replay_command.specs.unit_inputs.command_answers.Stops.{Prepares};
+ghost use Rattle.replay_command.specs.asked_service.unit_launch.Refusals.{refusal_line};
 ghost use Rattle.trace_profile.specs.Extended.{drop_in_text};
-ghost use Rattle.command_answers.specs.declared.ending.Ending.TheVariants.{Done, LaunchRefused};
-ghost use Rattle.started_units.specs.Starting.{given};
+ghost use Rattle.replay_command.specs.unit_inputs.declared.command_answers.ending.Ending.TheVariants.{Done, LaunchRefused};
+ghost use Rattle.replay_command.specs.asked_service.started_units.Starting.{given};
 ghost use Rattle.derive_command.specs.Telling.{AnswersCalls, IsReady, Tells};
-ghost use Rattle.command_answers.specs.ReadyTexts.{ending_of, text_of};
+ghost use Rattle.replay_command.specs.unit_inputs.command_answers.ReadyTexts.{ending_of, text_of};
 ghost use Rattle.derive_command.specs.Refusals.{refusals_behind_script};
 
 use crate::refusals::seccomp_line;
-use call_table::CallTable;
-use command_answers::{Ending, ReadyText, Stop, refuse};
-use dropin_merge::Resolved;
-use plan_command::plan_line;
-use script_text::Script;
-use site_table::SiteTable;
+use replay_command::asked_service::unit_launch::{LaunchRefusal, refusal_line};
+use replay_command::call_table::CallTable;
+use replay_command::plan_command::plan_line;
+use replay_command::script_text::Script;
+use replay_command::site_table::SiteTable;
+use replay_command::unit_inputs::command_answers::{Ending, ReadyText, Stop, refuse};
+use replay_command::unit_inputs::settings_line;
 use std::alloc::Global;
+use trace_profile::dropin_merge::Resolved;
 use trace_profile::{DeriveError, derive, drop_in};
-use unit_inputs::settings_line;
-use unit_launch::{LaunchRefusal, refusal_line};
 
 // The drop-in that allows these names.
 fn allow_names(alloc: Global, calls: &CallTable, names: &[u32]) -> Result<ReadyText, Stop>

@@ -1,18 +1,18 @@
 //! The command `derive`, the name of a unit and the path of a script.
 
-ghost use Rattle.command_answers.specs.Asking.{course};
-ghost use Rattle.command_answers.specs.Laws.{IsAdmitted, laws_over};
-ghost use Rattle.unit_inputs.specs.Asking.{AsksInOrder, asks_with_file};
-ghost use Rattle.unit_inputs.specs.ReadsFor.{ReadsFor};
-ghost use Rattle.command_answers.specs.ReadyTexts.{ending_of, text_of};
+ghost use Rattle.replay_command.specs.unit_inputs.command_answers.Asking.{course};
+ghost use Rattle.replay_command.specs.unit_inputs.command_answers.Laws.{IsAdmitted, laws_over};
+ghost use Rattle.replay_command.specs.unit_inputs.Asking.{AsksInOrder, asks_with_file};
+ghost use Rattle.replay_command.specs.unit_inputs.ReadsFor.{ReadsFor};
+ghost use Rattle.replay_command.specs.unit_inputs.command_answers.ReadyTexts.{ending_of, text_of};
 ghost use Rattle.derive_command.specs.Prints.{derive_laws};
 
 use crate::answering::answer;
-use command_answers::{ReadyText, Stop};
-use host_io::Shelf;
+use replay_command::host_io::Shelf;
 use replay_command::read_script;
+use replay_command::unit_inputs::command_answers::{ReadyText, Stop};
+use replay_command::unit_inputs::read_inputs;
 use std::alloc::Global;
-use unit_inputs::read_inputs;
 
 /// Prepares `derive`, the name of a unit and the path of a script: reads the unit, calls.txt, site.toml and the script, finds the
 /// first refusal of them, of the script's calls, and of the unit that allows every call, and derives the list.

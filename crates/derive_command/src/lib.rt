@@ -11,3 +11,5 @@ mod command;
 mod refusals;
 
 pub use command::prepare;
+pub use replay_command;
+pub use replay_command::{asked_service, host_io, plan_command, text_forms, unit_inputs};

@@ -3,7 +3,7 @@
 ghost use Rattle.std.specs.Prelude.{◌≡◌, IfOk};
 ghost use Rattle.derive_command.specs.Refusals.{seccomp_cause, seccomp_line};
 
-use command_answers::refused_line;
+use replay_command::unit_inputs::command_answers::refused_line;
 use std::alloc::{AllocError, Global};
 
 fn seccomp_cause(alloc: Global, number: u64) -> Result<Vec<u8>, AllocError>

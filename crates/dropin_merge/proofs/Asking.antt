@@ -1,20 +1,15 @@
 -- The calls by which the parts of a unit are read.
-use Rattle.std.proofs.Common.{◌≡◌, ℕ, ◌+◌, ◌<◌, ◌≤◌, Bool, true, false, cond, List, [], ◌∷◌, ◌++◌, length, drop, get_or, Option, Some, None, Result, Ok, Err, map, Vec, String, Global, refl, sym, ap, ◌∙◌, subst}
-use Rattle.std.specs.Prelude.{◌||◌, IfSome, IsErrOf, is_some, string_bytes, unwrap_or, find}
+use Rattle.std.proofs.Common.{◌≡◌, ℕ, ◌+◌, ◌<◌, Bool, true, false, cond, List, [], ◌∷◌, length, drop, get_or, Option, Some, None, Result, Ok, Err, map, Vec, String, Global, refl, sym, ap, ◌∙◌, subst}
+use Rattle.std.specs.Prelude.{IfSome, IsErrOf, is_some, string_bytes, unwrap_or}
 use Rattle.host_io.specs.declared.reading.ShelfError.{ShelfError}
-use Rattle.std.specs.List.{list_any}
-use Rattle.std.specs.BTreeMap.{BTreeMap}
-use Rattle.std.proofs.lemmas.List.{drop_all}
-use Rattle.host_io.specs.Calls.{Ask, ShelfCall, call_of, course_of, Course, Whole, Faulted, Cut, Went, NamesIn, unless_refused, up_to}
+use Rattle.host_io.specs.Calls.{Ask, ShelfCall, call_of, course_of, Course, Whole, Cut, Went, NamesIn, up_to}
 use Rattle.host_io.specs.Files.{Files, bytes_at, names_in}
-use Rattle.host_io.proofs.Calling.{Going, all_told, goes_on, going_ends, if_told, one_call, stops_there, told_behind, told_short, went_as, went_behind, went_cut, went_nowhere, went_short}
-use Rattle.unit_names.specs.Names.{Name}
+use Rattle.host_io.proofs.Calling.{Going, goes_on, one_call, stops_there, went_cut}
 use Rattle.dropin_merge.specs.Answers.{IsUnlessFailed}
-use Rattle.dropin_merge.specs.Asking.{behind_fragment, course, dropin_asks, folder_asks, fragment_asks, is_refusal, is_refused, unit_asks, unit_file}
-use Rattle.dropin_merge.specs.Judging.{content, fragment_judged, is_empty, judged}
-use Rattle.dropin_merge.specs.Places.{dropin_places, fragment_paths}
-use Rattle.dropin_merge.specs.Resolving.{fragment_of, fragment_read, is_crowded, is_overfull, winning_paths}
-use Rattle.dropin_merge.specs.Steps.{CollectsWinners, ListsPlace, file_at, says}
+use Rattle.dropin_merge.specs.Asking.{course, dropin_asks, folder_asks, fragment_asks, is_refusal, is_refused, unit_file}
+use Rattle.dropin_merge.specs.Judging.{fragment_judged, is_empty, judged}
+use Rattle.dropin_merge.specs.Resolving.{fragment_of, fragment_read, is_overfull}
+use Rattle.dropin_merge.specs.Steps.{ListsPlace, file_at, says}
 use Rattle.dropin_merge.specs.Winners.{is_there}
 use Rattle.dropin_merge.specs.declared.resolved.UnitFile.{UnitFile}
 use Rattle.dropin_merge.specs.declared.files.Found.{Found}
@@ -110,10 +105,6 @@ module _ {S : Type 0} (asks : S → ShelfCall → S → Type 0) (is_last : List 
       stops_there asks is_last ask a b c whole text (map string_bytes (drop (i + 1) xs)) how last
       (subst (λ left. Going asks a b whole (map ask (up_to is_last left))) (left_more xs i x text h is said) going) made
 
-pub texts_end : {S : Type 0} (asks : S → ShelfCall → S → Type 0) (is_last : List ℕ → Bool) (ask : List ℕ → Ask) (whole : List Ask) (a b : S) (xs : List (String Global)) (i : ℕ) → length xs ≤ i
-    → Going asks a b whole (map ask (up_to is_last (map string_bytes (drop i xs)))) → Went asks a b whole Whole
-texts_end asks is_last ask whole a b xs i h going = going_ends asks a b whole (subst (λ left. Going asks a b whole (map ask (up_to is_last (map string_bytes left)))) (drop_all i xs h) going)
-
 -- ---- the loops
 module _ {S : Type 0} (asks : S → ShelfCall → S → Type 0) (start told : Option Files) (same : told ≡ start) (a b c : S) (xs : List (String Global)) (i : ℕ) (x : String Global) (text : List ℕ) (h : i < length xs) (is : x ≡ get_or xs i x) (said : text ≡ string_bytes x) where
   -- a path at which no fragment is
@@ -203,14 +194,6 @@ module _ {S : Type 0} (asks : S → ShelfCall → S → Type 0) (start told : Op
       (text_stops asks (is_overfull files) NamesIn (folder_asks files (map string_bytes xs)) a b c xs i x text (course {T = Vec (String Global) Global} (Err e)) h is said
       (refused_is_overfull files text e (told_from (λ files. ListsPlace (names_in files text) (Err e)) told listed files (same ∙ known)))
       (going files known) made))
-
--- the end of a loop
-pub all_asked : {S : Type 0} (asks : S → ShelfCall → S → Type 0) (start : Option Files) (is_last : Files → List ℕ → Bool) (ask : List ℕ → Ask) (a b : S) (xs : List (String Global)) (i : ℕ) → length xs ≤ i
-    → ((files : Files) → start ≡ Some files → Going asks a b (map ask (up_to (is_last files) (map string_bytes xs))) (map ask (up_to (is_last files) (map string_bytes (drop i xs)))))
-    → IfSome start (λ files. Went asks a b (map ask (up_to (is_last files) (map string_bytes xs))) Whole)
-all_asked asks start is_last ask a b xs i h going =
-    told_to (λ files. Went asks a b (map ask (up_to (is_last files) (map string_bytes xs))) Whole) start
-    (λ files known. texts_end asks (is_last files) ask (map ask (up_to (is_last files) (map string_bytes xs))) a b xs i h (going files known))
 
 -- ---- the fragment
 pub not_empty : (found : Found) → found ≡ Empty → found ≡ Missing → ⊥

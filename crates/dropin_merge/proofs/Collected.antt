@@ -1,5 +1,5 @@
 -- The winners of the places that have been listed, with those of the places that are left.
-use Rattle.std.proofs.Common.{◌≡◌, ℕ, ◌+◌, ◌<◌, ◌≤◌, Bool, true, false, List, [], ◌∷◌, length, drop, get_or, Option, Some, None, Ok, Err, map, Vec, String, Global, refl, sym, ap, ◌∙◌, subst, arith}
+use Rattle.std.proofs.Common.{◌≡◌, ℕ, ◌+◌, ◌<◌, ◌≤◌, false, List, [], ◌∷◌, length, drop, get_or, Option, Some, None, Ok, map, Vec, String, Global, sym, ap, ◌∙◌, subst, arith}
 use Rattle.std.specs.Prelude.{◌&&◌, ◌||◌, nat_lt, cond, IfSome, string_bytes}
 use Rattle.std.specs.Option.{option_or}
 use Rattle.std.specs.Str.{bytes_eq}
@@ -10,11 +10,9 @@ use Rattle.std.proofs.lemmas.List.Sorted.{list_any-IsPermutation}
 use Rattle.host_io.specs.Files.{Files, names_in}
 use Rattle.host_io.specs.Reading.{Lists}
 use Rattle.dropin_merge.specs.Places.{below}
-use Rattle.dropin_merge.specs.Winners.{ends_in_conf, is_conf, winner_among}
+use Rattle.dropin_merge.specs.Winners.{ends_in_conf, winner_among}
 use Rattle.dropin_merge.specs.Resolving.{is_overfull}
-use Rattle.dropin_merge.specs.Steps.{winner_at, at_name, at_place, ListsPlace, CollectsWinners}
-use Rattle.dropin_merge.specs.declared.errors.ResolveError.{ResolveError}
-use Rattle.dropin_merge.specs.declared.errors.ResolveError.TheVariants.{BadName, NotFound, Masked, DropIns, TooLarge, Text, ReadFault, Memory}
+use Rattle.dropin_merge.specs.Steps.{winner_at, at_name, at_place, ListsPlace}
 use Rattle.dropin_merge.proofs.Left.{drop_read, left_more}
 use Rattle.dropin_merge.proofs.Reading.{told_from}
 use Rattle.dropin_merge.proofs.Winning.{winner_among-cons, option_or_assoc, option_or-none, at_place-cons, at_place-nil}
@@ -71,29 +69,6 @@ collected_more files m n place left all names inv listed step = record {
   overfull = ap (λ b. b || list_any (is_overfull files) left) (sym listed.1) ∙ inv.overfull;
 }
 
-pub collected_all : (files : Files) (m : BTreeMap (String Global) (String Global)) (left all : List (List ℕ)) → left ≡ [] → Collected files m left all → CollectsWinners files all (Ok m)
-collected_all files m left all none inv = (
-  λ q. sym (option_or-none (winner_at m q)) ∙ ap (option_or (winner_at m q)) (sym (nothing q) ∙ ap (λ ps. winner_among files ps q) (sym none)) ∙ inv.winners q,
-  sym inv.overfull ∙ ap (list_any (is_overfull files)) none,
-)
-  where
-    by_conf : (b : Bool) (o : Option (List ℕ)) → o ≡ None → cond b o None ≡ None
-    by_conf true o e = e
-    by_conf false o e = refl
-
-    nothing : (q : List ℕ) → winner_among files [] q ≡ None
-    nothing q = by_conf (is_conf q) None refl
-
-pub collected_stops : (files : Files) (m : BTreeMap (String Global) (String Global)) (place : List ℕ) (left all : List (List ℕ)) (e : ResolveError) → Collected files m (place ∷ left) all → ListsPlace (names_in files place) (Err e) → CollectsWinners files all (Err e)
-collected_stops files m place left all BadName inv h = h
-collected_stops files m place left all NotFound inv h = h
-collected_stops files m place left all Masked inv h = h
-collected_stops files m place left all DropIns inv h = sym inv.overfull ∙ ap (λ b. b || list_any (is_overfull files) left) h
-collected_stops files m place left all (TooLarge path) inv h = h
-collected_stops files m place left all (Text path error) inv h = h
-collected_stops files m place left all ReadFault inv h = tt
-collected_stops files m place left all Memory inv h = tt
-
 -- a turn of the loop over places
 pub collected_turn : (files : Files) (told : Option Files) (m n : BTreeMap (String Global) (String Global)) (places : List (String Global)) (i : ℕ) (place : String Global) (text again : List ℕ) (names : Vec (String Global) Global) (slice : List (String Global)) (all : List (List ℕ))
     → told ≡ Some files
@@ -108,15 +83,3 @@ collected_turn files told m n places i place text again names slice all e h is s
     (subst (λ left. Collected files m left all) (left_more places i place text h is said) inv)
     (told_from (λ files. ListsPlace (names_in files text) (Ok names)) told listed files e)
     (λ q. step q ∙ ap (λ t. option_or (winner_at m q) (at_place t (map string_bytes slice) q)) (said_again ∙ sym said) ∙ ap (λ ns. option_or (winner_at m q) (at_place text (map string_bytes ns) q)) sliced)
-
--- the loop stops at a listing that is refused
-pub collected_refused : (files : Files) (told : Option Files) (m : BTreeMap (String Global) (String Global)) (places : List (String Global)) (i : ℕ) (place : String Global) (text : List ℕ) (e : ResolveError) (all : List (List ℕ))
-    → told ≡ Some files
-    → i < length places → place ≡ get_or places i place → text ≡ string_bytes place
-    → IfSome told (λ files. ListsPlace (names_in files text) (Err e))
-    → Collected files m (map string_bytes (drop i places)) all
-    → CollectsWinners files all (Err e)
-collected_refused files told m places i place text e all known h is said listed inv =
-    collected_stops files m text (map string_bytes (drop (i + 1) places)) all e
-    (subst (λ left. Collected files m left all) (left_more places i place text h is said) inv)
-    (told_from (λ files. ListsPlace (names_in files text) (Err e)) told listed files known)

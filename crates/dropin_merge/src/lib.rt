@@ -14,8 +14,13 @@ mod listing;
 mod places;
 mod resolved;
 mod resolving;
+pub mod unit_values;
 mod winners;
 
 pub use errors::ResolveError;
+pub use host_io;
 pub use resolved::{Resolved, UnitFile, UnitFiles};
 pub use resolving::resolve;
+pub use unit_grammar;
+pub use unit_grammar::{linux_numbers, text_forms};
+pub use unit_names;

@@ -3,8 +3,8 @@
 // Contracts see the files as a list.
 ghost use Rattle.std.specs.Prelude.{◌≡◌, ◌++◌, ◌∷◌, [], IfOk};
 
-use item_list::ItemList;
 use std::alloc::{AllocError, Global};
+use unit_grammar::text_forms::item_list::ItemList;
 use unit_grammar::{Text, UnitText};
 use unit_names::UnitName;
 

@@ -3,17 +3,17 @@ use Rattle.std.proofs.Common.{◌≡◌, ◌∙◌, ℕ, List, ap, ap₂, refl, 
 use Rattle.std.specs.Prelude.{map}
 use Rattle.judge_command.specs.Asked.{IsAsked, launch_in, world_in}
 use Rattle.judge_command.specs.declared.asking.Asked.{Asked}
-use Rattle.call_table.specs.Table as calls
-use Rattle.command_answers.specs.declared.ending.Ending.{Ending}
-use Rattle.command_answers.specs.declared.ending.Ending.TheVariants.{Done}
-use Rattle.kernel_laws.specs.Launched.{launch_of}
-use Rattle.kernel_laws.specs.Questions.{questions}
-use Rattle.launcher.specs.declared.launched.Launched.{Launched as Service}
-use Rattle.question_types.specs.declared.question.Question.{Question}
-use Rattle.site_table.specs.Table.{Site}
-use Rattle.unit_launch.specs.declared.launching.UnitLaunch.TheVariants.{Launched}
-use Rattle.verdict_changes.specs.ByRule.{ChangesAreTrue, changes_by}
-use Rattle.verdict_changes.specs.Changes.{Change}
+use Rattle.judge_command.specs.call_table.Table as calls
+use Rattle.judge_command.specs.unit_inputs.declared.command_answers.ending.Ending.{Ending}
+use Rattle.judge_command.specs.unit_inputs.declared.command_answers.ending.Ending.TheVariants.{Done}
+use Rattle.judge_command.specs.kernel_laws.Launched.{launch_of}
+use Rattle.judge_command.specs.kernel_laws.Questions.{questions}
+use Rattle.judge_command.specs.launcher.declared.launched.Launched.{Launched as Service}
+use Rattle.judge_command.specs.kernel_laws.declared.question_types.question.Question.{Question}
+use Rattle.judge_command.specs.site_table.Table.{Site}
+use Rattle.judge_command.specs.asked_service.declared.unit_launch.launching.UnitLaunch.TheVariants.{Launched}
+use Rattle.judge_command.specs.verdict_changes.ByRule.{ChangesAreTrue, changes_by}
+use Rattle.judge_command.specs.verdict_changes.Changes.{Change}
 use Rattle.effect_command.specs.Lines.{effect_text}
 use Rattle.effect_command.specs.Prints.{TellsBoth}
 use Rattle.effect_command.specs.Stopping.{IsOver}

@@ -1,22 +1,22 @@
 -- The text of the changes is what is told of each question and of each row.
-use Rattle.std.proofs.Common.{◌≡◌, ◌∙◌, ℕ, ◌+◌, ◌<◌, List, [], ◌∷◌, ◌++◌, append-nil, append_assoc, length, get_or, take, ap, ap₂, refl, sym}
+use Rattle.std.proofs.Common.{◌≡◌, ◌∙◌, ℕ, List, [], ◌∷◌, ◌++◌, append-nil, ap, ap₂, refl, sym}
 use Rattle.std.specs.Prelude.{flat_map, map}
 use Rattle.std.proofs.lemmas.List.Concat.{flat_map-append}
-use Rattle.std.proofs.lemmas.List.{map-append, take_more}
+use Rattle.std.proofs.lemmas.List.{map-append}
 use Rattle.judge_command.specs.Asked.{launch_in, world_in}
 use Rattle.judge_command.specs.declared.asking.Asked.{Asked}
-use Rattle.question_types.specs.declared.question.Question.{Question}
-use Rattle.site_table.specs.declared.row.Row.{Row}
-use Rattle.abs_path.specs.Paths.{Path}
-use Rattle.call_table.specs.Table.{Table}
-use Rattle.site_table.specs.Table.{Site}
-use Rattle.verdict_changes.specs.Found.{change_of, turn_of}
-use Rattle.verdict_changes.specs.declared.asking.VerdictChange.{VerdictChange}
-use Rattle.verdict_changes.specs.declared.asking.VerdictChange.TheVariants as verdict
-use Rattle.verdict_changes.specs.declared.looking.FolderChange.{FolderChange}
-use Rattle.verdict_changes.specs.declared.looking.FolderChange.TheVariants as folder
-use Rattle.verdict_changes.specs.ByRule.{changes_by, question_change, row_change}
-use Rattle.verdict_changes.specs.Changes.{Change}
+use Rattle.judge_command.specs.kernel_laws.declared.question_types.question.Question.{Question}
+use Rattle.judge_command.specs.site_table.declared.row.Row.{Row}
+use Rattle.judge_command.specs.abs_path.Paths.{Path}
+use Rattle.judge_command.specs.call_table.Table.{Table}
+use Rattle.judge_command.specs.site_table.Table.{Site}
+use Rattle.judge_command.specs.verdict_changes.Found.{change_of, turn_of}
+use Rattle.judge_command.specs.declared.verdict_changes.asking.VerdictChange.{VerdictChange}
+use Rattle.judge_command.specs.declared.verdict_changes.asking.VerdictChange.TheVariants as verdict
+use Rattle.judge_command.specs.declared.verdict_changes.looking.FolderChange.{FolderChange}
+use Rattle.judge_command.specs.declared.verdict_changes.looking.FolderChange.TheVariants as folder
+use Rattle.judge_command.specs.verdict_changes.ByRule.{changes_by, question_change, row_change}
+use Rattle.judge_command.specs.verdict_changes.Changes.{Change}
 use Rattle.effect_command.specs.Lines.{change_lines, counts_line, effect_text, kind_of}
 use Rattle.effect_command.specs.Told.{changes_at, folder_kinds, folder_lines, lines_in, told_text, turns_at, verdict_kinds, verdict_lines}
 
@@ -28,15 +28,6 @@ module _ {X Y Z : Type 0} where
   mapped : (f : Y → Z) (g : X → List Y) (xs : List X) → flat_map (λ x. map f (g x)) xs ≡ map f (flat_map g xs)
   mapped f g [] = refl
   mapped f g (x ∷ xs) = ap (λ rest. map f (g x) ++ rest) (mapped f g xs) ∙ sym (map-append f (g x) (flat_map g xs))
-
--- one more that is told behind those before it
-pub told_more : {X Y : Type 0} (f : X → List Y) (first now more : List Y) (list : List X) (i : ℕ) (d : X) → i < length list → now ≡ first ++ flat_map f (take i list) → more ≡ now ++ f (get_or list i d) → more ≡ first ++ flat_map f (take (i + 1) list)
-told_more f first now more list i d lt was adds =
-    adds ∙ ap (λ front. front ++ f (get_or list i d)) was ∙ append_assoc first (flat_map f (take i list)) (f (get_or list i d)) ∙ ap (λ rest. first ++ rest) (sym (more_of f list i d lt))
-  where
-    more_of : {X Y : Type 0} (f : X → List Y) (list : List X) (i : ℕ) (d : X) → i < length list → flat_map f (take (i + 1) list) ≡ flat_map f (take i list) ++ f (get_or list i d)
-    more_of f list i d lt =
-        ap (flat_map f) (take_more list i d lt) ∙ flat_map-append f (take i list) (get_or list i d ∷ []) ∙ ap (λ end. flat_map f (take i list) ++ end) (append-nil (f (get_or list i d)))
 
 module _ (before after : Asked) (list : List Question) (rows : List Row) where
   abbrev ruled : List Change

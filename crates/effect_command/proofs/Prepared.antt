@@ -1,38 +1,38 @@
 -- What is ready, and the line of a refusal, are what the definitions admit.
 use Rattle.std.proofs.Common.{◌≡◌, ◌∙◌, ℕ, Option, Some, None, List, [], ◌∷◌, ◌++◌, Result, Ok, Err, refl, sym, ap, subst, inl, inr}
 use Rattle.std.specs.Prelude.{◌⊎◌, IfOk, IfSome, IsErrOf, IsTrue, option_map}
-use Rattle.host_io.specs.Files.{Files}
-use Rattle.call_table.specs.Table.{Table}
-use Rattle.site_table.specs.Table.{Site}
-use Rattle.command_answers.specs.Endings.{is_answer}
-use Rattle.command_answers.specs.Laws.{AcceptsFiles, GoTogether, IsAdmitted, laws_over}
-use Rattle.command_answers.specs.Stops.{IsAnswer, Prepares, first_refusal}
-use Rattle.command_answers.specs.declared.ending.Ending.{Ending}
-use Rattle.command_answers.specs.declared.ending.Ending.TheVariants.{Done, LaunchRefused}
-use Rattle.command_answers.specs.declared.stop.Stop.{Stop}
-use Rattle.command_answers.specs.declared.stop.Stop.TheVariants as stop
-use Rattle.command_answers.proofs.FileCommands.{go_together, ready_is_admitted, stop_is_admitted}
-use Rattle.command_answers.proofs.Refusing.{stops_as}
-use Rattle.dropin_merge.specs.declared.resolved.Resolved.{Resolved}
-use Rattle.dropin_merge.specs.declared.resolved.UnitFile.{UnitFile}
+use Rattle.judge_command.specs.host_io.Files.{Files}
+use Rattle.judge_command.specs.call_table.Table.{Table}
+use Rattle.judge_command.specs.site_table.Table.{Site}
+use Rattle.judge_command.specs.unit_inputs.command_answers.Endings.{is_answer}
+use Rattle.judge_command.specs.unit_inputs.command_answers.Laws.{AcceptsFiles, GoTogether, IsAdmitted, laws_over}
+use Rattle.judge_command.specs.unit_inputs.command_answers.Stops.{IsAnswer, Prepares, first_refusal}
+use Rattle.judge_command.specs.unit_inputs.declared.command_answers.ending.Ending.{Ending}
+use Rattle.judge_command.specs.unit_inputs.declared.command_answers.ending.Ending.TheVariants.{Done, LaunchRefused}
+use Rattle.judge_command.specs.unit_inputs.declared.command_answers.stop.Stop.{Stop}
+use Rattle.judge_command.specs.unit_inputs.declared.command_answers.stop.Stop.TheVariants as stop
+use Rattle.judge_command.proofs.UnitInputs.FileCommands.{go_together, ready_is_admitted, stop_is_admitted}
+use Rattle.judge_command.proofs.UnitInputs.Refusing.{stops_as}
+use Rattle.judge_command.specs.dropin_merge.declared.resolved.Resolved.{Resolved}
+use Rattle.judge_command.specs.dropin_merge.declared.resolved.UnitFile.{UnitFile}
 use Rattle.std.specs.declared.alloc.AllocError.{AllocError}
-use Rattle.unit_names.specs.Names.{Name}
-use Rattle.unit_grammar.specs.declared.unit.UnitText.{UnitText}
-use Rattle.unit_inputs.specs.Inputs.{Inputs, input_refusals, inputs_of, inputs_view}
-use Rattle.unit_inputs.specs.declared.inputs.UnitInputs.{UnitInputs}
-use Rattle.unit_launch.specs.declared.launching.UnitLaunch.{UnitLaunch}
-use Rattle.unit_launch.specs.declared.launching.UnitLaunch.TheVariants.{Launched, Refused}
-use Rattle.unit_inputs.specs.Settled.{refusals_by}
-use Rattle.unit_inputs.proofs.Steps as steps
-use Rattle.unit_inputs.proofs.Steps.{AreRead, refusals_with}
+use Rattle.judge_command.specs.unit_names.Names.{Name}
+use Rattle.judge_command.specs.unit_grammar.declared.unit.UnitText.{UnitText}
+use Rattle.judge_command.specs.unit_inputs.Inputs.{Inputs, input_refusals, inputs_of, inputs_view}
+use Rattle.judge_command.specs.unit_inputs.declared.inputs.UnitInputs.{UnitInputs}
+use Rattle.judge_command.specs.asked_service.declared.unit_launch.launching.UnitLaunch.{UnitLaunch}
+use Rattle.judge_command.specs.asked_service.declared.unit_launch.launching.UnitLaunch.TheVariants.{Launched, Refused}
+use Rattle.judge_command.specs.unit_inputs.Settled.{refusals_by}
+use Rattle.judge_command.proofs.UnitInputs.Steps as steps
+use Rattle.judge_command.proofs.UnitInputs.Steps.{AreRead, refusals_with}
 use Rattle.effect_command.specs.Lines.{with_line}
-use Rattle.started_units.specs.Starting.{StartsAs, first_start, given, start_refusals}
+use Rattle.judge_command.specs.asked_service.started_units.Starting.{StartsAs, first_start, given, start_refusals}
 use Rattle.effect_command.specs.Longer.{dropin_in, longer_unit, with_dropin}
-use Rattle.command_answers.specs.ReadyTexts.{IsReadyWith, ending_of, text_of}
+use Rattle.judge_command.specs.unit_inputs.command_answers.ReadyTexts.{IsReadyWith, ending_of, text_of}
 use Rattle.effect_command.specs.Prints.{PrintsEffect, TellsBoth, TellsWith, effect_laws}
 use Rattle.effect_command.specs.Refusals.{effect_refusals, refusals_behind, refusals_behind_dropin, refusals_by_dropin}
 use Rattle.effect_command.specs.Stopping.{StartsOver}
-use Rattle.command_answers.specs.declared.ready_text.ReadyText.{ReadyText}
+use Rattle.judge_command.specs.unit_inputs.declared.command_answers.ready_text.ReadyText.{ReadyText}
 
 -- ---- behind the drop-in
 module _ (unit : List ℕ) (inputs : Inputs) (more : UnitText) where

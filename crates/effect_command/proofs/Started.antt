@@ -2,12 +2,12 @@
 use Rattle.std.proofs.Common.{◌≡◌, ◌∙◌, ℕ, List, [], ◌∷◌, Some, Result, Ok, Err, Vec, Global, refl, sym, ap, subst}
 use Rattle.std.specs.Prelude.{IfOk, IsErrOf, option_map}
 use Rattle.std.specs.declared.alloc.AllocError.{AllocError}
-use Rattle.command_answers.specs.Stops.{Prepares, first_refusal, stop_of}
-use Rattle.command_answers.specs.declared.stop.Stop.{Stop}
-use Rattle.command_answers.specs.declared.stop.Stop.TheVariants as stop
-use Rattle.unit_inputs.specs.Inputs.{Inputs}
-use Rattle.unit_launch.specs.declared.launching.UnitLaunch.{UnitLaunch}
-use Rattle.started_units.specs.Starting.{StartsAs, first_start, start_refusals}
+use Rattle.judge_command.specs.unit_inputs.command_answers.Stops.{Prepares, first_refusal, stop_of}
+use Rattle.judge_command.specs.unit_inputs.declared.command_answers.stop.Stop.{Stop}
+use Rattle.judge_command.specs.unit_inputs.declared.command_answers.stop.Stop.TheVariants as stop
+use Rattle.judge_command.specs.unit_inputs.Inputs.{Inputs}
+use Rattle.judge_command.specs.asked_service.declared.unit_launch.launching.UnitLaunch.{UnitLaunch}
+use Rattle.judge_command.specs.asked_service.started_units.Starting.{StartsAs, first_start, start_refusals}
 use Rattle.effect_command.specs.Lines.{with_line}
 use Rattle.effect_command.specs.Stopping.{IsBehindWith}
 

@@ -1,25 +1,20 @@
 -- The lines of `effect`.
 use Rattle.std.specs.Prelude.{ℕ, Bool, true, false, List, [], ◌∷◌, ◌++◌, codes, count_by, flat_map, map}
 use Rattle.std.specs.Fmt.{decimal}
-use Rattle.abs_path.specs.Paths.{Path, text_of}
-use Rattle.call_table.specs.Table as calls
-use Rattle.site_table.specs.Table.{Site}
-use Rattle.text_forms.specs.Escaped.{escaped_word}
-use Rattle.kernel_calls.specs.declared.call.Call.{Call}
-use Rattle.question_types.specs.declared.question.Question.{Question}
-use Rattle.report_text.specs.Answers.{call_line}
-use Rattle.report_text.specs.Wording.{question_words}
-use Rattle.verdict_changes.specs.Changes.{Change, Closed, Hidden, Opened, Shown}
+use Rattle.judge_command.specs.abs_path.Paths.{Path, text_of}
+use Rattle.judge_command.specs.call_table.Table as calls
+use Rattle.judge_command.specs.site_table.Table.{Site}
+use Rattle.judge_command.specs.text_forms.Escaped.{escaped_word}
+use Rattle.judge_command.specs.kernel_model.declared.kernel_calls.call.Call.{Call}
+use Rattle.judge_command.specs.kernel_laws.declared.question_types.question.Question.{Question}
+use Rattle.judge_command.specs.report_text.Answers.{call_line, question_line}
+use Rattle.judge_command.specs.verdict_changes.Changes.{Change, Closed, Hidden, Opened, Shown}
 use Rattle.effect_command.specs.declared.kinds.Kind.{Kind}
 use Rattle.effect_command.specs.declared.kinds.Kind.TheVariants as kind
 
 -- a refusal of the unit with the drop-in
 abbrev pub with_line : List ℕ → List ℕ
 with_line line = codes "with " ++ line
-
--- a question behind a word
-abbrev pub question_line : List ℕ → calls.Table → Site → Question → List ℕ
-question_line word table site question = word ++ (codes " " ++ (question_words table site question ++ 10 ∷ []))
 
 -- a folder behind a word
 abbrev pub folder_line : List ℕ → Path → List ℕ

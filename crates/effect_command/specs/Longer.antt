@@ -1,14 +1,14 @@
 -- The unit with a drop-in behind its files, which is read from a file of its own.
 use Rattle.std.specs.Prelude.{ℕ, List, [], ◌∷◌, ◌++◌, Result, Ok, Err}
-use Rattle.command_answers.specs.Refusals.{refused_line}
-use Rattle.command_answers.specs.Stops.{and_then, or_line}
-use Rattle.dropin_merge.specs.declared.resolved.Resolved.{Resolved}
-use Rattle.host_io.specs.Files.{Files}
-use Rattle.unit_grammar.specs.Reading.{unit_of}
-use Rattle.unit_grammar.specs.declared.unit.UnitText.{UnitText}
-use Rattle.unit_inputs.specs.FileRefusals.{bytes_in}
-use Rattle.unit_inputs.specs.Inputs.{Inputs}
-use Rattle.unit_inputs.specs.UnitRefusals.{text_cause}
+use Rattle.judge_command.specs.unit_inputs.command_answers.Refusals.{refused_line}
+use Rattle.judge_command.specs.unit_inputs.command_answers.Stops.{and_then, or_line}
+use Rattle.judge_command.specs.dropin_merge.declared.resolved.Resolved.{Resolved}
+use Rattle.judge_command.specs.host_io.Files.{Files}
+use Rattle.judge_command.specs.unit_grammar.Reading.{unit_of}
+use Rattle.judge_command.specs.unit_grammar.declared.unit.UnitText.{UnitText}
+use Rattle.judge_command.specs.unit_inputs.FileRefusals.{bytes_in}
+use Rattle.judge_command.specs.unit_inputs.Inputs.{Inputs}
+use Rattle.judge_command.specs.unit_inputs.UnitRefusals.{text_cause}
 
 -- what the bytes of a drop-in say, or the line of why they are refused, as a file of a unit is (systemd.syntax(7))
 abbrev pub dropin_said : List ℕ → List ℕ → Result UnitText (List ℕ)

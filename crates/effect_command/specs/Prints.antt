@@ -1,19 +1,19 @@
 -- What `effect` prints, by the files.
 use Rattle.std.specs.Prelude.{◌≡◌, ◌⊎◌, ℕ, IsSome, List, Some, Ok}
-use Rattle.host_io.specs.Files.{Files}
-use Rattle.call_table.specs.Table as calls
-use Rattle.site_table.specs.Table.{Site}
-use Rattle.command_answers.specs.Laws.{FileLaws}
-use Rattle.command_answers.specs.declared.ending.Ending.{Ending}
-use Rattle.command_answers.specs.declared.ending.Ending.TheVariants.{Done, LaunchRefused}
-use Rattle.started_units.specs.Starting.{StartsAs}
-use Rattle.unit_grammar.specs.declared.unit.UnitText.{UnitText}
-use Rattle.unit_inputs.specs.Inputs.{Inputs, inputs_of}
-use Rattle.unit_launch.specs.Refusals.{refusal_line}
-use Rattle.unit_launch.specs.declared.launching.UnitLaunch.{UnitLaunch}
-use Rattle.unit_launch.specs.declared.launching.UnitLaunch.TheVariants.{Launched, Refused}
-use Rattle.unit_names.specs.Cutting.{name_of}
-use Rattle.verdict_changes.specs.Changes.{AreChanges, Change}
+use Rattle.judge_command.specs.host_io.Files.{Files}
+use Rattle.judge_command.specs.call_table.Table as calls
+use Rattle.judge_command.specs.site_table.Table.{Site}
+use Rattle.judge_command.specs.unit_inputs.command_answers.Laws.{FileLaws}
+use Rattle.judge_command.specs.unit_inputs.declared.command_answers.ending.Ending.{Ending}
+use Rattle.judge_command.specs.unit_inputs.declared.command_answers.ending.Ending.TheVariants.{Done, LaunchRefused}
+use Rattle.judge_command.specs.asked_service.started_units.Starting.{StartsAs}
+use Rattle.judge_command.specs.unit_grammar.declared.unit.UnitText.{UnitText}
+use Rattle.judge_command.specs.unit_inputs.Inputs.{Inputs, inputs_of}
+use Rattle.judge_command.specs.asked_service.unit_launch.Refusals.{refusal_line}
+use Rattle.judge_command.specs.asked_service.declared.unit_launch.launching.UnitLaunch.{UnitLaunch}
+use Rattle.judge_command.specs.asked_service.declared.unit_launch.launching.UnitLaunch.TheVariants.{Launched, Refused}
+use Rattle.judge_command.specs.unit_names.Cutting.{name_of}
+use Rattle.judge_command.specs.verdict_changes.Changes.{AreChanges, Change}
 use Rattle.effect_command.specs.Lines.{effect_text, with_line}
 use Rattle.effect_command.specs.Longer.{dropin_in, with_dropin}
 use Rattle.effect_command.specs.Refusals.{effect_refusals}

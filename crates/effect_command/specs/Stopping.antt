@@ -1,15 +1,15 @@
 -- What the steps of an answer ask of each other.
 use Rattle.std.specs.Prelude.{◌≡◌, List}
-use Rattle.call_table.specs.Table as calls
-use Rattle.command_answers.specs.declared.stop.Stop.{Stop}
-use Rattle.command_answers.specs.declared.stop.Stop.TheVariants as stop
-use Rattle.exec_settings.specs.declared.service.Settings.{Settings}
-use Rattle.kern_mounts.specs.declared.step.MountStep.{MountStep}
-use Rattle.launcher.specs.declared.launched.Launched.{Launched as Service}
-use Rattle.site_table.specs.Table.{Site}
-use Rattle.unit_launch.specs.Launching.{IsLaunched}
-use Rattle.unit_launch.specs.declared.launching.UnitLaunch.{UnitLaunch}
-use Rattle.unit_launch.specs.declared.launching.UnitLaunch.TheVariants.{Launched, Refused}
+use Rattle.judge_command.specs.call_table.Table as calls
+use Rattle.judge_command.specs.unit_inputs.declared.command_answers.stop.Stop.{Stop}
+use Rattle.judge_command.specs.unit_inputs.declared.command_answers.stop.Stop.TheVariants as stop
+use Rattle.judge_command.specs.exec_settings.declared.service.Settings.{Settings}
+use Rattle.judge_command.specs.kern_mounts.declared.step.MountStep.{MountStep}
+use Rattle.judge_command.specs.launcher.declared.launched.Launched.{Launched as Service}
+use Rattle.judge_command.specs.site_table.Table.{Site}
+use Rattle.judge_command.specs.asked_service.unit_launch.Launching.{IsLaunched}
+use Rattle.judge_command.specs.asked_service.declared.unit_launch.launching.UnitLaunch.{UnitLaunch}
+use Rattle.judge_command.specs.asked_service.declared.unit_launch.launching.UnitLaunch.TheVariants.{Launched, Refused}
 use Rattle.effect_command.specs.Lines.{with_line}
 
 -- the same refusal, of the unit with the drop-in, unless memory ran out

@@ -1,20 +1,20 @@
 -- What is told, piece by piece, of a question and of a row: by what is found of them.
 use Rattle.std.specs.Prelude.{ℕ, List, [], ◌∷◌, ◌++◌, codes, flat_map, map}
-use Rattle.abs_path.specs.Paths.{Path}
-use Rattle.call_table.specs.Table as calls
-use Rattle.report_text.specs.Answers.{call_line}
-use Rattle.site_table.specs.Table.{Site}
-use Rattle.verdict_changes.specs.declared.asking.VerdictChange.{VerdictChange}
-use Rattle.verdict_changes.specs.declared.asking.VerdictChange.TheVariants as verdict
-use Rattle.verdict_changes.specs.declared.looking.FolderChange.{FolderChange}
-use Rattle.verdict_changes.specs.declared.looking.FolderChange.TheVariants as folder
+use Rattle.judge_command.specs.abs_path.Paths.{Path}
+use Rattle.judge_command.specs.call_table.Table as calls
+use Rattle.judge_command.specs.report_text.Answers.{call_line, question_line}
+use Rattle.judge_command.specs.site_table.Table.{Site}
+use Rattle.judge_command.specs.declared.verdict_changes.asking.VerdictChange.{VerdictChange}
+use Rattle.judge_command.specs.declared.verdict_changes.asking.VerdictChange.TheVariants as verdict
+use Rattle.judge_command.specs.declared.verdict_changes.looking.FolderChange.{FolderChange}
+use Rattle.judge_command.specs.declared.verdict_changes.looking.FolderChange.TheVariants as folder
 use Rattle.judge_command.specs.Asked.{launch_in, world_in}
 use Rattle.judge_command.specs.declared.asking.Asked.{Asked}
-use Rattle.question_types.specs.declared.question.Question.{Question}
-use Rattle.site_table.specs.declared.row.Row.{Row}
-use Rattle.verdict_changes.specs.ByRule.{question_change, row_change, changes_by}
-use Rattle.verdict_changes.specs.Changes.{Change}
-use Rattle.effect_command.specs.Lines.{change_lines, effect_text, folder_line, kind_of, question_line}
+use Rattle.judge_command.specs.kernel_laws.declared.question_types.question.Question.{Question}
+use Rattle.judge_command.specs.site_table.declared.row.Row.{Row}
+use Rattle.judge_command.specs.verdict_changes.ByRule.{question_change, row_change, changes_by}
+use Rattle.judge_command.specs.verdict_changes.Changes.{Change}
+use Rattle.effect_command.specs.Lines.{change_lines, effect_text, folder_line, kind_of}
 use Rattle.effect_command.specs.declared.kinds.Kind.{Kind}
 use Rattle.effect_command.specs.declared.kinds.Kind.TheVariants as kind
 

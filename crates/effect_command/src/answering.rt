@@ -1,21 +1,21 @@
 //! What a drop-in changes for a unit.
 ghost use Rattle.std.specs.Prelude.{◌≡◌, IfOk, IsErrOf};
-ghost use Rattle.command_answers.specs.Stops.{Prepares};
-ghost use Rattle.started_units.specs.Starting.{given};
+ghost use Rattle.judge_command.specs.unit_inputs.command_answers.Stops.{Prepares};
+ghost use Rattle.judge_command.specs.asked_service.started_units.Starting.{given};
 ghost use Rattle.effect_command.specs.Longer.{longer_unit};
-ghost use Rattle.command_answers.specs.ReadyTexts.{ending_of, text_of};
+ghost use Rattle.judge_command.specs.unit_inputs.command_answers.ReadyTexts.{ending_of, text_of};
 ghost use Rattle.effect_command.specs.Prints.{TellsWith};
 ghost use Rattle.effect_command.specs.Refusals.{refusals_behind_dropin};
 
 use crate::comparing::compare;
 use crate::starting::start_with;
-use call_table::CallTable;
-use command_answers::{ReadyText, Stop};
-use dropin_merge::Resolved;
-use site_table::SiteTable;
-use started_units::start;
+use judge_command::asked_service::started_units::start;
+use judge_command::call_table::CallTable;
+use judge_command::dropin_merge::Resolved;
+use judge_command::site_table::SiteTable;
+use judge_command::unit_grammar::UnitText;
+use judge_command::unit_inputs::command_answers::{ReadyText, Stop};
 use std::alloc::{AllocError, Global};
-use unit_grammar::UnitText;
 
 // The unit with the drop-in behind its files.
 fn lengthen(alloc: Global, unit: &Resolved, more: UnitText) -> Result<Resolved, AllocError>

@@ -1,18 +1,18 @@
 //! The command `effect`, the name of a unit and the path of a drop-in.
 
-ghost use Rattle.command_answers.specs.Asking.{course};
-ghost use Rattle.command_answers.specs.Laws.{IsAdmitted, laws_over};
-ghost use Rattle.unit_inputs.specs.Asking.{AsksInOrder, asks_with_file};
-ghost use Rattle.unit_inputs.specs.ReadsFor.{ReadsFor};
-ghost use Rattle.command_answers.specs.ReadyTexts.{ending_of, text_of};
+ghost use Rattle.judge_command.specs.unit_inputs.command_answers.Asking.{course};
+ghost use Rattle.judge_command.specs.unit_inputs.command_answers.Laws.{IsAdmitted, laws_over};
+ghost use Rattle.judge_command.specs.unit_inputs.Asking.{AsksInOrder, asks_with_file};
+ghost use Rattle.judge_command.specs.unit_inputs.ReadsFor.{ReadsFor};
+ghost use Rattle.judge_command.specs.unit_inputs.command_answers.ReadyTexts.{ending_of, text_of};
 ghost use Rattle.effect_command.specs.Prints.{effect_laws};
 
 use crate::answering::answer;
 use crate::dropin::read_dropin;
-use command_answers::{ReadyText, Stop};
-use host_io::Shelf;
+use judge_command::host_io::Shelf;
+use judge_command::unit_inputs::command_answers::{ReadyText, Stop};
+use judge_command::unit_inputs::read_inputs;
 use std::alloc::Global;
-use unit_inputs::read_inputs;
 
 /// Prepares `effect`, the name of a unit and the path of a drop-in: reads the unit, calls.txt, site.toml and the drop-in, finds the
 /// first refusal of them and of the settings and paths of the unit, as it is and with the drop-in, launches both, and tells what

@@ -1,23 +1,23 @@
 //! What two launches come to, told.
 ghost use Rattle.std.specs.Prelude.{◌≡◌, IfOk};
-ghost use Rattle.call_table.specs.Table.{Table};
-ghost use Rattle.command_answers.specs.declared.ending.Ending.TheVariants.{LaunchRefused};
-ghost use Rattle.site_table.specs.Table.{Site};
-ghost use Rattle.unit_launch.specs.Refusals.{refusal_line};
+ghost use Rattle.judge_command.specs.call_table.Table.{Table};
+ghost use Rattle.judge_command.specs.unit_inputs.declared.command_answers.ending.Ending.TheVariants.{LaunchRefused};
+ghost use Rattle.judge_command.specs.site_table.Table.{Site};
+ghost use Rattle.judge_command.specs.asked_service.unit_launch.Refusals.{refusal_line};
 ghost use Rattle.effect_command.specs.Lines.{with_line};
 ghost use Rattle.effect_command.specs.Prints.{TellsBoth};
-ghost use Rattle.command_answers.specs.ReadyTexts.{IsReadyWith};
+ghost use Rattle.judge_command.specs.unit_inputs.command_answers.ReadyTexts.{IsReadyWith};
 ghost use Rattle.effect_command.specs.Stopping.{AreTogether, IsOver, StartTogether, StartsOver};
-ghost use Rattle.unit_launch.specs.declared.launching.UnitLaunch.TheVariants.{Launched as Done};
+ghost use Rattle.judge_command.specs.asked_service.declared.unit_launch.launching.UnitLaunch.TheVariants.{Launched as Done};
 
 use crate::lines::with_line;
 use crate::telling::effect_text;
-use command_answers::{Ending, ReadyText, Stop};
 use judge_command::ask;
-use launcher::Launched;
+use judge_command::asked_service::unit_launch::{LaunchRefusal, UnitLaunch, refusal_line};
+use judge_command::launcher::Launched;
+use judge_command::unit_inputs::command_answers::{Ending, ReadyText, Stop};
+use judge_command::verdict_changes::changes_are_true;
 use std::alloc::Global;
-use unit_launch::{LaunchRefusal, UnitLaunch, refusal_line};
-use verdict_changes::changes_are_true;
 
 // The line of a launch of the unit that is refused.
 fn tell_refused(alloc: Global, refusal: &LaunchRefusal) -> Result<ReadyText, Stop>

@@ -1,18 +1,18 @@
 //! The drop-in, with the lines of its refusals.
 ghost use Rattle.std.specs.Prelude.{◌≡◌, ◌∷◌, [], IfOk, IfSome, IsErrOf};
-ghost use Rattle.host_io.specs.Calls.{Went};
-ghost use Rattle.command_answers.specs.Asking.{course, input_file};
-ghost use Rattle.command_answers.specs.Refusals.{refused_line};
-ghost use Rattle.command_answers.specs.Stops.{HasReadCause, IsAnswer};
-ghost use Rattle.unit_inputs.specs.UnitRefusals.{text_cause};
+ghost use Rattle.judge_command.specs.host_io.Calls.{Went};
+ghost use Rattle.judge_command.specs.unit_inputs.command_answers.Asking.{course, input_file};
+ghost use Rattle.judge_command.specs.unit_inputs.command_answers.Refusals.{refused_line};
+ghost use Rattle.judge_command.specs.unit_inputs.command_answers.Stops.{HasReadCause, IsAnswer};
+ghost use Rattle.judge_command.specs.unit_inputs.UnitRefusals.{text_cause};
 ghost use Rattle.effect_command.specs.Longer.{dropin_in, dropin_said};
 
-use command_answers::{Stop, refuse};
-use dropin_merge::ResolveError;
-use host_io::Shelf;
+use judge_command::dropin_merge::ResolveError;
+use judge_command::host_io::Shelf;
+use judge_command::unit_grammar::{Text, UnitError, UnitText, read_unit};
+use judge_command::unit_inputs::command_answers::{Stop, refuse};
+use judge_command::unit_inputs::{read_input, unit_line};
 use std::alloc::{AllocError, Global};
-use unit_grammar::{Text, UnitError, UnitText, read_unit};
-use unit_inputs::{read_input, unit_line};
 
 // The line of a drop-in that is refused for its text.
 fn text_line(alloc: Global, path: &str, error: UnitError) -> Result<Vec<u8>, AllocError>

@@ -17,4 +17,5 @@ mod starting;
 mod telling;
 
 pub use command::prepare;
-pub use lines::question_line;
+pub use judge_command;
+pub use judge_command::kernel_laws;

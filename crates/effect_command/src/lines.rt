@@ -1,17 +1,11 @@
 //! The lines of `effect`.
-ghost use Rattle.std.specs.Prelude.{◌≡◌, ◌++◌, ℕ, List, Contains, IfOk, codes};
-ghost use Rattle.kernel_laws.specs.Questions.{questions};
-ghost use Rattle.effect_command.specs.Lines.{counts_line, folder_line, question_line, with_line};
+ghost use Rattle.std.specs.Prelude.{◌≡◌, IfOk};
+ghost use Rattle.effect_command.specs.Lines.{counts_line, folder_line, with_line};
 
 use crate::kinds::{Kind, count_of};
-use abs_path::AbsPath;
-use call_table::CallTable;
-use judge::Verdict;
-use question_types::Question;
-use report_text::verdict_line;
-use site_table::SiteTable;
+use judge_command::abs_path::AbsPath;
+use judge_command::text_forms::push_word;
 use std::alloc::{AllocError, Global};
-use text_forms::push_word;
 
 /// The line of a refusal of the unit with the drop-in.
 pub fn with_line(alloc: Global, line: &[u8]) -> Result<Vec<u8>, AllocError>
@@ -20,31 +14,6 @@ pub fn with_line(alloc: Global, line: &[u8]) -> Result<Vec<u8>, AllocError>
     let mut told = b"with ".to_vec(alloc)?;
     told.extend_from_slice(line)?;
     Ok(told)
-}
-
-// What a line has behind the verdict, behind another word.
-fn behind_word(alloc: Global, word: &str, reported: &[u8]) -> Result<Vec<u8>, AllocError>
-    requires begins { (rest : List ℕ) × (reported.now ≡ codes "denied" ++ rest) }
-    ensures { (rest : List ℕ) → reported.now ≡ codes "denied" ++ rest → IfOk result (λ line. line.items ≡ word.now ++ rest) }
-{
-    let mut line = word.as_bytes().to_vec(alloc)?;
-    line.extend_from_slice(&reported["denied".len()..])?;
-    Ok(line)
-}
-
-/// The line of a question of the list behind a word: what a report has behind its verdict, behind this word.
-pub fn question_line(
-    alloc: Global,
-    word: &str,
-    question: &Question,
-    calls: &CallTable,
-    site: &SiteTable,
-) -> Result<Vec<u8>, AllocError>
-    requires asked { Contains (questions calls.now site.now) question.now }
-    ensures tells_the_question { IfOk result (λ line. line.items ≡ question_line word.now calls.now site.now question.now) }
-{
-    let reported = verdict_line(alloc, question, Verdict::Denied, calls, site)?;
-    behind_word(alloc, word, reported.as_slice())
 }
 
 /// The line of a folder behind a word.

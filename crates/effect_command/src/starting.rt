@@ -1,18 +1,18 @@
 //! The launch of the unit with the drop-in; a refusal of it stands behind the word `with`.
 ghost use Rattle.std.specs.Prelude.{◌∷◌, [], IsErrOf, option_map};
-ghost use Rattle.command_answers.specs.Stops.{Prepares};
-ghost use Rattle.started_units.specs.Starting.{StartsAs, first_start, given};
+ghost use Rattle.judge_command.specs.unit_inputs.command_answers.Stops.{Prepares};
+ghost use Rattle.judge_command.specs.asked_service.started_units.Starting.{StartsAs, first_start, given};
 ghost use Rattle.effect_command.specs.Lines.{with_line};
 ghost use Rattle.effect_command.specs.Stopping.{IsBehindWith};
 
 use crate::lines::with_line;
-use call_table::CallTable;
-use command_answers::{Stop, refuse};
-use dropin_merge::Resolved;
-use site_table::SiteTable;
-use started_units::start;
+use judge_command::asked_service::started_units::start;
+use judge_command::asked_service::unit_launch::UnitLaunch;
+use judge_command::call_table::CallTable;
+use judge_command::dropin_merge::Resolved;
+use judge_command::site_table::SiteTable;
+use judge_command::unit_inputs::command_answers::{Stop, refuse};
 use std::alloc::Global;
-use unit_launch::UnitLaunch;
 
 // The same refusal, of the unit with the drop-in.
 fn behind_with(alloc: Global, stop: Stop) -> Stop

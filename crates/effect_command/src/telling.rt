@@ -3,23 +3,23 @@ ghost use Rattle.std.specs.Prelude.{◌≡◌, ◌++◌, ◌∷◌, [], ℕ, Lis
 ghost use Rattle.judge_command.specs.Asked.{IsAsked, world_in};
 ghost use Rattle.judge_command.specs.Asked.{IsRowIn};
 ghost use Rattle.judge_command.specs.Lent.{IsServiceOf};
-ghost use Rattle.kernel_laws.specs.Questions.{questions};
-ghost use Rattle.report_text.specs.Answers.{call_line};
-ghost use Rattle.effect_command.specs.Lines.{kind_of, question_line};
+ghost use Rattle.judge_command.specs.kernel_laws.Questions.{questions};
+ghost use Rattle.judge_command.specs.report_text.Answers.{call_line, question_line};
+ghost use Rattle.effect_command.specs.Lines.{kind_of};
 ghost use Rattle.effect_command.specs.Told.{changes_at, folder_kinds, folder_lines, lines_in, told_text, turns_at, verdict_kinds, verdict_lines};
 
 use crate::kinds::Kind;
-use crate::lines::{counts_line, folder_line, question_line};
-use abs_path::AbsPath;
-use call_table::CallTable;
+use crate::lines::{counts_line, folder_line};
 use judge_command::Asked;
-use kernel_calls::Call;
-use open_calls::Service;
-use question_types::Question;
-use report_text::push_call_lines;
-use site_table::{Row, SiteTable};
+use judge_command::abs_path::AbsPath;
+use judge_command::call_table::CallTable;
+use judge_command::kernel_laws::question_types::Question;
+use judge_command::kernel_model::kernel_calls::Call;
+use judge_command::open_calls::Service;
+use judge_command::report_text::{push_call_lines, question_line};
+use judge_command::site_table::{Row, SiteTable};
+use judge_command::verdict_changes::{FolderChange, VerdictChange, folder_change, verdict_change};
 use std::alloc::{AllocError, Global};
-use verdict_changes::{FolderChange, VerdictChange, folder_change, verdict_change};
 
 // Tells a line.
 fn push_line(text: &mut Vec<u8>, line: Result<Vec<u8>, AllocError>) -> Result<(), AllocError>

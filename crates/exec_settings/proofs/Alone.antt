@@ -1,36 +1,36 @@
 -- The settings of a unit whose service has a command alone.
-use Rattle.abs_path.specs.Paths.{Path}
+use Rattle.mount_settings.specs.abs_path.Paths.{Path}
 use Rattle.std.specs.Option.{option_map, option_map_or}
-use Rattle.unit_grammar.specs.declared.notes.NoteCause.TheVariants.{Value as ValueCause, Unjudged}
-use Rattle.unit_names.specs.Expansion.{expansion}
-use Rattle.unit_values.specs.declared.value.Place.{Place}
-use Rattle.unit_values.specs.declared.value.Value.{Value}
-use Rattle.unit_values.specs.Notes.{note_at, noted}
-use Rattle.unit_values.specs.Lines.{listed_line}
-use Rattle.unit_values.proofs.OneMore.{after_last-push}
+use Rattle.cred_settings.specs.unit_grammar.declared.notes.NoteCause.TheVariants.{Value as ValueCause, Unjudged}
+use Rattle.mount_settings.specs.unit_names.Expansion.{expansion}
+use Rattle.cred_settings.specs.dropin_merge.declared.unit_values.value.Place.{Place}
+use Rattle.cred_settings.specs.dropin_merge.declared.unit_values.value.Value.{Value}
+use Rattle.cred_settings.specs.dropin_merge.unit_values.Notes.{note_at, noted}
+use Rattle.cred_settings.specs.dropin_merge.unit_values.Lines.{listed_line}
+use Rattle.cred_settings.proofs.DropinMerge.OneMore.{after_last-push}
 use Rattle.std.proofs.Common.{◌≡◌, ℕ, Bool, true, false, Ok, Option, Some, None, List, [], ◌∷◌, ◌++◌, map, codes, refl, sym, ap, ◌∙◌, append-nil, subst}
 use Rattle.std.specs.Prelude.{◌||◌, ◌&&◌, ◌==◌, not, is_some, nat_lt, length, slice_get, flat_map, Result, filter, find, cond, option_and_then}
 use Rattle.std.specs.List.{cons_option, filter_map, list_any}
 use Rattle.std.specs.Str.{bytes_eq}
-use Rattle.dropin_merge.specs.declared.resolved.Resolved.{Resolved}
-use Rattle.unit_values.specs.Flags.{flag_value, unit_flag, unit_flag_notes}
-use Rattle.unit_values.specs.Lasting.{last_read, last_text, unit_last, unit_last_notes, unit_last_text, unread_notes}
-use Rattle.unit_values.specs.Listed.{listed, unit_listed, unit_listed_notes}
-use Rattle.unit_values.specs.Values.{expanded_at, given_by, in_force as in_force_values, note_of, noted_unless, notes_of, unexpanded_at, values_of}
-use Rattle.unit_values.specs.Words.{split, unit_words, unit_words_notes, words_in}
-use Rattle.cap_sets.specs.Sets.{all, minus, none, union}
-use Rattle.call_rules.specs.declared.actions.Action.TheVariants.{KillProcess}
-use Rattle.filter_rules.specs.declared.namespace_types.NamespaceTypes.{NamespaceTypes}
-use Rattle.call_table.specs.Table.{Table}
-use Rattle.site_table.specs.Table.{Site}
-use Rattle.path_settings.specs.Keys.{name_of, path_keys}
-use Rattle.filter_rules.specs.Names.{all_programs}
-use Rattle.filter_rules.specs.Installed.{place_of, is_installed, installed}
-use Rattle.call_table.specs.Table.{Abi}
+use Rattle.cred_settings.specs.dropin_merge.declared.resolved.Resolved.{Resolved}
+use Rattle.cred_settings.specs.dropin_merge.unit_values.Flags.{flag_value, unit_flag, unit_flag_notes}
+use Rattle.cred_settings.specs.dropin_merge.unit_values.Lasting.{last_read, last_text, unit_last, unit_last_notes, unit_last_text, unread_notes}
+use Rattle.cred_settings.specs.dropin_merge.unit_values.Listed.{listed, unit_listed, unit_listed_notes}
+use Rattle.cred_settings.specs.dropin_merge.unit_values.Values.{expanded_at, given_by, in_force as in_force_values, note_of, noted_unless, notes_of, unexpanded_at, values_of}
+use Rattle.cred_settings.specs.dropin_merge.unit_values.Words.{split, unit_words, unit_words_notes, words_in}
+use Rattle.cred_settings.specs.cap_sets.Sets.{all, minus, none, union}
+use Rattle.filter_settings.specs.call_rules.declared.actions.Action.TheVariants.{KillProcess}
+use Rattle.filter_settings.specs.declared.filter_rules.namespace_types.NamespaceTypes.{NamespaceTypes}
+use Rattle.filter_settings.specs.call_table.Table.{Table}
+use Rattle.cred_settings.specs.site_table.Table.{Site}
+use Rattle.mount_settings.specs.path_settings.Keys.{name_of, path_keys}
+use Rattle.filter_settings.specs.filter_rules.Names.{all_programs}
+use Rattle.filter_settings.specs.filter_rules.Installed.{place_of, is_installed, installed}
+use Rattle.filter_settings.specs.call_table.Table.{Abi}
 use Rattle.std.proofs.lemmas.Bool.{and_right}
 use Rattle.filter_settings.specs.Architectures.{is_second, is_read, value_notes, unit_refuses_second, unit_architectures_notes}
-use Rattle.filter_rules.specs.declared.installed.Filter.{Filter}
-use Rattle.filter_rules.specs.declared.settings.FilterSettings.{FilterSettings}
+use Rattle.filter_settings.specs.declared.filter_rules.installed.Filter.{Filter}
+use Rattle.filter_settings.specs.declared.filter_rules.settings.FilterSettings.{FilterSettings}
 use Rattle.filter_settings.specs.CallLists.{call_list, call_notes, unit_call_list, unit_call_list_notes}
 use Rattle.filter_settings.specs.ErrorActions.{default_action, error_action_value, unit_error_action}
 use Rattle.filter_settings.specs.FamilyLists.{family_list, family_notes, unit_family_list, unit_family_list_notes}

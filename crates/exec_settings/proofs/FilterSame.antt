@@ -1,9 +1,9 @@
 -- Settings of filters that are the same part by part.
 use Rattle.std.proofs.Common.{◌≡◌, Bool, Option}
-use Rattle.call_rules.specs.declared.actions.Action.{Action}
-use Rattle.filter_rules.specs.declared.mentions.CallList.{CallList}
-use Rattle.filter_rules.specs.declared.mentions.FamilyList.{FamilyList}
-use Rattle.filter_rules.specs.declared.namespace_types.NamespaceTypes.{NamespaceTypes}
+use Rattle.filter_settings.specs.call_rules.declared.actions.Action.{Action}
+use Rattle.filter_settings.specs.declared.filter_rules.mentions.CallList.{CallList}
+use Rattle.filter_settings.specs.declared.filter_rules.mentions.FamilyList.{FamilyList}
+use Rattle.filter_settings.specs.declared.filter_rules.namespace_types.NamespaceTypes.{NamespaceTypes}
 use Rattle.filter_settings.proofs.Joined.{made}
 
 pub same_settings : (calls calls' : Option CallList) (action action' : Action) (families families' : Option FamilyList) (types types' : NamespaceTypes) (a a' b b' c c' d d' e e' f f' g g' h h' i i' j j' : Bool) →

@@ -2,7 +2,7 @@
 use Rattle.std.proofs.Common.{◌≡◌, Option, Some, None, List, [], ◌∷◌, refl, sym, ap, ◌∙◌}
 use Rattle.std.specs.Prelude.{unwrap_or}
 use Rattle.std.specs.List.{cons_option, filter_map}
-use Rattle.unit_grammar.specs.Before.{last_of}
+use Rattle.cred_settings.specs.unit_grammar.Before.{last_of}
 
 -- a list that is not empty has a last element
 any_default : {X : Type 0} (x : X) (xs : List X) (one other : X) → unwrap_or (last_of (x ∷ xs)) one ≡ unwrap_or (last_of (x ∷ xs)) other

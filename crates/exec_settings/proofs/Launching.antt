@@ -1,7 +1,7 @@
 -- Why the command of a unit is not launched.
 use Rattle.std.proofs.Common.{◌≡◌, true, false, cond, Option, Some, None, [], ◌∷◌, refl, ap, ◌∙◌}
 use Rattle.std.specs.Option.{option_map}
-use Rattle.dropin_merge.specs.declared.resolved.Resolved.{Resolved}
+use Rattle.cred_settings.specs.dropin_merge.declared.resolved.Resolved.{Resolved}
 use Rattle.exec_settings.specs.declared.commands.Command.{Command}
 use Rattle.exec_settings.specs.declared.errors.SettingsError.{SettingsError}
 use Rattle.exec_settings.specs.declared.errors.SettingsError.TheVariants.{NoCommand, PrivilegedCommand, OutsideProfile}

@@ -2,9 +2,9 @@
 use Rattle.std.proofs.Common.{◌≡◌, ◌<◌, ◌≤◌, ℕ, Bool, cond, Some, None, Ok, Err, List, length, sym, ap, ◌∙◌, arith}
 use Rattle.std.specs.Prelude.{nat_lt}
 use Rattle.std.proofs.lemmas.Bool.{le-ltb, lt-ltb}
-use Rattle.call_table.specs.Table.{Table}
-use Rattle.dropin_merge.specs.declared.resolved.Resolved.{Resolved}
-use Rattle.filter_rules.specs.declared.settings.FilterSettings.{FilterSettings}
+use Rattle.filter_settings.specs.call_table.Table.{Table}
+use Rattle.cred_settings.specs.dropin_merge.declared.resolved.Resolved.{Resolved}
+use Rattle.filter_settings.specs.declared.filter_rules.settings.FilterSettings.{FilterSettings}
 use Rattle.mount_settings.specs.declared.protections.Switches.{Switches}
 use Rattle.mount_settings.specs.declared.written.WrittenPath.{WrittenPath}
 use Rattle.mount_settings.specs.Written.{unit_written}

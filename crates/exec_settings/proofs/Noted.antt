@@ -2,12 +2,12 @@
 use Rattle.std.proofs.Common.{◌≡◌, List, ◌++◌, subst}
 use Rattle.std.specs.Prelude.{IsPermutation}
 use Rattle.std.specs.List.Sorted.{IsSortedByKey, IsStableByKey}
-use Rattle.call_table.specs.Table.{Table}
-use Rattle.dropin_merge.specs.declared.resolved.Resolved.{Resolved}
+use Rattle.filter_settings.specs.call_table.Table.{Table}
+use Rattle.cred_settings.specs.dropin_merge.declared.resolved.Resolved.{Resolved}
 use Rattle.filter_settings.specs.Settings.{filter_notes}
 use Rattle.mount_settings.specs.Notes.{written_notes}
 use Rattle.mount_settings.specs.Protections.{protection_notes}
-use Rattle.unit_values.specs.declared.value.FileNote.{FileNote}
+use Rattle.cred_settings.specs.dropin_merge.declared.unit_values.value.FileNote.{FileNote}
 use Rattle.exec_settings.specs.Commands.{unit_command_notes}
 use Rattle.exec_settings.specs.Notes.{all_notes, credential_notes, text_notes}
 use Rattle.exec_settings.specs.Order.{AreInOrder, place_cmp, place_of}

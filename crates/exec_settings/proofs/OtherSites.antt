@@ -4,16 +4,16 @@ use Rattle.std.specs.Prelude.{find, position, is_some, option_map, slice_get, fi
 use Rattle.std.specs.List.{AllByRecursion, position_or_len}
 use Rattle.std.proofs.lemmas.Bool.Decides.{nat_tests}
 use Rattle.std.proofs.lemmas.List.Folds.{find_at}
-use Rattle.abs_path.specs.Prefix.{is_same}
+use Rattle.mount_settings.specs.abs_path.Prefix.{is_same}
 use Rattle.cred_settings.specs.Identities.{identity_of}
-use Rattle.dropin_merge.specs.declared.resolved.Resolved.{Resolved}
+use Rattle.cred_settings.specs.dropin_merge.declared.resolved.Resolved.{Resolved}
 use Rattle.mount_settings.specs.Effects.{stands}
 use Rattle.mount_settings.specs.Implied.{implied}
 use Rattle.mount_settings.specs.Settings.{as_written, mentions_of}
 use Rattle.mount_settings.specs.Written.{unit_written}
-use Rattle.path_settings.specs.declared.mentions.Mention.{Mention}
-use Rattle.site_table.specs.declared.row.Row.{Row}
-use Rattle.site_table.specs.Table.{Site, site_with, kind_at}
+use Rattle.mount_settings.specs.path_settings.declared.mentions.Mention.{Mention}
+use Rattle.cred_settings.specs.site_table.declared.row.Row.{Row}
+use Rattle.cred_settings.specs.site_table.Table.{Site, site_with, kind_at}
 use Rattle.exec_settings.specs.Dynamic.{is_dynamic}
 use Rattle.exec_settings.specs.Mounts.{unit_mentions}
 use Rattle.exec_settings.specs.OtherSites.{AreSameFor, implied_by, SettingsRestOnFew}

@@ -3,20 +3,20 @@ use Rattle.std.proofs.Common.{◌≡◌, ℕ, ◌+◌, Bool, cond, Option, Some,
 use Rattle.std.specs.Prelude.{◌||◌, ◌&&◌, not, is_some, false, length, nat_lt, find, flat_map, unwrap_or}
 use Rattle.std.specs.Option.{option_map}
 use Rattle.std.specs.List.{enumerate_from, filter_map, list_any}
-use Rattle.unit_values.specs.declared.value.Value.{Value}
-use Rattle.unit_values.specs.Values.{values_of, in_force as in_force_values}
-use Rattle.dropin_merge.specs.declared.resolved.Resolved.{Resolved}
-use Rattle.dropin_merge.specs.declared.resolved.UnitFile.{UnitFile}
-use Rattle.unit_grammar.specs.Before.{last_of}
-use Rattle.unit_values.specs.Assignments.{service_alone, without_others}
-use Rattle.unit_values.specs.Flags.{flag_value, unit_flag, unit_flag_notes}
-use Rattle.unit_values.specs.Lasting.{last_read, last_text, unit_last, unit_last_notes, unit_last_text, unread_notes}
-use Rattle.unit_values.specs.Lines.{listed_line}
-use Rattle.unit_values.specs.Listed.{listed, unit_listed, unit_listed_notes}
-use Rattle.unit_values.specs.Words.{split, unit_words, unit_words_notes, words_in}
-use Rattle.unit_values.proofs.Sections.{same_assignments, same_notes, same_values}
-use Rattle.call_table.specs.Table.{Table}
-use Rattle.site_table.specs.Table.{Site}
+use Rattle.cred_settings.specs.dropin_merge.declared.unit_values.value.Value.{Value}
+use Rattle.cred_settings.specs.dropin_merge.unit_values.Values.{values_of, in_force as in_force_values}
+use Rattle.cred_settings.specs.dropin_merge.declared.resolved.Resolved.{Resolved}
+use Rattle.cred_settings.specs.dropin_merge.declared.resolved.UnitFile.{UnitFile}
+use Rattle.cred_settings.specs.unit_grammar.Before.{last_of}
+use Rattle.cred_settings.specs.dropin_merge.unit_values.Assignments.{service_alone, without_others}
+use Rattle.cred_settings.specs.dropin_merge.unit_values.Flags.{flag_value, unit_flag, unit_flag_notes}
+use Rattle.cred_settings.specs.dropin_merge.unit_values.Lasting.{last_read, last_text, unit_last, unit_last_notes, unit_last_text, unread_notes}
+use Rattle.cred_settings.specs.dropin_merge.unit_values.Lines.{listed_line}
+use Rattle.cred_settings.specs.dropin_merge.unit_values.Listed.{listed, unit_listed, unit_listed_notes}
+use Rattle.cred_settings.specs.dropin_merge.unit_values.Words.{split, unit_words, unit_words_notes, words_in}
+use Rattle.cred_settings.proofs.DropinMerge.Sections.{same_assignments, same_notes, same_values}
+use Rattle.filter_settings.specs.call_table.Table.{Table}
+use Rattle.cred_settings.specs.site_table.Table.{Site}
 use Rattle.filter_settings.specs.CallLists.{call_list, call_notes, unit_call_list, unit_call_list_notes}
 use Rattle.filter_settings.specs.ErrorActions.{default_action, error_action_value, unit_error_action}
 use Rattle.filter_settings.specs.FamilyLists.{family_list, family_notes, unit_family_list, unit_family_list_notes}

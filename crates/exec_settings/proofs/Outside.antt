@@ -2,8 +2,8 @@
 use Rattle.std.specs.Option.{option_map}
 use Rattle.std.proofs.Common.{◌≡◌, ℕ, zero, suc, Bool, true, false, cond, Option, Some, None, List, [], ◌∷◌, refl, sym, ap, ◌∙◌, subst}
 use Rattle.std.specs.Prelude.{find, slice_get}
-use Rattle.dropin_merge.specs.declared.resolved.Resolved.{Resolved}
-use Rattle.path_settings.specs.declared.keys.PathKey.TheVariants as path
+use Rattle.cred_settings.specs.dropin_merge.declared.resolved.Resolved.{Resolved}
+use Rattle.mount_settings.specs.path_settings.declared.keys.PathKey.TheVariants as path
 use Rattle.mount_settings.specs.Roots.{mentions_root, root_key}
 use Rattle.mount_settings.specs.Written.{unit_written}
 use Rattle.exec_settings.specs.declared.commands.Command.{Command}

@@ -3,12 +3,12 @@ use Rattle.std.proofs.Common.{◌≡◌, ℕ, ◌+◌, ◌<◌, Bool, true, fals
 use Rattle.std.specs.Prelude.{◌||◌, ◌&&◌}
 use Rattle.std.specs.List.{list_any}
 use Rattle.std.proofs.lemmas.List.Folds.{list_any-append}
-use Rattle.unit_grammar.specs.declared.notes.NoteCause.TheVariants.{Unjudged}
-use Rattle.unit_values.specs.declared.value.FileNote.{FileNote}
-use Rattle.unit_values.specs.declared.value.Value.{Value}
-use Rattle.unit_values.specs.Notes.{notes_at, noted}
-use Rattle.unit_values.proofs.Looping.{noted_next}
-use Rattle.unit_values.proofs.OneMore.{take_item}
+use Rattle.cred_settings.specs.unit_grammar.declared.notes.NoteCause.TheVariants.{Unjudged}
+use Rattle.cred_settings.specs.dropin_merge.declared.unit_values.value.FileNote.{FileNote}
+use Rattle.cred_settings.specs.dropin_merge.declared.unit_values.value.Value.{Value}
+use Rattle.cred_settings.specs.dropin_merge.unit_values.Notes.{notes_at, noted}
+use Rattle.cred_settings.proofs.DropinMerge.Looping.{noted_next}
+use Rattle.cred_settings.proofs.DropinMerge.OneMore.{take_item}
 use Rattle.exec_settings.specs.Commands.{is_command, later_causes}
 
 or_false : (a b : Bool) → (a || b) ≡ (a || (b || false))

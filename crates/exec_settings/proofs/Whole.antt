@@ -3,15 +3,15 @@ use Rattle.std.proofs.Common.{◌≡◌, ℕ, Bool, List, length, map, sym, ap, 
 use Rattle.std.specs.Prelude.{◌==◌, ◌≤◌, not}
 use Rattle.std.specs.List.{All}
 use Rattle.std.proofs.lemmas.List.{length-map}
-use Rattle.cap_sets.specs.Sets.{minus}
-use Rattle.call_table.specs.Table.{Table}
-use Rattle.dropin_merge.specs.declared.resolved.Resolved.{Resolved}
-use Rattle.call_rules.specs.Sizes.{CanCompile}
-use Rattle.filter_rules.specs.Costs.{HasShortCases, most_room}
-use Rattle.filter_rules.specs.Refusing.{AreRefusing}
-use Rattle.filter_rules.specs.Installed.{place_of, installed}
-use Rattle.filter_rules.specs.declared.installed.Filter.{Filter}
-use Rattle.filter_rules.specs.declared.settings.FilterSettings.{FilterSettings}
+use Rattle.cred_settings.specs.cap_sets.Sets.{minus}
+use Rattle.filter_settings.specs.call_table.Table.{Table}
+use Rattle.cred_settings.specs.dropin_merge.declared.resolved.Resolved.{Resolved}
+use Rattle.filter_settings.specs.call_rules.Sizes.{CanCompile}
+use Rattle.filter_settings.specs.filter_rules.Costs.{HasShortCases, most_room}
+use Rattle.filter_settings.specs.filter_rules.Refusing.{AreRefusing}
+use Rattle.filter_settings.specs.filter_rules.Installed.{place_of, installed}
+use Rattle.filter_settings.specs.declared.filter_rules.installed.Filter.{Filter}
+use Rattle.filter_settings.specs.declared.filter_rules.settings.FilterSettings.{FilterSettings}
 use Rattle.cred_settings.specs.Ambient.{ambient_of}
 use Rattle.cred_settings.specs.Bounding.{bounding_of}
 use Rattle.cred_settings.specs.NewPrivileges.{is_in_effect}

@@ -1,22 +1,22 @@
 -- What it is to be the settings of a unit.
 use Rattle.std.specs.Prelude.{◌≡◌, ◌≤◌, Ok, Some, List, map, IsTrue}
 use Rattle.std.specs.List.{All}
-use Rattle.bpf_code.specs.declared.machine.CallData.{CallData}
-use Rattle.call_rules.specs.Action.{case_action}
-use Rattle.call_rules.specs.Sizes.{CanCompile}
-use Rattle.call_table.specs.Table.{Table}
+use Rattle.filter_settings.specs.bpf_code.declared.machine.CallData.{CallData}
+use Rattle.filter_settings.specs.call_rules.Action.{case_action}
+use Rattle.filter_settings.specs.call_rules.Sizes.{CanCompile}
+use Rattle.filter_settings.specs.call_table.Table.{Table}
 use Rattle.cred_settings.specs.Ambient.{ambient_of}
 use Rattle.cred_settings.specs.Identities.{identity_of}
-use Rattle.dropin_merge.specs.declared.resolved.Resolved.{Resolved}
-use Rattle.filter_rules.specs.Costs.{HasShortCases, most_room}
-use Rattle.filter_rules.specs.Refusing.{AreRefusing}
-use Rattle.filter_rules.specs.Installed.{place_of, installed}
-use Rattle.filter_rules.specs.Wanted.{wanted_action}
-use Rattle.filter_rules.specs.declared.installed.Filter.{Filter}
-use Rattle.filter_rules.specs.declared.settings.FilterSettings.{FilterSettings}
-use Rattle.path_settings.specs.Mentions.{leaves_the_root}
-use Rattle.path_settings.specs.Short.{AreShort}
-use Rattle.site_table.specs.Table.{Site}
+use Rattle.cred_settings.specs.dropin_merge.declared.resolved.Resolved.{Resolved}
+use Rattle.filter_settings.specs.filter_rules.Costs.{HasShortCases, most_room}
+use Rattle.filter_settings.specs.filter_rules.Refusing.{AreRefusing}
+use Rattle.filter_settings.specs.filter_rules.Installed.{place_of, installed}
+use Rattle.filter_settings.specs.filter_rules.Wanted.{wanted_action}
+use Rattle.filter_settings.specs.declared.filter_rules.installed.Filter.{Filter}
+use Rattle.filter_settings.specs.declared.filter_rules.settings.FilterSettings.{FilterSettings}
+use Rattle.mount_settings.specs.path_settings.Mentions.{leaves_the_root}
+use Rattle.mount_settings.specs.path_settings.Short.{AreShort}
+use Rattle.cred_settings.specs.site_table.Table.{Site}
 use Rattle.exec_settings.specs.declared.service.Settings.{Settings}
 use Rattle.exec_settings.specs.Dynamic.{is_dynamic, unit_filters}
 use Rattle.exec_settings.specs.Mounts.{unit_mentions}

@@ -1,12 +1,12 @@
 -- A unit whose service has a command alone.
 use Rattle.std.specs.Prelude.{◌≡◌, false, [], ◌∷◌, codes}
-use Rattle.unit_grammar.specs.declared.unit.Assignment.{Assignment}
-use Rattle.dropin_merge.specs.declared.resolved.Resolved.{Resolved}
-use Rattle.unit_values.specs.declared.value.Place.{Place}
-use Rattle.unit_values.specs.Assignments.{service_assignments}
-use Rattle.cap_sets.specs.Sets.{all, none}
-use Rattle.call_table.specs.Table.{Table}
-use Rattle.site_table.specs.Table.{Site}
+use Rattle.cred_settings.specs.unit_grammar.declared.unit.Assignment.{Assignment}
+use Rattle.cred_settings.specs.dropin_merge.declared.resolved.Resolved.{Resolved}
+use Rattle.cred_settings.specs.dropin_merge.declared.unit_values.value.Place.{Place}
+use Rattle.cred_settings.specs.dropin_merge.unit_values.Assignments.{service_assignments}
+use Rattle.cred_settings.specs.cap_sets.Sets.{all, none}
+use Rattle.filter_settings.specs.call_table.Table.{Table}
+use Rattle.cred_settings.specs.site_table.Table.{Site}
 use Rattle.exec_settings.specs.declared.service.Settings.{Settings}
 use Rattle.exec_settings.specs.AreSettings.{AreSettings}
 use Rattle.exec_settings.specs.Notes.{grammar_notes}

@@ -3,19 +3,19 @@ use Rattle.std.specs.Prelude.{ℕ, ◌==◌, ◌||◌, ◌&&◌, not, nat_le, co
 use Rattle.std.specs.List.{filter_map, list_any, prefix_len}
 use Rattle.std.specs.Option.{option_map}
 use Rattle.std.specs.Str.{byte as ascii}
-use Rattle.text_forms.specs.Words.{words_of}
-use Rattle.abs_path.specs.declared.error.PathError.{PathError}
-use Rattle.abs_path.specs.declared.error.PathError.TheVariants.{TooLong, HasNul, Relative as IsRelative, DotDot, Memory}
-use Rattle.abs_path.specs.Paths.{parts_of, text_of}
-use Rattle.abs_path.specs.Read.{fault_of}
-use Rattle.unit_grammar.specs.declared.notes.NoteCause.{NoteCause}
-use Rattle.unit_grammar.specs.declared.notes.NoteCause.TheVariants.{Value as ValueCause, Unjudged}
-use Rattle.dropin_merge.specs.declared.resolved.Resolved.{Resolved}
-use Rattle.unit_values.specs.declared.value.FileNote.{FileNote}
-use Rattle.unit_values.specs.declared.value.Value.{Value}
-use Rattle.unit_values.specs.Lines.{words_if}
-use Rattle.unit_values.specs.Notes.{note_at, noted}
-use Rattle.unit_values.specs.Values.{in_force, notes_of, values_of}
+use Rattle.cred_settings.specs.text_forms.Words.{words_of}
+use Rattle.mount_settings.specs.abs_path.declared.error.PathError.{PathError}
+use Rattle.mount_settings.specs.abs_path.declared.error.PathError.TheVariants.{TooLong, HasNul, Relative as IsRelative, DotDot, Memory}
+use Rattle.mount_settings.specs.abs_path.Paths.{parts_of, text_of}
+use Rattle.mount_settings.specs.abs_path.Read.{fault_of}
+use Rattle.cred_settings.specs.unit_grammar.declared.notes.NoteCause.{NoteCause}
+use Rattle.cred_settings.specs.unit_grammar.declared.notes.NoteCause.TheVariants.{Value as ValueCause, Unjudged}
+use Rattle.cred_settings.specs.dropin_merge.declared.resolved.Resolved.{Resolved}
+use Rattle.cred_settings.specs.dropin_merge.declared.unit_values.value.FileNote.{FileNote}
+use Rattle.cred_settings.specs.dropin_merge.declared.unit_values.value.Value.{Value}
+use Rattle.cred_settings.specs.dropin_merge.unit_values.Lines.{words_if}
+use Rattle.cred_settings.specs.dropin_merge.unit_values.Notes.{note_at, noted}
+use Rattle.cred_settings.specs.dropin_merge.unit_values.Values.{in_force, notes_of, values_of}
 use Rattle.exec_settings.specs.declared.commands.Command.{Command}
 use Rattle.exec_settings.specs.declared.commands.Program.{Program}
 use Rattle.exec_settings.specs.declared.commands.Program.TheVariants.{Absolute, Relative}

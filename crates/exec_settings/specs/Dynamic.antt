@@ -1,12 +1,12 @@
 -- What a dynamic user brings (systemd.exec(5), DynamicUser=).
 use Rattle.std.specs.Prelude.{◌||◌, Bool, List, codes}
-use Rattle.call_table.specs.Table.{Table}
-use Rattle.dropin_merge.specs.declared.resolved.Resolved.{Resolved}
+use Rattle.filter_settings.specs.call_table.Table.{Table}
+use Rattle.cred_settings.specs.dropin_merge.declared.resolved.Resolved.{Resolved}
 use Rattle.cred_settings.specs.NewPrivileges.{is_set_by}
-use Rattle.filter_rules.specs.declared.settings.FilterSettings.{FilterSettings}
+use Rattle.filter_settings.specs.declared.filter_rules.settings.FilterSettings.{FilterSettings}
 use Rattle.filter_settings.specs.Settings.{settings_of}
-use Rattle.unit_values.specs.declared.value.FileNote.{FileNote}
-use Rattle.unit_values.specs.Flags.{unit_flag, unit_flag_notes}
+use Rattle.cred_settings.specs.dropin_merge.declared.unit_values.value.FileNote.{FileNote}
+use Rattle.cred_settings.specs.dropin_merge.unit_values.Flags.{unit_flag, unit_flag_notes}
 
 unfoldable pub is_dynamic : Resolved → Bool
 is_dynamic unit = unit_flag unit (codes "DynamicUser")

@@ -1,12 +1,12 @@
 -- Groups of calls that settings rest on, and that the table of calls is to have (systemd.exec(5), SystemCallFilter=).
 use Rattle.std.specs.Prelude.{ℕ, not, is_some, Bool, true, false, cond, codes, Option, List, [], ◌∷◌, ◌++◌, find}
 use Rattle.std.specs.Option.{option_map_or}
-use Rattle.call_table.specs.Table.{Table}
-use Rattle.call_table.specs.Lookups.{group_named}
-use Rattle.filter_rules.specs.declared.mentions.CallList.{CallList}
-use Rattle.filter_rules.specs.declared.mentions.Mode.{Mode}
-use Rattle.filter_rules.specs.declared.mentions.Mode.TheVariants.{Allow, Deny}
-use Rattle.filter_rules.specs.declared.settings.FilterSettings.{FilterSettings}
+use Rattle.filter_settings.specs.call_table.Table.{Table}
+use Rattle.filter_settings.specs.call_table.Lookups.{group_named}
+use Rattle.filter_settings.specs.declared.filter_rules.mentions.CallList.{CallList}
+use Rattle.filter_settings.specs.declared.filter_rules.mentions.Mode.{Mode}
+use Rattle.filter_settings.specs.declared.filter_rules.mentions.Mode.TheVariants.{Allow, Deny}
+use Rattle.filter_settings.specs.declared.filter_rules.settings.FilterSettings.{FilterSettings}
 
 abbrev pub is_allowing : Mode → Bool
 is_allowing Allow = true

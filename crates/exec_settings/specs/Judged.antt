@@ -1,12 +1,12 @@
 -- Keys of the service that are not judged (systemd.exec(5), systemd.service(5), systemd.kill(5) ..): noted, and passed over.
 use Rattle.std.specs.Prelude.{cond, Option, Some, None, List}
 use Rattle.std.specs.List.{filter_map}
-use Rattle.unit_grammar.specs.declared.notes.NoteCause.TheVariants.{Unjudged}
-use Rattle.unit_grammar.specs.declared.unit.Assignment.{Assignment}
-use Rattle.dropin_merge.specs.declared.resolved.Resolved.{Resolved}
-use Rattle.unit_values.specs.declared.value.FileNote.{FileNote}
-use Rattle.unit_values.specs.declared.value.Place.{Place}
-use Rattle.unit_values.specs.Assignments.{service_assignments}
+use Rattle.cred_settings.specs.unit_grammar.declared.notes.NoteCause.TheVariants.{Unjudged}
+use Rattle.cred_settings.specs.unit_grammar.declared.unit.Assignment.{Assignment}
+use Rattle.cred_settings.specs.dropin_merge.declared.resolved.Resolved.{Resolved}
+use Rattle.cred_settings.specs.dropin_merge.declared.unit_values.value.FileNote.{FileNote}
+use Rattle.cred_settings.specs.dropin_merge.declared.unit_values.value.Place.{Place}
+use Rattle.cred_settings.specs.dropin_merge.unit_values.Assignments.{service_assignments}
 use Rattle.exec_settings.specs.Keys.{is_judged}
 
 -- an assignment to another key is noted

@@ -4,8 +4,8 @@ use Rattle.std.specs.List.{list_any, list_all}
 use Rattle.std.specs.Ordering.{is_lt, nat_cmp}
 use Rattle.std.specs.Cmp.Lexicographic.{slice_cmp}
 use Rattle.std.specs.Str.{bytes_eq}
-use Rattle.path_settings.specs.declared.keys.PathKey.TheVariants as path
-use Rattle.path_settings.specs.Keys.{name_of, path_keys}
+use Rattle.mount_settings.specs.path_settings.declared.keys.PathKey.TheVariants as path
+use Rattle.mount_settings.specs.path_settings.Keys.{name_of, path_keys}
 use Rattle.exec_settings.specs.declared.keys.Meaning.{Meaning}
 use Rattle.exec_settings.specs.declared.keys.Meaning.TheVariants.{Command, Credentials, Filter, Protection, Path, Place, Refused}
 

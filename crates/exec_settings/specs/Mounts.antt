@@ -1,10 +1,10 @@
 -- What a unit says of paths, and how many of them it may write (systemd.exec(5), Paths, Sandboxing).
 use Rattle.std.specs.Prelude.{nat_lt, cond, Bool, List, length, Option, Some, None, codes}
-use Rattle.dropin_merge.specs.declared.resolved.Resolved.{Resolved}
-use Rattle.filter_rules.specs.declared.settings.FilterSettings.{FilterSettings}
-use Rattle.path_settings.specs.declared.mentions.Mention.{Mention}
-use Rattle.site_table.specs.Table.{Site}
-use Rattle.unit_values.specs.Flags.{unit_flag}
+use Rattle.cred_settings.specs.dropin_merge.declared.resolved.Resolved.{Resolved}
+use Rattle.filter_settings.specs.declared.filter_rules.settings.FilterSettings.{FilterSettings}
+use Rattle.mount_settings.specs.path_settings.declared.mentions.Mention.{Mention}
+use Rattle.cred_settings.specs.site_table.Table.{Site}
+use Rattle.cred_settings.specs.dropin_merge.unit_values.Flags.{unit_flag}
 use Rattle.mount_settings.specs.declared.protections.Switches.{Switches}
 use Rattle.mount_settings.specs.Settings.{mentions_of, protections_of}
 use Rattle.mount_settings.specs.Written.{unit_written}

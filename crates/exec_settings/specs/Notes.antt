@@ -1,11 +1,11 @@
 -- All that is noted of a unit.
 use Rattle.std.specs.Prelude.{ℕ, List, ◌++◌, flat_map, map}
 use Rattle.std.specs.List.{enumerate_from}
-use Rattle.unit_grammar.specs.declared.notes.Note.{Note}
-use Rattle.dropin_merge.specs.declared.resolved.Resolved.{Resolved}
-use Rattle.dropin_merge.specs.declared.resolved.UnitFile.{UnitFile}
-use Rattle.call_table.specs.Table.{Table}
-use Rattle.unit_values.specs.declared.value.FileNote.{FileNote}
+use Rattle.cred_settings.specs.unit_grammar.declared.notes.Note.{Note}
+use Rattle.cred_settings.specs.dropin_merge.declared.resolved.Resolved.{Resolved}
+use Rattle.cred_settings.specs.dropin_merge.declared.resolved.UnitFile.{UnitFile}
+use Rattle.filter_settings.specs.call_table.Table.{Table}
+use Rattle.cred_settings.specs.dropin_merge.declared.unit_values.value.FileNote.{FileNote}
 use Rattle.filter_settings.specs.Settings.{filter_notes}
 use Rattle.cred_settings.specs.Ambient.{ambient_notes}
 use Rattle.cred_settings.specs.Bounding.{bounding_notes}

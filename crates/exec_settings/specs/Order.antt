@@ -3,7 +3,7 @@ use Rattle.std.specs.Prelude.{ℕ, List, IsPermutation}
 use Rattle.std.specs.Ordering.{nat_cmp, ordering_then}
 use Rattle.std.specs.declared.cmp.Ordering.{Ordering}
 use Rattle.std.specs.List.Sorted.{IsSortedByKey, IsStableByKey}
-use Rattle.unit_values.specs.declared.value.FileNote.{FileNote}
+use Rattle.cred_settings.specs.dropin_merge.declared.unit_values.value.FileNote.{FileNote}
 
 abbrev pub place_of : FileNote → ℕ × ℕ
 place_of note = (note.place.file, note.place.line)

@@ -1,13 +1,13 @@
 -- What of a site the settings of a unit rest on.
 use Rattle.std.specs.Prelude.{◌≡◌, List}
 use Rattle.std.specs.List.{AllByRecursion}
-use Rattle.call_table.specs.Table.{Table}
-use Rattle.dropin_merge.specs.declared.resolved.Resolved.{Resolved}
+use Rattle.filter_settings.specs.call_table.Table.{Table}
+use Rattle.cred_settings.specs.dropin_merge.declared.resolved.Resolved.{Resolved}
 use Rattle.mount_settings.specs.Implied.{asked}
 use Rattle.mount_settings.specs.Settings.{protections_of}
 use Rattle.mount_settings.specs.Written.{unit_written}
-use Rattle.path_settings.specs.declared.mentions.Mention.{Mention}
-use Rattle.site_table.specs.Table.{Site, kind_at}
+use Rattle.mount_settings.specs.path_settings.declared.mentions.Mention.{Mention}
+use Rattle.cred_settings.specs.site_table.Table.{Site, kind_at}
 use Rattle.exec_settings.specs.AreSettings.{AreSettings}
 use Rattle.exec_settings.specs.Mounts.{unit_switches}
 use Rattle.exec_settings.specs.declared.service.Settings.{Settings}

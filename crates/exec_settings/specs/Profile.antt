@@ -3,11 +3,11 @@ use Rattle.std.specs.Prelude.{ℕ, not, Bool, true, false, cond, Option, Some, N
 use Rattle.std.specs.List.{filter_map}
 use Rattle.std.specs.Option.{option_map}
 use Rattle.std.specs.Str.{bytes_eq}
-use Rattle.text_forms.specs.Booleans.{bool_value}
-use Rattle.unit_grammar.specs.Before.{last_of}
-use Rattle.unit_grammar.specs.declared.unit.Assignment.{Assignment}
-use Rattle.dropin_merge.specs.declared.resolved.Resolved.{Resolved}
-use Rattle.unit_values.specs.Assignments.{service_assignments}
+use Rattle.cred_settings.specs.text_forms.Booleans.{bool_value}
+use Rattle.cred_settings.specs.unit_grammar.Before.{last_of}
+use Rattle.cred_settings.specs.unit_grammar.declared.unit.Assignment.{Assignment}
+use Rattle.cred_settings.specs.dropin_merge.declared.resolved.Resolved.{Resolved}
+use Rattle.cred_settings.specs.dropin_merge.unit_values.Assignments.{service_assignments}
 use Rattle.mount_settings.specs.Roots.{mentions_root}
 use Rattle.mount_settings.specs.Written.{unit_written}
 use Rattle.exec_settings.specs.Keys.{keys}

@@ -1,9 +1,9 @@
 -- Why a unit has no settings, the first of all reasons.
 use Rattle.std.specs.Prelude.{◌≡◌, cond, Option, Some, None, option_and_then, List, [], ◌∷◌, Result, Ok, Err}
 use Rattle.std.specs.Option.{option_map}
-use Rattle.call_table.specs.Table.{Table}
-use Rattle.dropin_merge.specs.declared.resolved.Resolved.{Resolved}
-use Rattle.site_table.specs.Table.{Site}
+use Rattle.filter_settings.specs.call_table.Table.{Table}
+use Rattle.cred_settings.specs.dropin_merge.declared.resolved.Resolved.{Resolved}
+use Rattle.cred_settings.specs.site_table.Table.{Site}
 use Rattle.cred_settings.specs.Identities.{identity_of}
 use Rattle.cred_settings.specs.declared.accounts.Identity.{Identity}
 use Rattle.cred_settings.specs.declared.error.IdentityError.{IdentityError}

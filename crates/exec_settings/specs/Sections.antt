@@ -1,9 +1,9 @@
 -- What stands in other sections than that of the service.
 use Rattle.std.specs.Prelude.{◌≡◌, ◌↔◌}
-use Rattle.dropin_merge.specs.declared.resolved.Resolved.{Resolved}
-use Rattle.unit_values.specs.Assignments.{service_alone}
-use Rattle.call_table.specs.Table.{Table}
-use Rattle.site_table.specs.Table.{Site}
+use Rattle.cred_settings.specs.dropin_merge.declared.resolved.Resolved.{Resolved}
+use Rattle.cred_settings.specs.dropin_merge.unit_values.Assignments.{service_alone}
+use Rattle.filter_settings.specs.call_table.Table.{Table}
+use Rattle.cred_settings.specs.site_table.Table.{Site}
 use Rattle.exec_settings.specs.declared.service.Settings.{Settings}
 use Rattle.exec_settings.specs.AreSettings.{AreSettings}
 use Rattle.exec_settings.specs.Refusals.{refusal_of}

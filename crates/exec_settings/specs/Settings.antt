@@ -1,13 +1,13 @@
 -- What the settings of a unit are.
 use Rattle.std.specs.Prelude.{ℕ, ◌==◌, not, Bool, Option, Some, None, option_and_then, length}
-use Rattle.abs_path.specs.Paths.{Path}
+use Rattle.mount_settings.specs.abs_path.Paths.{Path}
 use Rattle.cred_settings.specs.Ambient.{ambient_of}
 use Rattle.cred_settings.specs.Bounding.{bounding_of}
 use Rattle.cred_settings.specs.NewPrivileges.{is_in_effect}
-use Rattle.filter_rules.specs.Installed.{installed}
-use Rattle.filter_rules.specs.declared.settings.FilterSettings.{FilterSettings}
-use Rattle.dropin_merge.specs.declared.resolved.Resolved.{Resolved}
-use Rattle.call_table.specs.Table.{Table}
+use Rattle.filter_settings.specs.filter_rules.Installed.{installed}
+use Rattle.filter_settings.specs.declared.filter_rules.settings.FilterSettings.{FilterSettings}
+use Rattle.cred_settings.specs.dropin_merge.declared.resolved.Resolved.{Resolved}
+use Rattle.filter_settings.specs.call_table.Table.{Table}
 use Rattle.exec_settings.specs.declared.commands.Command.{Command}
 use Rattle.exec_settings.specs.declared.commands.Program.{Program}
 use Rattle.exec_settings.specs.declared.commands.Program.TheVariants.{Absolute, Relative}

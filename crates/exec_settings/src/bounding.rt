@@ -2,11 +2,11 @@
 ghost use Rattle.std.specs.Prelude.{◌≡◌};
 ghost use Rattle.exec_settings.specs.Bounding.{clock_caps, device_caps, log_caps, module_caps, only_if, taken_caps};
 
-use cap_sets::CapSet;
-use filter_rules::FilterSettings;
-use linux_numbers::capabilities::{
+use cred_settings::cap_sets::CapSet;
+use cred_settings::linux_numbers::capabilities::{
     CAP_MKNOD, CAP_SYS_MODULE, CAP_SYS_RAWIO, CAP_SYS_TIME, CAP_SYSLOG, CAP_WAKE_ALARM,
 };
+use filter_settings::filter_rules::FilterSettings;
 
 // The set, where the setting that takes it is on.
 fn only_if(on: bool, set: CapSet) -> CapSet

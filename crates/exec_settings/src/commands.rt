@@ -3,15 +3,17 @@
 //! A value is read by its first word alone: the prefixes, and the path of the program behind them.
 ghost use Rattle.std.specs.Prelude.{◌≡◌, ◌++◌, ◌∷◌, ◌||◌, ◌&&◌, [], cond, slice_get, IfOk, OnOk};
 ghost use Rattle.std.specs.List.{cons_option, filter_map, list_any, prefix_len};
-ghost use Rattle.unit_grammar.specs.declared.notes.NoteCause.TheVariants.{Unjudged};
-ghost use Rattle.unit_values.specs.Notes.{notes_at, noted};
+ghost use Rattle.cred_settings.specs.unit_grammar.declared.notes.NoteCause.TheVariants.{Unjudged};
+ghost use Rattle.cred_settings.specs.dropin_merge.unit_values.Notes.{notes_at, noted};
 ghost use Rattle.exec_settings.specs.Commands.{is_command, is_prefix, is_unread, keeps_privileges, prefixes_of, behind_prefixes, program_of, command_of_word, command_of, later_causes, unread_note, unit_command, unit_command_notes};
 
-use abs_path::{AbsPath, PathError};
-use dropin_merge::Resolved;
+use cred_settings::dropin_merge::Resolved;
+use cred_settings::dropin_merge::unit_values::{
+    FileNote, Value, in_force, note_value, read_words, values_of_key,
+};
+use cred_settings::unit_grammar::NoteCause;
+use mount_settings::abs_path::{AbsPath, PathError};
 use std::alloc::{AllocError, Global};
-use unit_grammar::NoteCause;
-use unit_values::{FileNote, Value, in_force, note_value, read_words, values_of_key};
 
 /// The most bytes that a path in a setting has.
 const LONGEST: usize = 250;

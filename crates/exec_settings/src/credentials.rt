@@ -9,14 +9,14 @@ ghost use Rattle.exec_settings.specs.Refusals.{RefusesFirst, identity_refusal};
 
 use crate::dynamic::is_dynamic;
 use crate::errors::SettingsError;
-use cap_sets::CapSet;
+use cred_settings::cap_sets::CapSet;
+use cred_settings::dropin_merge::Resolved;
+use cred_settings::dropin_merge::unit_values::FileNote;
+use cred_settings::site_table::SiteTable;
 use cred_settings::{
     Identity, IdentityError, ambient_set, bounding_set, identity_of_unit, is_no_new_privileges_set,
 };
-use dropin_merge::Resolved;
-use site_table::SiteTable;
 use std::alloc::Global;
-use unit_values::FileNote;
 
 /// What the keys of users, groups and capabilities say.
 #[derive(Drop)]

@@ -2,10 +2,10 @@
 ghost use Rattle.std.specs.Prelude.{◌≡◌, ◌++◌, IfOk, OnOk};
 ghost use Rattle.exec_settings.specs.Dynamic.{dynamic_notes, is_dynamic, with_dynamic_user};
 
-use dropin_merge::Resolved;
-use filter_rules::FilterSettings;
+use cred_settings::dropin_merge::Resolved;
+use cred_settings::dropin_merge::unit_values::{FileNote, flag_of_key};
+use filter_settings::filter_rules::FilterSettings;
 use std::alloc::{AllocError, Global};
-use unit_values::{FileNote, flag_of_key};
 
 /// Whether DynamicUser= is on. Values that cannot be expanded, and then those that cannot be read, are noted behind the
 /// notes that are there.

@@ -2,9 +2,9 @@
 ghost use Rattle.std.specs.Prelude.{◌≡◌};
 ghost use Rattle.exec_settings.specs.declared.errors.SettingsError.TheVariants.{Memory};
 
+use cred_settings::unit_grammar::Text;
 use std::alloc::AllocError;
 use thiserror::Error;
-use unit_grammar::Text;
 
 /// Why a unit has no settings. Where several reasons stand together the first in this order is told; want of memory
 /// may come at any unit.

@@ -1,7 +1,7 @@
 //! What the keys of the filters of system calls bring, or the group of calls that they lack.
 ghost use Rattle.std.specs.Prelude.{◌≡◌, ◌++◌, IfOk, OnOk};
-ghost use Rattle.filter_rules.specs.Known.{HasKnownFamilies};
-ghost use Rattle.filter_rules.specs.Refusing.{AreRefusing};
+ghost use Rattle.filter_settings.specs.filter_rules.Known.{HasKnownFamilies};
+ghost use Rattle.filter_settings.specs.filter_rules.Refusing.{AreRefusing};
 ghost use Rattle.filter_settings.specs.Settings.{filter_notes};
 ghost use Rattle.exec_settings.specs.AreSettings.{AreFilters};
 ghost use Rattle.exec_settings.specs.Bounding.{taken_caps};
@@ -13,15 +13,15 @@ use crate::bounding::taken_caps;
 use crate::dynamic::with_dynamic_user;
 use crate::errors::SettingsError;
 use crate::groups::missing_group;
-use call_table::CallTable;
-use cap_sets::CapSet;
-use dropin_merge::Resolved;
-use filter_rules::{Filter, FilterSettings, filters};
+use cred_settings::cap_sets::CapSet;
+use cred_settings::dropin_merge::Resolved;
+use cred_settings::dropin_merge::unit_values::FileNote;
+use cred_settings::unit_grammar::Text;
+use filter_settings::call_table::CallTable;
+use filter_settings::filter_rules::{Filter, FilterSettings, filters};
 use filter_settings::filter_settings;
 use mount_settings::Switches;
 use std::alloc::Global;
-use unit_grammar::Text;
-use unit_values::FileNote;
 
 /// What the keys of the filters bring.
 #[derive(Drop)]

@@ -3,8 +3,8 @@ ghost use Rattle.std.specs.Prelude.{◌≡◌};
 ghost use Rattle.std.specs.Option.{option_copied};
 ghost use Rattle.exec_settings.specs.Groups.{begins_with_default, is_missing, missing_group};
 
-use call_table::CallTable;
-use filter_rules::{CallList, FilterSettings, Mode};
+use filter_settings::call_table::CallTable;
+use filter_settings::filter_rules::{CallList, FilterSettings, Mode};
 
 // Whether the list begins with `@default`, as one that allows does.
 fn begins_with_default(calls: &Option<CallList>) -> bool

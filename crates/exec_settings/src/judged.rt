@@ -6,10 +6,10 @@ ghost use Rattle.exec_settings.specs.Keys.{is_judged};
 ghost use Rattle.exec_settings.specs.Judged.{unjudged_at, unjudged_notes};
 
 use crate::keys::{Meaning, keys};
-use dropin_merge::Resolved;
+use cred_settings::dropin_merge::Resolved;
+use cred_settings::dropin_merge::unit_values::{FileNote, Place, service_assignments};
+use cred_settings::unit_grammar::{Assignment, NoteCause};
 use std::alloc::AllocError;
-use unit_grammar::{Assignment, NoteCause};
-use unit_values::{FileNote, Place, service_assignments};
 
 fn is_named(rows: &[(&str, Meaning)], key: &str) -> bool
     ensures { result ≡ list_any (λ row. bytes_eq row.0.now key.now) rows.now }

@@ -26,7 +26,15 @@ mod program;
 mod reading;
 mod service;
 
+pub use cred_settings;
+pub use cred_settings::{
+    cap_sets, dropin_merge, host_io, linux_numbers, site_table, text_forms, unit_grammar,
+};
 pub use errors::SettingsError;
+pub use filter_settings;
+pub use filter_settings::call_table;
 pub use judged::is_judged;
+pub use mount_settings;
+pub use mount_settings::{abs_path, path_settings, unit_names};
 pub use reading::settings;
 pub use service::Settings;

@@ -2,19 +2,19 @@
 ghost use Rattle.std.specs.Prelude.{◌≡◌, ◌++◌, None, IfOk, OnOk, IsTrue};
 ghost use Rattle.mount_settings.specs.Protections.{protection_notes};
 ghost use Rattle.mount_settings.specs.Roots.{root_key};
-ghost use Rattle.path_settings.specs.Mentions.{leaves_the_root};
-ghost use Rattle.path_settings.specs.Short.{AreShort};
+ghost use Rattle.mount_settings.specs.path_settings.Mentions.{leaves_the_root};
+ghost use Rattle.mount_settings.specs.path_settings.Short.{AreShort};
 ghost use Rattle.mount_settings.specs.Written.{unit_written};
 ghost use Rattle.exec_settings.specs.Mounts.{paths_refusal, unit_mentions, unit_switches};
 ghost use Rattle.exec_settings.specs.Refusals.{RefusesFirst};
 
 use crate::errors::SettingsError;
-use dropin_merge::Resolved;
+use cred_settings::dropin_merge::Resolved;
+use cred_settings::dropin_merge::unit_values::FileNote;
+use cred_settings::site_table::SiteTable;
+use mount_settings::path_settings::Mentions;
 use mount_settings::{MountSettingsError, Switches, WrittenPaths, mount_settings};
-use path_settings::Mentions;
-use site_table::SiteTable;
 use std::alloc::Global;
-use unit_values::FileNote;
 
 /// The mentions of a unit with these written paths, and what is noted of the keys that protect the file system behind
 /// the notes that are there.

@@ -5,9 +5,9 @@ ghost use Rattle.exec_settings.specs.Notes.{grammar_notes, grammar_notes_in, tex
 ghost use Rattle.exec_settings.specs.Order.{place_cmp, place_of};
 
 use crate::judged::note_unjudged;
-use dropin_merge::{Resolved, UnitFile};
+use cred_settings::dropin_merge::unit_values::{FileNote, Place};
+use cred_settings::dropin_merge::{Resolved, UnitFile};
 use std::alloc::{AllocError, Global};
-use unit_values::{FileNote, Place};
 
 // The notes of one file.
 fn add_notes_in(number: usize, file: &UnitFile, notes: &mut Vec<FileNote>) -> Result<(), AllocError>

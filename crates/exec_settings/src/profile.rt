@@ -6,11 +6,11 @@ ghost use Rattle.exec_settings.specs.Profile.{asked_by, asks, is_asked, is_outsi
 
 use crate::commands::{Command, Program};
 use crate::keys::{Meaning, keys};
-use dropin_merge::Resolved;
+use cred_settings::dropin_merge::Resolved;
+use cred_settings::dropin_merge::unit_values::service_assignments;
+use cred_settings::text_forms::read_bool;
+use cred_settings::unit_grammar::Assignment;
 use mount_settings::{WrittenPaths, mentions_root};
-use text_forms::read_bool;
-use unit_grammar::Assignment;
-use unit_values::service_assignments;
 
 // Whether a text asks for what a key is for: an empty one and a false boolean do not.
 fn asks(text: &str) -> bool

@@ -11,12 +11,12 @@ ghost use Rattle.exec_settings.specs.Settings.{path_of, unit_program};
 use crate::commands::{Command, Program, launched_command};
 use crate::errors::SettingsError;
 use crate::profile::outside_key;
-use abs_path::AbsPath;
-use dropin_merge::Resolved;
+use cred_settings::dropin_merge::Resolved;
+use cred_settings::dropin_merge::unit_values::FileNote;
+use cred_settings::unit_grammar::Text;
 use mount_settings::WrittenPaths;
+use mount_settings::abs_path::AbsPath;
 use std::alloc::Global;
-use unit_grammar::Text;
-use unit_values::FileNote;
 
 // The program of a command that uses no privileges.
 fn program_of(

@@ -10,11 +10,11 @@ use crate::mounts::read_mentions;
 use crate::notes::{put_in_order, text_notes};
 use crate::program::launched_program;
 use crate::service::Settings;
-use call_table::CallTable;
+use cred_settings::dropin_merge::Resolved;
+use cred_settings::site_table::SiteTable;
 use cred_settings::{Identity, no_new_privs};
-use dropin_merge::Resolved;
+use filter_settings::call_table::CallTable;
 use mount_settings::written_paths;
-use site_table::SiteTable;
 use std::alloc::Global;
 
 /// The settings of a unit, where it launches a program and all its settings can be judged.

@@ -1,10 +1,10 @@
 //! What the settings of a unit are.
-use abs_path::AbsPath;
-use cap_sets::CapSet;
 use cred_settings::Gids;
-use filter_rules::Filter;
-use path_settings::Mentions;
-use unit_values::FileNote;
+use cred_settings::cap_sets::CapSet;
+use cred_settings::dropin_merge::unit_values::FileNote;
+use filter_settings::filter_rules::Filter;
+use mount_settings::abs_path::AbsPath;
+use mount_settings::path_settings::Mentions;
 
 /// The settings of a unit.
 #[derive(Drop)]

@@ -38,8 +38,3 @@ pub term_below : (badness range weight : ℕ) → 0 < range → term badness ran
 term_below badness range weight some =
     let part : min badness range * weight ≤ range * weight = mul-le-mul_right weight (min_below badness range) in
     (term_is_rounded_up badness range weight some).least weight (subst (λ (n : ℕ). min badness range * weight ≤ n) (mul_comm range weight) part)
-
-pub exposure_below : (terms weights : ℕ) → 0 < weights → terms ≤ weights → exposure terms weights ≤ 100
-exposure_below terms weights some part =
-    let h : 100 * terms ≤ 100 * weights = omega arith in
-    (exposure_is_rounded_up terms weights some).least 100 h

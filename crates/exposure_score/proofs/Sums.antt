@@ -3,8 +3,8 @@ use Rattle.std.proofs.Common.{◌≡◌, ◌≤◌, ◌+◌, ◌*◌, ℕ, suc, 
 use Rattle.std.specs.Prelude.{is_some, ◌||◌, filter, sum_by}
 use Rattle.std.specs.List.{AllZip, AllByRecursion}
 use Rattle.std.proofs.lemmas.List.Sums.{sum_by-cons}
-use Rattle.policy_file.specs.declared.policy.PolicyTest.{PolicyTest}
-use Rattle.policy_file.specs.Policy.{IsTest, IsPolicy}
+use Rattle.exposure_score.specs.declared.policy_file.policy.PolicyTest.{PolicyTest}
+use Rattle.exposure_score.specs.policy_file.Policy.{IsTest, IsPolicy}
 use Rattle.exposure_score.specs.declared.facts.Fact.{Fact}
 use Rattle.exposure_score.specs.declared.rows.ScoreRow.{ScoreRow}
 use Rattle.exposure_score.specs.Badness.{IsBadness, fact_of, stored_of, is_known}

@@ -1,7 +1,7 @@
 -- What the tests of a policy come to.
 use Rattle.std.specs.Prelude.{◌≡◌, ℕ, true, false, List, filter, sum_by, Option, Some, None}
 use Rattle.std.specs.List.{AllZip}
-use Rattle.policy_file.specs.declared.policy.PolicyTest.{PolicyTest}
+use Rattle.exposure_score.specs.declared.policy_file.policy.PolicyTest.{PolicyTest}
 use Rattle.exposure_score.specs.declared.facts.Fact.{Fact}
 use Rattle.exposure_score.specs.declared.rows.ScoreRow.{ScoreRow}
 use Rattle.exposure_score.specs.declared.rows.Score.{Score}

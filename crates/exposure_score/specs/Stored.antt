@@ -1,7 +1,7 @@
 -- What the two tests say that the program hands in.
 use Rattle.std.specs.Prelude.{ℕ, min, count_by}
 use Rattle.std.specs.List.{range_with_len}
-use Rattle.cap_sets.specs.Sets.{has}
+use Rattle.exec_settings.specs.cap_sets.Sets.{has}
 use Rattle.exposure_score.specs.declared.facts.Facts.{Facts}
 
 -- the ambient capabilities, of those from 0 to 40

@@ -4,7 +4,7 @@ ghost use Rattle.std.specs.Prelude.{◌≡◌, ℕ, ◌≤◌, List, string_byte
 ghost use Rattle.exposure_score.specs.StoredTests.{StoredTests, stored_by};
 
 use crate::facts::Facts;
-use policy_file::TestId;
+use crate::policy_file::TestId;
 
 /// What a stored test says of facts.
 pub type Check = Box<dyn Fn(&Facts) -> u32>;

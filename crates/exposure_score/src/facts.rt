@@ -2,9 +2,9 @@
 
 ghost use Rattle.std.specs.Prelude.{◌<◌, ◌^◌};
 
-use cap_sets::CapSet;
-use item_list::ItemList;
-use policy_file::TestId;
+use crate::policy_file::TestId;
+use exec_settings::cap_sets::CapSet;
+use exec_settings::text_forms::item_list::ItemList;
 
 /// How bad a service is by one test that its settings decide.
 #[derive(Drop)]

@@ -13,14 +13,20 @@ mod custom_test;
 mod error;
 mod facts;
 pub mod laws;
+pub mod policy_file;
+pub mod policy_weights;
 mod rows;
 mod scoring;
+pub mod service_facts;
 mod stored;
 
+pub use crate::policy_file::TestId as FactId;
 pub use custom_test::{Check, CustomTest, Stored};
 pub use error::ScoreError;
+pub use exec_settings::{
+    abs_path, call_table, cap_sets, dropin_merge, site_table, text_forms, unit_grammar,
+};
 pub use facts::{Fact, FactList, Facts};
-pub use policy_file::TestId as FactId;
 pub use rows::{Score, ScoreRow, ScoreRows};
 pub use scoring::score;
 pub use stored::{ambient_count, writable_paths};

@@ -2,7 +2,7 @@
 
 ghost use Rattle.std.specs.Prelude.{◌≡◌, ◌<◌, IfOk, OnOk, IfErr};
 ghost use Rattle.std.specs.List.{AllZip, AllByRecursion};
-ghost use Rattle.policy_file.specs.Policy.{IsTest};
+ghost use Rattle.exposure_score.specs.policy_file.Policy.{IsTest};
 ghost use Rattle.exposure_score.specs.declared.error.ScoreError.TheVariants.{NoWeight};
 ghost use Rattle.exposure_score.specs.Facts.{Gives};
 ghost use Rattle.exposure_score.specs.Rows.{skipped_row, IsRow, counted_weight, IsScore};
@@ -12,8 +12,8 @@ use crate::badness::badness_of;
 use crate::custom_test::{Check, CustomTest};
 use crate::error::ScoreError;
 use crate::facts::Facts;
+use crate::policy_file::{Policy, PolicyTest, TestId};
 use crate::rows::{Score, ScoreRow, ScoreRows};
-use policy_file::{Policy, PolicyTest, TestId};
 use std::alloc::{AllocError, Global};
 
 // the row of a test that is skipped

@@ -2,9 +2,9 @@
 use Rattle.std.proofs.Common.{◌≡◌, ℕ, zero, suc, ◌+◌, ◌<◌, ◌≤◌, List, [], ◌∷◌, length, Some, refl, sym, ap, ◌∙◌, subst, arith}
 use Rattle.std.specs.Prelude.{slice_get, Contains, ◌≢◌}
 use Rattle.std.proofs.lemmas.Option.{slice_get_within}
-use Rattle.bpf_code.specs.declared.machine.Insn.{Insn}
-use Rattle.filter_paths.specs.Traces.{IsPath, EachOnce, HasPaths, HasMorePaths}
-use Rattle.filter_paths.proofs.Told.{found_of, contains_from}
+use Rattle.seccomp_compile.specs.bpf_code.declared.machine.Insn.{Insn}
+use Rattle.filter_check.specs.filter_paths.Traces.{IsPath, EachOnce, HasPaths, HasMorePaths}
+use Rattle.filter_check.proofs.Told.{found_of, contains_from}
 
 without : List (List ℕ) → ℕ → List (List ℕ)
 without [] k = []

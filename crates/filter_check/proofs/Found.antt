@@ -2,15 +2,15 @@
 use Rattle.std.proofs.Common.{◌≡◌, ℕ, ◌≤◌, List, length, Some, None, Result, Ok, Err, inl, inr, refl, sym, ◌∙◌, subst}
 use Rattle.std.specs.Result.{IsErrAnd}
 use Rattle.std.proofs.lemmas.Bool.{cases_eq}
-use Rattle.bpf_code.specs.declared.machine.Insn.{Insn}
-use Rattle.bpf_code.specs.declared.machine.CallData.{CallData}
-use Rattle.bpf_code.specs.Meaning.{Answers, IsCallData}
-use Rattle.call_rules.specs.declared.rules.RuleSet.{RuleSet}
+use Rattle.seccomp_compile.specs.bpf_code.declared.machine.Insn.{Insn}
+use Rattle.seccomp_compile.specs.bpf_code.declared.machine.CallData.{CallData}
+use Rattle.seccomp_compile.specs.bpf_code.Meaning.{Answers, IsCallData}
+use Rattle.seccomp_compile.specs.call_rules.declared.rules.RuleSet.{RuleSet}
 use Rattle.seccomp_compile.specs.Form.{AreOfForm}
-use Rattle.filter_paths.specs.Traces.{HasPaths}
-use Rattle.filter_paths.specs.Regions.{IsWithin}
-use Rattle.filter_paths.specs.Walked.{AreEndsFor, IsEndFor}
-use Rattle.filter_paths.specs.declared.states.End.{End}
+use Rattle.filter_check.specs.filter_paths.Traces.{HasPaths}
+use Rattle.filter_check.specs.filter_paths.Regions.{IsWithin}
+use Rattle.filter_check.specs.filter_paths.Walked.{AreEndsFor, IsEndFor}
+use Rattle.filter_check.specs.declared.filter_paths.states.End.{End}
 use Rattle.filter_check.specs.declared.differences.Difference.{Difference}
 use Rattle.filter_check.specs.Differing.{DiffersFrom, IsLeastFrom}
 use Rattle.filter_check.specs.declared.outcome.Outcome.{Outcome}

@@ -1,18 +1,18 @@
 -- The least of differences, one end at a time.
 use Rattle.std.proofs.Common.{◌≡◌, ℕ, zero, suc, ◌+◌, ◌<◌, List, [], ◌∷◌, ◌++◌, take, length, get_or, length-append, Some, None, ◌⊎◌, inl, inr, refl, sym, ap, ◌∙◌, subst, arith}
 use Rattle.std.specs.Prelude.{Option, ◌≢◌, Any, IfSome}
-use Rattle.std.specs.List.{All, AllZip}
+use Rattle.std.specs.List.{All}
 use Rattle.std.proofs.lemmas.List.Elements.{All-cons, All-nil, All-append, All-weaker}
 use Rattle.std.proofs.lemmas.List.{take_more}
 use Rattle.std.proofs.lemmas.Bool.{cases_lt}
-use Rattle.bpf_code.specs.declared.machine.Insn.{Insn}
-use Rattle.bpf_code.specs.declared.machine.CallData.{CallData}
-use Rattle.bpf_code.specs.Effects.{words_of}
-use Rattle.bpf_code.specs.Meaning.{Answers, IsCallData}
-use Rattle.bpf_code.proofs.Endings.{run_by_answers, only_answer_by_run}
-use Rattle.filter_paths.specs.Regions.{IsWithin}
-use Rattle.filter_paths.specs.Walked.{AreEndsFor, IsEndFor}
-use Rattle.filter_paths.specs.declared.states.End.{End}
+use Rattle.seccomp_compile.specs.bpf_code.declared.machine.Insn.{Insn}
+use Rattle.seccomp_compile.specs.bpf_code.declared.machine.CallData.{CallData}
+use Rattle.seccomp_compile.specs.bpf_code.Effects.{words_of}
+use Rattle.seccomp_compile.specs.bpf_code.Meaning.{Answers}
+use Rattle.seccomp_compile.proofs.BpfCode.Endings.{run_by_answers, only_answer_by_run}
+use Rattle.filter_check.specs.filter_paths.Regions.{IsWithin}
+use Rattle.filter_check.specs.filter_paths.Walked.{AreEndsFor, IsEndFor}
+use Rattle.filter_check.specs.declared.filter_paths.states.End.{End}
 use Rattle.filter_check.specs.declared.differences.Difference.{Difference}
 use Rattle.filter_check.specs.Order.{IsNotAfter}
 use Rattle.filter_check.specs.Differing.{DiffersFrom, IsDifference, IsNoLater, IsNoLaterThan, IsLeastFrom, difference_at, ComesOf, IsLesser}
@@ -102,13 +102,6 @@ pub lesser_next : (own : List End) (i : ℕ) (end : End) (theirs : ℕ) (old mid
 lesser_next own i end theirs old mid new lt at one other =
     let e : take (i + 1) own ≡ take i own ++ end ∷ [] = take_more own i end lt ∙ ap (λ x. take i own ++ x ∷ []) (sym at) in
     subst (λ ends. IsLesser ends theirs old new) (sym e) (lesser_more (take i own) (end ∷ []) theirs old mid new one other)
-
--- the first differences of no ends
-pub least_none : (code : List Insn) → IsLeastFrom [] code None
-least_none code = record { is_one = tt; no_later = λ input theirs ours h. none h.of_end }
-  where
-    none : {P : End → Type 0} → Any P [] → ⊥
-    none a = omega (arith, a.2)
 
 -- a difference of an end, among those of one end more
 weaker : (ends more : List End) (code : List Insn) (found : Option Difference) → IsDifference ends code found → IsDifference (ends ++ more) code found

@@ -3,3 +3,15 @@ pub mod Least
 pub mod Counting
 pub mod OneAnswer
 pub mod Found
+pub mod Bits
+pub mod Places
+pub mod Traces
+pub mod Lists
+pub mod Behind
+pub mod Words
+pub mod Steps
+pub mod OnePath
+pub mod Told
+pub mod Lined
+pub mod Read
+pub use Rattle.seccomp_compile.proofs.BpfCode as BpfCode

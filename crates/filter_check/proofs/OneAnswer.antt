@@ -3,13 +3,13 @@ use Rattle.std.proofs.Common.{◌≡◌, ℕ, ◌%◌, ◌/◌, ◌^◌, ◌<◌
 use Rattle.std.specs.Prelude.{Result, flat_map, slice_get, ◌≢◌}
 use Rattle.std.proofs.lemmas.Bool.{both_ways, cases_order}
 use Rattle.std.proofs.lemmas.Option.{slice_get_within, get_or_from_slice_get}
-use Rattle.bpf_code.specs.declared.machine.Insn.{Insn}
-use Rattle.bpf_code.specs.declared.machine.CallData.{CallData}
-use Rattle.bpf_code.specs.Effects.{words_of, halves}
-use Rattle.bpf_code.specs.Meaning.{Answers}
+use Rattle.seccomp_compile.specs.bpf_code.declared.machine.Insn.{Insn}
+use Rattle.seccomp_compile.specs.bpf_code.declared.machine.CallData.{CallData}
+use Rattle.seccomp_compile.specs.bpf_code.Effects.{words_of, halves}
+use Rattle.seccomp_compile.specs.bpf_code.Meaning.{Answers}
 use Rattle.seccomp_compile.specs.Form.{is_of_form, AreOfForm}
-use Rattle.filter_paths.specs.Form.{IsFirstForeign}
-use Rattle.filter_paths.specs.Traces.{HasMorePaths}
+use Rattle.filter_check.specs.filter_paths.Form.{IsFirstForeign}
+use Rattle.filter_check.specs.filter_paths.Traces.{HasMorePaths}
 use Rattle.filter_check.specs.declared.outcome.Outcome.{Outcome}
 use Rattle.filter_check.specs.declared.outcome.Outcome.TheVariants.{Same, Differs}
 use Rattle.filter_check.specs.declared.outcome.CheckError.{CheckError}

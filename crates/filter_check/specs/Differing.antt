@@ -1,12 +1,12 @@
 -- Where a program answers otherwise than the ends of another one.
 use Rattle.std.specs.Prelude.{◌≡◌, ◌≢◌, ◌⊎◌, ℕ, List, Option, Some, None, Any, IfSome}
 use Rattle.std.specs.List.{All}
-use Rattle.bpf_code.specs.declared.machine.Insn.{Insn}
-use Rattle.bpf_code.specs.declared.machine.CallData.{CallData}
-use Rattle.bpf_code.specs.Effects.{words_of}
-use Rattle.bpf_code.specs.Meaning.{Answers, IsCallData}
-use Rattle.filter_paths.specs.Regions.{IsWithin}
-use Rattle.filter_paths.specs.declared.states.End.{End}
+use Rattle.seccomp_compile.specs.bpf_code.declared.machine.Insn.{Insn}
+use Rattle.seccomp_compile.specs.bpf_code.declared.machine.CallData.{CallData}
+use Rattle.seccomp_compile.specs.bpf_code.Effects.{words_of}
+use Rattle.seccomp_compile.specs.bpf_code.Meaning.{Answers, IsCallData}
+use Rattle.filter_check.specs.filter_paths.Regions.{IsWithin}
+use Rattle.filter_check.specs.declared.filter_paths.states.End.{End}
 use Rattle.filter_check.specs.declared.differences.Difference.{Difference}
 use Rattle.filter_check.specs.Order.{IsNotAfter}
 

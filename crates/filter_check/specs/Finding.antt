@@ -1,15 +1,15 @@
 -- What a comparison of a program with wanted answers finds, as those of the rules of a filter.
 use Rattle.std.specs.Prelude.{◌≡◌, ◌≢◌, ◌≤◌, ℕ, List, Option, Result, Ok, Err}
-use Rattle.bpf_code.specs.declared.machine.Insn.{Insn}
-use Rattle.bpf_code.specs.declared.machine.CallData.{CallData}
-use Rattle.bpf_code.specs.Effects.{words_of}
-use Rattle.bpf_code.specs.Meaning.{Answers, IsCallData}
-use Rattle.call_rules.specs.declared.rules.RuleSet.{RuleSet}
-use Rattle.call_rules.specs.Action.{case_action, word_of}
+use Rattle.seccomp_compile.specs.bpf_code.declared.machine.Insn.{Insn}
+use Rattle.seccomp_compile.specs.bpf_code.declared.machine.CallData.{CallData}
+use Rattle.seccomp_compile.specs.bpf_code.Effects.{words_of}
+use Rattle.seccomp_compile.specs.bpf_code.Meaning.{Answers, IsCallData}
+use Rattle.seccomp_compile.specs.call_rules.declared.rules.RuleSet.{RuleSet}
+use Rattle.seccomp_compile.specs.call_rules.Action.{case_action, word_of}
 use Rattle.seccomp_compile.specs.Form.{AreOfForm}
-use Rattle.filter_paths.specs.Form.{IsFirstForeign}
-use Rattle.filter_paths.specs.Traces.{HasPaths, HasMorePaths}
-use Rattle.filter_paths.specs.declared.states.End.{End}
+use Rattle.filter_check.specs.filter_paths.Form.{IsFirstForeign}
+use Rattle.filter_check.specs.filter_paths.Traces.{HasPaths, HasMorePaths}
+use Rattle.filter_check.specs.declared.filter_paths.states.End.{End}
 use Rattle.filter_check.specs.Order.{IsNotAfter}
 use Rattle.filter_check.specs.Differing.{IsLeastFrom}
 use Rattle.filter_check.specs.declared.differences.Difference.{Difference}

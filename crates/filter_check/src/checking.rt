@@ -1,19 +1,19 @@
 //! The comparison of a program with rules.
 ghost use Rattle.std.specs.Prelude.{◌≤◌, List, length, IfOk};
-ghost use Rattle.bpf_code.specs.Meaning.{IsCallData};
-ghost use Rattle.bpf_code.specs.Reading.{IsProgram};
-ghost use Rattle.bpf_code.specs.declared.machine.Insn.{Insn};
-ghost use Rattle.call_rules.specs.Sizes.{CanCompile};
+ghost use Rattle.seccomp_compile.specs.bpf_code.Meaning.{IsCallData};
+ghost use Rattle.seccomp_compile.specs.bpf_code.Reading.{IsProgram};
+ghost use Rattle.seccomp_compile.specs.bpf_code.declared.machine.Insn.{Insn};
+ghost use Rattle.seccomp_compile.specs.call_rules.Sizes.{CanCompile};
 ghost use Rattle.seccomp_compile.specs.Form.{AreOfForm};
-ghost use Rattle.filter_paths.specs.Traces.{HasPaths};
-ghost use Rattle.filter_paths.specs.Walked.{AreEndsFor};
+ghost use Rattle.filter_check.specs.filter_paths.Traces.{HasPaths};
+ghost use Rattle.filter_check.specs.filter_paths.Walked.{AreEndsFor};
 ghost use Rattle.filter_check.specs.Finding.{Finds, IsLeastByRules, wanted_by};
 
 use crate::differences::{Difference, least_difference};
+use crate::filter_paths::{End, all_ends, first_foreign};
 use crate::outcome::{CheckError, Outcome};
-use bpf_code::{Insn, Program};
-use call_rules::RuleSet;
-use filter_paths::{End, all_ends, first_foreign};
+use seccomp_compile::bpf_code::{Insn, Program};
+use seccomp_compile::call_rules::RuleSet;
 use seccomp_compile::compile;
 use std::alloc::{AllocError, Global};
 

@@ -1,12 +1,12 @@
 //! The least difference of two programs.
 ghost use Rattle.std.specs.Prelude.{◌∷◌, [], IfOk};
-ghost use Rattle.bpf_code.specs.Reading.{IsProgram};
+ghost use Rattle.seccomp_compile.specs.bpf_code.Reading.{IsProgram};
 ghost use Rattle.seccomp_compile.specs.Form.{AreOfForm};
 ghost use Rattle.filter_check.specs.Differing.{IsLeastFrom, IsLesser};
 
+use crate::filter_paths::{End, ends_within};
 use crate::order::comes_before;
-use bpf_code::{CallData, Insn};
-use filter_paths::{End, ends_within};
+use seccomp_compile::bpf_code::{CallData, Insn};
 use std::alloc::{AllocError, Global};
 
 /// Call data at which two programs answer otherwise, and both answers.

@@ -7,10 +7,15 @@
 
 mod checking;
 mod differences;
+pub mod filter_lines;
+pub mod filter_paths;
 mod laws;
 mod order;
 mod outcome;
+pub mod word_sets;
 
 pub use checking::check;
 pub use laws::one_finding;
 pub use outcome::{CheckError, Outcome};
+pub use seccomp_compile;
+pub use seccomp_compile::{bpf_code, call_rules};

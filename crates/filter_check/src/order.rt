@@ -1,10 +1,10 @@
 //! The order of call data, by their words.
 ghost use Rattle.std.specs.Prelude.{◌≡◌, ◌%◌, ◌/◌, ◌^◌};
 ghost use Rattle.std.specs.Bool.{OnTrue, OnFalse};
-ghost use Rattle.bpf_code.specs.Effects.{words_of};
+ghost use Rattle.seccomp_compile.specs.bpf_code.Effects.{words_of};
 ghost use Rattle.filter_check.specs.Order.{IsNotAfter};
 
-use bpf_code::CallData;
+use seccomp_compile::bpf_code::CallData;
 
 fn low(number: u64) -> u32
     ensures { result ≡ number % 2 ^ 32 }

@@ -1,16 +1,16 @@
 -- What is ready, and the line of a refusal, are what the definitions admit.
 use Rattle.std.proofs.Common.{◌≡◌, ℕ, Option, Some, None, List, ◌∷◌, Result, Ok, Err, refl, sym, subst}
 use Rattle.std.specs.Prelude.{IfOk, IfSome, IsTrue}
-use Rattle.host_io.specs.Files.{Files}
-use Rattle.filter_rules.specs.declared.installed.Filter.{Filter}
-use Rattle.exec_settings.specs.Dynamic.{unit_filters}
-use Rattle.command_answers.specs.Endings.{is_answer}
-use Rattle.command_answers.specs.Laws.{AcceptsFiles, GoTogether, IsAdmitted, laws_over}
-use Rattle.command_answers.specs.Stops.{RefusesNothing, first_refusal}
-use Rattle.command_answers.specs.declared.ending.Ending.{Ending}
-use Rattle.command_answers.specs.declared.stop.Stop.{Stop}
-use Rattle.command_answers.specs.declared.stop.Stop.TheVariants as stop
-use Rattle.command_answers.proofs.FileCommands.{go_together, ready_is_admitted}
+use Rattle.unit_inputs.specs.host_io.Files.{Files}
+use Rattle.launcher.specs.filter_settings.declared.filter_rules.installed.Filter.{Filter}
+use Rattle.launcher.specs.exec_settings.Dynamic.{unit_filters}
+use Rattle.unit_inputs.specs.command_answers.Endings.{is_answer}
+use Rattle.unit_inputs.specs.command_answers.Laws.{AcceptsFiles, GoTogether, IsAdmitted, laws_over}
+use Rattle.unit_inputs.specs.command_answers.Stops.{RefusesNothing, first_refusal}
+use Rattle.unit_inputs.specs.declared.command_answers.ending.Ending.{Ending}
+use Rattle.unit_inputs.specs.declared.command_answers.stop.Stop.{Stop}
+use Rattle.unit_inputs.specs.declared.command_answers.stop.Stop.TheVariants as stop
+use Rattle.unit_inputs.proofs.FileCommands.{go_together, ready_is_admitted}
 use Rattle.unit_inputs.specs.Inputs.{inputs_of, inputs_view}
 use Rattle.unit_inputs.specs.Settled.{AreSettled, unit_refusals}
 use Rattle.unit_inputs.specs.declared.settling.SettledUnit.{SettledUnit}

@@ -3,18 +3,18 @@ use Rattle.std.proofs.Common.{◌≡◌, ◌+◌, ◌≤◌, List, [], ◌∷◌
 use Rattle.std.specs.List.{All}
 use Rattle.std.proofs.lemmas.List.Elements.{All-nil, All-cons, All-head, All-tail}
 use Rattle.std.proofs.lemmas.List.Sums.{sum_by-cons}
-use Rattle.bpf_code.specs.Meaning.{AnswersWithin}
-use Rattle.bpf_code.specs.Reading.{Accepts, bytes_of}
-use Rattle.call_rules.specs.Action.{word_of}
-use Rattle.call_rules.specs.Sizes.{most_insns}
-use Rattle.call_table.specs.Table.{Table}
-use Rattle.filter_rules.specs.Costs.{HasShortCases, most_room}
-use Rattle.filter_rules.specs.Wanted.{wanted_action}
-use Rattle.filter_rules.specs.Names.{Place}
-use Rattle.filter_rules.specs.Installed.{place_of}
-use Rattle.filter_rules.specs.declared.installed.Filter.{Filter}
-use Rattle.filter_rules.specs.declared.settings.FilterSettings.{FilterSettings}
-use Rattle.exec_settings.specs.AreSettings.{AreFilters as AreRules, HasWantedRules}
+use Rattle.launcher.specs.bpf_code.Meaning.{AnswersWithin}
+use Rattle.launcher.specs.bpf_code.Reading.{Accepts, bytes_of}
+use Rattle.launcher.specs.call_rules.Action.{word_of}
+use Rattle.launcher.specs.call_rules.Sizes.{most_insns}
+use Rattle.launcher.specs.call_table.Table.{Table}
+use Rattle.launcher.specs.filter_settings.filter_rules.Costs.{HasShortCases, most_room}
+use Rattle.launcher.specs.filter_settings.filter_rules.Wanted.{wanted_action}
+use Rattle.launcher.specs.filter_settings.filter_rules.Names.{Place}
+use Rattle.launcher.specs.filter_settings.filter_rules.Installed.{place_of}
+use Rattle.launcher.specs.filter_settings.declared.filter_rules.installed.Filter.{Filter}
+use Rattle.launcher.specs.filter_settings.declared.filter_rules.settings.FilterSettings.{FilterSettings}
+use Rattle.launcher.specs.exec_settings.AreSettings.{AreFilters as AreRules, HasWantedRules}
 use Rattle.launcher.specs.Answers.{AreProgramsOf, IsProgramOf}
 use Rattle.launcher.specs.declared.filters.FilterProgram.{FilterProgram}
 use Rattle.filter_command.specs.Compiled.{AreFilters, DoesAsWanted, room_of}

@@ -1,14 +1,14 @@
 -- What compiled filters do (systemd.exec(5), seccomp(2)).
 use Rattle.std.specs.Prelude.{◌≡◌, ◌≤◌, ℕ, ◌+◌, List, length, map}
 use Rattle.std.specs.List.{All, sum_by}
-use Rattle.bpf_code.specs.Meaning.{AnswersWithin, IsCallData}
-use Rattle.bpf_code.specs.Reading.{Accepts, bytes_of}
-use Rattle.bpf_code.specs.declared.machine.CallData.{CallData}
-use Rattle.call_rules.specs.Action.{word_of}
-use Rattle.call_table.specs.Table.{Table}
-use Rattle.filter_rules.specs.Installed.{installed}
-use Rattle.filter_rules.specs.Wanted.{wanted_action}
-use Rattle.filter_rules.specs.declared.settings.FilterSettings.{FilterSettings}
+use Rattle.launcher.specs.bpf_code.Meaning.{AnswersWithin, IsCallData}
+use Rattle.launcher.specs.bpf_code.Reading.{Accepts, bytes_of}
+use Rattle.launcher.specs.bpf_code.declared.machine.CallData.{CallData}
+use Rattle.launcher.specs.call_rules.Action.{word_of}
+use Rattle.launcher.specs.call_table.Table.{Table}
+use Rattle.launcher.specs.filter_settings.filter_rules.Installed.{installed}
+use Rattle.launcher.specs.filter_settings.filter_rules.Wanted.{wanted_action}
+use Rattle.launcher.specs.filter_settings.declared.filter_rules.settings.FilterSettings.{FilterSettings}
 use Rattle.launcher.specs.declared.filters.FilterProgram.{FilterProgram}
 
 -- whatever the data of a call, the program answers the action that the settings want of the filter of its name for its ABI, after

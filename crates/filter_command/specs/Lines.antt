@@ -1,9 +1,9 @@
 -- The lines of compiled filters, each ended by a line feed.
 use Rattle.std.specs.Prelude.{ℕ, ◌+◌, ◌/◌, ◌%◌, nat_lt, cond, List, [], ◌∷◌, ◌++◌, length, codes, flat_map}
 use Rattle.std.specs.Fmt.{decimal}
-use Rattle.bpf_code.specs.Reading.{bytes_of_insn}
-use Rattle.bpf_code.specs.declared.machine.Insn.{Insn}
-use Rattle.filter_rules.specs.Names.{text_of as name_text}
+use Rattle.launcher.specs.bpf_code.Reading.{bytes_of_insn}
+use Rattle.launcher.specs.bpf_code.declared.machine.Insn.{Insn}
+use Rattle.launcher.specs.filter_settings.filter_rules.Names.{text_of as name_text}
 use Rattle.launcher.specs.declared.filters.FilterProgram.{FilterProgram}
 
 abbrev pub hex_digit : ℕ → ℕ

@@ -1,12 +1,12 @@
 -- What `filter` prints, by the files.
 use Rattle.std.specs.Prelude.{◌≡◌, ℕ, IsSome, List, Some}
-use Rattle.host_io.specs.Files.{Files}
-use Rattle.exec_settings.specs.Dynamic.{unit_filters}
-use Rattle.command_answers.specs.Laws.{FileLaws}
-use Rattle.command_answers.specs.declared.ending.Ending.{Ending}
-use Rattle.command_answers.specs.declared.ending.Ending.TheVariants.{Done}
+use Rattle.unit_inputs.specs.host_io.Files.{Files}
+use Rattle.launcher.specs.exec_settings.Dynamic.{unit_filters}
+use Rattle.unit_inputs.specs.command_answers.Laws.{FileLaws}
+use Rattle.unit_inputs.specs.declared.command_answers.ending.Ending.{Ending}
+use Rattle.unit_inputs.specs.declared.command_answers.ending.Ending.TheVariants.{Done}
 use Rattle.unit_inputs.specs.Inputs.{Inputs, inputs_of}
-use Rattle.unit_names.specs.Cutting.{name_of}
+use Rattle.unit_inputs.specs.unit_names.Cutting.{name_of}
 use Rattle.unit_inputs.specs.Settled.{unit_refusals}
 use Rattle.filter_command.specs.declared.command.Filters.{Filters}
 use Rattle.launcher.specs.declared.filters.FilterProgram.{FilterProgram}

@@ -1,10 +1,10 @@
 //! The command `filter` and the name of a unit.
 ghost use Rattle.std.specs.Prelude.{IfOk, IsErrOf};
 ghost use Rattle.std.specs.List.{All};
-ghost use Rattle.call_rules.specs.Sizes.{CanCompile};
-ghost use Rattle.command_answers.specs.Asking.{course};
-ghost use Rattle.command_answers.specs.Laws.{IsAdmitted, laws_over};
-ghost use Rattle.command_answers.specs.Stops.{RefusesNothing};
+ghost use Rattle.launcher.specs.call_rules.Sizes.{CanCompile};
+ghost use Rattle.unit_inputs.specs.command_answers.Asking.{course};
+ghost use Rattle.unit_inputs.specs.command_answers.Laws.{IsAdmitted, laws_over};
+ghost use Rattle.unit_inputs.specs.command_answers.Stops.{RefusesNothing};
 ghost use Rattle.unit_inputs.specs.Asking.{AsksInOrder, input_asks};
 ghost use Rattle.unit_inputs.specs.ReadsFor.{ReadsFor};
 ghost use Rattle.launcher.specs.Answers.{AreProgramsOf};
@@ -12,11 +12,11 @@ ghost use Rattle.filter_command.specs.Prints.{ending_of, filter_laws, filters_te
 
 use crate::lines::count_line;
 use crate::printing::print_filters;
-use command_answers::{Ending, Ready, Stop, put_line};
-use filter_rules::Filter;
-use host_io::{Shelf, Sink, SinkError};
+use launcher::filter_settings::filter_rules::Filter;
 use launcher::{FilterPrograms, compile_all};
 use std::alloc::Global;
+use unit_inputs::command_answers::{Ending, Ready, Stop, put_line};
+use unit_inputs::host_io::{Shelf, Sink, SinkError};
 use unit_inputs::settle_unit;
 
 /// The compiled filters of a unit, ready to be printed.

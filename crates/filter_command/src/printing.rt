@@ -1,14 +1,14 @@
 //! Compiled filters, printed line by line.
 ghost use Rattle.std.specs.Prelude.{flat_map};
-ghost use Rattle.command_answers.specs.Printing.{HasWriteCause, TakesText};
+ghost use Rattle.unit_inputs.specs.command_answers.Printing.{HasWriteCause, TakesText};
 ghost use Rattle.filter_command.specs.Lines.{filter_text, insn_line};
 
 use crate::lines::{head_line, insn_line};
-use bpf_code::Insn;
-use command_answers::put_line;
-use host_io::{Sink, SinkError};
 use launcher::FilterProgram;
+use launcher::bpf_code::Insn;
 use std::alloc::Global;
+use unit_inputs::command_answers::put_line;
+use unit_inputs::host_io::{Sink, SinkError};
 
 // Prints instructions.
 fn print_insns<K: Sink>(alloc: Global, insns: &[Insn], out: &mut K) -> Result<(), SinkError>

@@ -5,7 +5,7 @@ use Rattle.std.specs.Option.{IfSome, ForSome}
 use Rattle.std.specs.List.{All, AllByRecursion, filter_map, cons_option}
 use Rattle.std.proofs.lemmas.List.Elements.{All-append, All-nil, All-cons, recursion_from_All}
 use Rattle.std.proofs.Common.{◌≡◌, subst}
-use Rattle.unit_grammar.specs.Before.{last_of}
+use Rattle.dropin_merge.specs.unit_grammar.Before.{last_of}
 
 pub each_some : {X Y : Type 0} (P : Y → Type 0) (f : X → Option Y) → ((x : X) → IfSome (f x) P) → (xs : List X) → All P (filter_map f xs)
 each_some {Y = Y} P f h [] = All-nil P

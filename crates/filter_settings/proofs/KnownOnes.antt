@@ -8,12 +8,12 @@ use Rattle.call_table.specs.Table.{Table}
 use Rattle.call_table.specs.Lookups.{named, has_name, has_number}
 use Rattle.call_table.specs.declared.listed.CallLine.{CallLine}
 use Rattle.dropin_merge.specs.declared.resolved.Resolved.{Resolved}
-use Rattle.unit_values.specs.declared.listed.Listed.{Listed}
-use Rattle.unit_values.specs.Listed.{unit_listed}
-use Rattle.filter_rules.specs.declared.mentions.Mode.{Mode}
-use Rattle.filter_rules.specs.declared.mentions.Mode.TheVariants.{Allow}
-use Rattle.filter_rules.specs.declared.mentions.FamilyList.{FamilyList}
-use Rattle.filter_rules.specs.Known.{IsKnown}
+use Rattle.dropin_merge.specs.declared.unit_values.listed.Listed.{Listed}
+use Rattle.dropin_merge.specs.unit_values.Listed.{unit_listed}
+use Rattle.filter_settings.specs.declared.filter_rules.mentions.Mode.{Mode}
+use Rattle.filter_settings.specs.declared.filter_rules.mentions.Mode.TheVariants.{Allow}
+use Rattle.filter_settings.specs.declared.filter_rules.mentions.FamilyList.{FamilyList}
+use Rattle.filter_settings.specs.filter_rules.Known.{IsKnown}
 use Rattle.filter_settings.specs.Lines.{in_force}
 use Rattle.filter_settings.specs.Modes.{list_mode, adds_to}
 use Rattle.filter_settings.specs.FamilyLists.{family_mention, family_mentions, is_none_line, list_of, begun_by, family_list, unit_family_list}

@@ -5,3 +5,18 @@ mod Permitting
 pub mod Joined
 mod KnownOnes
 pub mod Refusals
+pub mod Chosen
+pub mod Counted
+pub mod LowWords
+pub mod Mapped
+pub mod Ordered
+pub mod Room
+pub mod RulesOf
+pub mod Suited
+pub mod SuitedFamilies
+pub mod SuitedModes
+pub mod SuitedNamespaces
+pub mod SuitedSimple
+pub mod Walked
+pub use Rattle.call_rules.proofs.BpfCode as BpfCode
+pub use Rattle.call_table.proofs as CallTable

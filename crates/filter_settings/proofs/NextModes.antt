@@ -1,11 +1,11 @@
 -- The mode of a list with one more value.
 use Rattle.std.proofs.Common.{◌≡◌, ℕ, ◌+◌, ◌<◌, Bool, true, false, cond, Some, None, List, [], ◌∷◌, ◌++◌, length, take, get_or, refl, ap, ◌∙◌, sym, append_assoc}
 use Rattle.std.specs.Prelude.{unwrap_or}
-use Rattle.unit_grammar.proofs.Befores.{given_more}
-use Rattle.unit_values.specs.declared.listed.Listed.{Listed}
-use Rattle.unit_values.specs.declared.value.FileNote.{FileNote}
-use Rattle.unit_values.specs.Listed.{is_reset}
-use Rattle.unit_values.proofs.OneMore.{after_last-push, take_item}
+use Rattle.dropin_merge.proofs.UnitGrammar.Befores.{given_more}
+use Rattle.dropin_merge.specs.declared.unit_values.listed.Listed.{Listed}
+use Rattle.dropin_merge.specs.declared.unit_values.value.FileNote.{FileNote}
+use Rattle.dropin_merge.specs.unit_values.Listed.{is_reset}
+use Rattle.dropin_merge.proofs.OneMore.{after_last-push, take_item}
 use Rattle.call_table.specs.Table.{Table}
 use Rattle.filter_settings.specs.Lines.{in_force}
 use Rattle.filter_settings.specs.Modes.{mode_of, list_mode, mode_behind}

@@ -3,13 +3,13 @@ use Rattle.std.proofs.Common.{◌≡◌, ℕ, ◌+◌, ◌<◌, Bool, true, fals
 use Rattle.std.specs.Prelude.{◌||◌, ◌&&◌, not, unwrap_or}
 use Rattle.std.specs.List.{filter_map, list_any}
 use Rattle.std.proofs.lemmas.List.Folds.{list_any-append}
-use Rattle.unit_grammar.specs.Before.{with_before, last_of}
-use Rattle.unit_grammar.proofs.Befores.{last_more}
-use Rattle.unit_values.specs.declared.listed.Listed.{Listed}
-use Rattle.unit_values.specs.Listed.{is_reset}
-use Rattle.unit_values.proofs.OneMore.{after_last-push, take_item, unwrap_later}
-use Rattle.filter_rules.specs.declared.namespace_types.NamespaceType.{NamespaceType}
-use Rattle.filter_rules.specs.declared.namespace_types.NamespaceType.TheVariants.{Cgroup, Ipc, Net, Mnt, Pid, User, Uts}
+use Rattle.dropin_merge.specs.unit_grammar.Before.{with_before, last_of}
+use Rattle.dropin_merge.proofs.UnitGrammar.Befores.{last_more}
+use Rattle.dropin_merge.specs.declared.unit_values.listed.Listed.{Listed}
+use Rattle.dropin_merge.specs.unit_values.Listed.{is_reset}
+use Rattle.dropin_merge.proofs.OneMore.{after_last-push, take_item, unwrap_later}
+use Rattle.filter_settings.specs.declared.filter_rules.namespace_types.NamespaceType.{NamespaceType}
+use Rattle.filter_settings.specs.declared.filter_rules.namespace_types.NamespaceType.TheVariants.{Cgroup, Ipc, Net, Mnt, Pid, User, Uts}
 use Rattle.filter_settings.specs.Lines.{in_force}
 use Rattle.filter_settings.specs.Namespaces.{is_plain, has_plain, says_of, is_permitted, types_by, namespaces_of}
 use Rattle.filter_settings.specs.Steps.{next_types, next_plain}

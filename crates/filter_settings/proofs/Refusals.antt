@@ -4,23 +4,23 @@ use Rattle.std.specs.Option.{option_map, IfSome}
 use Rattle.std.specs.List.{All}
 use Rattle.std.specs.Str.{bytes_eq, byte as ascii}
 use Rattle.std.proofs.lemmas.List.Elements.{All-append, All-nil, All-cons}
-use Rattle.linux_numbers.specs.Limits.{max_errno}
-use Rattle.text_forms.specs.Errnos.{errno_value}
-use Rattle.text_forms.proofs.Bounded.{errno_bounded}
-use Rattle.unit_grammar.specs.Kinds.{cut_at}
+use Rattle.dropin_merge.specs.linux_numbers.Limits.{max_errno}
+use Rattle.dropin_merge.specs.text_forms.Errnos.{errno_value}
+use Rattle.dropin_merge.proofs.TextForms.Bounded.{errno_bounded}
+use Rattle.dropin_merge.specs.unit_grammar.Kinds.{cut_at}
 use Rattle.dropin_merge.specs.declared.resolved.Resolved.{Resolved}
-use Rattle.unit_values.specs.declared.listed.Listed.{Listed}
-use Rattle.unit_values.specs.Lasting.{unit_last}
-use Rattle.unit_values.specs.Listed.{unit_listed}
-use Rattle.unit_values.specs.Values.{values_of}
+use Rattle.dropin_merge.specs.declared.unit_values.listed.Listed.{Listed}
+use Rattle.dropin_merge.specs.unit_values.Lasting.{unit_last}
+use Rattle.dropin_merge.specs.unit_values.Listed.{unit_listed}
+use Rattle.dropin_merge.specs.unit_values.Values.{values_of}
 use Rattle.call_rules.specs.declared.actions.Action.{Action}
 use Rattle.call_rules.specs.declared.actions.Action.TheVariants.{KillProcess, Errno}
 use Rattle.filter_settings.specs.declared.error_actions.ErrorAction.{ErrorAction}
 use Rattle.call_table.specs.Table.{Table}
-use Rattle.filter_rules.specs.declared.mentions.Mode.{Mode}
-use Rattle.filter_rules.specs.declared.mentions.Mode.TheVariants.{Allow, Deny}
-use Rattle.filter_rules.specs.declared.mentions.CallList.{CallList}
-use Rattle.filter_rules.specs.Refusing.{IsRefusing, HasRefusal, HasRefusals, AreRefusing}
+use Rattle.filter_settings.specs.declared.filter_rules.mentions.Mode.{Mode}
+use Rattle.filter_settings.specs.declared.filter_rules.mentions.Mode.TheVariants.{Allow, Deny}
+use Rattle.filter_settings.specs.declared.filter_rules.mentions.CallList.{CallList}
+use Rattle.filter_settings.specs.filter_rules.Refusing.{IsRefusing, HasRefusal, HasRefusals, AreRefusing}
 use Rattle.filter_settings.specs.Lines.{in_force}
 use Rattle.filter_settings.specs.Modes.{list_mode, adds_to}
 use Rattle.filter_settings.specs.ErrorActions.{error_action, default_action, error_action_value, unit_error_action}

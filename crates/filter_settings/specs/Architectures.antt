@@ -3,16 +3,16 @@ use Rattle.std.specs.Prelude.{ℕ, ◌&&◌, ◌||◌, not, Bool, false, is_some
 use Rattle.std.specs.Option.{option_map_or}
 use Rattle.std.specs.List.{list_any}
 use Rattle.std.specs.Str.{bytes_eq}
-use Rattle.text_forms.specs.Words.{words_of}
-use Rattle.unit_grammar.specs.declared.notes.NoteCause.{NoteCause}
-use Rattle.unit_grammar.specs.declared.notes.NoteCause.TheVariants.{UnknownName}
+use Rattle.dropin_merge.specs.text_forms.Words.{words_of}
+use Rattle.dropin_merge.specs.unit_grammar.declared.notes.NoteCause.{NoteCause}
+use Rattle.dropin_merge.specs.unit_grammar.declared.notes.NoteCause.TheVariants.{UnknownName}
 use Rattle.dropin_merge.specs.declared.resolved.Resolved.{Resolved}
-use Rattle.unit_values.specs.declared.value.FileNote.{FileNote}
-use Rattle.unit_values.specs.declared.value.Value.{Value}
-use Rattle.unit_values.specs.Lines.{words_if}
-use Rattle.unit_values.specs.Notes.{notes_at}
-use Rattle.unit_values.specs.Values.{values_of, in_force}
-use Rattle.unit_values.specs.Words.{unit_words, unit_words_notes}
+use Rattle.dropin_merge.specs.declared.unit_values.value.FileNote.{FileNote}
+use Rattle.dropin_merge.specs.declared.unit_values.value.Value.{Value}
+use Rattle.dropin_merge.specs.unit_values.Lines.{words_if}
+use Rattle.dropin_merge.specs.unit_values.Notes.{notes_at}
+use Rattle.dropin_merge.specs.unit_values.Values.{values_of, in_force}
+use Rattle.dropin_merge.specs.unit_values.Words.{unit_words, unit_words_notes}
 use Rattle.call_table.specs.Table.{Table}
 
 -- the second ABI of the table has this name

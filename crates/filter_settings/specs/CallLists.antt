@@ -2,19 +2,19 @@
 use Rattle.std.specs.Prelude.{ℕ, Bool, Option, None, List, [], ◌∷◌, ◌++◌, codes, flat_map, true}
 use Rattle.std.specs.Option.{option_map}
 use Rattle.std.specs.List.{filter_map}
-use Rattle.unit_grammar.specs.Before.{with_before}
+use Rattle.dropin_merge.specs.unit_grammar.Before.{with_before}
 use Rattle.dropin_merge.specs.declared.resolved.Resolved.{Resolved}
-use Rattle.unit_values.specs.declared.lines.Line.{Line}
-use Rattle.unit_values.specs.declared.listed.Listed.{Listed}
-use Rattle.unit_values.specs.declared.value.FileNote.{FileNote}
-use Rattle.unit_values.specs.declared.value.Value.{Value}
-use Rattle.unit_values.specs.Listed.{unit_listed, unit_listed_notes}
-use Rattle.unit_values.specs.Notes.{notes_at}
+use Rattle.dropin_merge.specs.declared.unit_values.lines.Line.{Line}
+use Rattle.dropin_merge.specs.declared.unit_values.listed.Listed.{Listed}
+use Rattle.dropin_merge.specs.declared.unit_values.value.FileNote.{FileNote}
+use Rattle.dropin_merge.specs.declared.unit_values.value.Value.{Value}
+use Rattle.dropin_merge.specs.unit_values.Listed.{unit_listed, unit_listed_notes}
+use Rattle.dropin_merge.specs.unit_values.Notes.{notes_at}
 use Rattle.call_table.specs.Table.{Table}
-use Rattle.filter_rules.specs.declared.mentions.Mode.{Mode}
-use Rattle.filter_rules.specs.declared.mentions.Mode.TheVariants.{Allow, Deny}
-use Rattle.filter_rules.specs.declared.mentions.Mention.{Mention}
-use Rattle.filter_rules.specs.declared.mentions.CallList.{CallList}
+use Rattle.filter_settings.specs.declared.filter_rules.mentions.Mode.{Mode}
+use Rattle.filter_settings.specs.declared.filter_rules.mentions.Mode.TheVariants.{Allow, Deny}
+use Rattle.filter_settings.specs.declared.filter_rules.mentions.Mention.{Mention}
+use Rattle.filter_settings.specs.declared.filter_rules.mentions.CallList.{CallList}
 use Rattle.filter_settings.specs.Lines.{in_force}
 use Rattle.filter_settings.specs.Modes.{adds_to, list_mode, mode_behind}
 use Rattle.filter_settings.specs.CallWords.{word_mention, word_causes}

@@ -2,16 +2,16 @@
 use Rattle.std.specs.Prelude.{ℕ, is_some, Bool, true, false, if◌then◌else◌, Option, Some, None, List, [], ◌∷◌, ◌++◌}
 use Rattle.std.specs.Option.{option_map}
 use Rattle.std.specs.Str.{byte as ascii}
-use Rattle.unit_grammar.specs.Kinds.{cut_at}
-use Rattle.unit_grammar.specs.declared.notes.NoteCause.{NoteCause}
-use Rattle.unit_grammar.specs.declared.notes.NoteCause.TheVariants.{Value as ValueCause, UnknownName}
+use Rattle.dropin_merge.specs.unit_grammar.Kinds.{cut_at}
+use Rattle.dropin_merge.specs.unit_grammar.declared.notes.NoteCause.{NoteCause}
+use Rattle.dropin_merge.specs.unit_grammar.declared.notes.NoteCause.TheVariants.{Value as ValueCause, UnknownName}
 use Rattle.call_rules.specs.declared.actions.Action.{Action}
 use Rattle.call_table.specs.Table.{Table, every_call}
 use Rattle.call_table.specs.Names.{behind_at}
 use Rattle.call_table.specs.Lookups.{place_named, group_named}
-use Rattle.filter_rules.specs.declared.mentions.Mode.{Mode}
-use Rattle.filter_rules.specs.declared.mentions.Mode.TheVariants.{Allow, Deny}
-use Rattle.filter_rules.specs.declared.mentions.Mention.{Mention}
+use Rattle.filter_settings.specs.declared.filter_rules.mentions.Mode.{Mode}
+use Rattle.filter_settings.specs.declared.filter_rules.mentions.Mode.TheVariants.{Allow, Deny}
+use Rattle.filter_settings.specs.declared.filter_rules.mentions.Mention.{Mention}
 use Rattle.filter_settings.specs.ErrorActions.{error_action}
 use Rattle.filter_settings.specs.declared.call_words.CallWord.{CallWord as ReadWord}
 

@@ -2,13 +2,13 @@
 use Rattle.std.specs.Prelude.{ℕ, if◌then◌else◌, Option, Some, List, [], ◌∷◌, codes}
 use Rattle.std.specs.Option.{option_map}
 use Rattle.std.specs.Str.{bytes_eq}
-use Rattle.text_forms.specs.Errnos.{errno_value}
+use Rattle.dropin_merge.specs.text_forms.Errnos.{errno_value}
 use Rattle.call_rules.specs.declared.actions.Action.{Action}
 use Rattle.call_rules.specs.declared.actions.Action.TheVariants.{KillProcess, Errno}
 use Rattle.dropin_merge.specs.declared.resolved.Resolved.{Resolved}
-use Rattle.unit_values.specs.declared.value.FileNote.{FileNote}
+use Rattle.dropin_merge.specs.declared.unit_values.value.FileNote.{FileNote}
 use Rattle.filter_settings.specs.declared.error_actions.ErrorAction.{ErrorAction}
-use Rattle.unit_values.specs.Lasting.{unit_last, unit_last_notes}
+use Rattle.dropin_merge.specs.unit_values.Lasting.{unit_last, unit_last_notes}
 
 -- `kill` ends the process; the name or the number of an error makes the call answer it
 unfoldable pub error_action : List ℕ → Option Action

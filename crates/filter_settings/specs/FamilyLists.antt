@@ -3,21 +3,21 @@ use Rattle.std.specs.Prelude.{ℕ, ◌&&◌, not, Bool, false, cond, Option, Som
 use Rattle.std.specs.Option.{option_map}
 use Rattle.std.specs.List.{filter_map, after_last, list_any}
 use Rattle.std.specs.Str.{bytes_eq}
-use Rattle.unit_grammar.specs.declared.notes.NoteCause.{NoteCause}
-use Rattle.unit_grammar.specs.declared.notes.NoteCause.TheVariants.{UnknownName}
+use Rattle.dropin_merge.specs.unit_grammar.declared.notes.NoteCause.{NoteCause}
+use Rattle.dropin_merge.specs.unit_grammar.declared.notes.NoteCause.TheVariants.{UnknownName}
 use Rattle.dropin_merge.specs.declared.resolved.Resolved.{Resolved}
-use Rattle.unit_values.specs.declared.lines.Line.{Line}
-use Rattle.unit_values.specs.declared.listed.Listed.{Listed}
-use Rattle.unit_values.specs.declared.value.FileNote.{FileNote}
-use Rattle.unit_values.specs.declared.value.Value.{Value}
-use Rattle.unit_values.specs.Listed.{unit_listed, unit_listed_notes}
-use Rattle.unit_values.specs.Notes.{notes_at}
+use Rattle.dropin_merge.specs.declared.unit_values.lines.Line.{Line}
+use Rattle.dropin_merge.specs.declared.unit_values.listed.Listed.{Listed}
+use Rattle.dropin_merge.specs.declared.unit_values.value.FileNote.{FileNote}
+use Rattle.dropin_merge.specs.declared.unit_values.value.Value.{Value}
+use Rattle.dropin_merge.specs.unit_values.Listed.{unit_listed, unit_listed_notes}
+use Rattle.dropin_merge.specs.unit_values.Notes.{notes_at}
 use Rattle.call_table.specs.Table.{Table}
 use Rattle.call_table.specs.Lookups.{named}
-use Rattle.filter_rules.specs.declared.mentions.Mode.{Mode}
-use Rattle.filter_rules.specs.declared.mentions.Mode.TheVariants.{Allow}
-use Rattle.filter_rules.specs.declared.mentions.FamilyMention.{FamilyMention}
-use Rattle.filter_rules.specs.declared.mentions.FamilyList.{FamilyList}
+use Rattle.filter_settings.specs.declared.filter_rules.mentions.Mode.{Mode}
+use Rattle.filter_settings.specs.declared.filter_rules.mentions.Mode.TheVariants.{Allow}
+use Rattle.filter_settings.specs.declared.filter_rules.mentions.FamilyMention.{FamilyMention}
+use Rattle.filter_settings.specs.declared.filter_rules.mentions.FamilyList.{FamilyList}
 use Rattle.filter_settings.specs.Lines.{in_force}
 use Rattle.filter_settings.specs.Modes.{adds_to, list_mode}
 

@@ -1,8 +1,8 @@
 -- The lines of a list that are in force.
 use Rattle.std.specs.Prelude.{List}
 use Rattle.std.specs.List.{after_last}
-use Rattle.unit_values.specs.declared.listed.Listed.{Listed}
-use Rattle.unit_values.specs.Listed.{is_reset}
+use Rattle.dropin_merge.specs.declared.unit_values.listed.Listed.{Listed}
+use Rattle.dropin_merge.specs.unit_values.Listed.{is_reset}
 
 -- those behind the last empty value, which resets what was listed before it
 abbrev pub in_force : List Listed → List Listed

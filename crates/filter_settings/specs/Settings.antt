@@ -1,15 +1,31 @@
 -- What the keys of the system call filters say (systemd.exec(5)).
 use Rattle.std.specs.Prelude.{List, ◌++◌, codes}
 use Rattle.dropin_merge.specs.declared.resolved.Resolved.{Resolved}
-use Rattle.unit_values.specs.declared.value.FileNote.{FileNote}
+use Rattle.dropin_merge.specs.declared.unit_values.value.FileNote.{FileNote}
 use Rattle.call_table.specs.Table.{Table}
-use Rattle.filter_rules.specs.declared.settings.FilterSettings.{FilterSettings}
-use Rattle.unit_values.specs.Flags.{unit_flag, unit_flag_notes}
+use Rattle.filter_settings.specs.declared.filter_rules.settings.FilterSettings.{FilterSettings}
+use Rattle.dropin_merge.specs.unit_values.Flags.{unit_flag, unit_flag_notes}
+use Rattle.filter_settings.specs.declared.settings.Booleans.{Booleans}
 use Rattle.filter_settings.specs.ErrorActions.{unit_error_action, unit_error_action_notes}
 use Rattle.filter_settings.specs.Architectures.{unit_refuses_second, unit_architectures_notes}
 use Rattle.filter_settings.specs.CallLists.{unit_call_list, unit_call_list_notes}
 use Rattle.filter_settings.specs.FamilyLists.{unit_family_list, unit_family_list_notes}
 use Rattle.filter_settings.specs.Namespaces.{unit_namespaces, unit_namespaces_notes}
+
+-- what the boolean keys come to
+abbrev pub flags_of : Resolved → Booleans
+flags_of unit =
+    record {
+      memory_deny_write_execute = unit_flag unit (codes "MemoryDenyWriteExecute");
+      restrict_realtime = unit_flag unit (codes "RestrictRealtime");
+      restrict_suid_sgid = unit_flag unit (codes "RestrictSUIDSGID");
+      lock_personality = unit_flag unit (codes "LockPersonality");
+      protect_hostname = unit_flag unit (codes "ProtectHostname");
+      protect_kernel_modules = unit_flag unit (codes "ProtectKernelModules");
+      protect_kernel_logs = unit_flag unit (codes "ProtectKernelLogs");
+      protect_clock = unit_flag unit (codes "ProtectClock");
+      private_devices = unit_flag unit (codes "PrivateDevices");
+    }
 
 -- what the keys come to
 abbrev pub settings_of : Resolved → Table → FilterSettings

@@ -1,11 +1,11 @@
 -- What one more value does to what the values before it came to.
 use Rattle.std.specs.Prelude.{◌||◌, ◌&&◌, not, Bool, cond, Option, Some, None, unwrap_or}
-use Rattle.unit_values.specs.declared.listed.Listed.{Listed}
-use Rattle.unit_values.specs.Listed.{is_reset}
-use Rattle.filter_rules.specs.declared.mentions.Mode.{Mode}
-use Rattle.filter_rules.specs.declared.namespace_types.NamespaceType.{NamespaceType}
-use Rattle.filter_rules.specs.declared.namespace_types.NamespaceTypes.{NamespaceTypes}
-use Rattle.filter_rules.specs.NamespaceTypes.{permits}
+use Rattle.dropin_merge.specs.declared.unit_values.listed.Listed.{Listed}
+use Rattle.dropin_merge.specs.unit_values.Listed.{is_reset}
+use Rattle.filter_settings.specs.declared.filter_rules.mentions.Mode.{Mode}
+use Rattle.filter_settings.specs.declared.filter_rules.namespace_types.NamespaceType.{NamespaceType}
+use Rattle.filter_settings.specs.declared.filter_rules.namespace_types.NamespaceTypes.{NamespaceTypes}
+use Rattle.filter_settings.specs.filter_rules.NamespaceTypes.{permits}
 use Rattle.filter_settings.specs.Modes.{mode_of}
 use Rattle.filter_settings.specs.Namespaces.{is_plain, says, types_by}
 

@@ -5,11 +5,11 @@ ghost use Rattle.filter_settings.specs.Architectures.{is_second, is_abi_name, va
 
 use call_table::CallTable;
 use dropin_merge::Resolved;
-use std::alloc::{AllocError, Global};
-use unit_grammar::{NoteCause, Text};
-use unit_values::{
+use dropin_merge::unit_grammar::{NoteCause, Text};
+use dropin_merge::unit_values::{
     FileNote, Said, Value, in_force, note_value, read_words, values_of_key, words_of_key,
 };
+use std::alloc::{AllocError, Global};
 
 // Whether the second ABI of the table has this name.
 fn is_second(table: &CallTable, word: &str) -> bool

@@ -2,15 +2,15 @@
 ghost use Rattle.std.specs.Prelude.{◌≡◌, IfOk};
 ghost use Rattle.filter_settings.specs.CallLists.{implied, call_list, call_notes};
 
+use crate::filter_rules::{CallList, Mention, Mentions, Mode};
 use crate::key_lists::KeyList;
 use crate::lines::in_force;
 use crate::list_words::{add_lines, note_words};
 use crate::modes::{mode_of, next_mode};
 use call_table::CallTable;
-use filter_rules::{CallList, Mention, Mentions, Mode};
+use dropin_merge::unit_grammar::Text;
+use dropin_merge::unit_values::{FileNote, Listed};
 use std::alloc::{AllocError, Global};
-use unit_grammar::Text;
-use unit_values::{FileNote, Listed};
 
 // What a list of this mode begins with.
 fn implied(alloc: Global, mode: Mode) -> Result<Vec<Mention>, AllocError>

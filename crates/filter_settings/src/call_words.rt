@@ -1,19 +1,19 @@
 //! What a word of SystemCallFilter= says (systemd.exec(5)).
 ghost use Rattle.std.specs.Prelude.{◌≡◌, ◌++◌, ◌∷◌, [], Some, is_some, if◌then◌else◌, IfOk, OnOk};
 ghost use Rattle.std.specs.Option.{option_map};
-ghost use Rattle.unit_grammar.specs.declared.notes.NoteCause.TheVariants.{Value as ValueCause, UnknownName};
-ghost use Rattle.unit_values.specs.Notes.{notes_at};
+ghost use Rattle.dropin_merge.specs.unit_grammar.declared.notes.NoteCause.TheVariants.{Value as ValueCause, UnknownName};
+ghost use Rattle.dropin_merge.specs.unit_values.Notes.{notes_at};
 ghost use Rattle.call_table.specs.Lookups.{group_named};
 ghost use Rattle.filter_settings.specs.CallWords.{may_have_suffix, suffixed, word_of, is_known, mention_of, seen};
 
 use crate::error_actions::error_action;
+use crate::filter_rules::{Mention, Mode};
 use crate::list_words::ListMention;
 use call_rules::Action;
 use call_table::{CallTable, behind_at};
-use filter_rules::{Mention, Mode};
+use dropin_merge::unit_grammar::{NoteCause, Text};
+use dropin_merge::unit_values::{FileNote, Value, note_value};
 use std::alloc::{AllocError, Global};
-use unit_grammar::{NoteCause, Text};
-use unit_values::{FileNote, Value, note_value};
 
 /// A word of a line.
 #[derive(Clone, Copy)]

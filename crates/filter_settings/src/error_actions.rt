@@ -4,9 +4,9 @@ ghost use Rattle.filter_settings.specs.ErrorActions.{error_action, default_actio
 
 use call_rules::Action;
 use dropin_merge::Resolved;
+use dropin_merge::text_forms::errno_number;
+use dropin_merge::unit_values::{KeyValue, Said, last_of_key};
 use std::alloc::{AllocError, Global};
-use text_forms::errno_number;
-use unit_values::{KeyValue, Said, last_of_key};
 
 /// The action that a text asks for: `kill`, or the name or the number of an error.
 #[tactic(auto, unfolding(crate::specs::ErrorActions::error_action))]

@@ -3,15 +3,15 @@ ghost use Rattle.std.specs.Prelude.{◌≡◌, IfOk, not};
 ghost use Rattle.std.specs.List.{after_last, list_any, suffix_len};
 ghost use Rattle.filter_settings.specs.FamilyLists.{is_none_word, is_none_line, family_list, family_notes};
 
+use crate::filter_rules::{FamilyList, FamilyMention, FamilyMentions, Mode};
 use crate::key_lists::KeyList;
 use crate::lines::in_force;
 use crate::list_words::{ListMention, add_lines, note_words};
 use crate::modes::{list_mode, mode_of};
 use call_table::CallTable;
-use filter_rules::{FamilyList, FamilyMention, FamilyMentions, Mode};
+use dropin_merge::unit_grammar::{NoteCause, Text};
+use dropin_merge::unit_values::{FileNote, Listed, Value, note_value};
 use std::alloc::{AllocError, Global};
-use unit_grammar::{NoteCause, Text};
-use unit_values::{FileNote, Listed, Value, note_value};
 
 fn is_none_word(words: &[Text]) -> bool
     ensures { result ≡ is_none_word words.now }

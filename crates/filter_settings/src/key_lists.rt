@@ -1,18 +1,18 @@
 //! Keys whose lines make a list (systemd.exec(5), SystemCallFilter=).
 ghost use Rattle.std.specs.Prelude.{◌≡◌, ◌++◌, IfOk};
-ghost use Rattle.unit_values.specs.Listed.{unit_listed, unit_listed_notes};
+ghost use Rattle.dropin_merge.specs.unit_values.Listed.{unit_listed, unit_listed_notes};
 ghost use Rattle.filter_settings.specs.Lines.{in_force};
 
 use call_table::CallTable;
 use dropin_merge::Resolved;
+use dropin_merge::unit_values::{FileNote, Listed, Said, lines_of_key};
 use std::alloc::{AllocError, Global};
-use unit_values::{FileNote, Listed, Said, lines_of_key};
 
 /// A list that the lines of a key make.
 pub trait KeyList: Drop {
     ghost use Rattle.std.specs.Prelude.{◌≡◌, ◌++◌, Option, List, IfOk, OnOk};
-    ghost use Rattle.unit_values.specs.declared.listed.Listed.{Listed};
-    ghost use Rattle.unit_values.specs.declared.value.FileNote.{FileNote};
+    ghost use Rattle.dropin_merge.specs.declared.unit_values.listed.Listed.{Listed};
+    ghost use Rattle.dropin_merge.specs.declared.unit_values.value.FileNote.{FileNote};
     ghost use Rattle.call_table.specs.Table.{Table};
     ghost use Rattle.filter_settings.specs.Lines.{in_force};
 

@@ -12,6 +12,7 @@ mod call_lists;
 mod call_words;
 mod error_actions;
 mod family_lists;
+pub mod filter_rules;
 mod key_lists;
 mod lines;
 mod list_words;
@@ -19,4 +20,7 @@ mod modes;
 mod namespaces;
 mod settings;
 
+pub use call_rules::bpf_code;
+pub use call_table;
+pub use dropin_merge::linux_numbers;
 pub use settings::filter_settings;

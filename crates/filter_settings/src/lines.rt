@@ -1,10 +1,10 @@
 //! The lines of a list that are in force.
 ghost use Rattle.std.specs.Prelude.{◌≡◌, not};
 ghost use Rattle.std.specs.List.{suffix_len};
-ghost use Rattle.unit_values.specs.Listed.{is_reset};
+ghost use Rattle.dropin_merge.specs.unit_values.Listed.{is_reset};
 ghost use Rattle.filter_settings.specs.Lines.{in_force};
 
-use unit_values::Listed;
+use dropin_merge::unit_values::Listed;
 
 // How many values stand behind the last empty one.
 fn count_in_force(all: &[Listed]) -> usize

@@ -1,22 +1,22 @@
 //! Keys that are lists of words, which lines add to and take off (systemd.exec(5), SystemCallFilter=).
 ghost use Rattle.std.specs.Prelude.{◌≡◌, ◌++◌, OnOk, flat_map};
 ghost use Rattle.std.specs.List.{filter_map};
-ghost use Rattle.unit_values.specs.Notes.{notes_at};
+ghost use Rattle.dropin_merge.specs.unit_values.Notes.{notes_at};
 ghost use Rattle.filter_settings.specs.Modes.{adds_to};
 
+use crate::filter_rules::Mode;
 use crate::modes::adds_to;
 use call_table::CallTable;
-use filter_rules::Mode;
+use dropin_merge::unit_values::{FileNote, Line, Listed, Value};
 use std::alloc::{AllocError, Global};
-use unit_values::{FileNote, Line, Listed, Value};
 
 /// What a word of a list speaks of.
 pub trait ListMention: Drop {
     ghost use Rattle.std.specs.Prelude.{◌≡◌, ◌++◌, ℕ, Bool, Option, List, IfOk, OnOk};
-    ghost use Rattle.unit_grammar.specs.declared.notes.NoteCause.{NoteCause};
-    ghost use Rattle.unit_values.specs.Notes.{notes_at};
+    ghost use Rattle.dropin_merge.specs.unit_grammar.declared.notes.NoteCause.{NoteCause};
+    ghost use Rattle.dropin_merge.specs.unit_values.Notes.{notes_at};
     ghost use Rattle.call_table.specs.Table.{Table};
-    ghost use Rattle.filter_rules.specs.declared.mentions.Mode.{Mode};
+    ghost use Rattle.filter_settings.specs.declared.filter_rules.mentions.Mode.{Mode};
 
     /// What a word says that is added to a list of this mode, or taken off.
     ghost mention_of: { Table → Mode → Bool → List ℕ → Option Self };

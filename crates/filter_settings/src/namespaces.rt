@@ -3,12 +3,12 @@ ghost use Rattle.std.specs.Prelude.{◌≡◌, ◌++◌, IfOk, OnOk, flat_map};
 ghost use Rattle.filter_settings.specs.Namespaces.{switch_of, is_plain, has_word, listed_type, says_by, says, is_type_name, word_notes, namespaces_of, namespaces_notes, unit_namespaces, unit_namespaces_notes};
 ghost use Rattle.filter_settings.specs.Steps.{next_type, next_types, next_plain};
 
+use crate::filter_rules::{NamespaceType, NamespaceTypes, all_types};
 use dropin_merge::Resolved;
-use filter_rules::{NamespaceType, NamespaceTypes, all_types};
+use dropin_merge::text_forms::read_bool;
+use dropin_merge::unit_grammar::{NoteCause, Text};
+use dropin_merge::unit_values::{FileNote, Line, Listed, Said, Value, lines_of_key, note_value};
 use std::alloc::{AllocError, Global};
-use text_forms::read_bool;
-use unit_grammar::{NoteCause, Text};
-use unit_values::{FileNote, Line, Listed, Said, Value, lines_of_key, note_value};
 
 // What a value is by itself: true permits no type, false permits all.
 fn switch_of(one: &Listed) -> Option<bool>

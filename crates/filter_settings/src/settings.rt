@@ -1,19 +1,19 @@
 //! What the keys of the system call filters say.
 ghost use Rattle.std.specs.Prelude.{◌≡◌, ◌++◌, IfOk, OnOk};
-ghost use Rattle.unit_values.specs.Flags.{unit_flag, unit_flag_notes};
-ghost use Rattle.filter_rules.specs.Known.{HasKnownFamilies};
-ghost use Rattle.filter_rules.specs.Refusing.{AreRefusing};
-ghost use Rattle.filter_settings.specs.Settings.{settings_of, filter_notes};
+ghost use Rattle.dropin_merge.specs.unit_values.Flags.{unit_flag, unit_flag_notes};
+ghost use Rattle.filter_settings.specs.filter_rules.Known.{HasKnownFamilies};
+ghost use Rattle.filter_settings.specs.filter_rules.Refusing.{AreRefusing};
+ghost use Rattle.filter_settings.specs.Settings.{flags_of, settings_of, restriction_notes, protection_notes, filter_notes};
 
 use crate::architectures::second_refused_by_key;
 use crate::error_actions::error_action_of_key;
+use crate::filter_rules::FilterSettings;
 use crate::key_lists::list_of_key;
 use crate::namespaces::namespaces_of_key;
 use call_table::CallTable;
 use dropin_merge::Resolved;
-use filter_rules::FilterSettings;
+use dropin_merge::unit_values::{FileNote, Said, flag_of_key};
 use std::alloc::{AllocError, Global};
-use unit_values::{FileNote, Said, flag_of_key};
 
 // What a boolean key says; its notes are put behind those that are there.
 fn flag(
@@ -28,12 +28,77 @@ fn flag(
     flag_of_key(alloc, unit, key)?.noted_in(notes)
 }
 
+/// What the boolean keys say.
+#[derive(Clone, Copy)]
+pub struct Booleans {
+    pub memory_deny_write_execute: bool,
+    pub restrict_realtime: bool,
+    pub restrict_suid_sgid: bool,
+    pub lock_personality: bool,
+    pub protect_hostname: bool,
+    pub protect_kernel_modules: bool,
+    pub protect_kernel_logs: bool,
+    pub protect_clock: bool,
+    pub private_devices: bool,
+}
+
+// What the boolean keys say, with their notes behind those that are there.
+fn flags(alloc: Global, unit: &Resolved, notes: &mut Vec<FileNote>) -> Result<Booleans, AllocError>
+    ensures means { IfOk result (λ flags. flags ≡ flags_of unit.now) }
+    ensures noted { OnOk result (notes.new.items ≡ notes.old.items ++ (restriction_notes unit.now ++ protection_notes unit.now)) }
+{
+    Ok(Booleans {
+        memory_deny_write_execute: flag(alloc, unit, "MemoryDenyWriteExecute", notes)?,
+        restrict_realtime: flag(alloc, unit, "RestrictRealtime", notes)?,
+        restrict_suid_sgid: flag(alloc, unit, "RestrictSUIDSGID", notes)?,
+        lock_personality: flag(alloc, unit, "LockPersonality", notes)?,
+        protect_hostname: flag(alloc, unit, "ProtectHostname", notes)?,
+        protect_kernel_modules: flag(alloc, unit, "ProtectKernelModules", notes)?,
+        protect_kernel_logs: flag(alloc, unit, "ProtectKernelLogs", notes)?,
+        protect_clock: flag(alloc, unit, "ProtectClock", notes)?,
+        private_devices: flag(alloc, unit, "PrivateDevices", notes)?,
+    })
+}
+
+// What all keys say, with their notes behind those that are there.
+fn read_settings(
+    alloc: Global,
+    unit: &Resolved,
+    table: &CallTable,
+    notes: &mut Vec<FileNote>,
+) -> Result<FilterSettings, AllocError>
+    ensures means { IfOk result (λ what. what ≡ settings_of unit.now table.now) }
+    ensures noted { OnOk result (notes.new.items ≡ notes.old.items ++ filter_notes unit.now table.now) }
+{
+    let flags = flags(alloc, unit, notes)?;
+    Ok(FilterSettings {
+        memory_deny_write_execute: flags.memory_deny_write_execute,
+        restrict_realtime: flags.restrict_realtime,
+        restrict_suid_sgid: flags.restrict_suid_sgid,
+        lock_personality: flags.lock_personality,
+        protect_hostname: flags.protect_hostname,
+        protect_kernel_modules: flags.protect_kernel_modules,
+        protect_kernel_logs: flags.protect_kernel_logs,
+        protect_clock: flags.protect_clock,
+        private_devices: flags.private_devices,
+        default_action: error_action_of_key(alloc, unit, "SystemCallErrorNumber")?.noted_in(notes)?,
+        namespaces: namespaces_of_key(alloc, unit, "RestrictNamespaces")?.noted_in(notes)?,
+        families: list_of_key(alloc, unit, table, "RestrictAddressFamilies")?.noted_in(notes)?,
+        calls: list_of_key(alloc, unit, table, "SystemCallFilter")?.noted_in(notes)?,
+        second_abi_refused: second_refused_by_key(
+            alloc,
+            unit,
+            table,
+            "SystemCallArchitectures",
+        )?.noted_in(notes)?,
+    })
+}
+
 /// What the files of a unit say of the keys of the system call filters (systemd.exec(5)): SystemCallFilter,
 /// SystemCallErrorNumber, SystemCallArchitectures, RestrictAddressFamilies, RestrictNamespaces, and the boolean keys that turn a filter on.
 ///
 /// Calls, groups and families are looked up in the table. What cannot be read or is not known is passed over and
 /// noted, key by key; of one key first the values that cannot be expanded, then those that cannot be read, then words.
-#[tactic(auto, unfolding(crate::specs::Settings::filter_notes))]
 pub fn filter_settings(
     alloc: Global,
     unit: &Resolved,
@@ -47,28 +112,6 @@ pub fn filter_settings(
     ensures refusals { IfOk result (λ said. AreRefusing said.what) }
 {
     let mut notes = Vec::new(alloc);
-    let what = FilterSettings {
-        memory_deny_write_execute: flag(alloc, unit, "MemoryDenyWriteExecute", &mut notes)?,
-        restrict_realtime: flag(alloc, unit, "RestrictRealtime", &mut notes)?,
-        restrict_suid_sgid: flag(alloc, unit, "RestrictSUIDSGID", &mut notes)?,
-        lock_personality: flag(alloc, unit, "LockPersonality", &mut notes)?,
-        protect_hostname: flag(alloc, unit, "ProtectHostname", &mut notes)?,
-        protect_kernel_modules: flag(alloc, unit, "ProtectKernelModules", &mut notes)?,
-        protect_kernel_logs: flag(alloc, unit, "ProtectKernelLogs", &mut notes)?,
-        protect_clock: flag(alloc, unit, "ProtectClock", &mut notes)?,
-        private_devices: flag(alloc, unit, "PrivateDevices", &mut notes)?,
-        default_action: error_action_of_key(alloc, unit, "SystemCallErrorNumber")?.noted_in(
-            &mut notes,
-        )?,
-        namespaces: namespaces_of_key(alloc, unit, "RestrictNamespaces")?.noted_in(&mut notes)?,
-        families: list_of_key(alloc, unit, table, "RestrictAddressFamilies")?.noted_in(&mut notes)?,
-        calls: list_of_key(alloc, unit, table, "SystemCallFilter")?.noted_in(&mut notes)?,
-        second_abi_refused: second_refused_by_key(
-            alloc,
-            unit,
-            table,
-            "SystemCallArchitectures",
-        )?.noted_in(&mut notes)?,
-    };
+    let what = read_settings(alloc, unit, table, &mut notes)?;
     Ok(Said { what, notes })
 }

@@ -1,29 +1,29 @@
 -- The calls of `fleet`, step by step.
 use Rattle.std.proofs.Common.{◌≡◌, ◌∙◌, ℕ, Bool, true, false, cond, Box, Vec, Global, List, [], ◌∷◌, Option, Some, None, Result, Ok, Err, refl, sym, ap, subst}
 use Rattle.std.specs.Prelude.{◌==◌, IfSome}
-use Rattle.host_io.specs.Calls.{Ask, ShelfCall, Course, Whole, Went}
-use Rattle.host_io.specs.Files.{Files}
-use Rattle.host_io.proofs.Calling.{told_behind, told_short}
-use Rattle.call_table.specs.Table.{Table}
-use Rattle.exposure_score.specs.StoredTests.{StoredTests}
-use Rattle.policy_weights.specs.Weights.{weight_of}
-use Rattle.site_table.specs.Table.{Site}
-use Rattle.unit_names.specs.Names.{Name}
-use Rattle.command_answers.specs.Asking.{course, input_file, unless_told}
-use Rattle.command_answers.specs.Stops.{IsAnswer, Prepares, first_refusal}
-use Rattle.command_answers.specs.declared.stop.Stop.{Stop}
-use Rattle.command_answers.specs.declared.stop.Stop.TheVariants as stop
-use Rattle.command_answers.proofs.Refusing.{before_others}
-use Rattle.fleet_names.specs.Asking.{course as names_course, names_asks}
-use Rattle.fleet_names.specs.Units.{are_too_many, units_of}
-use Rattle.fleet_names.specs.declared.errors.NamesError.{NamesError}
-use Rattle.fleet_report.specs.Asking.{course as rows_course, rows_asks, unless_weightless}
-use Rattle.fleet_report.specs.declared.errors.FleetError.{FleetError}
-use Rattle.fleet_report.specs.declared.rows.FleetRow.{FleetRow}
-use Rattle.unit_inputs.specs.Asking.{AsksInOrder, site_asks, table_asks}
-use Rattle.unit_inputs.specs.CallsRefusals.{calls_in}
-use Rattle.unit_inputs.specs.SiteRefusals.{site_in}
-use Rattle.unit_inputs.proofs.Ordering.{asked_so, order_answered, order_refused}
+use Rattle.score_command.specs.host_io.Calls.{Ask, ShelfCall, Course, Whole, Went}
+use Rattle.score_command.specs.host_io.Files.{Files}
+use Rattle.score_command.proofs.HostIo.Calling.{told_behind, told_short}
+use Rattle.score_command.specs.call_table.Table.{Table}
+use Rattle.score_command.specs.exposure_score.StoredTests.{StoredTests}
+use Rattle.score_command.specs.exposure_score.policy_weights.Weights.{weight_of}
+use Rattle.score_command.specs.site_table.Table.{Site}
+use Rattle.score_command.specs.unit_names.Names.{Name}
+use Rattle.score_command.specs.unit_inputs.command_answers.Asking.{course, input_file, unless_told}
+use Rattle.score_command.specs.unit_inputs.command_answers.Stops.{IsAnswer, Prepares, first_refusal}
+use Rattle.score_command.specs.unit_inputs.declared.command_answers.stop.Stop.{Stop}
+use Rattle.score_command.specs.unit_inputs.declared.command_answers.stop.Stop.TheVariants as stop
+use Rattle.score_command.proofs.UnitInputs.Refusing.{before_others}
+use Rattle.fleet_command.specs.fleet_names.Asking.{course as names_course, names_asks}
+use Rattle.fleet_command.specs.fleet_names.Units.{are_too_many, units_of}
+use Rattle.fleet_command.specs.declared.fleet_names.errors.NamesError.{NamesError}
+use Rattle.fleet_command.specs.fleet_report.Asking.{course as rows_course, rows_asks, unless_weightless}
+use Rattle.fleet_command.specs.declared.fleet_report.errors.FleetError.{FleetError}
+use Rattle.fleet_command.specs.declared.fleet_report.rows.FleetRow.{FleetRow}
+use Rattle.score_command.specs.unit_inputs.Asking.{AsksInOrder, site_asks, table_asks}
+use Rattle.score_command.specs.unit_inputs.CallsRefusals.{calls_in}
+use Rattle.score_command.specs.unit_inputs.SiteRefusals.{site_in}
+use Rattle.score_command.proofs.UnitInputs.Ordering.{asked_so, order_answered, order_refused}
 use Rattle.score_command.specs.Policies.{policy_in}
 use Rattle.score_command.specs.Weights.{no_weight_line, weight_refusal}
 use Rattle.fleet_command.specs.Asking.{behind_names, behind_site, fleet_asks, read_asks}

@@ -1,22 +1,22 @@
 -- What is ready, and the line of a refusal, are what the definitions admit.
 use Rattle.std.proofs.Common.{◌≡◌, ◌∙◌, ℕ, Option, Some, None, List, [], ◌∷◌, Vec, Global, Ok, Err, refl, sym, ap, subst}
 use Rattle.std.specs.Prelude.{IfSome, IsTrue}
-use Rattle.host_io.specs.Files.{Files}
-use Rattle.exposure_score.specs.StoredTests.{StoredTests}
-use Rattle.policy_weights.specs.Weights.{weight_of}
-use Rattle.command_answers.specs.Endings.{is_answer}
-use Rattle.command_answers.specs.Laws.{AcceptsFiles, GoTogether, IsAdmitted, laws_over}
-use Rattle.command_answers.specs.Stops.{Prepares, first_refusal}
-use Rattle.command_answers.specs.declared.ending.Ending.{Ending}
-use Rattle.command_answers.specs.declared.ending.Ending.TheVariants.{Done}
-use Rattle.command_answers.specs.declared.stop.Stop.{Stop}
-use Rattle.command_answers.specs.declared.stop.Stop.TheVariants as stop
-use Rattle.command_answers.proofs.FileCommands.{go_together, ready_is_admitted, stop_is_admitted}
-use Rattle.command_answers.proofs.Refusing.{behind_none, stops_as, stops_before}
-use Rattle.unit_inputs.specs.CallsRefusals.{calls_in}
+use Rattle.score_command.specs.host_io.Files.{Files}
+use Rattle.score_command.specs.exposure_score.StoredTests.{StoredTests}
+use Rattle.score_command.specs.exposure_score.policy_weights.Weights.{weight_of}
+use Rattle.score_command.specs.unit_inputs.command_answers.Endings.{is_answer}
+use Rattle.score_command.specs.unit_inputs.command_answers.Laws.{AcceptsFiles, GoTogether, IsAdmitted, laws_over}
+use Rattle.score_command.specs.unit_inputs.command_answers.Stops.{Prepares, first_refusal}
+use Rattle.score_command.specs.unit_inputs.declared.command_answers.ending.Ending.{Ending}
+use Rattle.score_command.specs.unit_inputs.declared.command_answers.ending.Ending.TheVariants.{Done}
+use Rattle.score_command.specs.unit_inputs.declared.command_answers.stop.Stop.{Stop}
+use Rattle.score_command.specs.unit_inputs.declared.command_answers.stop.Stop.TheVariants as stop
+use Rattle.score_command.proofs.UnitInputs.FileCommands.{go_together, ready_is_admitted, stop_is_admitted}
+use Rattle.score_command.proofs.UnitInputs.Refusing.{behind_none, stops_as, stops_before}
+use Rattle.score_command.specs.unit_inputs.CallsRefusals.{calls_in}
 use Rattle.score_command.specs.Policies.{policy_in}
 use Rattle.score_command.specs.Weights.{weight_refusal}
-use Rattle.fleet_report.specs.declared.rows.FleetRow.{FleetRow}
+use Rattle.fleet_command.specs.declared.fleet_report.rows.FleetRow.{FleetRow}
 use Rattle.fleet_command.specs.Inputs.{AreInputs, inputs_view}
 use Rattle.fleet_command.specs.Prints.{PrintsFleet, ending_of, fleet_laws, text_of}
 use Rattle.fleet_command.specs.Refusals.{fleet_refusals, read_refusals, weights_in}

@@ -4,20 +4,20 @@ use Rattle.std.specs.Prelude.{◌↔◌, ◌==◌, IfOk, IfSome, IsErrOf, IsPerm
 use Rattle.std.specs.List.{All}
 use Rattle.std.specs.declared.alloc.AllocError.{AllocError}
 use Rattle.std.proofs.lemmas.Bool.Decides.{nat_tests}
-use Rattle.host_io.specs.Files.{Files}
-use Rattle.unit_names.specs.Names.{Name}
-use Rattle.call_table.specs.Table.{Table}
-use Rattle.site_table.specs.Table.{Site}
-use Rattle.exposure_score.specs.StoredTests.{StoredTests}
-use Rattle.policy_file.specs.declared.policy.PolicyTest.{PolicyTest}
-use Rattle.policy_weights.specs.Weights.{weight_of}
-use Rattle.command_answers.specs.Stops.{Prepares, first_refusal, stop_of}
-use Rattle.command_answers.specs.declared.stop.Stop.{Stop}
+use Rattle.score_command.specs.host_io.Files.{Files}
+use Rattle.score_command.specs.unit_names.Names.{Name}
+use Rattle.score_command.specs.call_table.Table.{Table}
+use Rattle.score_command.specs.site_table.Table.{Site}
+use Rattle.score_command.specs.exposure_score.StoredTests.{StoredTests}
+use Rattle.score_command.specs.exposure_score.declared.policy_file.policy.PolicyTest.{PolicyTest}
+use Rattle.score_command.specs.exposure_score.policy_weights.Weights.{weight_of}
+use Rattle.score_command.specs.unit_inputs.command_answers.Stops.{Prepares, first_refusal, stop_of}
+use Rattle.score_command.specs.unit_inputs.declared.command_answers.stop.Stop.{Stop}
 use Rattle.score_command.specs.Weights.{no_weight_line, weight_refusal}
-use Rattle.fleet_report.specs.Order.{AreInOrder}
-use Rattle.fleet_report.specs.Outcomes.{IsRowOf}
-use Rattle.fleet_report.specs.declared.errors.FleetError.TheVariants.{NoWeight}
-use Rattle.fleet_report.specs.declared.rows.FleetRow.{FleetRow}
+use Rattle.fleet_command.specs.fleet_report.Order.{AreInOrder}
+use Rattle.fleet_command.specs.fleet_report.Outcomes.{IsRowOf}
+use Rattle.fleet_command.specs.declared.fleet_report.errors.FleetError.TheVariants.{NoWeight}
+use Rattle.fleet_command.specs.declared.fleet_report.rows.FleetRow.{FleetRow}
 use Rattle.fleet_command.specs.Inputs.{Inputs, inputs_view}
 use Rattle.fleet_command.specs.Reports.{AreFleet}
 use Rattle.fleet_command.specs.declared.preparing.FleetInputs.{FleetInputs}

@@ -1,16 +1,16 @@
 -- The calls of `fleet`, in their order. Each answer is judged before the next call.
 use Rattle.std.specs.Prelude.{ℕ, List, [], ◌∷◌, ◌++◌}
-use Rattle.host_io.specs.Calls.{Ask, unless_refused}
-use Rattle.host_io.specs.Files.{Files}
-use Rattle.exposure_score.specs.StoredTests.{StoredTests}
-use Rattle.command_answers.specs.Asking.{input_file, unless_told}
-use Rattle.command_answers.specs.Stops.{first_refusal}
-use Rattle.fleet_names.specs.Asking.{names_asks}
-use Rattle.fleet_names.specs.Units.{units_of}
-use Rattle.fleet_report.specs.Asking.{rows_asks}
-use Rattle.unit_inputs.specs.Asking.{site_asks, table_asks}
-use Rattle.unit_inputs.specs.CallsRefusals.{calls_in}
-use Rattle.unit_inputs.specs.SiteRefusals.{site_in}
+use Rattle.score_command.specs.host_io.Calls.{Ask, unless_refused}
+use Rattle.score_command.specs.host_io.Files.{Files}
+use Rattle.score_command.specs.exposure_score.StoredTests.{StoredTests}
+use Rattle.score_command.specs.unit_inputs.command_answers.Asking.{input_file, unless_told}
+use Rattle.score_command.specs.unit_inputs.command_answers.Stops.{first_refusal}
+use Rattle.fleet_command.specs.fleet_names.Asking.{names_asks}
+use Rattle.fleet_command.specs.fleet_names.Units.{units_of}
+use Rattle.fleet_command.specs.fleet_report.Asking.{rows_asks}
+use Rattle.score_command.specs.unit_inputs.Asking.{site_asks, table_asks}
+use Rattle.score_command.specs.unit_inputs.CallsRefusals.{calls_in}
+use Rattle.score_command.specs.unit_inputs.SiteRefusals.{site_in}
 use Rattle.fleet_command.specs.Refusals.{fleet_refusals, names_in}
 
 -- the folders of units, then calls.txt, site.toml and the policy, each where nothing before it is refused

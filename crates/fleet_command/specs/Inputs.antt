@@ -1,12 +1,12 @@
 -- What a report of all units is made from.
 use Rattle.std.specs.Prelude.{◌≡◌, ℕ, List, Ok}
-use Rattle.host_io.specs.Files.{Files}
-use Rattle.call_table.specs.Table.{Table}
-use Rattle.policy_file.specs.declared.policy.PolicyTest.{PolicyTest}
-use Rattle.site_table.specs.Table.{Site}
-use Rattle.unit_names.specs.Names.{Name}
-use Rattle.unit_inputs.specs.CallsRefusals.{calls_in}
-use Rattle.unit_inputs.specs.SiteRefusals.{site_in}
+use Rattle.score_command.specs.host_io.Files.{Files}
+use Rattle.score_command.specs.call_table.Table.{Table}
+use Rattle.score_command.specs.exposure_score.declared.policy_file.policy.PolicyTest.{PolicyTest}
+use Rattle.score_command.specs.site_table.Table.{Site}
+use Rattle.score_command.specs.unit_names.Names.{Name}
+use Rattle.score_command.specs.unit_inputs.CallsRefusals.{calls_in}
+use Rattle.score_command.specs.unit_inputs.SiteRefusals.{site_in}
 use Rattle.score_command.specs.Policies.{policy_in}
 use Rattle.fleet_command.specs.Refusals.{names_in}
 use Rattle.fleet_command.specs.declared.preparing.FleetInputs.{FleetInputs}

@@ -4,3 +4,7 @@ pub mod Reports
 pub mod Texts
 pub mod Prints
 pub mod Asking
+pub mod fleet_report
+pub mod fleet_names
+pub use Rattle.score_command.specs.exposure_score as exposure_score
+pub use Rattle.score_command.specs as score_command

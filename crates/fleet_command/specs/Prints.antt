@@ -1,11 +1,11 @@
 -- What `fleet` prints, by the files.
 use Rattle.std.specs.Prelude.{◌≡◌, ℕ, List}
-use Rattle.host_io.specs.Files.{Files}
-use Rattle.exposure_score.specs.StoredTests.{StoredTests}
-use Rattle.command_answers.specs.Laws.{FileLaws}
-use Rattle.command_answers.specs.declared.ending.Ending.{Ending}
-use Rattle.command_answers.specs.declared.ending.Ending.TheVariants.{Done}
-use Rattle.fleet_report.specs.declared.rows.FleetRow.{FleetRow}
+use Rattle.score_command.specs.host_io.Files.{Files}
+use Rattle.score_command.specs.exposure_score.StoredTests.{StoredTests}
+use Rattle.score_command.specs.unit_inputs.command_answers.Laws.{FileLaws}
+use Rattle.score_command.specs.unit_inputs.declared.command_answers.ending.Ending.{Ending}
+use Rattle.score_command.specs.unit_inputs.declared.command_answers.ending.Ending.TheVariants.{Done}
+use Rattle.fleet_command.specs.declared.fleet_report.rows.FleetRow.{FleetRow}
 use Rattle.fleet_command.specs.Inputs.{AreInputs, Inputs}
 use Rattle.fleet_command.specs.Refusals.{fleet_refusals}
 use Rattle.fleet_command.specs.Reports.{AreFleet}

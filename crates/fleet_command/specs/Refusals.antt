@@ -1,18 +1,18 @@
 -- The order of refusals: too many units, calls.txt, site.toml, the policy, and then that the policy weighs nothing.
 use Rattle.std.specs.Prelude.{ℕ, List, [], ◌∷◌, ◌++◌, codes, cond, Option, Result, Ok, Err}
-use Rattle.host_io.specs.Files.{Files}
-use Rattle.call_table.specs.Table.{Table}
-use Rattle.exposure_score.specs.StoredTests.{StoredTests}
-use Rattle.policy_file.specs.declared.policy.PolicyTest.{PolicyTest}
-use Rattle.policy_weights.specs.Weights.{weight_of}
-use Rattle.unit_names.specs.Names.{Name}
-use Rattle.command_answers.specs.Refusals.{refused_line}
-use Rattle.command_answers.specs.Stops.{refusal_in}
-use Rattle.unit_inputs.specs.CallsRefusals.{calls_in}
-use Rattle.unit_inputs.specs.SiteRefusals.{site_in}
+use Rattle.score_command.specs.host_io.Files.{Files}
+use Rattle.score_command.specs.call_table.Table.{Table}
+use Rattle.score_command.specs.exposure_score.StoredTests.{StoredTests}
+use Rattle.score_command.specs.exposure_score.declared.policy_file.policy.PolicyTest.{PolicyTest}
+use Rattle.score_command.specs.exposure_score.policy_weights.Weights.{weight_of}
+use Rattle.score_command.specs.unit_names.Names.{Name}
+use Rattle.score_command.specs.unit_inputs.command_answers.Refusals.{refused_line}
+use Rattle.score_command.specs.unit_inputs.command_answers.Stops.{refusal_in}
+use Rattle.score_command.specs.unit_inputs.CallsRefusals.{calls_in}
+use Rattle.score_command.specs.unit_inputs.SiteRefusals.{site_in}
 use Rattle.score_command.specs.Policies.{policy_in}
 use Rattle.score_command.specs.Weights.{weight_refusal}
-use Rattle.fleet_names.specs.Units.{are_too_many, units_of}
+use Rattle.fleet_command.specs.fleet_names.Units.{are_too_many, units_of}
 
 abbrev pub too_many_line : List ℕ
 too_many_line = refused_line (codes "fleet") (codes "too-many")

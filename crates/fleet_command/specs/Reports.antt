@@ -1,11 +1,11 @@
 -- A report of all units.
 use Rattle.std.specs.Prelude.{List, map, IsPermutation}
 use Rattle.std.specs.List.{All}
-use Rattle.host_io.specs.Files.{Files}
-use Rattle.exposure_score.specs.StoredTests.{StoredTests}
-use Rattle.fleet_report.specs.Order.{AreInOrder}
-use Rattle.fleet_report.specs.Outcomes.{IsRowOf}
-use Rattle.fleet_report.specs.declared.rows.FleetRow.{FleetRow}
+use Rattle.score_command.specs.host_io.Files.{Files}
+use Rattle.score_command.specs.exposure_score.StoredTests.{StoredTests}
+use Rattle.fleet_command.specs.fleet_report.Order.{AreInOrder}
+use Rattle.fleet_command.specs.fleet_report.Outcomes.{IsRowOf}
+use Rattle.fleet_command.specs.declared.fleet_report.rows.FleetRow.{FleetRow}
 use Rattle.fleet_command.specs.Inputs.{Inputs}
 
 -- a row for each name, what came of each unit by its own files, the least protected first

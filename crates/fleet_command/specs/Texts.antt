@@ -1,13 +1,13 @@
 -- The text of a report of all units.
 use Rattle.std.specs.Prelude.{ℕ, Bool, true, false, List, [], ◌∷◌, ◌++◌, codes, count_by, flat_map, length}
 use Rattle.std.specs.Fmt.{decimal}
-use Rattle.text_forms.specs.Escaped.{escaped_word}
-use Rattle.unit_names.specs.Names.{text_of}
-use Rattle.unit_inputs.specs.UnitRefusals.{unit_line}
-use Rattle.unit_inputs.specs.SettingsRefusals.{settings_line}
-use Rattle.fleet_report.specs.declared.rows.FleetOutcome.{FleetOutcome}
-use Rattle.fleet_report.specs.declared.rows.FleetOutcome.TheVariants.{Scored, Unresolved, Unset}
-use Rattle.fleet_report.specs.declared.rows.FleetRow.{FleetRow}
+use Rattle.score_command.specs.text_forms.Escaped.{escaped_word}
+use Rattle.score_command.specs.unit_names.Names.{text_of}
+use Rattle.score_command.specs.unit_inputs.UnitRefusals.{unit_line}
+use Rattle.score_command.specs.unit_inputs.SettingsRefusals.{settings_line}
+use Rattle.fleet_command.specs.declared.fleet_report.rows.FleetOutcome.{FleetOutcome}
+use Rattle.fleet_command.specs.declared.fleet_report.rows.FleetOutcome.TheVariants.{Scored, Unresolved, Unset}
+use Rattle.fleet_command.specs.declared.fleet_report.rows.FleetRow.{FleetRow}
 
 -- a unit and its exposure
 abbrev pub exposure_line : List ℕ → ℕ → List ℕ

@@ -1,18 +1,18 @@
 //! The command `fleet` and the path of a policy.
 ghost use Rattle.std.specs.Prelude.{◌≡◌};
-ghost use Rattle.command_answers.specs.Asking.{course};
-ghost use Rattle.command_answers.specs.Laws.{IsAdmitted, laws_over};
-ghost use Rattle.command_answers.specs.Stops.{HasReadCause};
-ghost use Rattle.unit_inputs.specs.Asking.{AsksInOrder};
+ghost use Rattle.score_command.specs.unit_inputs.command_answers.Asking.{course};
+ghost use Rattle.score_command.specs.unit_inputs.command_answers.Laws.{IsAdmitted, laws_over};
+ghost use Rattle.score_command.specs.unit_inputs.command_answers.Stops.{HasReadCause};
+ghost use Rattle.score_command.specs.unit_inputs.Asking.{AsksInOrder};
 ghost use Rattle.fleet_command.specs.Asking.{fleet_asks};
 ghost use Rattle.fleet_command.specs.Prints.{ending_of, fleet_laws, text_of};
 
 use crate::preparing::read_all;
 use crate::ready::Fleet;
 use crate::reporting::report;
-use command_answers::Stop;
-use exposure_score::{CustomTest, Stored};
-use host_io::Shelf;
+use score_command::exposure_score::{CustomTest, Stored};
+use score_command::host_io::Shelf;
+use score_command::unit_inputs::command_answers::Stop;
 use std::alloc::Global;
 
 /// Prepares `fleet` and the path of a policy: names the units, reads calls.txt, site.toml and the policy, finds the first refusal

@@ -1,16 +1,16 @@
 //! The names of the units, with the line of their refusal.
 ghost use Rattle.std.specs.Prelude.{◌≡◌, IfSome};
-ghost use Rattle.command_answers.specs.Asking.{course};
-ghost use Rattle.command_answers.specs.Stops.{HasReadCause, IsAnswer};
-ghost use Rattle.fleet_names.specs.Asking.{names_asks};
-ghost use Rattle.unit_inputs.specs.Asking.{AsksInOrder};
+ghost use Rattle.score_command.specs.unit_inputs.command_answers.Asking.{course};
+ghost use Rattle.score_command.specs.unit_inputs.command_answers.Stops.{HasReadCause, IsAnswer};
+ghost use Rattle.fleet_command.specs.fleet_names.Asking.{names_asks};
+ghost use Rattle.score_command.specs.unit_inputs.Asking.{AsksInOrder};
 ghost use Rattle.fleet_command.specs.Refusals.{names_in};
 
-use command_answers::{Stop, refuse, refused_line};
-use fleet_names::{NamesError, fleet_names};
-use host_io::Shelf;
+use crate::fleet_names::{NamesError, fleet_names};
+use score_command::host_io::Shelf;
+use score_command::unit_inputs::command_answers::{Stop, refuse, refused_line};
+use score_command::unit_names::UnitName;
 use std::alloc::Global;
-use unit_names::UnitName;
 
 /// The names of the units in byte order, or the line that there are too many.
 pub fn read_names<S: Shelf>(alloc: Global, shelf: &mut S) -> Result<Vec<UnitName>, Stop>

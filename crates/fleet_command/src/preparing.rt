@@ -1,22 +1,22 @@
 //! What `fleet` reads before the first unit.
 ghost use Rattle.std.specs.Prelude.{◌≡◌, IfSome};
-ghost use Rattle.command_answers.specs.Asking.{course};
-ghost use Rattle.command_answers.specs.Stops.{HasReadCause, Prepares};
-ghost use Rattle.unit_inputs.specs.Asking.{AsksInOrder};
+ghost use Rattle.score_command.specs.unit_inputs.command_answers.Asking.{course};
+ghost use Rattle.score_command.specs.unit_inputs.command_answers.Stops.{HasReadCause, Prepares};
+ghost use Rattle.score_command.specs.unit_inputs.Asking.{AsksInOrder};
 ghost use Rattle.fleet_command.specs.Asking.{read_asks};
 ghost use Rattle.fleet_command.specs.Inputs.{AreInputs, inputs_view};
 ghost use Rattle.fleet_command.specs.Refusals.{read_refusals};
 
 use crate::naming::read_names;
-use call_table::CallTable;
-use command_answers::Stop;
-use host_io::Shelf;
-use policy_file::Policy;
+use score_command::call_table::CallTable;
+use score_command::exposure_score::policy_file::Policy;
+use score_command::host_io::Shelf;
 use score_command::read_policy;
-use site_table::SiteTable;
+use score_command::site_table::SiteTable;
+use score_command::unit_inputs::command_answers::Stop;
+use score_command::unit_inputs::{read_site, read_table};
+use score_command::unit_names::UnitName;
 use std::alloc::Global;
-use unit_inputs::{read_site, read_table};
-use unit_names::UnitName;
 
 /// What is asked of which units.
 #[derive(Drop)]

@@ -1,12 +1,12 @@
 //! Reports of all units, printed line by line.
 ghost use Rattle.std.specs.Prelude.{flat_map};
-ghost use Rattle.command_answers.specs.Printing.{HasWriteCause, TakesText};
+ghost use Rattle.score_command.specs.unit_inputs.command_answers.Printing.{HasWriteCause, TakesText};
 ghost use Rattle.fleet_command.specs.Texts.{fleet_text, row_line};
 
+use crate::fleet_report::FleetRow;
 use crate::wording::{count_refused, counts_line, row_line};
-use command_answers::put_line;
-use fleet_report::FleetRow;
-use host_io::{Sink, SinkError};
+use score_command::host_io::{Sink, SinkError};
+use score_command::unit_inputs::command_answers::put_line;
 use std::alloc::Global;
 
 // Prints what came of each unit.

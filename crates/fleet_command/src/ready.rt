@@ -1,9 +1,9 @@
 //! A report of all units, ready to be printed.
 
+use crate::fleet_report::FleetRow;
 use crate::printing::print_fleet;
-use command_answers::{Ending, Ready};
-use fleet_report::FleetRow;
-use host_io::{Sink, SinkError};
+use score_command::host_io::{Sink, SinkError};
+use score_command::unit_inputs::command_answers::{Ending, Ready};
 use std::alloc::Global;
 
 /// What came of all units.

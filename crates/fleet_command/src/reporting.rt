@@ -1,19 +1,19 @@
 //! The rows of all units.
 ghost use Rattle.std.specs.Prelude.{◌≡◌, ◌∷◌, [], IfSome};
-ghost use Rattle.policy_weights.specs.Weights.{weight_of};
-ghost use Rattle.command_answers.specs.Asking.{course};
-ghost use Rattle.command_answers.specs.Stops.{HasReadCause, Prepares};
-ghost use Rattle.fleet_report.specs.Asking.{rows_asks, unless_weightless};
-ghost use Rattle.unit_inputs.specs.Asking.{AsksInOrder};
+ghost use Rattle.score_command.specs.exposure_score.policy_weights.Weights.{weight_of};
+ghost use Rattle.score_command.specs.unit_inputs.command_answers.Asking.{course};
+ghost use Rattle.score_command.specs.unit_inputs.command_answers.Stops.{HasReadCause, Prepares};
+ghost use Rattle.fleet_command.specs.fleet_report.Asking.{rows_asks, unless_weightless};
+ghost use Rattle.score_command.specs.unit_inputs.Asking.{AsksInOrder};
 ghost use Rattle.score_command.specs.Weights.{weight_refusal};
 ghost use Rattle.fleet_command.specs.Inputs.{inputs_view};
 ghost use Rattle.fleet_command.specs.Reports.{AreFleet};
 
+use crate::fleet_report::{FleetError, FleetRow, fleet};
 use crate::preparing::FleetInputs;
-use command_answers::{Stop, refuse, refused_line};
-use exposure_score::{CustomTest, Stored};
-use fleet_report::{FleetError, FleetRow, fleet};
-use host_io::Shelf;
+use score_command::exposure_score::{CustomTest, Stored};
+use score_command::host_io::Shelf;
+use score_command::unit_inputs::command_answers::{Stop, refuse, refused_line};
 use std::alloc::Global;
 
 /// The rows of the units by the policy of this path, or the line of a policy that weighs nothing, which is told before a unit is

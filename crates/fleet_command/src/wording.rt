@@ -2,10 +2,10 @@
 ghost use Rattle.std.specs.Prelude.{◌≡◌, IfOk, count_by};
 ghost use Rattle.fleet_command.specs.Texts.{counts_line, exposure_line, is_refused, row_line};
 
-use fleet_report::{FleetOutcome, FleetRow};
+use crate::fleet_report::{FleetOutcome, FleetRow};
+use score_command::text_forms::push_word;
+use score_command::unit_inputs::{settings_line, unit_line};
 use std::alloc::{AllocError, Global};
-use text_forms::push_word;
-use unit_inputs::{settings_line, unit_line};
 
 // The line of a unit that is scored.
 fn exposure_line(alloc: Global, unit: &str, exposure: u32) -> Result<Vec<u8>, AllocError>

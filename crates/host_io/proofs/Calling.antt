@@ -3,7 +3,7 @@ use Rattle.std.proofs.Common.{◌≡◌, Bool, true, false, cond, List, [], ◌�
 use Rattle.std.specs.Prelude.{IfSome}
 use Rattle.std.proofs.lemmas.List.{map-append}
 use Rattle.host_io.specs.Files.{Files}
-use Rattle.host_io.specs.Calls.{Ask, ShelfCall, Calls, Course, Whole, Faulted, Cut, Went, answers, fails, answered, call_of, course_of, up_to, unless_refused}
+use Rattle.host_io.specs.Calls.{Ask, ShelfCall, Calls, Course, Whole, Faulted, Cut, Went, answers, fails, answered, call_of, course_of, up_to}
 use Rattle.host_io.specs.declared.reading.ShelfError.{ShelfError}
 use Rattle.host_io.specs.declared.reading.ShelfError.TheVariants.{Missing, TooLarge, Failed, Memory}
 
@@ -19,10 +19,6 @@ module _ {S : Type 0} (asks : S → ShelfCall → S → Type 0) where
   one_call a b ask (Err TooLarge) made = (b, made, refl)
   one_call a b ask (Err Failed) made = ([], [], ask, refl, (b, made, refl))
   one_call a b ask (Err Memory) made = (ask ∷ [], [], refl, (b, made, refl))
-
-  -- whatever is wanted, where memory ran out before the first call
-  pub went_nowhere : (a : S) (x : List Ask) → Went asks a a x Cut
-  went_nowhere a x = ([], x, refl, refl)
 
   -- memory may run out behind the last call
   pub went_cut : (a b : S) (x : List Ask) → Went asks a b x Whole → Went asks a b x Cut
@@ -61,9 +57,6 @@ module _ {S : Type 0} (asks : S → ShelfCall → S → Type 0) where
     pub is : front ++ left ≡ whole
     pub made : Calls asks before now (answered front)
 
-  pub going_start : (a : S) (whole : List Ask) → Going a a whole whole
-  going_start a whole = record { front = []; is = refl; made = refl }
-
   pub going_more : (a b c : S) (whole x left : List Ask) → Going a b whole (x ++ left) → Went asks b c x Whole → Going a c whole left
   going_more a b c whole x left going made = record {
     front = going.front ++ x;
@@ -73,9 +66,6 @@ module _ {S : Type 0} (asks : S → ShelfCall → S → Type 0) where
 
   pub going_stops : (a b c : S) (whole left : List Ask) (course : Course) → Going a b whole left → Went asks b c left course → Went asks a c whole course
   going_stops a b c whole left course going made = went_as a c (going.front ++ left) whole course going.is (went_behind a b c going.front left course going.made made)
-
-  pub going_ends : (a b : S) (whole : List Ask) → Going a b whole [] → Went asks a b whole Whole
-  going_ends a b whole going = going_stops a b b whole [] Whole going refl
 
   -- through a list up to its first element of which something holds
   module _ {X : Type 0} (is_last : X → Bool) (ask : X → Ask) (a b c : S) (whole : List Ask) (x : X) (xs : List X) where

@@ -1,13 +1,13 @@
 -- What is in the list of questions is asked of what it is about.
 use Rattle.std.specs.Prelude.{Contains}
-use Rattle.call_table.specs.Table as calls
-use Rattle.site_table.specs.Table.{Site}
-use Rattle.question_types.specs.declared.question.Question.{Question}
-use Rattle.kernel_laws.specs.Questions.{IsAsked, questions}
-use Rattle.kernel_laws.proofs.AskedQuestions.{all_asked}
-use Rattle.kernel_model.specs.World.{World}
-use Rattle.kernel_ways.specs.Laws.{IsServedWorld, IsExact}
-use Rattle.kernel_ways.proofs.Exact.{questions_are_exact}
+use Rattle.ceilings.specs.call_table.Table as calls
+use Rattle.ceilings.specs.site_table.Table.{Site}
+use Rattle.ceilings.specs.kernel_laws.declared.question_types.question.Question.{Question}
+use Rattle.ceilings.specs.kernel_laws.Questions.{IsAsked, questions}
+use Rattle.ceilings.proofs.KernelLaws.AskedQuestions.{all_asked}
+use Rattle.ceilings.specs.kernel_model.World.{World}
+use Rattle.ceilings.specs.kernel_ways.Laws.{IsServedWorld, IsExact}
+use Rattle.ceilings.proofs.KernelWays.Exact.{questions_are_exact}
 use Rattle.questions.proofs.Among.{has_contained, all_had}
 
 pub asked : (table : calls.Table) (site : Site) (question : Question) → Contains (questions table site) question → IsAsked table question

@@ -1,13 +1,13 @@
 -- What lies below a folder is shown by an entry of a table, which a loop over the numbers of its entries finds.
 use Rattle.std.proofs.Common.{◌≡◌, ◌∙◌, ℕ, Bool, true, false, List, Some, None, refl, cond, ap, sym, drop}
 use Rattle.std.specs.Prelude.{slice_get, ◌+◌, ◌&&◌, ◌||◌}
-use Rattle.abs_path.specs.Paths.{Path, tail_of, parts_of, is_normal}
-use Rattle.abs_path.specs.Prefix.{is_prefix, rest_of, rest_text}
-use Rattle.kern_mounts.specs.Split.{Table}
-use Rattle.kern_mounts.specs.declared.step.MountStep.{MountStep}
-use Rattle.abs_path.proofs.Reading.{parts_behind}
-use Rattle.kernel_laws.specs.Blind.{shows_below, exposes}
-use Rattle.reach_paths.proofs.Looping.{from_here}
+use Rattle.ceilings.specs.abs_path.Paths.{Path, tail_of, parts_of, is_normal}
+use Rattle.ceilings.specs.abs_path.Prefix.{is_prefix, rest_of, rest_text}
+use Rattle.ceilings.specs.kern_mounts.Split.{Table}
+use Rattle.ceilings.specs.kern_mounts.declared.step.MountStep.{MountStep}
+use Rattle.ceilings.proofs.AbsPath.Reading.{parts_behind}
+use Rattle.ceilings.specs.kernel_laws.Blind.{shows_below, exposes}
+use Rattle.ceilings.proofs.ReachPaths.Looping.{from_here}
 
 -- a source that is the folder or leads to it
 pub at_folder : (source folder : Path) (rest : List ℕ) (clear : Path → Bool) → Some rest ≡ rest_text source folder → is_normal folder ≡ true

@@ -2,13 +2,13 @@
 use Rattle.std.proofs.Common.{◌≡◌, ◌∙◌, ◌<◌, ℕ, List, Some, ap, sym, subst, length}
 use Rattle.std.specs.Prelude.{get_or, slice_get, option_map}
 use Rattle.std.proofs.lemmas.Option.{slice_get-get_or}
-use Rattle.abs_path.specs.Paths.{Path}
-use Rattle.site_table.specs.Table.{Site, IsSite, kind_at}
-use Rattle.site_table.specs.declared.kinds.RowKind.TheVariants.{Dir}
-use Rattle.site_table.specs.declared.row.Row.{Row}
-use Rattle.kernel_laws.specs.Blind.{IsFolder}
-use Rattle.kernel_ways.proofs.Rows.{known_at}
-use Rattle.reach_paths.proofs.RowsOfSites.{found_path, found_row, has_dir}
+use Rattle.ceilings.specs.abs_path.Paths.{Path}
+use Rattle.ceilings.specs.site_table.Table.{Site, IsSite, kind_at}
+use Rattle.ceilings.specs.site_table.declared.kinds.RowKind.TheVariants.{Dir}
+use Rattle.ceilings.specs.site_table.declared.row.Row.{Row}
+use Rattle.ceilings.specs.kernel_laws.Blind.{IsFolder}
+use Rattle.ceilings.proofs.KernelWays.Rows.{known_at}
+use Rattle.ceilings.proofs.ReachPaths.RowsOfSites.{found_path, found_row, has_dir}
 
 pub dir_is_folder : (site : Site) (path : Path) → IsSite site → kind_at site.rows path ≡ Some Dir → IsFolder path
 dir_is_folder site path is e =

@@ -2,35 +2,35 @@
 use Rattle.std.proofs.Common.{◌≡◌, ◌∙◌, ℕ, suc, Bool, true, false, cond, codes, List, [], ◌∷◌, ◌++◌, Option, Some, None, refl, ap, sym, subst, length, arith, eqb}
 use Rattle.std.specs.Prelude.{map, filter, not, ◌+◌}
 use Rattle.std.specs.List.{AllByRecursion}
-use Rattle.bpf_code.specs.declared.machine.Insn.{Insn}
-use Rattle.cap_sets.specs.Sets.{has}
-use Rattle.call_table.specs.Table as calls
-use Rattle.site_table.specs.Table.{Site, row_at}
-use Rattle.kern_creds.specs.declared.creds.Creds.{Creds}
-use Rattle.kern_mounts.specs.Mounts.{steps_of}
-use Rattle.kern_mounts.proofs.Plain.{steps_plain}
-use Rattle.kern_mounts.specs.Finds.{finds}
-use Rattle.kern_mounts.specs.Split.{Table}
-use Rattle.kern_mounts.specs.declared.step.MountStep.{MountStep}
-use Rattle.kernel_calls.specs.declared.payload.Payload.{Payload}
-use Rattle.kernel_calls.specs.declared.payload.Payload.TheVariants as pay
-use Rattle.kernel_model.specs.MountStep.{stepped_by}
-use Rattle.kernel_model.specs.Runs.{IsDone}
-use Rattle.kernel_model.specs.World.{World, start_world, living_of, table_of, table_or, of_number, if_alive}
-use Rattle.kernel_model.specs.declared.process.Process.{Process}
-use Rattle.kernel_model.specs.declared.reply.Reply.{Reply}
-use Rattle.kernel_model.specs.declared.reply.Reply.TheVariants as w
-use Rattle.kernel_laws.specs.Questions.{if_so, count_from}
-use Rattle.launcher.specs.Launch.{Wanted, LaunchStep, Makes, Mounts, Launched, PrivilegedProgram, makes, first_call, prctl_step, launch_step, launch_steps, launch_on, launch_from, is_privileged_row, mount_steps, with_unshare, if_user, has_flags, capbset_drop, cap_ambient, ambient_raise, set_mode_filter, identity_steps, filter_steps, program_steps, group_steps, drop_steps, inherit_steps, user_steps, raise_steps, left_steps, privilege_steps}
-use Rattle.launcher.specs.Launches.{HasLaunchCalls, Leaves}
-use Rattle.launcher.proofs.HostRoot.{begins_at_host}
-use Rattle.launcher.proofs.LaunchCalls.{launch_calls}
-use Rattle.launcher.proofs.LaunchCreds.{IsReady}
-use Rattle.launcher.proofs.LaunchWorld.{launch_leaves, ready_at, filtered}
-use Rattle.launcher.proofs.Leading.{Leads, launched_leads, leads_parts, append_parts}
-use Rattle.launcher.proofs.Solo.{At}
-use Rattle.mount_plan.specs.Host.{host_of}
-use Rattle.view_map.proofs.Lists.{all_appended}
+use Rattle.ceilings.specs.bpf_code.declared.machine.Insn.{Insn}
+use Rattle.ceilings.specs.cap_sets.Sets.{has}
+use Rattle.ceilings.specs.call_table.Table as calls
+use Rattle.ceilings.specs.site_table.Table.{Site, row_at}
+use Rattle.ceilings.specs.kern_creds.declared.creds.Creds.{Creds}
+use Rattle.ceilings.specs.kern_mounts.Mounts.{steps_of}
+use Rattle.ceilings.proofs.KernMounts.Plain.{steps_plain}
+use Rattle.ceilings.specs.kern_mounts.Finds.{finds}
+use Rattle.ceilings.specs.kern_mounts.Split.{Table}
+use Rattle.ceilings.specs.kern_mounts.declared.step.MountStep.{MountStep}
+use Rattle.ceilings.specs.kernel_model.declared.kernel_calls.payload.Payload.{Payload}
+use Rattle.ceilings.specs.kernel_model.declared.kernel_calls.payload.Payload.TheVariants as pay
+use Rattle.ceilings.specs.kernel_model.MountStep.{stepped_by}
+use Rattle.ceilings.specs.kernel_model.Runs.{IsDone}
+use Rattle.ceilings.specs.kernel_model.World.{World, start_world, living_of, table_of, table_or, of_number, if_alive}
+use Rattle.ceilings.specs.kernel_model.declared.process.Process.{Process}
+use Rattle.ceilings.specs.kernel_model.declared.reply.Reply.{Reply}
+use Rattle.ceilings.specs.kernel_model.declared.reply.Reply.TheVariants as w
+use Rattle.ceilings.specs.kernel_laws.Questions.{if_so, count_from}
+use Rattle.ceilings.specs.launcher.Launch.{Wanted, LaunchStep, Makes, Mounts, Launched, PrivilegedProgram, makes, first_call, prctl_step, launch_step, launch_steps, launch_on, launch_from, is_privileged_row, mount_steps, with_unshare, if_user, has_flags, capbset_drop, cap_ambient, ambient_raise, set_mode_filter, identity_steps, filter_steps, program_steps, group_steps, drop_steps, inherit_steps, user_steps, raise_steps, left_steps, privilege_steps}
+use Rattle.ceilings.specs.launcher.Launches.{HasLaunchCalls, Leaves}
+use Rattle.ceilings.proofs.Launcher.HostRoot.{begins_at_host}
+use Rattle.ceilings.proofs.Launcher.LaunchCalls.{launch_calls}
+use Rattle.ceilings.proofs.Launcher.LaunchCreds.{IsReady}
+use Rattle.ceilings.proofs.Launcher.LaunchWorld.{launch_leaves, ready_at, filtered}
+use Rattle.ceilings.proofs.Launcher.Leading.{Leads, launched_leads, leads_parts, append_parts}
+use Rattle.ceilings.proofs.Launcher.Solo.{At}
+use Rattle.ceilings.specs.mount_plan.Host.{host_of}
+use Rattle.ceilings.proofs.PathSettings.ViewMapLists.{all_appended}
 use Rattle.judge.specs.Worlds.{with_site, LaunchIsBlind}
 use Rattle.judge.proofs.Runs.{FindsSame, PayloadSame, sited, step_sited, finds_same, not_shown, site_kept}
 

@@ -3,24 +3,24 @@ use Rattle.std.proofs.Common.{◌≡◌, ◌∙◌, true, List, ap, sym, subst}
 use Rattle.std.specs.Prelude.{nat_le, length}
 use Rattle.std.specs.List.{AllByRecursion}
 use Rattle.std.proofs.lemmas.Bool.{and_parts}
-use Rattle.abs_path.specs.Paths.{text_of, is_normal}
-use Rattle.exec_settings.proofs.OtherSites.{settings_rest}
-use Rattle.kern_mounts.specs.Split.{Table}
-use Rattle.kernel_laws.specs.Blind.{IsSmall}
-use Rattle.kernel_laws.specs.Launched.{Launch}
-use Rattle.launcher.specs.Answers.{wanted_of}
-use Rattle.launcher.specs.Launch.{Wanted}
-use Rattle.launcher.specs.Launches.{Leaves}
-use Rattle.launcher.proofs.Conditions.{settings_can_be_launched}
-use Rattle.launcher.proofs.LaunchWorld.{launch_leaves}
-use Rattle.mount_plan.specs.Host.{host_of}
-use Rattle.mount_plan.specs.Resting.{ShowsNothingOf}
-use Rattle.mount_plan.proofs.PlanIsBlind.{plan_is_blind}
-use Rattle.path_settings.specs.Mentions.{AreKept, is_path, is_whole, has_whole_source}
-use Rattle.path_settings.specs.declared.mentions.Mention.{Mention}
-use Rattle.site_table.specs.Table.{Site}
-use Rattle.view_map.specs.Resting.{AreSameSources}
-use Rattle.view_map.proofs.Lists.{all_from_test, all_weaker}
+use Rattle.ceilings.specs.abs_path.Paths.{text_of, is_normal}
+use Rattle.ceilings.proofs.ExecSettings.OtherSites.{settings_rest}
+use Rattle.ceilings.specs.kern_mounts.Split.{Table}
+use Rattle.ceilings.specs.kernel_laws.Blind.{IsSmall}
+use Rattle.ceilings.specs.kernel_laws.Launched.{Launch}
+use Rattle.ceilings.specs.launcher.Answers.{wanted_of}
+use Rattle.ceilings.specs.launcher.Launch.{Wanted}
+use Rattle.ceilings.specs.launcher.Launches.{Leaves}
+use Rattle.ceilings.proofs.Launcher.Conditions.{settings_can_be_launched}
+use Rattle.ceilings.proofs.Launcher.LaunchWorld.{launch_leaves}
+use Rattle.ceilings.specs.mount_plan.Host.{host_of}
+use Rattle.ceilings.specs.mount_plan.Resting.{ShowsNothingOf}
+use Rattle.ceilings.proofs.MountPlan.PlanIsBlind.{plan_is_blind}
+use Rattle.ceilings.specs.path_settings.Mentions.{AreKept, is_path, is_whole, has_whole_source}
+use Rattle.ceilings.specs.path_settings.declared.mentions.Mention.{Mention}
+use Rattle.ceilings.specs.site_table.Table.{Site}
+use Rattle.ceilings.specs.path_settings.view_map.Resting.{AreSameSources}
+use Rattle.ceilings.proofs.PathSettings.ViewMapLists.{all_from_test, all_weaker}
 use Rattle.judge.specs.Alike.{BlindToOthers}
 use Rattle.judge.specs.Sites.{AgreeOutside}
 use Rattle.judge.proofs.LaunchIsBlind.{has_plan, launch_is_blind}

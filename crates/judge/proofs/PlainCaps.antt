@@ -1,13 +1,13 @@
 -- The capability that a call of the table asks for.
 use Rattle.std.proofs.Common.{◌≡◌, ℕ, true, false, Option, Some, None, refl}
 use Rattle.std.specs.Prelude.{is_some}
-use Rattle.call_names.specs.Known.{known_call, is_known}
-use Rattle.call_names.specs.declared.known.KnownCall.{KnownCall}
-use Rattle.call_names.specs.declared.known.KnownCall.TheVariants.{Modelled, Absent}
-use Rattle.call_table.specs.declared.listed.CallLine.{CallLine}
-use Rattle.kernel_calls.specs.Rules.{rule_by, rule_of}
-use Rattle.kernel_laws.specs.Bound.{can_have_cap, can_have_for}
-use Rattle.kernel_laws.specs.Bounds.{Bounds}
+use Rattle.ceilings.specs.call_table.call_names.Known.{known_call, is_known}
+use Rattle.ceilings.specs.call_table.declared.call_names.known.KnownCall.{KnownCall}
+use Rattle.ceilings.specs.call_table.declared.call_names.known.KnownCall.TheVariants.{Modelled, Absent}
+use Rattle.ceilings.specs.call_table.declared.listed.CallLine.{CallLine}
+use Rattle.ceilings.specs.kernel_model.kernel_calls.Rules.{rule_by, rule_of}
+use Rattle.ceilings.specs.kernel_laws.Bound.{can_have_cap, can_have_for}
+use Rattle.ceilings.specs.kernel_laws.Bounds.{Bounds}
 
 by_known : (top : Bounds) (known : Option KnownCall) (cap : Option ℕ) → is_some known ≡ true → true ≡ can_have_for top (rule_by known cap)
 by_known top None cap e = cc

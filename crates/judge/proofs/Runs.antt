@@ -1,51 +1,51 @@
 -- What a world asks its site for: what the paths of calls find.
 use Rattle.std.proofs.Common.{◌≡◌, ◌∙◌, ℕ, Bool, true, false, cond, List, [], ◌∷◌, ◌++◌, Option, Some, None, Result, Ok, Err, refl, ap, sym, subst, length, eqb}
 use Rattle.std.specs.Prelude.{nat_lt, not, ◌+◌, option_and_then}
-use Rattle.call_table.specs.Table.{calls_in}
-use Rattle.abs_path.specs.Paths.{Path, is_root}
-use Rattle.abs_path.specs.Prefix.{is_below, rest_of}
-use Rattle.bpf_code.specs.declared.decision.Decision.{Decision}
-use Rattle.bpf_code.specs.declared.decision.Decision.TheVariants as decision
-use Rattle.call_names.specs.Known.{place_of}
-use Rattle.call_names.specs.declared.rule.CallRule.{CallRule}
-use Rattle.call_names.specs.declared.rule.CallRule.TheVariants as known
-use Rattle.linux_numbers.specs.Errnos.{ebusy, einval, enotdir, eagain, enospc}
-use Rattle.site_table.specs.declared.row.Row.{Row}
-use Rattle.site_table.specs.Table.{Site, row_at}
-use Rattle.kern_mounts.specs.Entry.{entry_of}
-use Rattle.kern_mounts.specs.Finds.{Found, finds, found_at, found_by, row_or_nothing, host_place, host_place_by}
-use Rattle.kern_mounts.specs.Mounts.{Mounts, steps_of}
-use Rattle.kern_mounts.specs.MountsPush.{mounts_after_push}
-use Rattle.kern_mounts.specs.MountsRemount.{mounts_after_remount}
-use Rattle.kern_mounts.specs.Split.{Table}
-use Rattle.kern_mounts.specs.declared.step.What.{What}
-use Rattle.kern_mounts.specs.declared.step.What.TheVariants.{Host, Empty, Hidden}
-use Rattle.kern_mounts.specs.declared.step.MountStep.{MountStep}
-use Rattle.kern_files.specs.Bits.{has_some, has_all}
-use Rattle.kern_files.specs.Executing.{exec_answer_in}
-use Rattle.kern_files.specs.Looking.{flags_at, see_answer, write_answer, open_answer}
-use Rattle.kern_files.specs.MountCall.{ms_bind, ms_rec, ms_remount, ms_remount_bind, target_kind, or_found, hidden_at, kind_found, flags_of, has_other_kind}
-use Rattle.kernel_calls.specs.Calls.{FitsPayload, IsPath}
-use Rattle.kernel_calls.specs.Doing as d
-use Rattle.kernel_calls.specs.Doing.{Doing, doing_by, known_doing, asked_if, asked_by, asked_of, bare, by_path, by_paths, by_sets, by_ids, by_family, by_code}
-use Rattle.kernel_calls.specs.Rules.{rule_at}
-use Rattle.kernel_calls.specs.Words.{low_word}
-use Rattle.kernel_calls.specs.declared.call.Call.{Call}
-use Rattle.kernel_calls.specs.declared.payload.Payload.{Payload}
-use Rattle.kernel_calls.specs.declared.payload.Payload.TheVariants as pay
-use Rattle.kernel_calls.specs.declared.rule.Rule.{Rule}
-use Rattle.kernel_calls.specs.declared.rule.Rule.TheVariants as rule
-use Rattle.kernel_model.specs.Effects as f
-use Rattle.kernel_model.specs.Effects.{Effect, effect_of, looks, creds_effect, table_effect, with_admin, with_own}
-use Rattle.kernel_model.specs.Runs.{run, replies}
-use Rattle.kernel_model.specs.Step.{most_processes, most_namespaces, step, step_by, decided, answered, applied, child_of, child_in, moved_in, has_user_left, decision_of}
-use Rattle.kernel_model.specs.World.{World, living_of, mounts_of, table_of, with_process, with_copy, with_child, moved_to, host_of, caller_of, with_user, entered_by, owner_of, is_newer}
-use Rattle.kern_files.specs.MountsCall.{mounts_after_mount, mounts_onto, mounts_bind_found}
-use Rattle.kernel_model.specs.declared.process.Process.{Process}
-use Rattle.kernel_model.specs.declared.reply.Reply.{Reply}
-use Rattle.kernel_model.specs.declared.reply.Reply.TheVariants as w
-use Rattle.kernel_model.proofs.Kernels.{told_stays}
-use Rattle.kernel_laws.specs.Denied.{Exposes}
+use Rattle.ceilings.specs.call_table.Table.{calls_in}
+use Rattle.ceilings.specs.abs_path.Paths.{Path, is_root}
+use Rattle.ceilings.specs.abs_path.Prefix.{is_below, rest_of}
+use Rattle.ceilings.specs.bpf_code.declared.decision.Decision.{Decision}
+use Rattle.ceilings.specs.bpf_code.declared.decision.Decision.TheVariants as decision
+use Rattle.ceilings.specs.call_table.call_names.Known.{place_of}
+use Rattle.ceilings.specs.call_table.declared.call_names.rule.CallRule.{CallRule}
+use Rattle.ceilings.specs.call_table.declared.call_names.rule.CallRule.TheVariants as known
+use Rattle.ceilings.specs.linux_numbers.Errnos.{ebusy, einval, enotdir, eagain, enospc}
+use Rattle.ceilings.specs.site_table.declared.row.Row.{Row}
+use Rattle.ceilings.specs.site_table.Table.{Site, row_at}
+use Rattle.ceilings.specs.kern_mounts.Entry.{entry_of}
+use Rattle.ceilings.specs.kern_mounts.Finds.{Found, finds, found_at, found_by, row_or_nothing, host_place, host_place_by}
+use Rattle.ceilings.specs.kern_mounts.Mounts.{Mounts, steps_of}
+use Rattle.ceilings.specs.kern_mounts.MountsPush.{mounts_after_push}
+use Rattle.ceilings.specs.kern_mounts.MountsRemount.{mounts_after_remount}
+use Rattle.ceilings.specs.kern_mounts.Split.{Table}
+use Rattle.ceilings.specs.kern_mounts.declared.step.What.{What}
+use Rattle.ceilings.specs.kern_mounts.declared.step.What.TheVariants.{Host, Empty, Hidden}
+use Rattle.ceilings.specs.kern_mounts.declared.step.MountStep.{MountStep}
+use Rattle.ceilings.specs.kernel_model.kern_files.Bits.{has_some, has_all}
+use Rattle.ceilings.specs.kernel_model.kern_files.Executing.{exec_answer_in}
+use Rattle.ceilings.specs.kernel_model.kern_files.Looking.{flags_at, see_answer, write_answer, open_answer}
+use Rattle.ceilings.specs.kernel_model.kern_files.MountCall.{ms_bind, ms_rec, ms_remount, ms_remount_bind, target_kind, or_found, hidden_at, kind_found, flags_of, has_other_kind}
+use Rattle.ceilings.specs.kernel_model.kernel_calls.Calls.{FitsPayload, IsPath}
+use Rattle.ceilings.specs.kernel_model.kernel_calls.Doing as d
+use Rattle.ceilings.specs.kernel_model.kernel_calls.Doing.{Doing, doing_by, known_doing, asked_if, asked_by, asked_of, bare, by_path, by_paths, by_sets, by_ids, by_family, by_code}
+use Rattle.ceilings.specs.kernel_model.kernel_calls.Rules.{rule_at}
+use Rattle.ceilings.specs.kernel_model.kernel_calls.Words.{low_word}
+use Rattle.ceilings.specs.kernel_model.declared.kernel_calls.call.Call.{Call}
+use Rattle.ceilings.specs.kernel_model.declared.kernel_calls.payload.Payload.{Payload}
+use Rattle.ceilings.specs.kernel_model.declared.kernel_calls.payload.Payload.TheVariants as pay
+use Rattle.ceilings.specs.kernel_model.declared.kernel_calls.rule.Rule.{Rule}
+use Rattle.ceilings.specs.kernel_model.declared.kernel_calls.rule.Rule.TheVariants as rule
+use Rattle.ceilings.specs.kernel_model.Effects as f
+use Rattle.ceilings.specs.kernel_model.Effects.{Effect, effect_of, looks, creds_effect, table_effect, with_admin, with_own}
+use Rattle.ceilings.specs.kernel_model.Runs.{run, replies}
+use Rattle.ceilings.specs.kernel_model.Step.{most_processes, most_namespaces, step, step_by, decided, answered, applied, child_of, child_in, moved_in, has_user_left, decision_of}
+use Rattle.ceilings.specs.kernel_model.World.{World, living_of, mounts_of, table_of, with_process, with_copy, with_child, moved_to, host_of, caller_of, with_user, entered_by, owner_of, is_newer}
+use Rattle.ceilings.specs.kernel_model.kern_files.MountsCall.{mounts_after_mount, mounts_onto, mounts_bind_found}
+use Rattle.ceilings.specs.kernel_model.declared.process.Process.{Process}
+use Rattle.ceilings.specs.kernel_model.declared.reply.Reply.{Reply}
+use Rattle.ceilings.specs.kernel_model.declared.reply.Reply.TheVariants as w
+use Rattle.ceilings.proofs.KernelModel.Kernels.{told_stays}
+use Rattle.ceilings.specs.kernel_laws.Denied.{Exposes}
 use Rattle.judge.specs.Sites.{AgreeOutside}
 use Rattle.judge.specs.Worlds.{with_site, RepliesAreBlind}
 use Rattle.judge.proofs.Sites.{same_row}

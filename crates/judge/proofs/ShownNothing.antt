@@ -2,20 +2,20 @@
 use Rattle.std.proofs.Common.{◌≡◌, ◌∙◌, Bool, true, false, [], ◌++◌, Some, refl, ap, sym}
 use Rattle.std.specs.Prelude.{◌&&◌, not}
 use Rattle.std.proofs.lemmas.Bool.{or_right, and_from}
-use Rattle.abs_path.specs.Paths.{Path}
-use Rattle.abs_path.specs.Prefix.{is_prefix, is_same, is_below, rest_of}
-use Rattle.abs_path.proofs.Prefixes.{prefix-append, same_path, rest-append}
-use Rattle.kern_mounts.specs.Entry.{leads_to}
-use Rattle.kern_mounts.specs.Finds.{host_place}
-use Rattle.kern_mounts.specs.Split.{Table}
-use Rattle.kern_mounts.specs.declared.step.What.TheVariants.{Host}
-use Rattle.kern_mounts.proofs.Splits.{split_some}
-use Rattle.kernel_laws.specs.Blind.{is_clear, shows_below, exposes}
-use Rattle.kernel_laws.proofs.Blind.{exposes_at, placed, seen_exposes}
-use Rattle.kernel_laws.proofs.Exposed.{exposes_seen}
-use Rattle.kernel_laws.proofs.Reach.{none_any}
-use Rattle.kernel_model.specs.World.{table_of}
-use Rattle.mount_plan.specs.Resting.{ShowsNothingOf}
+use Rattle.ceilings.specs.abs_path.Paths.{Path}
+use Rattle.ceilings.specs.abs_path.Prefix.{is_prefix, is_same, is_below, rest_of}
+use Rattle.ceilings.proofs.AbsPath.Prefixes.{prefix-append, same_path, rest-append}
+use Rattle.ceilings.specs.kern_mounts.Entry.{leads_to}
+use Rattle.ceilings.specs.kern_mounts.Finds.{host_place}
+use Rattle.ceilings.specs.kern_mounts.Split.{Table}
+use Rattle.ceilings.specs.kern_mounts.declared.step.What.TheVariants.{Host}
+use Rattle.ceilings.proofs.KernMounts.Splits.{split_some}
+use Rattle.ceilings.specs.kernel_laws.Blind.{is_clear, shows_below, exposes}
+use Rattle.ceilings.proofs.KernelLaws.Blind.{exposes_at, placed, seen_exposes}
+use Rattle.ceilings.proofs.KernelLaws.Exposed.{exposes_seen}
+use Rattle.ceilings.proofs.KernelLaws.Reach.{none_any}
+use Rattle.ceilings.specs.kernel_model.World.{table_of}
+use Rattle.ceilings.specs.mount_plan.Resting.{ShowsNothingOf}
 use Rattle.judge.specs.Worlds.{BlindIsShownNothing}
 use Rattle.judge.proofs.Sites.{clash}
 

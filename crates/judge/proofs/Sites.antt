@@ -1,14 +1,14 @@
 -- Sites that agree but below a folder have the same rows elsewhere.
 use Rattle.std.proofs.Common.{◌≡◌, ◌∙◌, Bool, true, false, cond, List, [], ◌∷◌, Option, Some, refl, ap, sym}
 use Rattle.std.specs.Prelude.{not, option_map}
-use Rattle.abs_path.specs.Paths.{Path}
-use Rattle.abs_path.specs.Prefix.{is_same, is_below}
-use Rattle.abs_path.proofs.Prefixes.{same_path}
-use Rattle.mount_plan.specs.Host.{host_of}
-use Rattle.mount_plan.specs.Resting.{AgreeButBelow}
-use Rattle.site_table.specs.Kinds.{is_dir}
-use Rattle.site_table.specs.declared.row.Row.{Row}
-use Rattle.site_table.specs.Table.{Site, row_at}
+use Rattle.ceilings.specs.abs_path.Paths.{Path}
+use Rattle.ceilings.specs.abs_path.Prefix.{is_same, is_below}
+use Rattle.ceilings.proofs.AbsPath.Prefixes.{same_path}
+use Rattle.ceilings.specs.mount_plan.Host.{host_of}
+use Rattle.ceilings.specs.mount_plan.Resting.{AgreeButBelow}
+use Rattle.ceilings.specs.site_table.Kinds.{is_dir}
+use Rattle.ceilings.specs.site_table.declared.row.Row.{Row}
+use Rattle.ceilings.specs.site_table.Table.{Site, row_at}
 use Rattle.judge.specs.Sites.{rows_outside, AgreeOutside}
 
 pub clash : (b : Bool) → b ≡ true → b ≡ false → ⊥

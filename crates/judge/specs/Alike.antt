@@ -1,25 +1,25 @@
 -- Two sites that agree but below a folder which a launched service is blind to: the service cannot tell them apart.
 use Rattle.std.specs.Prelude.{◌≡◌, ℕ, List, Ok}
-use Rattle.abs_path.specs.Paths.{Path}
-use Rattle.call_table.specs.Facts.{IsWhole}
-use Rattle.call_table.specs.Table as calls
-use Rattle.dropin_merge.specs.declared.resolved.Resolved.{Resolved}
-use Rattle.exec_settings.specs.AreSettings.{AreSettings}
-use Rattle.exec_settings.specs.declared.service.Settings.{Settings}
-use Rattle.kern_mounts.specs.Launch.{CanBeMounted}
-use Rattle.kern_mounts.specs.Split.{Table}
-use Rattle.kernel_calls.specs.Calls.{IsPath, AreCalls}
-use Rattle.kernel_calls.specs.declared.call.Call.{Call}
-use Rattle.kernel_model.specs.Runs.{replies}
-use Rattle.kernel_laws.specs.Blind.{IsFolder}
-use Rattle.kernel_laws.specs.Denied.{IsBlind}
-use Rattle.kernel_model.specs.World.{World}
-use Rattle.launcher.specs.Answers.{launch_with}
-use Rattle.launcher.specs.Launch.{Launched}
-use Rattle.mount_plan.specs.Answers.{Plans}
-use Rattle.mount_plan.specs.Host.{host_of}
-use Rattle.path_settings.specs.Mentions.{AreKept}
-use Rattle.site_table.specs.Table.{Site, IsSite}
+use Rattle.ceilings.specs.abs_path.Paths.{Path}
+use Rattle.ceilings.specs.call_table.Facts.{IsWhole}
+use Rattle.ceilings.specs.call_table.Table as calls
+use Rattle.ceilings.specs.dropin_merge.declared.resolved.Resolved.{Resolved}
+use Rattle.ceilings.specs.exec_settings.AreSettings.{AreSettings}
+use Rattle.ceilings.specs.exec_settings.declared.service.Settings.{Settings}
+use Rattle.ceilings.specs.kern_mounts.Launch.{CanBeMounted}
+use Rattle.ceilings.specs.kern_mounts.Split.{Table}
+use Rattle.ceilings.specs.kernel_model.kernel_calls.Calls.{IsPath, AreCalls}
+use Rattle.ceilings.specs.kernel_model.declared.kernel_calls.call.Call.{Call}
+use Rattle.ceilings.specs.kernel_model.Runs.{replies}
+use Rattle.ceilings.specs.kernel_laws.Blind.{IsFolder}
+use Rattle.ceilings.specs.kernel_laws.Denied.{IsBlind}
+use Rattle.ceilings.specs.kernel_model.World.{World}
+use Rattle.ceilings.specs.launcher.Answers.{launch_with}
+use Rattle.ceilings.specs.launcher.Launch.{Launched}
+use Rattle.ceilings.specs.mount_plan.Answers.{Plans}
+use Rattle.ceilings.specs.mount_plan.Host.{host_of}
+use Rattle.ceilings.specs.path_settings.Mentions.{AreKept}
+use Rattle.ceilings.specs.site_table.Table.{Site, IsSite}
 use Rattle.judge.specs.Sites.{AgreeForUnit}
 use Rattle.judge.specs.Worlds.{with_site}
 

@@ -1,15 +1,15 @@
 -- Sites that agree but below a folder.
 use Rattle.std.specs.Prelude.{◌≡◌, not, List, filter}
 use Rattle.std.specs.List.{AllByRecursion}
-use Rattle.abs_path.specs.Paths.{Path}
-use Rattle.abs_path.specs.Prefix.{is_below}
-use Rattle.dropin_merge.specs.declared.resolved.Resolved.{Resolved}
-use Rattle.exec_settings.specs.Mounts.{unit_mentions}
-use Rattle.exec_settings.specs.OtherSites.{implied_by}
-use Rattle.mount_plan.specs.Host.{host_of}
-use Rattle.site_table.specs.Table.{Site, kind_at}
-use Rattle.site_table.specs.declared.row.Row.{Row}
-use Rattle.view_map.specs.Resting.{AreSameSources}
+use Rattle.ceilings.specs.abs_path.Paths.{Path}
+use Rattle.ceilings.specs.abs_path.Prefix.{is_below}
+use Rattle.ceilings.specs.dropin_merge.declared.resolved.Resolved.{Resolved}
+use Rattle.ceilings.specs.exec_settings.Mounts.{unit_mentions}
+use Rattle.ceilings.specs.exec_settings.OtherSites.{implied_by}
+use Rattle.ceilings.specs.mount_plan.Host.{host_of}
+use Rattle.ceilings.specs.site_table.Table.{Site, kind_at}
+use Rattle.ceilings.specs.site_table.declared.row.Row.{Row}
+use Rattle.ceilings.specs.path_settings.view_map.Resting.{AreSameSources}
 
 -- the rows that do not lie strictly below the folder
 abbrev pub rows_outside : Path → List Row → List Row

@@ -1,22 +1,22 @@
 -- Worlds on sites that agree but below a folder, and launches on them.
 use Rattle.std.specs.Prelude.{◌≡◌, ℕ, ◌<◌, List, Some}
-use Rattle.abs_path.specs.Paths.{Path}
-use Rattle.call_table.specs.Facts.{IsWhole}
-use Rattle.call_table.specs.Table as calls
-use Rattle.kern_mounts.specs.Launch.{CanBeMounted}
-use Rattle.kern_mounts.specs.Split.{Table}
-use Rattle.kernel_calls.specs.Calls.{IsPath, AreCalls}
-use Rattle.kernel_calls.specs.declared.call.Call.{Call}
-use Rattle.kernel_model.specs.Runs.{run, replies}
-use Rattle.kernel_model.specs.World.{World, living_of, table_of}
-use Rattle.kernel_model.specs.declared.process.Process.{Process}
-use Rattle.kernel_laws.specs.Blind.{IsSmall, IsFolder}
-use Rattle.kernel_laws.specs.Denied.{IsBlind}
-use Rattle.linux_numbers.specs.Limits.{no_id}
-use Rattle.mount_plan.specs.Host.{host_of}
-use Rattle.mount_plan.specs.Resting.{ShowsNothingOf}
-use Rattle.site_table.specs.Table.{Site}
-use Rattle.launcher.specs.Launch.{Wanted, Launched, launch}
+use Rattle.ceilings.specs.abs_path.Paths.{Path}
+use Rattle.ceilings.specs.call_table.Facts.{IsWhole}
+use Rattle.ceilings.specs.call_table.Table as calls
+use Rattle.ceilings.specs.kern_mounts.Launch.{CanBeMounted}
+use Rattle.ceilings.specs.kern_mounts.Split.{Table}
+use Rattle.ceilings.specs.kernel_model.kernel_calls.Calls.{IsPath, AreCalls}
+use Rattle.ceilings.specs.kernel_model.declared.kernel_calls.call.Call.{Call}
+use Rattle.ceilings.specs.kernel_model.Runs.{run, replies}
+use Rattle.ceilings.specs.kernel_model.World.{World, living_of, table_of}
+use Rattle.ceilings.specs.kernel_model.declared.process.Process.{Process}
+use Rattle.ceilings.specs.kernel_laws.Blind.{IsSmall, IsFolder}
+use Rattle.ceilings.specs.kernel_laws.Denied.{IsBlind}
+use Rattle.ceilings.specs.linux_numbers.Limits.{no_id}
+use Rattle.ceilings.specs.mount_plan.Host.{host_of}
+use Rattle.ceilings.specs.mount_plan.Resting.{ShowsNothingOf}
+use Rattle.ceilings.specs.site_table.Table.{Site}
+use Rattle.ceilings.specs.launcher.Launch.{Wanted, Launched, launch}
 use Rattle.judge.specs.Sites.{AgreeOutside}
 
 -- the world on another site

@@ -1,26 +1,26 @@
 //! Whether a service can see anything of what lies below a folder.
 
 ghost use Rattle.std.specs.Prelude.{◌≡◌, ◌+◌, ◌<◌, ◌≤◌, ◌&&◌, ◌++◌, true, false, drop, length, Some};
-ghost use Rattle.abs_path.specs.Paths.{parts_of};
-ghost use Rattle.abs_path.specs.Prefix.{IsRest, is_below, is_prefix, rest_of};
-ghost use Rattle.linux_numbers.specs.Limits.{mount_max};
-ghost use Rattle.site_table.specs.Table.{kind_at};
-ghost use Rattle.site_table.specs.declared.kinds.RowKind.TheVariants.{Dir};
-ghost use Rattle.kern_mounts.specs.Mounts.{steps_of};
-ghost use Rattle.kernel_laws.specs.Blind.{exposes, is_blind, is_clear, shows_below};
-ghost use Rattle.kernel_laws.specs.Denied.{IsBlind};
-ghost use Rattle.kernel_laws.specs.Launched.{IsLaunchedWorld, launch_of};
-ghost use Rattle.kernel_ways.specs.Blindness.{IsExposed};
-ghost use Rattle.kernel_ways.specs.Laws.{IsServedWorld};
+ghost use Rattle.ceilings.specs.abs_path.Paths.{parts_of};
+ghost use Rattle.ceilings.specs.abs_path.Prefix.{IsRest, is_below, is_prefix, rest_of};
+ghost use Rattle.ceilings.specs.linux_numbers.Limits.{mount_max};
+ghost use Rattle.ceilings.specs.site_table.Table.{kind_at};
+ghost use Rattle.ceilings.specs.site_table.declared.kinds.RowKind.TheVariants.{Dir};
+ghost use Rattle.ceilings.specs.kern_mounts.Mounts.{steps_of};
+ghost use Rattle.ceilings.specs.kernel_laws.Blind.{exposes, is_blind, is_clear, shows_below};
+ghost use Rattle.ceilings.specs.kernel_laws.Denied.{IsBlind};
+ghost use Rattle.ceilings.specs.kernel_laws.Launched.{IsLaunchedWorld, launch_of};
+ghost use Rattle.ceilings.specs.kernel_ways.Blindness.{IsExposed};
+ghost use Rattle.ceilings.specs.kernel_ways.Laws.{IsServedWorld};
 ghost use Rattle.ceilings.specs.Own.{IsCeilingOf};
 
-use abs_path::AbsPath;
+use ceilings::abs_path::AbsPath;
+use ceilings::kern_mounts::{MountStep, MountTable, What};
+use ceilings::kernel_laws::question_types::Power;
+use ceilings::kernel_model::World;
+use ceilings::launcher::Launched;
+use ceilings::reach_paths::is_covered;
 use ceilings::{Ceiling, launched_table};
-use kern_mounts::{MountStep, MountTable, What};
-use kernel_model::World;
-use launcher::Launched;
-use question_types::Power;
-use reach_paths::is_covered;
 
 // Whether no entry behind this number covers the path that the front and the rest make, or what covers it can be taken away.
 fn is_clear(table: &MountTable, at: usize, front: &AbsPath, rest: &str, uncover: bool) -> bool

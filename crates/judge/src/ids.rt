@@ -1,8 +1,8 @@
 //! Which ids can be had.
 
 ghost use Rattle.std.specs.Prelude.{◌≡◌};
-ghost use Rattle.kernel_laws.specs.Bound.{ceiling};
-ghost use Rattle.kernel_laws.specs.Launched.{Launch};
+ghost use Rattle.ceilings.specs.kernel_laws.Bound.{ceiling};
+ghost use Rattle.ceilings.specs.kernel_laws.Launched.{Launch};
 ghost use Rattle.ceilings.specs.Own.{IsCeilingOf};
 
 use ceilings::Ceiling;

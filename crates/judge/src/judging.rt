@@ -1,18 +1,17 @@
 //! The verdict, by whether the question is open.
 
 ghost use Rattle.std.specs.Prelude.{◌≡◌, ◌↔◌, true, Contains};
-ghost use Rattle.kernel_laws.specs.Bound.{is_open};
-ghost use Rattle.kernel_laws.specs.Denied.{IsDenied};
-ghost use Rattle.kernel_laws.specs.Launched.{IsLaunchedWorld, launch_of};
-ghost use Rattle.kernel_laws.specs.Questions.{questions};
-ghost use Rattle.kernel_ways.specs.Laws.{IsServedWorld, IsShown};
+ghost use Rattle.ceilings.specs.kernel_laws.Bound.{is_open};
+ghost use Rattle.ceilings.specs.kernel_laws.Denied.{IsDenied};
+ghost use Rattle.ceilings.specs.kernel_laws.Launched.{IsLaunchedWorld, launch_of};
+ghost use Rattle.ceilings.specs.kernel_laws.Questions.{questions};
+ghost use Rattle.ceilings.specs.kernel_ways.Laws.{IsServedWorld, IsShown};
 ghost use Rattle.ceilings.specs.Own.{IsCeilingOf};
 
-use crate::answer::Verdict;
 use crate::open::is_open;
 use ceilings::Ceiling;
-use launcher::Launched;
-use question_types::Question;
+use ceilings::kernel_laws::question_types::{Question, Verdict};
+use ceilings::launcher::Launched;
 
 /// The verdict on a question of the list, for a launched service and its own ceiling. It is denied where no process of any
 /// run of calls, in any order and of however many processes, ever does or has what is asked: over forks, programs that are

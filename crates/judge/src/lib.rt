@@ -7,7 +7,6 @@
 //! `verdict(&launched, &ceiling(alloc, &launched)?, &Question::MapWx)` is open where mmap(2) passes. It takes no memory.
 #![tactic(auto)]
 
-mod answer;
 mod blindness;
 mod ids;
 mod judging;
@@ -17,7 +16,12 @@ mod open;
 mod rows;
 mod two_sites;
 
-pub use answer::Verdict;
 pub use blindness::blind;
+pub use ceilings;
+pub use ceilings::kernel_laws::question_types::Verdict;
+pub use ceilings::{
+    abs_path, call_table, dropin_merge, exec_settings, kern_mounts, kernel_laws, kernel_model,
+    kernel_ways, launcher, mount_plan, path_settings, site_table,
+};
 pub use judging::verdict;
 pub use two_sites::alike;

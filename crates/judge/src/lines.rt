@@ -3,20 +3,20 @@
 ghost use Rattle.std.specs.Prelude.{◌≡◌, ◌&&◌, slice_get, Some};
 ghost use Rattle.std.specs.List.{list_any};
 ghost use Rattle.std.specs.Str.{bytes_eq};
-ghost use Rattle.call_table.specs.Table.{every_call};
-ghost use Rattle.kernel_calls.specs.Rules.{rule_of};
-ghost use Rattle.kernel_laws.specs.Bound.{can_have_cap, can_have_for, ceiling, open_at, power_of};
-ghost use Rattle.question_types.specs.declared.kind.CallKind.TheVariants.{PlainCall};
-ghost use Rattle.question_types.specs.declared.question.Question.TheVariants.{Call, Namespace as Ns, Socket};
-ghost use Rattle.kernel_laws.specs.Launched.{Launch, can_make_user, launch_of, lets, lets_line};
+ghost use Rattle.ceilings.specs.call_table.Table.{every_call};
+ghost use Rattle.ceilings.specs.kernel_model.kernel_calls.Rules.{rule_of};
+ghost use Rattle.ceilings.specs.kernel_laws.Bound.{can_have_cap, can_have_for, ceiling, open_at, power_of};
+ghost use Rattle.ceilings.specs.kernel_laws.declared.question_types.kind.CallKind.TheVariants.{PlainCall};
+ghost use Rattle.ceilings.specs.kernel_laws.declared.question_types.question.Question.TheVariants.{Call, Namespace as Ns, Socket};
+ghost use Rattle.ceilings.specs.kernel_laws.Launched.{Launch, can_make_user, launch_of, lets, lets_line};
 ghost use Rattle.ceilings.specs.Own.{IsCeilingOf};
 
-use call_names::is_known;
-use call_table::CallLine;
+use ceilings::call_table::CallLine;
+use ceilings::call_table::call_names::is_known;
+use ceilings::kernel_laws::question_types::{CallKind, NamespaceType};
+use ceilings::kernel_model::World;
+use ceilings::linux_numbers::capabilities::CAP_SYS_ADMIN;
 use ceilings::{Ceiling, can_make_user, plain_line_at};
-use kernel_model::World;
-use linux_numbers::capabilities::CAP_SYS_ADMIN;
-use question_types::{CallKind, NamespaceType};
 
 // Whether the capability, if one is asked for, can become effective.
 fn can_have_cap(top: &Ceiling, cap: Option<u8>) -> bool

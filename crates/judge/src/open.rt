@@ -1,16 +1,16 @@
 //! Which questions are open.
 
 ghost use Rattle.std.specs.Prelude.{◌≡◌};
-ghost use Rattle.kernel_laws.specs.Bound.{is_open};
-ghost use Rattle.kernel_laws.specs.Launched.{IsLaunchedWorld, launch_of};
+ghost use Rattle.ceilings.specs.kernel_laws.Bound.{is_open};
+ghost use Rattle.ceilings.specs.kernel_laws.Launched.{IsLaunchedWorld, launch_of};
 ghost use Rattle.ceilings.specs.Own.{IsCeilingOf};
 
 use crate::ids::{is_gid_open, is_uid_open};
 use crate::lines::{is_call_open, is_namespace_open, is_socket_open, passes};
 use crate::rows::is_path_open;
 use ceilings::Ceiling;
-use kernel_model::World;
-use question_types::{CallKind, Question};
+use ceilings::kernel_laws::question_types::{CallKind, Question};
+use ceilings::kernel_model::World;
 
 // Whether the question is open, by the ceiling of the launched world and the calls that its filters let through.
 pub(crate) fn is_open(world: &World<'_>, ceiling: &Ceiling, question: &Question) -> bool

@@ -1,17 +1,17 @@
 //! Which rows of the site can be seen, read, written and executed.
 
 ghost use Rattle.std.specs.Prelude.{◌≡◌, ◌&&◌, not, option_copied, slice_get};
-ghost use Rattle.kernel_laws.specs.Bound.{can_reach, ceiling, is_barred, is_mounting, is_to_exec, open_at, power_of};
-ghost use Rattle.kernel_laws.specs.Launched.{IsLaunchedWorld, launch_of, can_make_user};
-ghost use Rattle.question_types.specs.declared.question.Question.TheVariants.{Path as ByPath};
+ghost use Rattle.ceilings.specs.kernel_laws.Bound.{can_reach, ceiling, is_barred, is_mounting, is_to_exec, open_at, power_of};
+ghost use Rattle.ceilings.specs.kernel_laws.Launched.{IsLaunchedWorld, launch_of, can_make_user};
+ghost use Rattle.ceilings.specs.kernel_laws.declared.question_types.question.Question.TheVariants.{Path as ByPath};
 ghost use Rattle.ceilings.specs.Leads.{leads_of};
 ghost use Rattle.ceilings.specs.Own.{IsCeilingOf};
 
 use crate::lines::makes_user;
+use ceilings::kernel_laws::question_types::{Power, Wish};
+use ceilings::kernel_model::World;
+use ceilings::site_table::Row;
 use ceilings::{Ceiling, RowLeads, is_barred, reach_by};
-use kernel_model::World;
-use question_types::{Power, Wish};
-use site_table::Row;
 
 // Whether execve refuses the row by its marks on every table that the power makes, and in every user namespace: only mount(2) makes
 // a mount on which they are not looked at, MS_NOSUID, and in a newer user namespace the bounding set is full.

@@ -1,28 +1,28 @@
 //! What lies below a folder that a launched service is blind to, the service cannot tell.
 
 ghost use Rattle.std.specs.Prelude.{◌≡◌, ℕ, Ok, Some};
-ghost use Rattle.exec_settings.specs.AreSettings.{AreSettings};
-ghost use Rattle.exec_settings.specs.declared.service.Settings.{Settings};
-ghost use Rattle.kern_mounts.specs.Launch.{CanBeMounted};
-ghost use Rattle.kern_mounts.specs.Split.{Table};
-ghost use Rattle.kernel_calls.specs.Calls.{IsPath};
-ghost use Rattle.kernel_laws.specs.Denied.{IsBlind};
-ghost use Rattle.kernel_model.specs.World.{World};
-ghost use Rattle.launcher.specs.Answers.{given_bytes, launch_with};
-ghost use Rattle.launcher.specs.Launch.{Launched};
-ghost use Rattle.mount_plan.specs.Answers.{Plans};
-ghost use Rattle.mount_plan.specs.Host.{host_of};
-ghost use Rattle.path_settings.specs.Mentions.{AreKept};
-ghost use Rattle.site_table.specs.Table.{IsSite, kind_at};
-ghost use Rattle.site_table.specs.declared.kinds.RowKind.TheVariants.{Dir};
+ghost use Rattle.ceilings.specs.exec_settings.AreSettings.{AreSettings};
+ghost use Rattle.ceilings.specs.exec_settings.declared.service.Settings.{Settings};
+ghost use Rattle.ceilings.specs.kern_mounts.Launch.{CanBeMounted};
+ghost use Rattle.ceilings.specs.kern_mounts.Split.{Table};
+ghost use Rattle.ceilings.specs.kernel_model.kernel_calls.Calls.{IsPath};
+ghost use Rattle.ceilings.specs.kernel_laws.Denied.{IsBlind};
+ghost use Rattle.ceilings.specs.kernel_model.World.{World};
+ghost use Rattle.ceilings.specs.launcher.Answers.{given_bytes, launch_with};
+ghost use Rattle.ceilings.specs.launcher.Launch.{Launched};
+ghost use Rattle.ceilings.specs.mount_plan.Answers.{Plans};
+ghost use Rattle.ceilings.specs.mount_plan.Host.{host_of};
+ghost use Rattle.ceilings.specs.path_settings.Mentions.{AreKept};
+ghost use Rattle.ceilings.specs.site_table.Table.{IsSite, kind_at};
+ghost use Rattle.ceilings.specs.site_table.declared.kinds.RowKind.TheVariants.{Dir};
 ghost use Rattle.judge.specs.Alike.{IsAlike};
 ghost use Rattle.judge.specs.Sites.{AgreeForUnit};
 
-use abs_path::AbsPath;
-use call_table::CallTable;
-use dropin_merge::Resolved;
-use launcher::FilterProgram;
-use site_table::SiteTable;
+use ceilings::abs_path::AbsPath;
+use ceilings::call_table::CallTable;
+use ceilings::dropin_merge::Resolved;
+use ceilings::launcher::FilterProgram;
+use ceilings::site_table::SiteTable;
 
 // What holds of every site; its parts are lent with it.
 fn know_site(site: &SiteTable)

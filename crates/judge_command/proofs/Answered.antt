@@ -2,16 +2,16 @@
 use Rattle.std.proofs.Common.{◌≡◌, ◌∙◌, Bool, true, false, List, [], ◌∷◌, ap₂, refl, sym}
 use Rattle.std.specs.Prelude.{map, if◌then◌else◌}
 use Rattle.std.specs.List.{AllByRecursion}
-use Rattle.abs_path.specs.Paths.{Path}
-use Rattle.kernel_laws.specs.Bound.{is_open}
-use Rattle.kernel_laws.specs.Launched.{launch_of}
-use Rattle.question_types.specs.declared.question.Question.{Question}
-use Rattle.kernel_laws.specs.Questions.{questions}
-use Rattle.kernel_model.specs.World.{World}
-use Rattle.kernel_ways.specs.Laws.{IsExact, IsFit, IsServedWorld, ListedAreFit, QuestionsAreExact}
-use Rattle.kernel_ways.specs.Offers.{RunsProgram}
-use Rattle.chosen_calls.specs.Laws.{ChoiceIsMade, ChoiceShows}
-use Rattle.chosen_calls.specs.Chosen.{calls_for}
+use Rattle.asked_service.specs.abs_path.Paths.{Path}
+use Rattle.asked_service.specs.kernel_laws.Bound.{is_open}
+use Rattle.asked_service.specs.kernel_laws.Launched.{launch_of}
+use Rattle.asked_service.specs.kernel_laws.declared.question_types.question.Question.{Question}
+use Rattle.asked_service.specs.kernel_laws.Questions.{questions}
+use Rattle.asked_service.specs.kernel_model.World.{World}
+use Rattle.asked_service.specs.kernel_ways.Laws.{IsExact, IsFit, IsServedWorld, ListedAreFit, QuestionsAreExact}
+use Rattle.asked_service.specs.kernel_ways.Offers.{RunsProgram}
+use Rattle.open_calls.specs.chosen_calls.Laws.{ChoiceIsMade, ChoiceShows}
+use Rattle.open_calls.specs.chosen_calls.Chosen.{calls_for}
 use Rattle.judge_command.specs.Answers.{Denied, Open, IsTrueAnswer, question_of}
 use Rattle.judge_command.specs.ByRule.{AnswersAreTrue, answer_of}
 

@@ -3,17 +3,17 @@ use Rattle.std.proofs.Common.{◌≡◌, ◌∙◌, ℕ, suc, ◌+◌, ◌-◌, 
 use Rattle.std.specs.Prelude.{cond, filter, map, not, ◌↔◌, if◌then◌else◌}
 use Rattle.std.proofs.lemmas.List.{length-map, take_more}
 use Rattle.std.proofs.lemmas.List.Elements.{filter-append}
-use Rattle.abs_path.specs.Paths.{Path}
-use Rattle.chosen_calls.specs.Chosen.{calls_for}
-use Rattle.kernel_laws.specs.Bound.{is_open}
-use Rattle.kernel_laws.specs.Launched.{Launch}
-use Rattle.kernel_laws.specs.Questions.{questions}
-use Rattle.judge.specs.declared.answer.Verdict.{Verdict}
-use Rattle.judge.specs.declared.answer.Verdict.TheVariants as verdict
-use Rattle.question_types.specs.declared.question.Question.{Question}
+use Rattle.asked_service.specs.abs_path.Paths.{Path}
+use Rattle.open_calls.specs.chosen_calls.Chosen.{calls_for}
+use Rattle.asked_service.specs.kernel_laws.Bound.{is_open}
+use Rattle.asked_service.specs.kernel_laws.Launched.{Launch}
+use Rattle.asked_service.specs.kernel_laws.Questions.{questions}
+use Rattle.asked_service.specs.kernel_laws.declared.question_types.verdict.Verdict.{Verdict}
+use Rattle.asked_service.specs.kernel_laws.declared.question_types.verdict.Verdict.TheVariants as verdict
+use Rattle.asked_service.specs.kernel_laws.declared.question_types.question.Question.{Question}
 use Rattle.judge_command.specs.Answers.{Denied, Open, is_denied}
 use Rattle.judge_command.specs.Report.{count_line}
-use Rattle.report_text.specs.Answers.{summary_line}
+use Rattle.asked_service.specs.report_text.Answers.{summary_line}
 use Rattle.judge_command.specs.Asked.{IsAsked, IsVerdict, denied_among, denied_once, launch_in, world_in}
 use Rattle.judge_command.specs.ByRule.{answer_of, answers_of}
 use Rattle.judge_command.specs.declared.asking.Asked.{Asked}

@@ -1,16 +1,16 @@
 -- What is known of the service that is asked, said of the service for which calls are made.
 use Rattle.std.proofs.Common.{◌≡◌, true, ap₂, sym, subst}
 use Rattle.std.specs.Prelude.{Contains}
-use Rattle.abs_path.specs.Paths.{Path}
-use Rattle.kernel_laws.specs.Bound.{is_open}
-use Rattle.kernel_laws.specs.Launched.{launch_of}
-use Rattle.kernel_laws.specs.Questions.{questions}
-use Rattle.kernel_model.specs.World.{World}
-use Rattle.kernel_ways.specs.Laws.{IsServedWorld}
-use Rattle.kernel_ways.specs.Offers.{RunsProgram}
-use Rattle.chosen_calls.specs.Chosen.{calls_for}
+use Rattle.asked_service.specs.abs_path.Paths.{Path}
+use Rattle.asked_service.specs.kernel_laws.Bound.{is_open}
+use Rattle.asked_service.specs.kernel_laws.Launched.{launch_of}
+use Rattle.asked_service.specs.kernel_laws.Questions.{questions}
+use Rattle.asked_service.specs.kernel_model.World.{World}
+use Rattle.asked_service.specs.kernel_ways.Laws.{IsServedWorld}
+use Rattle.asked_service.specs.kernel_ways.Offers.{RunsProgram}
+use Rattle.open_calls.specs.chosen_calls.Chosen.{calls_for}
 use Rattle.open_calls.specs.declared.service.Service.{Service}
-use Rattle.question_types.specs.declared.question.Question.{Question}
+use Rattle.asked_service.specs.kernel_laws.declared.question_types.question.Question.{Question}
 use Rattle.judge_command.specs.Asked.{IsAsked, launch_in, world_in}
 use Rattle.judge_command.specs.Lent.{IsServiceOf}
 use Rattle.judge_command.specs.declared.asking.Asked.{Asked}

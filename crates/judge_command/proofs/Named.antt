@@ -1,20 +1,20 @@
 -- The folders that are named are those that are blind.
 use Rattle.std.proofs.Common.{◌≡◌, Bool, true, false, List, [], ◌∷◌, ◌++◌, refl}
 use Rattle.std.specs.Prelude.{◌&&◌, map}
-use Rattle.abs_path.specs.ByteOrder.{AreAscending, is_before}
-use Rattle.abs_path.specs.Paths.{Path}
+use Rattle.asked_service.specs.abs_path.ByteOrder.{AreAscending, is_before}
+use Rattle.asked_service.specs.abs_path.Paths.{Path}
 use Rattle.std.specs.List.{AllByRecursion}
-use Rattle.kernel_laws.specs.Blind.{IsFolder, is_blind}
-use Rattle.kernel_laws.specs.Launched.{launch_of}
-use Rattle.kernel_laws.specs.Questions.{if_so}
-use Rattle.kernel_model.specs.World.{World}
-use Rattle.kernel_ways.specs.Laws.{IsServedWorld}
-use Rattle.site_table.specs.Kinds.{is_dir}
-use Rattle.site_table.specs.Table.{IsRowOf}
-use Rattle.site_table.specs.declared.row.Row.{Row}
+use Rattle.asked_service.specs.kernel_laws.Blind.{IsFolder, is_blind}
+use Rattle.asked_service.specs.kernel_laws.Launched.{launch_of}
+use Rattle.asked_service.specs.kernel_laws.Questions.{if_so}
+use Rattle.asked_service.specs.kernel_model.World.{World}
+use Rattle.asked_service.specs.kernel_ways.Laws.{IsServedWorld}
+use Rattle.asked_service.specs.site_table.Kinds.{is_dir}
+use Rattle.asked_service.specs.site_table.Table.{IsRowOf}
+use Rattle.asked_service.specs.site_table.declared.row.Row.{Row}
 use Rattle.judge_command.specs.ByRule.{BlindFoldersAreNamed, folders_of}
 use Rattle.judge_command.specs.Folders.{NamesBlind, no_more, named, exposed, no_folder}
-use Rattle.kernel_ways.specs.Blindness.{BlindIsExact, IsBlindExactly}
+use Rattle.asked_service.specs.kernel_ways.Blindness.{BlindIsExact, IsBlindExactly}
 
 module _ (world : World) (served : IsServedWorld world) (exact : BlindIsExact) where
   folder : (all : List Row) (row : Row) → IsRowOf all row → IsFolder row.path

@@ -1,23 +1,22 @@
 -- What is prepared is what the files give, or the line of the first refusal.
 use Rattle.std.proofs.Common.{◌≡◌, ◌∙◌, ℕ, Option, Some, None, List, Ok, Err, subst}
 use Rattle.std.specs.Prelude.{IfSome}
-use Rattle.host_io.specs.Files.{Files}
-use Rattle.kern_mounts.specs.Launch.{CanBeMounted}
-use Rattle.kern_mounts.specs.declared.step.MountStep.{MountStep}
-use Rattle.mount_plan.specs.Host.{host_of}
-use Rattle.exec_settings.specs.Mounts.{unit_mentions}
-use Rattle.path_settings.specs.declared.mentions.Mention.{Mention}
-use Rattle.command_answers.specs.Stops.{Prepares, first_refusal}
-use Rattle.command_answers.specs.declared.stop.Stop.{Stop}
-use Rattle.command_answers.specs.declared.stop.Stop.TheVariants as stop
-use Rattle.site_table.specs.Table.{Site}
-use Rattle.unit_inputs.specs.Inputs.{inputs_of, inputs_view}
-use Rattle.unit_inputs.specs.Settled.{AreSettled, unit_refusals}
-use Rattle.unit_inputs.specs.declared.settling.SettledUnit.{SettledUnit}
-use Rattle.plan_command.specs.Planned.{IsPlan, path_refusals}
-use Rattle.plan_command.specs.Prints.{plan_refusals}
-use Rattle.plan_command.proofs.Prepared.{at_paths, refused_as, refused_before}
-use Rattle.judge_command.specs.Prepared.{CanBeStarted, IsPrepared}
+use Rattle.asked_service.specs.host_io.Files.{Files}
+use Rattle.asked_service.specs.kern_mounts.declared.step.MountStep.{MountStep}
+use Rattle.asked_service.specs.mount_plan.Host.{host_of}
+use Rattle.asked_service.specs.exec_settings.Mounts.{unit_mentions}
+use Rattle.asked_service.specs.path_settings.declared.mentions.Mention.{Mention}
+use Rattle.asked_service.specs.unit_inputs.command_answers.Stops.{Prepares, first_refusal}
+use Rattle.asked_service.specs.unit_inputs.declared.command_answers.stop.Stop.{Stop}
+use Rattle.asked_service.specs.unit_inputs.declared.command_answers.stop.Stop.TheVariants as stop
+use Rattle.asked_service.specs.site_table.Table.{Site}
+use Rattle.asked_service.specs.unit_inputs.Inputs.{inputs_of, inputs_view}
+use Rattle.asked_service.specs.unit_inputs.Settled.{AreSettled, unit_refusals}
+use Rattle.asked_service.specs.unit_inputs.declared.settling.SettledUnit.{SettledUnit}
+use Rattle.asked_service.specs.plan_command.Planned.{IsPlan, path_refusals}
+use Rattle.asked_service.specs.plan_command.Prints.{plan_refusals}
+use Rattle.asked_service.proofs.PlanCommand.Prepared.{at_paths, refused_as, refused_before}
+use Rattle.judge_command.specs.Prepared.{IsPrepared}
 
 -- what stopped is told alike, whatever was wanted
 as_any : {T U : Type 0} (P : T → Type 0) (Q : U → Type 0) (refusals : List (Option (List ℕ))) (why : Stop) → Prepares P refusals (Err why) → Prepares Q refusals (Err why)
@@ -60,10 +59,3 @@ module _ (told : Option Files) (unit : List ℕ) where
           plan = subst (λ these. IsPlan (host_of (inputs_view one.inputs).site) these table) same (subst (λ place. IsPlan (host_of place) mentions table) lies planned.1);
         },
       )
-
--- what is prepared can be started
-pub can_start : (one : SettledUnit) (mentions : List Mention) (site : Site) (table : List MountStep) → AreSettled (inputs_view one.inputs) one.settings.value → site ≡ (inputs_view one.inputs).site → IsPlan (host_of site) mentions table → CanBeStarted (record { unit = one; plan = table })
-can_start one mentions site table settled lies is = record {
-  settled = settled;
-  plan = subst (λ place. CanBeMounted (host_of place) table) lies is.can_be_mounted;
-}

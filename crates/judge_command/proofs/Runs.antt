@@ -1,23 +1,23 @@
 -- A report that is prepared, started and printed runs by its laws.
 use Rattle.std.proofs.Common.{◌≡◌, ℕ, Option, Some, None, List, Ok, Err, refl, sym, ap, subst, inl, inr}
 use Rattle.std.specs.Prelude.{◌⊎◌, IfSome, IsTrue}
-use Rattle.host_io.specs.Files.{Files}
-use Rattle.command_answers.specs.Endings.{is_answer}
-use Rattle.command_answers.specs.Laws.{AcceptsFiles, GoTogether, laws_over}
-use Rattle.command_answers.specs.Runs.{IsRun, Outside}
-use Rattle.command_answers.specs.Stops.{HasReadCause, Prepares}
-use Rattle.command_answers.specs.declared.ending.Ending.{Ending}
-use Rattle.command_answers.specs.declared.ending.Ending.TheVariants.{Done, LaunchRefused}
-use Rattle.command_answers.specs.declared.stop.Stop.TheVariants as stop
-use Rattle.command_answers.proofs.FileCommands.{go_together, ready_is_admitted}
-use Rattle.command_answers.proofs.Refusing.{quiet}
-use Rattle.command_answers.proofs.Runs.{ran}
-use Rattle.call_table.specs.Table as calls
-use Rattle.site_table.specs.Table.{Site}
-use Rattle.unit_launch.specs.Launching.{ComesTo}
-use Rattle.unit_launch.specs.declared.launching.UnitLaunch.{UnitLaunch}
-use Rattle.unit_launch.specs.declared.launching.UnitLaunch.TheVariants as launch
-use Rattle.plan_command.specs.Prints.{plan_refusals}
+use Rattle.asked_service.specs.host_io.Files.{Files}
+use Rattle.asked_service.specs.unit_inputs.command_answers.Endings.{is_answer}
+use Rattle.asked_service.specs.unit_inputs.command_answers.Laws.{AcceptsFiles, GoTogether, laws_over}
+use Rattle.asked_service.specs.unit_inputs.command_answers.Runs.{IsRun, Outside}
+use Rattle.asked_service.specs.unit_inputs.command_answers.Stops.{HasReadCause, Prepares}
+use Rattle.asked_service.specs.unit_inputs.declared.command_answers.ending.Ending.{Ending}
+use Rattle.asked_service.specs.unit_inputs.declared.command_answers.ending.Ending.TheVariants.{Done, LaunchRefused}
+use Rattle.asked_service.specs.unit_inputs.declared.command_answers.stop.Stop.TheVariants as stop
+use Rattle.asked_service.proofs.UnitInputs.FileCommands.{go_together, ready_is_admitted}
+use Rattle.asked_service.proofs.UnitInputs.Refusing.{quiet}
+use Rattle.asked_service.proofs.UnitInputs.Runs.{ran}
+use Rattle.asked_service.specs.call_table.Table as calls
+use Rattle.asked_service.specs.site_table.Table.{Site}
+use Rattle.asked_service.specs.unit_launch.Launching.{ComesTo}
+use Rattle.asked_service.specs.declared.unit_launch.launching.UnitLaunch.{UnitLaunch}
+use Rattle.asked_service.specs.declared.unit_launch.launching.UnitLaunch.TheVariants as launch
+use Rattle.asked_service.specs.plan_command.Prints.{plan_refusals}
 use Rattle.judge_command.specs.Asked.{IsAsked, asked_text, launch_in, world_in}
 use Rattle.judge_command.specs.ByRule.{AnswersAreTrue, BlindFoldersAreNamed, answers_of, folders_of}
 use Rattle.judge_command.specs.Prepared.{IsPrepared, inputs_in}

@@ -2,27 +2,27 @@
 use Rattle.std.proofs.Common.{◌≡◌, ◌∙◌, ℕ, Bool, true, false, List, [], ◌∷◌, ◌++◌, Option, ap, refl, sym, subst, append-nil}
 use Rattle.std.specs.Prelude.{◌↔◌, flat_map, map, if◌then◌else◌}
 use Rattle.std.proofs.lemmas.List.Concat.{flat_map-append}
-use Rattle.site_table.specs.declared.row.Row.{Row}
-use Rattle.kernel_laws.specs.Questions.{if_so}
-use Rattle.question_types.specs.declared.question.Question.{Question}
+use Rattle.asked_service.specs.site_table.declared.row.Row.{Row}
+use Rattle.asked_service.specs.kernel_laws.Questions.{if_so}
+use Rattle.asked_service.specs.kernel_laws.declared.question_types.question.Question.{Question}
 use Rattle.std.specs.Prelude.{IfOk, Result, Vec}
 use Rattle.std.specs.declared.alloc.AllocError.{AllocError}
 use Rattle.std.specs.declared.alloc.Global.{Global}
-use Rattle.call_table.specs.Table.{Table}
-use Rattle.site_table.specs.Table.{Site}
-use Rattle.chosen_calls.specs.Chosen.{calls_for}
-use Rattle.judge.specs.declared.answer.Verdict.{Verdict}
-use Rattle.kernel_laws.specs.Bound.{is_open}
-use Rattle.judge.specs.declared.answer.Verdict.TheVariants as verdict
-use Rattle.kernel_calls.specs.declared.call.Call.{Call}
-use Rattle.report_text.specs.Answers.{blind_line, call_line, open_lines, verdict_line}
-use Rattle.report_text.specs.Launches.{launched_line}
-use Rattle.report_text.specs.declared.launches.Launched.{Launched as Line}
-use Rattle.unit_launch.specs.Told.{told_of}
-use Rattle.host_io.specs.Writing.{Grew}
-use Rattle.host_io.specs.declared.writing.SinkError.{SinkError}
-use Rattle.command_answers.specs.Printing.{TakesText}
-use Rattle.command_answers.proofs.Texts.{text_as, text_then}
+use Rattle.asked_service.specs.call_table.Table.{Table}
+use Rattle.asked_service.specs.site_table.Table.{Site}
+use Rattle.open_calls.specs.chosen_calls.Chosen.{calls_for}
+use Rattle.asked_service.specs.kernel_laws.declared.question_types.verdict.Verdict.{Verdict}
+use Rattle.asked_service.specs.kernel_laws.Bound.{is_open}
+use Rattle.asked_service.specs.kernel_laws.declared.question_types.verdict.Verdict.TheVariants as verdict
+use Rattle.asked_service.specs.kernel_model.declared.kernel_calls.call.Call.{Call}
+use Rattle.asked_service.specs.report_text.Answers.{blind_line, call_line, open_lines, verdict_line}
+use Rattle.asked_service.specs.report_text.Launches.{launched_line}
+use Rattle.asked_service.specs.report_text.declared.launches.Launched.{Launched as Line}
+use Rattle.asked_service.specs.unit_launch.Told.{told_of}
+use Rattle.asked_service.specs.host_io.Writing.{Grew}
+use Rattle.asked_service.specs.host_io.declared.writing.SinkError.{SinkError}
+use Rattle.asked_service.specs.unit_inputs.command_answers.Printing.{TakesText}
+use Rattle.asked_service.proofs.UnitInputs.Texts.{text_as, text_then}
 use Rattle.judge_command.specs.Answers.{Denied, Open}
 use Rattle.judge_command.specs.Asked.{IsAsked, answer_text, asked_text, folder_text, is_named, launch_in, world_in}
 use Rattle.judge_command.specs.ByRule.{answer_of, answers_of, folders_of}

@@ -1,14 +1,14 @@
 -- The answers to all that is asked of a launched service.
 use Rattle.std.specs.Prelude.{◌≡◌, Bool, true, false, List, map}
 use Rattle.std.specs.List.{AllByRecursion}
-use Rattle.call_table.specs.Table as calls
-use Rattle.site_table.specs.Table.{Site}
-use Rattle.kernel_calls.specs.declared.call.Call.{Call}
-use Rattle.kernel_model.specs.World.{World}
-use Rattle.kernel_laws.specs.Denied.{IsDenied, Shows}
-use Rattle.question_types.specs.declared.question.Question.{Question}
-use Rattle.kernel_laws.specs.Questions.{questions}
-use Rattle.chosen_calls.specs.Makers.{AreMadeByService}
+use Rattle.asked_service.specs.call_table.Table as calls
+use Rattle.asked_service.specs.site_table.Table.{Site}
+use Rattle.asked_service.specs.kernel_model.declared.kernel_calls.call.Call.{Call}
+use Rattle.asked_service.specs.kernel_model.World.{World}
+use Rattle.asked_service.specs.kernel_laws.Denied.{IsDenied, Shows}
+use Rattle.asked_service.specs.kernel_laws.declared.question_types.question.Question.{Question}
+use Rattle.asked_service.specs.kernel_laws.Questions.{questions}
+use Rattle.open_calls.specs.chosen_calls.Makers.{AreMadeByService}
 
 -- what is answered to a question: that it is denied, or that it is open, with a list of calls
 pub data Answer : Type 0 where

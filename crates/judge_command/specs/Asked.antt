@@ -1,17 +1,17 @@
 -- What is asked of a launched service, and what the printed text is.
 use Rattle.std.specs.Prelude.{◌≡◌, ◌↔◌, ℕ, Bool, true, List, [], filter, length, not, slice_get, Some, if◌then◌else◌}
-use Rattle.site_table.specs.declared.row.Row.{Row}
-use Rattle.kernel_model.specs.World.{World}
-use Rattle.kernel_laws.specs.Bound.{is_open}
-use Rattle.kernel_laws.specs.Launched.{Launch, launch_of}
-use Rattle.kernel_laws.specs.Questions.{questions}
-use Rattle.kernel_ways.specs.Offers.{RunsProgram}
-use Rattle.judge.specs.declared.answer.Verdict.{Verdict}
-use Rattle.judge.specs.declared.answer.Verdict.TheVariants as verdict
-use Rattle.question_types.specs.declared.question.Question.{Question}
+use Rattle.asked_service.specs.site_table.declared.row.Row.{Row}
+use Rattle.asked_service.specs.kernel_model.World.{World}
+use Rattle.asked_service.specs.kernel_laws.Bound.{is_open}
+use Rattle.asked_service.specs.kernel_laws.Launched.{Launch, launch_of}
+use Rattle.asked_service.specs.kernel_laws.Questions.{questions}
+use Rattle.asked_service.specs.kernel_ways.Offers.{RunsProgram}
+use Rattle.asked_service.specs.kernel_laws.declared.question_types.verdict.Verdict.{Verdict}
+use Rattle.asked_service.specs.kernel_laws.declared.question_types.verdict.Verdict.TheVariants as verdict
+use Rattle.asked_service.specs.kernel_laws.declared.question_types.question.Question.{Question}
 use Rattle.asked_service.specs.Asked.{IsBounded}
-use Rattle.report_text.specs.Answers.{blind_line}
-use Rattle.unit_launch.specs.Told.{told_of}
+use Rattle.asked_service.specs.report_text.Answers.{blind_line}
+use Rattle.asked_service.specs.unit_launch.Told.{told_of}
 use Rattle.judge_command.specs.Answers.{Answer}
 use Rattle.judge_command.specs.ByRule.{answer_of, answers_of, folders_of, is_named_by}
 use Rattle.judge_command.specs.Report.{answer_lines, service_text}

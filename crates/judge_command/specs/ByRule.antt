@@ -1,17 +1,17 @@
 -- What is answered of a launched service: by the rules that decide what is open and what is blind, and by the choice of calls.
 use Rattle.std.specs.Prelude.{◌&&◌, Bool, List, flat_map, map, if◌then◌else◌}
-use Rattle.abs_path.specs.Paths.{Path}
-use Rattle.site_table.specs.declared.row.Row.{Row}
-use Rattle.site_table.specs.Kinds.{is_dir}
-use Rattle.kernel_model.specs.World.{World}
-use Rattle.kernel_laws.specs.Blind.{is_blind}
-use Rattle.kernel_laws.specs.Bound.{is_open}
-use Rattle.kernel_laws.specs.Launched.{Launch, launch_of}
-use Rattle.question_types.specs.declared.question.Question.{Question}
-use Rattle.kernel_laws.specs.Questions.{if_so, questions}
-use Rattle.kernel_ways.specs.Laws.{IsServedWorld}
-use Rattle.kernel_ways.specs.Offers.{RunsProgram}
-use Rattle.chosen_calls.specs.Chosen.{calls_for}
+use Rattle.asked_service.specs.abs_path.Paths.{Path}
+use Rattle.asked_service.specs.site_table.declared.row.Row.{Row}
+use Rattle.asked_service.specs.site_table.Kinds.{is_dir}
+use Rattle.asked_service.specs.kernel_model.World.{World}
+use Rattle.asked_service.specs.kernel_laws.Blind.{is_blind}
+use Rattle.asked_service.specs.kernel_laws.Bound.{is_open}
+use Rattle.asked_service.specs.kernel_laws.Launched.{Launch, launch_of}
+use Rattle.asked_service.specs.kernel_laws.declared.question_types.question.Question.{Question}
+use Rattle.asked_service.specs.kernel_laws.Questions.{if_so, questions}
+use Rattle.asked_service.specs.kernel_ways.Laws.{IsServedWorld}
+use Rattle.asked_service.specs.kernel_ways.Offers.{RunsProgram}
+use Rattle.open_calls.specs.chosen_calls.Chosen.{calls_for}
 use Rattle.judge_command.specs.Answers.{Answer, Denied, Open, AreAnswers}
 use Rattle.judge_command.specs.Folders.{AreBlind}
 

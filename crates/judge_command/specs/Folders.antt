@@ -1,13 +1,13 @@
 -- The folders into which no process of a launched service ever looks.
 use Rattle.std.specs.Prelude.{◌≡◌, List, [], ◌∷◌, true, false}
-use Rattle.abs_path.specs.ByteOrder.{AreAscending}
-use Rattle.abs_path.specs.Paths.{Path}
-use Rattle.site_table.specs.declared.row.Row.{Row}
-use Rattle.site_table.specs.Kinds.{is_dir}
-use Rattle.site_table.specs.Table.{Site}
-use Rattle.kernel_model.specs.World.{World}
-use Rattle.kernel_laws.specs.Denied.{IsBlind}
-use Rattle.kernel_ways.specs.Blindness.{IsExposed}
+use Rattle.asked_service.specs.abs_path.ByteOrder.{AreAscending}
+use Rattle.asked_service.specs.abs_path.Paths.{Path}
+use Rattle.asked_service.specs.site_table.declared.row.Row.{Row}
+use Rattle.asked_service.specs.site_table.Kinds.{is_dir}
+use Rattle.asked_service.specs.site_table.Table.{Site}
+use Rattle.asked_service.specs.kernel_model.World.{World}
+use Rattle.asked_service.specs.kernel_laws.Denied.{IsBlind}
+use Rattle.asked_service.specs.kernel_ways.Blindness.{IsExposed}
 
 -- of rows, in their order: a folder is named where no list of calls exposes what lies below it, and left out where one does;
 -- what is no folder is left out

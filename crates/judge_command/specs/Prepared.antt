@@ -1,15 +1,15 @@
 -- What a report starts with.
 use Rattle.std.specs.Prelude.{◌≡◌, ℕ, List, Some}
-use Rattle.dropin_merge.specs.declared.resolved.Resolved.{Resolved}
-use Rattle.host_io.specs.Files.{Files}
-use Rattle.kern_mounts.specs.Launch.{CanBeMounted}
-use Rattle.mount_plan.specs.Host.{host_of}
-use Rattle.exec_settings.specs.Mounts.{unit_mentions}
-use Rattle.exec_settings.specs.declared.service.Settings.{Settings}
-use Rattle.unit_inputs.specs.Inputs.{Inputs, inputs_of, inputs_view}
-use Rattle.unit_inputs.specs.Settled.{AreSettled}
-use Rattle.unit_inputs.specs.declared.settling.SettledUnit.{SettledUnit}
-use Rattle.plan_command.specs.Planned.{IsPlan}
+use Rattle.asked_service.specs.dropin_merge.declared.resolved.Resolved.{Resolved}
+use Rattle.asked_service.specs.host_io.Files.{Files}
+use Rattle.asked_service.specs.kern_mounts.Launch.{CanBeMounted}
+use Rattle.asked_service.specs.mount_plan.Host.{host_of}
+use Rattle.asked_service.specs.exec_settings.Mounts.{unit_mentions}
+use Rattle.asked_service.specs.exec_settings.declared.service.Settings.{Settings}
+use Rattle.asked_service.specs.unit_inputs.Inputs.{Inputs, inputs_of, inputs_view}
+use Rattle.asked_service.specs.unit_inputs.Settled.{AreSettled}
+use Rattle.asked_service.specs.unit_inputs.declared.settling.SettledUnit.{SettledUnit}
+use Rattle.asked_service.specs.plan_command.Planned.{IsPlan}
 use Rattle.judge_command.specs.declared.preparing.Prepared.{Prepared}
 
 abbrev pub inputs_in : Prepared → Inputs

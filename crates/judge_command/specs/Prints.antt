@@ -1,27 +1,27 @@
 -- What `judge` prints, by the files.
 use Rattle.std.specs.Prelude.{◌≡◌, ◌⊎◌, ℕ, IsSome, List, Some}
-use Rattle.abs_path.specs.Paths.{Path}
-use Rattle.host_io.specs.Files.{Files}
-use Rattle.kern_mounts.specs.declared.step.MountStep.{MountStep}
-use Rattle.mount_plan.specs.Host.{host_of}
-use Rattle.exec_settings.specs.Mounts.{unit_mentions}
-use Rattle.exec_settings.specs.declared.service.Settings.{Settings}
-use Rattle.call_table.specs.Table as calls
-use Rattle.site_table.specs.Table.{Site}
-use Rattle.command_answers.specs.Laws.{FileLaws}
-use Rattle.command_answers.specs.declared.ending.Ending.{Ending}
-use Rattle.command_answers.specs.declared.ending.Ending.TheVariants.{Done, LaunchRefused}
-use Rattle.launcher.specs.declared.launched.Launched.{Launched as Service}
-use Rattle.unit_inputs.specs.Inputs.{Inputs, inputs_of}
-use Rattle.unit_names.specs.Cutting.{name_of}
-use Rattle.unit_inputs.specs.Settled.{AreSettled}
-use Rattle.unit_launch.specs.Launching.{ComesTo}
-use Rattle.unit_launch.specs.Refusals.{refusal_line}
-use Rattle.unit_launch.specs.Told.{told_of}
-use Rattle.unit_launch.specs.declared.launching.UnitLaunch.{UnitLaunch}
-use Rattle.unit_launch.specs.declared.launching.UnitLaunch.TheVariants.{Launched, Refused}
-use Rattle.plan_command.specs.Planned.{IsPlan}
-use Rattle.plan_command.specs.Prints.{plan_refusals}
+use Rattle.asked_service.specs.abs_path.Paths.{Path}
+use Rattle.asked_service.specs.host_io.Files.{Files}
+use Rattle.asked_service.specs.kern_mounts.declared.step.MountStep.{MountStep}
+use Rattle.asked_service.specs.mount_plan.Host.{host_of}
+use Rattle.asked_service.specs.exec_settings.Mounts.{unit_mentions}
+use Rattle.asked_service.specs.exec_settings.declared.service.Settings.{Settings}
+use Rattle.asked_service.specs.call_table.Table as calls
+use Rattle.asked_service.specs.site_table.Table.{Site}
+use Rattle.asked_service.specs.unit_inputs.command_answers.Laws.{FileLaws}
+use Rattle.asked_service.specs.unit_inputs.declared.command_answers.ending.Ending.{Ending}
+use Rattle.asked_service.specs.unit_inputs.declared.command_answers.ending.Ending.TheVariants.{Done, LaunchRefused}
+use Rattle.asked_service.specs.launcher.declared.launched.Launched.{Launched as Service}
+use Rattle.asked_service.specs.unit_inputs.Inputs.{Inputs, inputs_of}
+use Rattle.asked_service.specs.unit_names.Cutting.{name_of}
+use Rattle.asked_service.specs.unit_inputs.Settled.{AreSettled}
+use Rattle.asked_service.specs.unit_launch.Launching.{ComesTo}
+use Rattle.asked_service.specs.unit_launch.Refusals.{refusal_line}
+use Rattle.asked_service.specs.unit_launch.Told.{told_of}
+use Rattle.asked_service.specs.declared.unit_launch.launching.UnitLaunch.{UnitLaunch}
+use Rattle.asked_service.specs.declared.unit_launch.launching.UnitLaunch.TheVariants.{Launched, Refused}
+use Rattle.asked_service.specs.plan_command.Planned.{IsPlan}
+use Rattle.asked_service.specs.plan_command.Prints.{plan_refusals}
 use Rattle.judge_command.specs.Answers.{Answer, AreAnswers}
 use Rattle.judge_command.specs.Folders.{AreBlind}
 use Rattle.judge_command.specs.Report.{report_text, service_text}

@@ -1,15 +1,15 @@
 -- The text of a report.
 use Rattle.std.specs.Prelude.{ℕ, List, ◌++◌, filter, flat_map, length, not}
-use Rattle.abs_path.specs.Paths.{Path}
-use Rattle.call_table.specs.Table as calls
-use Rattle.site_table.specs.Table.{Site}
-use Rattle.dropin_merge.specs.declared.resolved.UnitFile.{UnitFile}
-use Rattle.unit_values.specs.declared.value.FileNote.{FileNote}
-use Rattle.judge.specs.declared.answer.Verdict.TheVariants as verdict
-use Rattle.report_text.specs.Answers.{blind_line, call_line, summary_line, verdict_line}
-use Rattle.report_text.specs.Launches.{launched_line}
-use Rattle.report_text.specs.Notes.{note_line, unit_line}
-use Rattle.report_text.specs.declared.launches.Launched.{Launched as Line}
+use Rattle.asked_service.specs.abs_path.Paths.{Path}
+use Rattle.asked_service.specs.call_table.Table as calls
+use Rattle.asked_service.specs.site_table.Table.{Site}
+use Rattle.asked_service.specs.dropin_merge.declared.resolved.UnitFile.{UnitFile}
+use Rattle.asked_service.specs.dropin_merge.declared.unit_values.value.FileNote.{FileNote}
+use Rattle.asked_service.specs.kernel_laws.declared.question_types.verdict.Verdict.TheVariants as verdict
+use Rattle.asked_service.specs.report_text.Answers.{blind_line, call_line, summary_line, verdict_line}
+use Rattle.asked_service.specs.report_text.Launches.{launched_line}
+use Rattle.asked_service.specs.report_text.Notes.{note_line, unit_line}
+use Rattle.asked_service.specs.report_text.declared.launches.Launched.{Launched as Line}
 use Rattle.judge_command.specs.Answers.{Answer, Denied, Open, is_denied}
 
 -- a question that is denied, or one that is open with the calls of its list below it

@@ -1,10 +1,10 @@
 -- A unit that is launched, and how a run goes on behind what is prepared.
 use Rattle.std.specs.Prelude.{◌≡◌, ◌⊎◌, ℕ, List}
-use Rattle.command_answers.specs.Printing.{IsUntouched, Output, PrintsText}
-use Rattle.command_answers.specs.declared.ending.Ending.{Ending}
-use Rattle.command_answers.specs.declared.ending.Ending.TheVariants.{Done, LaunchRefused, OutOfMemory}
-use Rattle.unit_launch.specs.Launching.{IsLaunched, IsRefused}
-use Rattle.unit_launch.specs.Refusals.{refusal_line}
+use Rattle.asked_service.specs.unit_inputs.command_answers.Printing.{IsUntouched, Output, PrintsText}
+use Rattle.asked_service.specs.unit_inputs.declared.command_answers.ending.Ending.{Ending}
+use Rattle.asked_service.specs.unit_inputs.declared.command_answers.ending.Ending.TheVariants.{Done, LaunchRefused, OutOfMemory}
+use Rattle.asked_service.specs.unit_launch.Launching.{IsLaunched, IsRefused}
+use Rattle.asked_service.specs.unit_launch.Refusals.{refusal_line}
 use Rattle.judge_command.specs.Asked.{IsAsked, asked_text}
 use Rattle.judge_command.specs.Prepared.{inputs_in, settings_in, unit_in}
 use Rattle.judge_command.specs.Report.{report_text}

@@ -1,18 +1,18 @@
 //! The answers to questions, found and printed one by one.
 ghost use Rattle.std.specs.Prelude.{◌≡◌, Contains, IfOk, OnOk, flat_map};
-ghost use Rattle.command_answers.specs.Printing.{HasWriteCause, TakesText};
-ghost use Rattle.kernel_laws.specs.Questions.{questions};
+ghost use Rattle.asked_service.specs.unit_inputs.command_answers.Printing.{HasWriteCause, TakesText};
+ghost use Rattle.asked_service.specs.kernel_laws.Questions.{questions};
 ghost use Rattle.judge_command.specs.Asked.{IsAsked, IsVerdict, answer_text, denied_among};
 ghost use Rattle.judge_command.specs.Lent.{IsServiceOf};
 
 use crate::asking::Asked;
 use crate::counting::denied_once;
-use command_answers::put_lines;
-use host_io::{Sink, SinkError};
-use judge::{Verdict, verdict};
+use asked_service::host_io::{Sink, SinkError};
+use asked_service::judge::{Verdict, verdict};
+use asked_service::kernel_laws::question_types::Question;
+use asked_service::report_text::{open_lines, verdict_line};
+use asked_service::unit_inputs::command_answers::put_lines;
 use open_calls::{Service, calls};
-use question_types::Question;
-use report_text::{open_lines, verdict_line};
 use std::alloc::{AllocError, Global};
 
 // The lines of the answer to a question, of which this is found; below one that is open the calls that show it.

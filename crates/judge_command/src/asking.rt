@@ -1,14 +1,14 @@
 //! A launched service, and what is asked of it.
 ghost use Rattle.std.specs.Prelude.{◌≡◌, IfOk};
-ghost use Rattle.kernel_laws.specs.Launched.{launch_of};
-ghost use Rattle.kernel_ways.specs.Laws.{IsServedWorld};
-ghost use Rattle.kernel_ways.specs.Offers.{RunsProgram};
+ghost use Rattle.asked_service.specs.kernel_laws.Launched.{launch_of};
+ghost use Rattle.asked_service.specs.kernel_ways.Laws.{IsServedWorld};
+ghost use Rattle.asked_service.specs.kernel_ways.Offers.{RunsProgram};
 ghost use Rattle.judge_command.specs.Asked.{IsAsked};
 
+use asked_service::kernel_laws::question_types::Question;
+use asked_service::launcher::Launched;
 use asked_service::{Bounded, bound};
-use launcher::Launched;
-use question_types::Question;
-use questions::questions;
+use open_calls::questions::questions;
 use std::alloc::{AllocError, Global};
 
 /// A launched service, with what bounds its processes, and all that is asked of it.

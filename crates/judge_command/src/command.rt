@@ -1,10 +1,10 @@
 //! The command `judge` and the name of a unit.
 ghost use Rattle.std.specs.Prelude.{◌≡◌, IsSome};
-ghost use Rattle.unit_names.specs.Cutting.{name_of};
-ghost use Rattle.unit_inputs.specs.Asking.{AsksInOrder, input_asks};
-ghost use Rattle.command_answers.specs.Asking.{course_of_run};
-ghost use Rattle.command_answers.specs.Laws.{laws_over};
-ghost use Rattle.command_answers.specs.Runs.{IsRun};
+ghost use Rattle.asked_service.specs.unit_names.Cutting.{name_of};
+ghost use Rattle.asked_service.specs.unit_inputs.Asking.{AsksInOrder, input_asks};
+ghost use Rattle.asked_service.specs.unit_inputs.command_answers.Asking.{course_of_run};
+ghost use Rattle.asked_service.specs.unit_inputs.command_answers.Laws.{laws_over};
+ghost use Rattle.asked_service.specs.unit_inputs.command_answers.Runs.{IsRun};
 ghost use Rattle.judge_command.specs.Prepared.{CanBeStarted};
 ghost use Rattle.judge_command.specs.Prints.{judge_laws};
 ghost use Rattle.judge_command.specs.Started.{FinishesStarted};
@@ -13,8 +13,8 @@ use crate::launching::{ending_behind, start};
 use crate::preparing::{Prepared, prepare};
 use crate::printing::print_report;
 use crate::reasons::truths;
-use command_answers::{Ending, ending_after, finish_stop};
-use host_io::{Shelf, Sink};
+use asked_service::host_io::{Shelf, Sink};
+use asked_service::unit_inputs::command_answers::{Ending, ending_after, finish_stop};
 use std::alloc::Global;
 
 // Launches what is prepared and prints the report.

@@ -1,16 +1,16 @@
 //! The folders that are blind, found and printed one by one.
 ghost use Rattle.std.specs.Prelude.{◌≡◌, IfOk, flat_map};
-ghost use Rattle.command_answers.specs.Printing.{HasWriteCause, TakesText};
-ghost use Rattle.report_text.specs.Answers.{blind_line};
+ghost use Rattle.asked_service.specs.unit_inputs.command_answers.Printing.{HasWriteCause, TakesText};
+ghost use Rattle.asked_service.specs.report_text.Answers.{blind_line};
 ghost use Rattle.judge_command.specs.Asked.{IsAsked, IsRowIn, folder_text, is_named};
 
 use crate::asking::Asked;
-use abs_path::AbsPath;
-use command_answers::put_line;
-use host_io::{Sink, SinkError};
-use judge::blind;
-use report_text::push_blind_line;
-use site_table::{Row, RowKind};
+use asked_service::abs_path::AbsPath;
+use asked_service::host_io::{Sink, SinkError};
+use asked_service::judge::blind;
+use asked_service::report_text::push_blind_line;
+use asked_service::site_table::{Row, RowKind};
+use asked_service::unit_inputs::command_answers::put_line;
 use std::alloc::{AllocError, Global};
 
 /// Whether a row is a folder that is blind. It takes no memory.

@@ -5,9 +5,9 @@ ghost use Rattle.judge_command.specs.Started.{IsStarted, ending_of};
 
 use crate::asking::{Asked, ask};
 use crate::preparing::Prepared;
-use command_answers::Ending;
+use asked_service::unit_inputs::command_answers::Ending;
+use asked_service::unit_launch::{LaunchRefusal, UnitLaunch, launch_unit};
 use std::alloc::{AllocError, Global};
-use unit_launch::{LaunchRefusal, UnitLaunch, launch_unit};
 
 /// What the launch of a unit came to.
 #[derive(Drop)]

@@ -1,18 +1,18 @@
 //! What `judge` reads, and what it takes from that.
 ghost use Rattle.std.specs.Prelude.{IfOk, IfSome};
-ghost use Rattle.command_answers.specs.Asking.{course};
-ghost use Rattle.command_answers.specs.Stops.{Prepares};
-ghost use Rattle.plan_command.specs.Prints.{plan_refusals};
-ghost use Rattle.unit_inputs.specs.Asking.{AsksInOrder, input_asks};
-ghost use Rattle.unit_inputs.specs.ReadsFor.{ReadsFor};
+ghost use Rattle.asked_service.specs.unit_inputs.command_answers.Asking.{course};
+ghost use Rattle.asked_service.specs.unit_inputs.command_answers.Stops.{Prepares};
+ghost use Rattle.asked_service.specs.plan_command.Prints.{plan_refusals};
+ghost use Rattle.asked_service.specs.unit_inputs.Asking.{AsksInOrder, input_asks};
+ghost use Rattle.asked_service.specs.unit_inputs.ReadsFor.{ReadsFor};
 ghost use Rattle.judge_command.specs.Prepared.{CanBeStarted, IsPrepared};
 
-use command_answers::Stop;
-use host_io::Shelf;
-use mount_plan::MountSteps;
-use plan_command::plan_mounts;
+use asked_service::host_io::Shelf;
+use asked_service::mount_plan::MountSteps;
+use asked_service::plan_command::plan_mounts;
+use asked_service::unit_inputs::command_answers::Stop;
+use asked_service::unit_inputs::{SettledUnit, settle_unit};
 use std::alloc::Global;
-use unit_inputs::{SettledUnit, settle_unit};
 
 /// All that a report starts with.
 #[derive(Drop)]

@@ -1,7 +1,7 @@
 //! Reports, printed line by line.
 ghost use Rattle.std.specs.Prelude.{flat_map};
-ghost use Rattle.command_answers.specs.Printing.{HasWriteCause, TakesText};
-ghost use Rattle.report_text.specs.Notes.{note_line};
+ghost use Rattle.asked_service.specs.unit_inputs.command_answers.Printing.{HasWriteCause, TakesText};
+ghost use Rattle.asked_service.specs.report_text.Notes.{note_line};
 ghost use Rattle.judge_command.specs.Asked.{IsAsked, asked_text};
 ghost use Rattle.judge_command.specs.Prepared.{settings_in, unit_in};
 ghost use Rattle.judge_command.specs.Report.{report_text};
@@ -11,14 +11,14 @@ use crate::answers::print_answers;
 use crate::asking::Asked;
 use crate::folders::print_folders;
 use crate::launching::Outcome;
-use command_answers::put_line;
-use dropin_merge::Resolved;
-use host_io::{Sink, SinkError};
-use report_text::{launched_line, note_line, summary_line, unit_line};
+use asked_service::dropin_merge::Resolved;
+use asked_service::dropin_merge::unit_values::FileNote;
+use asked_service::host_io::{Sink, SinkError};
+use asked_service::report_text::{launched_line, note_line, summary_line, unit_line};
+use asked_service::unit_inputs::SettledUnit;
+use asked_service::unit_inputs::command_answers::put_line;
+use asked_service::unit_launch::{refusal_line, told};
 use std::alloc::Global;
-use unit_inputs::SettledUnit;
-use unit_launch::{refusal_line, told};
-use unit_values::FileNote;
 
 // Prints notes, one behind the other.
 fn print_notes<K: Sink>(

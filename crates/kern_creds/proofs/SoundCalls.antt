@@ -3,7 +3,7 @@ use Rattle.std.proofs.Common.{◌≡◌, ℕ, Bool, true, false, arith, rules, c
 use Rattle.std.specs.Prelude.{◌&&◌, not}
 use Rattle.std.proofs.lemmas.Bool.{and_parts, not-false}
 use Rattle.cap_sets.specs.Sets.{has, none, all, union, single, IsWithin}
-use Rattle.cap_sets.proofs.Members.{within_self, within_through, none_within, cut_within_left, cut_within_right, within_cut, union_within, within_union_left, within_union_right, minus_within, single_within, IsWithin-from_within}
+use Rattle.cap_sets.proofs.Members.{within_self, none_within, cut_within_left, cut_within_right, union_within, minus_within, single_within, IsWithin-from_within}
 use Rattle.kern_creds.specs.declared.ids.Ids.{Ids}
 use Rattle.kern_creds.specs.declared.creds.Creds.{Creds}
 use Rattle.kern_creds.specs.Start.{start}
@@ -15,8 +15,6 @@ use Rattle.kern_creds.specs.Capset.{may_capset, with_sets, after_capset}
 use Rattle.kern_creds.specs.Prctl.{after_drop_bounding, after_raise, after_lower, after_clear_ambient, after_set_keepcaps, after_set_no_new_privs}
 use Rattle.kern_creds.specs.Sound.{IsSound}
 use Rattle.kern_creds.proofs.Answers.{Leaves, left_err, left_ok, left_if}
-
-pub ruleset order = (none_within, cut_within_left, cut_within_right, within_cut, union_within, within_union_left, within_union_right, minus_within, within_self)
 
 pub sound-start : IsSound start
 sound-start = record { effective_is_permitted = within_self all; ambient_is_permitted = none_within all; ambient_is_inheritable = none_within none }

@@ -2,8 +2,8 @@
 use Rattle.std.specs.Prelude.{ℕ, Bool, Result, Ok, Err, if◌then◌else◌, ◌&&◌, ◌||◌}
 use Rattle.cap_sets.specs.Sets.{has, union, cut, within}
 use Rattle.kern_creds.specs.declared.creds.Creds.{Creds}
-use Rattle.linux_numbers.specs.Errnos.{eperm}
-use Rattle.linux_numbers.specs.Capabilities.{cap_setpcap}
+use Rattle.cap_sets.specs.linux_numbers.Errnos.{eperm}
+use Rattle.cap_sets.specs.linux_numbers.Capabilities.{cap_setpcap}
 
 -- the new permitted set is a subset of the old one, the new effective set of the new permitted one, the new
 -- inheritable set of the old one with the bounding set and, without CAP_SETPCAP, of the old one with the old permitted set

@@ -5,7 +5,7 @@ use Rattle.cap_sets.specs.Sets.{none, union, cut, within}
 use Rattle.kern_creds.specs.declared.ids.Ids.{Ids}
 use Rattle.kern_creds.specs.declared.file.FileCreds.{FileCreds}
 use Rattle.kern_creds.specs.declared.creds.Creds.{Creds}
-use Rattle.linux_numbers.specs.Errnos.{eperm}
+use Rattle.cap_sets.specs.linux_numbers.Errnos.{eperm}
 
 -- "Safety checking for capability-dumb binaries": the file's effective bit is set and the bounding set withholds one of
 -- its capabilities. On a mount with nosuid the file's marks are not looked at.

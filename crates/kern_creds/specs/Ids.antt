@@ -1,7 +1,7 @@
 -- Real, effective and saved ids: credentials(7), and what setresuid(2) and setresgid(2) ask of an id.
 use Rattle.std.specs.Prelude.{ℕ, Bool, if◌then◌else◌, ◌==◌, ◌&&◌, ◌||◌}
 use Rattle.kern_creds.specs.declared.ids.Ids.{Ids}
-use Rattle.linux_numbers.specs.Limits.{no_id}
+use Rattle.cap_sets.specs.linux_numbers.Limits.{no_id}
 
 -- the id is one of the three
 abbrev pub is_one_of : Ids → ℕ → Bool

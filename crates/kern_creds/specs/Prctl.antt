@@ -2,8 +2,8 @@
 use Rattle.std.specs.Prelude.{ℕ, Bool, true, Result, Ok, Err, if◌then◌else◌, ◌&&◌, not, nat_lt}
 use Rattle.cap_sets.specs.Sets.{has, none, union, minus, single}
 use Rattle.kern_creds.specs.declared.creds.Creds.{Creds}
-use Rattle.linux_numbers.specs.Errnos.{eperm, einval}
-use Rattle.linux_numbers.specs.Capabilities.{cap_setpcap, cap_last_cap}
+use Rattle.cap_sets.specs.linux_numbers.Errnos.{eperm, einval}
+use Rattle.cap_sets.specs.linux_numbers.Capabilities.{cap_setpcap, cap_last_cap}
 
 -- PR_CAPBSET_DROP: the capability leaves the bounding set
 abbrev pub after_drop_bounding : Creds → ℕ → Result Creds ℕ

@@ -2,9 +2,9 @@
 use Rattle.std.specs.Prelude.{ℕ, List, length, Result, Ok, Err, if◌then◌else◌, not, nat_lt}
 use Rattle.cap_sets.specs.Sets.{has}
 use Rattle.kern_creds.specs.declared.creds.Creds.{Creds}
-use Rattle.linux_numbers.specs.Errnos.{eperm, einval}
-use Rattle.linux_numbers.specs.Limits.{ngroups_max}
-use Rattle.linux_numbers.specs.Capabilities.{cap_setgid}
+use Rattle.cap_sets.specs.linux_numbers.Errnos.{eperm, einval}
+use Rattle.cap_sets.specs.linux_numbers.Limits.{ngroups_max}
+use Rattle.cap_sets.specs.linux_numbers.Capabilities.{cap_setgid}
 
 abbrev pub after_setgroups : Creds → List ℕ → Result Creds ℕ
 after_setgroups creds ids =

@@ -2,8 +2,8 @@
 -- an id of -1 stays; EPERM where an unprivileged caller asks for another id.
 use Rattle.std.specs.Prelude.{ℕ, Bool, Result, Ok, Err, if◌then◌else◌, ◌||◌}
 use Rattle.cap_sets.specs.Sets.{has}
-use Rattle.linux_numbers.specs.Errnos.{eperm}
-use Rattle.linux_numbers.specs.Capabilities.{cap_setgid, cap_setuid}
+use Rattle.cap_sets.specs.linux_numbers.Errnos.{eperm}
+use Rattle.cap_sets.specs.linux_numbers.Capabilities.{cap_setgid, cap_setuid}
 use Rattle.kern_creds.specs.Ids.{may_take_all, kept_ids}
 use Rattle.kern_creds.specs.RootChange.{with_uids}
 use Rattle.kern_creds.specs.declared.ids.Ids.{Ids}

@@ -1,9 +1,9 @@
 -- setuid(2) and setgid(2). A privileged caller sets all three ids, another the effective one to its real or saved one.
 use Rattle.std.specs.Prelude.{ℕ, Bool, Result, Ok, Err, if◌then◌else◌, ◌==◌, ◌||◌}
 use Rattle.cap_sets.specs.Sets.{has}
-use Rattle.linux_numbers.specs.Errnos.{eperm, einval}
-use Rattle.linux_numbers.specs.Limits.{no_id}
-use Rattle.linux_numbers.specs.Capabilities.{cap_setgid, cap_setuid}
+use Rattle.cap_sets.specs.linux_numbers.Errnos.{eperm, einval}
+use Rattle.cap_sets.specs.linux_numbers.Limits.{no_id}
+use Rattle.cap_sets.specs.linux_numbers.Capabilities.{cap_setgid, cap_setuid}
 use Rattle.kern_creds.specs.Ids.{all_of}
 use Rattle.kern_creds.specs.RootChange.{with_uids}
 use Rattle.kern_creds.specs.declared.ids.Ids.{Ids}

@@ -11,7 +11,7 @@ use crate::file::FileCreds;
 use crate::ids::Ids;
 use crate::sets::is_empty;
 use cap_sets::CapSet;
-use linux_numbers::errnos::EPERM;
+use cap_sets::linux_numbers::errnos::EPERM;
 
 impl FileCreds {
     // Whether there is a set-id bit that can count, or a capability.

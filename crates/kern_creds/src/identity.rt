@@ -9,9 +9,9 @@ ghost use Rattle.kern_creds.specs.Setgroups.{after_setgroups};
 use crate::creds::Creds;
 use crate::error::CredError;
 use crate::ids::Ids;
-use linux_numbers::capabilities::{CAP_SETGID, CAP_SETUID};
-use linux_numbers::errnos::{EINVAL, EPERM};
-use linux_numbers::limits::{NGROUPS_MAX, NO_ID};
+use cap_sets::linux_numbers::capabilities::{CAP_SETGID, CAP_SETUID};
+use cap_sets::linux_numbers::errnos::{EINVAL, EPERM};
+use cap_sets::linux_numbers::limits::{NGROUPS_MAX, NO_ID};
 
 impl Ids {
     // The ids after setuid(2) or setgid(2) by a caller with the capability, or without it.

@@ -4,7 +4,7 @@ ghost use Rattle.std.specs.Prelude.{◌≡◌};
 ghost use Rattle.kern_creds.specs.Ids.{may_take, may_take_all, kept_id, kept_ids, all_of};
 ghost use Rattle.kern_creds.specs.RootChange.{has_root};
 
-use linux_numbers::limits::NO_ID;
+use cap_sets::linux_numbers::limits::NO_ID;
 
 /// Real, effective and saved id: three of a user, or three of a group.
 #[derive(Clone, Copy)]

@@ -6,7 +6,7 @@ ghost use Rattle.std.specs.Prelude.{◌≡◌, ◌≢◌, ℕ, ◌&&◌, Bool, t
 ghost use Rattle.cap_sets.specs.Sets.{has, union, cut, none, IsWithin};
 ghost use Rattle.kern_creds.specs.declared.creds.Creds.{Creds};
 ghost use Rattle.kern_creds.specs.declared.file.FileCreds.{FileCreds};
-ghost use Rattle.linux_numbers.specs.Capabilities.{cap_setgid, cap_setuid};
+ghost use Rattle.cap_sets.specs.linux_numbers.Capabilities.{cap_setgid, cap_setuid};
 ghost use Rattle.kern_creds.specs.Start.{start};
 ghost use Rattle.kern_creds.specs.Exec.{after_exec, exec_in, honours, is_privileged, runs_as_root};
 ghost use Rattle.kern_creds.specs.Enter.{entered};

@@ -8,8 +8,8 @@ ghost use Rattle.kern_creds.specs.Prctl.{after_drop_bounding, after_raise, after
 use crate::creds::Creds;
 use crate::sets::single;
 use cap_sets::CapSet;
-use linux_numbers::capabilities::{CAP_LAST_CAP, CAP_SETPCAP};
-use linux_numbers::errnos::{EINVAL, EPERM};
+use cap_sets::linux_numbers::capabilities::{CAP_LAST_CAP, CAP_SETPCAP};
+use cap_sets::linux_numbers::errnos::{EINVAL, EPERM};
 
 impl Creds {
     fn may_capset(&self, permitted: CapSet, effective: CapSet, inheritable: CapSet) -> bool

@@ -103,10 +103,6 @@ backed_copies shows source target (mount ∷ later) h = by (stands_below source 
     by true below more = (backed_copy shows source target mount later below h.0, more)
     by false below more = more
 
--- what stands behind the new mount covers what covered the source
-AreCopied : Path → Path → Mounts → Mounts → Type 0
-AreCopied source target later now = (more : Path) → is_covered source (source ++ more) later ≡ true → is_covered target (target ++ more) now ≡ true
-
 -- the new mount, before what is copied behind it
 pub backed_bound : (shows : Shows) (source target : Path) (mount : Mount) (later now : Mounts) → leads source mount ≡ true → None_have (leads source) later
     → ((more : Path) → is_covered source (source ++ more) later ≡ true → is_covered target (target ++ more) now ≡ true)

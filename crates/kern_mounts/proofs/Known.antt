@@ -2,10 +2,10 @@
 use Rattle.std.proofs.Common.{◌≡◌, ◌<◌, ◌≤◌, ◌+◌, inl, inr, ℕ, zero, suc, true, false, List, [], ◌∷◌, ◌++◌, length, length-append, take, get_or, get_or-take, length-take-le, Option, Some, None, refl, sym, ap, ◌∙◌, subst, arith}
 use Rattle.std.specs.List.{AllWithin}
 use Rattle.std.proofs.lemmas.Bool.{cases_lt}
-use Rattle.std.proofs.lemmas.List.{map-append, length-map, take-map, take_more, get_or-map}
+use Rattle.std.proofs.lemmas.List.{length-map, take-map}
 use Rattle.abs_path.specs.Paths.{Path}
 use Rattle.abs_path.specs.Prefix.{is_prefix}
-use Rattle.place_tree.specs.Places.{IsLastAt, IsLastLeading}
+use Rattle.abs_path.specs.place_tree.Places.{IsLastAt, IsLastLeading}
 use Rattle.kern_mounts.specs.declared.step.MountStep.{MountStep}
 use Rattle.kern_mounts.specs.declared.step.Mount.{Mount}
 use Rattle.kern_mounts.specs.Mounts.{Mounts, steps_of}
@@ -58,28 +58,6 @@ front_stays : {X : Type 0} (xs ys : List X) (n : ℕ) → n ≤ length xs → ta
 front_stays xs ys zero le = refl
 front_stays [] ys (suc n) le = absurd (omega arith)
 front_stays (x ∷ xs) ys (suc n) le = ap (λ l. x ∷ l) (front_stays xs ys n (omega arith))
-
--- entries behind the others change nothing of what is known
-pub knows_more : (table next more : List MountStep) (places : List Path) (count : ℕ) → Knows count table places → next ≡ table ++ more → Knows count next places
-knows_more table next more places count knows is =
-    let long = ap length is in
-    let sum = length-append table more in record {
-      in_range = omega (arith, knows.in_range, long, sum);
-      first = knows.first ∙ ap places_of (sym (ap (take count) is ∙ front_stays table more count knows.in_range));
-    }
-
--- the place of the next entry, which is the last
-pub knows_next : (mounts : Mounts) (places after : List Path) (count : ℕ) (mount : Mount) → Knows count (steps_of mounts) places → count < length mounts → mount ≡ get_or mounts count mount → after ≡ places ++ mount.step.place ∷ [] → Knows (count + 1) (steps_of mounts) after
-knows_next mounts places after count mount knows lt e is =
-    let long = steps_long mounts in
-    let below : count < length (steps_of mounts) = omega arith in
-    let next : get_or (steps_of mounts) count mount.step ≡ mount.step = get_or-map (λ (m : Mount). m.step) mounts count mount mount.step lt ∙ ap (λ (m : Mount). m.step) (sym e) in record {
-      in_range = omega arith;
-      first = is ∙ ap (λ (l : List Path). l ++ mount.step.place ∷ []) knows.first
-          ∙ sym (map-append (λ step. step.place) (take count (steps_of mounts)) (mount.step ∷ []))
-          ∙ ap (λ (s : MountStep). places_of (take count (steps_of mounts) ++ s ∷ [])) (sym next)
-          ∙ ap places_of (sym (take_more (steps_of mounts) count mount.step below));
-    }
 
 pub take_twice : {X : Type 0} (xs : List X) (n m : ℕ) → n ≤ m → take n (take m xs) ≡ take n xs
 take_twice xs zero m le = refl
@@ -134,8 +112,6 @@ mounts_known mounts next rest old places known count at still knows lt is =
     subst (λ (t : List MountStep). Knows count t places) front (still (steps_of mounts) (steps_of rest) knows (omega arith))
 
 -- ---- going over mounts from the last on
-pub none_past : (mounts : Mounts) (path : Path) (at : ℕ) → length mounts ≤ at → AllWithin (λ place. is_prefix place path ≡ false) (places_of (steps_of mounts)) at (length mounts)
-none_past mounts path at le = λ k d low high. absurd (omega arith)
 
 place_at : (mounts : Mounts) (at : ℕ) (mount : Mount) (d : Path) → at < length mounts → mount ≡ get_or mounts at mount → get_or (places_of (steps_of mounts)) at d ≡ mount.step.place
 place_at [] at mount d lt e = absurd (omega arith)

@@ -1,6 +1,6 @@
 -- Mounts and their entries, by number and about a path.
 use Rattle.std.proofs.Common.{◌≡◌, ◌<◌, ℕ, zero, suc, Bool, true, false, [], ◌∷◌, ◌++◌, Option, Some, None, length, get_or, take, drop, filter, refl, ap, ◌∙◌, sym, arith, add-one, cond}
-use Rattle.std.proofs.lemmas.List.{map-append, length-map, get_or-map, take-map, drop-map}
+use Rattle.std.proofs.lemmas.List.{map-append, length-map, get_or-map, take-map}
 use Rattle.std.proofs.lemmas.List.Elements.{recursion_from_All}
 use Rattle.abs_path.specs.Paths.{Path}
 use Rattle.kern_mounts.specs.declared.step.Mount.{Mount}
@@ -22,9 +22,6 @@ steps_long mounts = length-map mounts (λ mount. mount.step)
 
 pub steps_take : (n : ℕ) (mounts : Mounts) → take n (steps_of mounts) ≡ steps_of (take n mounts)
 steps_take n mounts = take-map (λ mount. mount.step) n mounts
-
-pub steps_drop : (n : ℕ) (mounts : Mounts) → drop n (steps_of mounts) ≡ steps_of (drop n mounts)
-steps_drop n mounts = drop-map (λ mount. mount.step) n mounts
 
 -- the entries of the mounts of a kind that their entries tell
 pub steps_filter : (p : MountStep → Bool) (mounts : Mounts) → steps_of (filter (λ mount. p mount.step) mounts) ≡ filter p (steps_of mounts)

@@ -1,5 +1,5 @@
 -- Prefixes of paths, what lies behind them, and how long paths are.
-use Rattle.std.proofs.Common.{◌≡◌, ◌≤◌, ◌+◌, ℕ, Bool, true, false, List, [], ◌∷◌, ◌++◌, ◌⊎◌, inl, inr, length, refl, sym, ap, ◌∙◌, arith, length-append, append-nil}
+use Rattle.std.proofs.Common.{◌≡◌, ◌+◌, ℕ, Bool, true, false, List, [], ◌∷◌, ◌++◌, ◌⊎◌, inl, inr, length, refl, sym, ap, ◌∙◌, length-append, append-nil}
 use Rattle.std.specs.Prelude.{nat_lt, not, ◌&&◌}
 use Rattle.std.proofs.lemmas.Bool.{and_parts, and_from, false≢true}
 use Rattle.abs_path.specs.Paths.{Path, tail_of}
@@ -78,9 +78,3 @@ long_by_length onto more n rest e f =
     ∙ ap (nat_lt 512) (sym (length-append (tail_of onto) (tail_of more)))
     ∙ ap (λ t. nat_lt 512 (length t)) (sym (tail-append onto more))
     ∙ sym (long_tail (onto ++ more))
-
-not_less : (a b : ℕ) → nat_lt a b ≡ false → b ≤ a
-not_less a b h = grind arith
-
-pub short_tail : (path : Path) → is_long path ≡ false → length (tail_of path) ≤ 512
-short_tail path h = not_less 512 (length (tail_of path)) (sym (long_tail path) ∙ h)

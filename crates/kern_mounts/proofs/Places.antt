@@ -1,11 +1,10 @@
 -- The places of a table's entries, as the tree of places keeps them.
-use Rattle.std.proofs.Common.{◌≡◌, ℕ, zero, suc, List, [], ◌∷◌, length, get_or, set, Some, None, sym, ap, ◌∙◌, arith, refl}
+use Rattle.std.proofs.Common.{◌≡◌, ℕ, zero, suc, List, [], ◌∷◌, length, get_or, set, Some, sym, ap, ◌∙◌, arith, refl}
 use Rattle.std.proofs.Math.ListN.{length-set}
-use Rattle.std.proofs.lemmas.Bool.{false≢true}
 use Rattle.std.proofs.lemmas.List.{length-map, get_or-map}
 use Rattle.abs_path.specs.Paths.{Path}
 use Rattle.abs_path.specs.Prefix.{is_prefix}
-use Rattle.place_tree.specs.Places.{IsLastLeading}
+use Rattle.abs_path.specs.place_tree.Places.{IsLastLeading}
 use Rattle.kern_mounts.specs.declared.step.Mount.{Mount}
 use Rattle.kern_mounts.specs.declared.step.MountStep.{MountStep}
 use Rattle.kern_mounts.specs.Mounts.{Mounts, steps_of}
@@ -23,14 +22,6 @@ belongs_by_place table places path at e h =
       none_later = λ k d low high.
           ap (λ (p : Path). is_prefix p path) (sym (get_or-map (λ step. step.place) table k d d.place high) ∙ ap (λ (l : List Path). get_or l k d.place) (sym e)) ∙ h.none_later k d.place low (omega arith);
     }
-
--- the first place leads to each path
-pub some_place_leads : (table : List MountStep) (places : List Path) (path : Path) → StartsAtRoot table → HasPlaces table places → IsLastLeading places path None → ⊥
-some_place_leads [] places path root e h = absurd root
-some_place_leads (first ∷ table) places path root e h =
-    let long = ap length e in
-    let here : get_or places 0 [] ≡ [] = ap (λ (l : List Path). get_or l 0 []) e ∙ root in
-    false≢true (sym (h 0 [] (omega arith) (omega arith)) ∙ ap (λ (p : Path). is_prefix p path) here)
 
 -- ---- mounts
 -- a mount with other flags stands where it stood

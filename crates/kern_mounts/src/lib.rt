@@ -11,5 +11,6 @@ mod step;
 mod table;
 
 pub use error::MountError;
+pub use linux_numbers;
 pub use step::{Flags, Mount, MountStep, What};
 pub use table::MountTable;

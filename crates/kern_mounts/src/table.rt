@@ -21,10 +21,10 @@ ghost use Rattle.kern_mounts.specs.Answer.{BecomesOrMemory};
 use crate::error::MountError;
 use crate::step::{Flags, Mount, MountStep, What};
 use abs_path::AbsPath;
+use abs_path::place_tree::PlaceTree;
 use finding::last_leading;
 use linux_numbers::errnos::ENOSPC;
 use linux_numbers::limits::MOUNT_MAX;
-use place_tree::PlaceTree;
 use std::alloc::{AllocError, Global};
 use std::marker::Model;
 

@@ -2,17 +2,17 @@
 use Rattle.std.proofs.Common.{◌≡◌, ℕ, Bool, true, false, List, [], ◌∷◌, ◌++◌, Some, refl, ap, ◌∙◌, sym, subst, append_assoc, length, length-append}
 use Rattle.std.specs.Prelude.{map, not, slice_get, ◌+◌, ◌&&◌}
 use Rattle.std.proofs.lemmas.Bool.{and_parts}
-use Rattle.call_table.specs.Members.{is_first}
+use Rattle.filter_settings.specs.call_table.Members.{is_first}
 use Rattle.std.specs.List.{AllByRecursion}
-use Rattle.call_table.specs.declared.listed.CallLine.{CallLine}
-use Rattle.call_table.specs.Table as calls
-use Rattle.site_table.specs.declared.row.Row.{Row}
-use Rattle.site_table.specs.Table.{Site}
-use Rattle.kernel_calls.specs.Rules.{rule_of}
-use Rattle.site_table.specs.Kinds.{is_dir, is_exe}
-use Rattle.question_types.specs.declared.question.Question.{Question}
-use Rattle.question_types.specs.declared.question.Question.TheVariants.{Path as ByPath, Call, Cap, Uid, Gid}
-use Rattle.question_types.specs.declared.wish.Wish.TheVariants.{Write as ToWrite, Exec as ToExec}
+use Rattle.filter_settings.specs.call_table.declared.listed.CallLine.{CallLine}
+use Rattle.filter_settings.specs.call_table.Table as calls
+use Rattle.kernel_model.specs.site_table.declared.row.Row.{Row}
+use Rattle.kernel_model.specs.site_table.Table.{Site}
+use Rattle.kernel_model.specs.kernel_calls.Rules.{rule_of}
+use Rattle.kernel_model.specs.site_table.Kinds.{is_dir, is_exe}
+use Rattle.kernel_laws.specs.declared.question_types.question.Question.{Question}
+use Rattle.kernel_laws.specs.declared.question_types.question.Question.TheVariants.{Path as ByPath, Call, Cap, Uid, Gid}
+use Rattle.kernel_laws.specs.declared.question_types.wish.Wish.TheVariants.{Write as ToWrite, Exec as ToExec}
 use Rattle.kernel_laws.specs.Questions.{IsAsked, is_plain, if_so, of_row, of_rows, of_calls, of_families, count_from, uids_of, gids_of, other_questions, questions}
 
 module _ (table : calls.Table) where

@@ -2,31 +2,31 @@
 use Rattle.std.proofs.Common.{◌≡◌, Bool, true, false, [], ◌∷◌, ◌++◌, Option, Some, None, inl, inr, refl, ap, ◌∙◌, sym, subst, append_assoc, eqb}
 use Rattle.std.specs.Prelude.{not, option_and_then, ◌-◌}
 use Rattle.std.proofs.lemmas.Bool.{and_parts, and_from, or_left, or_right, not-true}
-use Rattle.abs_path.specs.Paths.{Path}
-use Rattle.abs_path.specs.Prefix.{is_prefix, is_same, rest_of, is_below}
-use Rattle.abs_path.proofs.Prefixes.{prefix-append, prefix_itself, prefix_chain, same_path, rest-append}
-use Rattle.kern_mounts.specs.Entry.{leads_to, entry_of}
-use Rattle.kern_mounts.specs.Finds.{host_place, host_place_by}
-use Rattle.kern_mounts.specs.declared.step.What.{What}
-use Rattle.kern_mounts.specs.declared.step.What.TheVariants.{Host, Empty, Hidden}
-use Rattle.kern_mounts.specs.declared.step.MountStep.{MountStep}
-use Rattle.kern_mounts.proofs.Entries.{entry_leads}
+use Rattle.kernel_model.specs.abs_path.Paths.{Path}
+use Rattle.kernel_model.specs.abs_path.Prefix.{is_prefix, is_same, rest_of, is_below}
+use Rattle.kernel_model.proofs.AbsPath.Prefixes.{prefix-append, prefix_itself, prefix_chain, same_path, rest-append}
+use Rattle.kernel_model.specs.kern_mounts.Entry.{leads_to, entry_of}
+use Rattle.kernel_model.specs.kern_mounts.Finds.{host_place, host_place_by}
+use Rattle.kernel_model.specs.kern_mounts.declared.step.What.{What}
+use Rattle.kernel_model.specs.kern_mounts.declared.step.What.TheVariants.{Host, Empty, Hidden}
+use Rattle.kernel_model.specs.kern_mounts.declared.step.MountStep.{MountStep}
+use Rattle.kernel_model.proofs.KernMounts.Entries.{entry_leads}
 use Rattle.kernel_laws.specs.Blind.{is_clear, shows_below, exposes, blind_at, SeesBelow, BlindIsSound}
 use Rattle.kernel_laws.specs.Bound.{power_of, ceiling}
 use Rattle.kernel_laws.specs.Ceiling.{CanHave, TableIn}
 use Rattle.kernel_laws.specs.NewerTables.{CanHaveNewer}
 use Rattle.kernel_laws.proofs.NewerTables.{tables_stable, folders_are_seen}
-use Rattle.kern_mounts.specs.Mounts.{Mounts}
+use Rattle.kernel_model.specs.kern_mounts.Mounts.{Mounts}
 use Rattle.kernel_laws.specs.Launched.{launch_of}
-use Rattle.kern_mounts.specs.Split.{Table, Split, split_at}
-use Rattle.question_types.specs.declared.power.Power.{Power}
-use Rattle.question_types.specs.declared.power.Power.TheVariants.{None as Nowise, Unmount as Unmounting, Mount as Mounting}
+use Rattle.kernel_model.specs.kern_mounts.Split.{Table, Split, split_at}
+use Rattle.kernel_laws.specs.declared.question_types.power.Power.{Power}
+use Rattle.kernel_laws.specs.declared.question_types.power.Power.TheVariants.{None as Nowise, Unmount as Unmounting, Mount as Mounting}
 use Rattle.kernel_model.specs.Runs.{run}
-use Rattle.kern_mounts.specs.Unmounts.{IsTrimmed}
+use Rattle.kernel_model.specs.kern_mounts.Unmounts.{IsTrimmed}
 use Rattle.kernel_model.specs.World.{mounts_of, table_of}
-use Rattle.kern_mounts.proofs.Paths.{behind, leads_not, either}
-use Rattle.kern_mounts.proofs.Splits.{None_have, split_some, split_of}
-use Rattle.kern_mounts.proofs.Unmounting.{part_has, trimmed_part}
+use Rattle.kernel_model.proofs.KernMounts.Paths.{behind, leads_not, either}
+use Rattle.kernel_model.proofs.KernMounts.Splits.{None_have, split_some, split_of}
+use Rattle.kernel_model.proofs.KernMounts.Unmounting.{part_has, trimmed_part}
 use Rattle.kernel_laws.proofs.Reach.{none_any}
 use Rattle.kernel_laws.proofs.Numbered.{lives}
 use Rattle.kernel_laws.proofs.Runs.{own_allowed}

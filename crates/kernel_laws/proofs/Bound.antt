@@ -3,16 +3,16 @@ use Rattle.std.proofs.Common.{◌≡◌, ℕ, Bool, true, false, List, [], ◌�
 use Rattle.std.specs.Prelude.{slice_get, not, ◌&&◌, ◌||◌}
 use Rattle.std.specs.List.{list_any, AllByRecursion}
 use Rattle.std.proofs.lemmas.Bool.{or_left, or_right, and_parts, and_from, eqb-true, eq-eqb}
-use Rattle.cap_sets.specs.Sets.{has, none, union, cut, within, IsWithin}
-use Rattle.cap_sets.proofs.Members.{has_none, has_union, none_within, union_within, within_union_left, within_union_right, within_self, within_through, cut_within_left, cut_within_right, within-from_IsWithin}
-use Rattle.site_table.specs.declared.row.Row.{Row}
-use Rattle.kern_creds.specs.declared.creds.Creds.{Creds}
+use Rattle.kernel_model.specs.cap_sets.Sets.{has, none, union, cut, within, IsWithin}
+use Rattle.kernel_model.proofs.Caps.Members.{has_none, has_union, none_within, union_within, within_union_left, within_union_right, within_self, within_through, cut_within_left, cut_within_right, within-from_IsWithin}
+use Rattle.kernel_model.specs.site_table.declared.row.Row.{Row}
+use Rattle.kernel_model.specs.kern_creds.declared.creds.Creds.{Creds}
 use Rattle.kernel_laws.specs.Bounds.{Bounds, IsSettled, Admits, Keeps}
-use Rattle.question_types.specs.declared.wish.Wish.TheVariants.{Exec as ToExec}
-use Rattle.question_types.specs.declared.power.Power.{Power}
-use Rattle.question_types.specs.declared.power.Power.TheVariants.{None as Nowise, Mount as Mounting}
-use Rattle.question_types.specs.declared.kind.CallKind.TheVariants.{ChangesMounts, RemovesMounts, SetsCaps}
-use Rattle.kern_files.specs.Executing.{marks_of}
+use Rattle.kernel_laws.specs.declared.question_types.wish.Wish.TheVariants.{Exec as ToExec}
+use Rattle.kernel_laws.specs.declared.question_types.power.Power.{Power}
+use Rattle.kernel_laws.specs.declared.question_types.power.Power.TheVariants.{None as Nowise, Mount as Mounting}
+use Rattle.kernel_laws.specs.declared.question_types.kind.CallKind.TheVariants.{ChangesMounts, RemovesMounts, SetsCaps}
+use Rattle.kernel_model.specs.kern_files.Executing.{marks_of}
 use Rattle.kernel_laws.specs.Launched.{Launch, lets, IsLaunched}
 use Rattle.kernel_laws.specs.Ceiling.{CanRun, IsClosed}
 use Rattle.kernel_laws.specs.Bound.{gathered, when, is_owner, can_run, file_gain, gain_at, caps_before, with_root, caps_by, power_by, power_using, any_by, owned_by, grouped_by, bounds_by}

@@ -1,12 +1,12 @@
 -- What a reply Done tells of the step.
 use Rattle.std.proofs.Common.{◌≡◌, Option, Some, None, refl, ap, ◌∙◌}
 use Rattle.std.specs.Option.{option_map_or}
-use Rattle.call_table.specs.Table.{Abi, abi_at}
-use Rattle.bpf_code.specs.declared.decision.Decision.{Decision}
-use Rattle.bpf_code.specs.declared.decision.Decision.TheVariants as decision
-use Rattle.bpf_code.specs.Stack.{decision_on}
-use Rattle.kernel_calls.specs.declared.call.Call.{Call}
-use Rattle.kernel_calls.specs.Doing.{Doing, Asked, Lacking, Misformed, Does, asked_of}
+use Rattle.filter_settings.specs.call_table.Table.{Abi, abi_at}
+use Rattle.filter_settings.specs.bpf_code.declared.decision.Decision.{Decision}
+use Rattle.filter_settings.specs.bpf_code.declared.decision.Decision.TheVariants as decision
+use Rattle.filter_settings.specs.bpf_code.Stack.{decision_on}
+use Rattle.kernel_model.specs.declared.kernel_calls.call.Call.{Call}
+use Rattle.kernel_model.specs.kernel_calls.Doing.{Doing, Asked, Lacking, Misformed, Does, asked_of}
 use Rattle.kernel_model.specs.declared.process.Process.{Process}
 use Rattle.kernel_model.specs.Effects.{effect_of}
 use Rattle.kernel_model.specs.World.{World, living_of, host_of, caller_of}

@@ -5,23 +5,23 @@ use Rattle.std.specs.Str.{bytes_eq}
 use Rattle.std.specs.List.{list_any, list_all, AllByRecursion}
 use Rattle.std.proofs.lemmas.Bool.{and_parts, and_from, or_left, or_right, or_cases, not-true, not-false, eqb-true}
 use Rattle.std.proofs.lemmas.Slice.Eq.{bytes_eq-Decides}
-use Rattle.abs_path.specs.Paths.{Path, tail_of, text_of, is_part, is_normal}
-use Rattle.abs_path.specs.Prefix.{is_prefix, is_same, rest_of, is_below}
-use Rattle.abs_path.proofs.Prefixes.{prefix-append, same_path, rest-append}
-use Rattle.kern_mounts.specs.Entry.{leads_to, entry_of}
-use Rattle.kern_mounts.specs.Launch.{HasShortPlace}
-use Rattle.kern_mounts.specs.Finds.{host_place, host_place_by}
-use Rattle.kern_mounts.specs.declared.step.What.{What}
-use Rattle.kern_mounts.specs.declared.step.What.TheVariants.{Host, Empty, Hidden}
-use Rattle.kern_mounts.specs.declared.step.MountStep.{MountStep}
+use Rattle.kernel_model.specs.abs_path.Paths.{Path, tail_of, text_of, is_part, is_normal}
+use Rattle.kernel_model.specs.abs_path.Prefix.{is_prefix, is_same, rest_of, is_below}
+use Rattle.kernel_model.proofs.AbsPath.Prefixes.{prefix-append, same_path, rest-append}
+use Rattle.kernel_model.specs.kern_mounts.Entry.{leads_to, entry_of}
+use Rattle.kernel_model.specs.kern_mounts.Launch.{HasShortPlace}
+use Rattle.kernel_model.specs.kern_mounts.Finds.{host_place, host_place_by}
+use Rattle.kernel_model.specs.kern_mounts.declared.step.What.{What}
+use Rattle.kernel_model.specs.kern_mounts.declared.step.What.TheVariants.{Host, Empty, Hidden}
+use Rattle.kernel_model.specs.kern_mounts.declared.step.MountStep.{MountStep}
 use Rattle.kernel_laws.specs.Blind.{is_clear, shows_below, exposes, SeesBelow, ExposesByUnmounts, IsSmall, IsFolder, ExposedAtOnce}
-use Rattle.kernel_calls.specs.Calls.{IsPath}
+use Rattle.kernel_model.specs.kernel_calls.Calls.{IsPath}
 use Rattle.kernel_laws.specs.Launched.{launch_of, first_of}
-use Rattle.kern_mounts.specs.Split.{Table, split_at}
-use Rattle.kern_mounts.specs.Unmounts.{Unmounts}
-use Rattle.kern_mounts.proofs.Paths.{behind}
-use Rattle.kern_mounts.proofs.Splits.{None_have, split_is, of_split}
-use Rattle.kern_mounts.proofs.Unmounting.{stands_uncovered}
+use Rattle.kernel_model.specs.kern_mounts.Split.{Table, split_at}
+use Rattle.kernel_model.specs.kern_mounts.Unmounts.{Unmounts}
+use Rattle.kernel_model.proofs.KernMounts.Paths.{behind}
+use Rattle.kernel_model.proofs.KernMounts.Splits.{None_have, split_is, of_split}
+use Rattle.kernel_model.proofs.KernMounts.Unmounting.{stands_uncovered}
 use Rattle.kernel_laws.proofs.Living.{first_lives}
 use Rattle.kernel_laws.proofs.ReachLaws.{any_none}
 

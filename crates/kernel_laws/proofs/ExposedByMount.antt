@@ -3,23 +3,23 @@ use Rattle.std.proofs.Common.{◌≡◌, ℕ, true, false, [], ◌∷◌, ◌++�
 use Rattle.std.specs.Prelude.{option_and_then, codes, nat_lt, ◌+◌}
 use Rattle.std.specs.List.{AllByRecursion}
 use Rattle.std.proofs.lemmas.Bool.Decides.{nat_tests}
-use Rattle.abs_path.specs.Paths.{Path, is_root, proc}
-use Rattle.abs_path.specs.Prefix.{is_prefix, rest_of}
-use Rattle.abs_path.proofs.Prefixes.{prefix-append}
-use Rattle.site_table.specs.declared.row.Row.{Row}
-use Rattle.kern_mounts.specs.Entry.{leads_to, entry_of}
-use Rattle.kern_mounts.specs.Finds.{finds, found_at, found_by, row_or_nothing, host_place, host_place_by}
-use Rattle.kern_mounts.specs.declared.step.What.TheVariants.{Host}
-use Rattle.kern_mounts.specs.declared.step.MountStep.{MountStep}
-use Rattle.kern_mounts.proofs.Entries.{entry_push}
+use Rattle.kernel_model.specs.abs_path.Paths.{Path, is_root, proc}
+use Rattle.kernel_model.specs.abs_path.Prefix.{is_prefix, rest_of}
+use Rattle.kernel_model.proofs.AbsPath.Prefixes.{prefix-append}
+use Rattle.kernel_model.specs.site_table.declared.row.Row.{Row}
+use Rattle.kernel_model.specs.kern_mounts.Entry.{leads_to, entry_of}
+use Rattle.kernel_model.specs.kern_mounts.Finds.{finds, found_at, found_by, row_or_nothing, host_place, host_place_by}
+use Rattle.kernel_model.specs.kern_mounts.declared.step.What.TheVariants.{Host}
+use Rattle.kernel_model.specs.kern_mounts.declared.step.MountStep.{MountStep}
+use Rattle.kernel_model.proofs.KernMounts.Entries.{entry_push}
 use Rattle.kernel_laws.specs.Blind.{SeesBelow, ExposedByMount}
-use Rattle.kern_mounts.specs.Split.{Table, split_at}
-use Rattle.kern_mounts.specs.Bind.{bound, after_bind}
-use Rattle.kern_mounts.specs.Bind.{bound_entry}
-use Rattle.site_table.specs.Kinds.{is_dir}
-use Rattle.kern_files.specs.MountCall.{kind_found, target_kind, after_mount}
-use Rattle.kern_files.specs.MountCall.{bind_found, mount_onto}
-use Rattle.kern_mounts.proofs.Splits.{None_have, split_is, of_split}
+use Rattle.kernel_model.specs.kern_mounts.Split.{Table, split_at}
+use Rattle.kernel_model.specs.kern_mounts.Bind.{bound, after_bind}
+use Rattle.kernel_model.specs.kern_mounts.Bind.{bound_entry}
+use Rattle.kernel_model.specs.site_table.Kinds.{is_dir}
+use Rattle.kernel_model.specs.kern_files.MountCall.{kind_found, target_kind, after_mount}
+use Rattle.kernel_model.specs.kern_files.MountCall.{bind_found, mount_onto}
+use Rattle.kernel_model.proofs.KernMounts.Splits.{None_have, split_is, of_split}
 use Rattle.kernel_laws.proofs.Exposed.{below_by_part}
 
 -- no entry below the root leads to it
@@ -30,9 +30,6 @@ none_leads (entry ∷ rest) h = (by entry.place h.0, none_leads rest h.1)
     by : (place : Path) → is_root place ≡ false → is_prefix place [] ≡ false
     by [] e = cc
     by (part ∷ place) e = refl
-
-abbrev answer : Table → Result Table ℕ
-answer table = Ok table
 
 module _ (rows : Path → Option Row) (first : MountStep) (rest : Table) (folder : Path) (root : Row) (at : first.place ≡ []) (host : first.what ≡ Host []) (low : AllByRecursion (λ (entry : MountStep). is_root entry.place ≡ false) rest)
     (there : rows [] ≡ Some root) (dir : is_dir root.kind ≡ true) (target : target_kind rows (first ∷ rest) proc ≡ Ok true) (few : length (first ∷ rest) < 4096) where

@@ -8,44 +8,44 @@ use Rattle.std.specs.Int.RustNames.{bit_and}
 use Rattle.std.proofs.lemmas.Bool.{and_parts, and_from, or_left, or_right, or_cases, eqb-true, eq-eqb, not-true}
 use Rattle.std.proofs.lemmas.Bool.Decides.{nat_tests}
 use Rattle.std.proofs.lemmas.Slice.Eq.{bytes_eq-Decides}
-use Rattle.bpf_code.specs.declared.machine.CallData.{CallData}
-use Rattle.bpf_code.specs.declared.decision.Decision.TheVariants as decision
-use Rattle.bpf_code.specs.Stack.{decision_of}
-use Rattle.cap_sets.specs.Sets.{has, none, cut, union, single, within}
-use Rattle.cap_sets.proofs.Members.{has_cut, has_none, has_union, has_single, same_sets, within_through, IsWithin-from_within, within-from_IsWithin}
-use Rattle.call_table.specs.declared.listed.CallLine.{CallLine}
-use Rattle.call_names.specs.Known.{known_call}
-use Rattle.filter_rules.specs.declared.mentions.FamilyList.{FamilyList}
-use Rattle.filter_rules.specs.declared.names.FilterName.TheVariants as filter
-use Rattle.filter_rules.specs.declared.namespace_types.NamespaceType.{NamespaceType}
-use Rattle.filter_rules.specs.declared.namespace_types.NamespaceTypes.{NamespaceTypes}
-use Rattle.filter_rules.specs.NamespaceTypes as spaces
-use Rattle.filter_rules.specs.Actions.{low, has_bits, unless_refused, is_one_of}
-use Rattle.filter_rules.specs.Families.{refuses_family, is_refused_family}
-use Rattle.filter_rules.specs.Mapping.{refuses_mapping}
-use Rattle.filter_rules.specs.Realtime.{refuses_policy, is_ordinary}
-use Rattle.filter_rules.specs.Suid.{refuses_mode, sets_id_bit, has_mode}
-use Rattle.filter_rules.specs.Namespaces.{refuses_namespace, has_forbidden, forbidden_types}
-use Rattle.filter_rules.specs.Personality.{refuses_personality, keeps_domain}
-use Rattle.kernel_calls.specs.Words.{low_word}
-use Rattle.kern_files.specs.Bits.{has_some, has_all}
-use Rattle.kernel_calls.specs.declared.payload.Payload.{Payload}
-use Rattle.kernel_calls.specs.Doing as d
-use Rattle.kernel_calls.specs.Doing.{Doing, bare, doing_by}
-use Rattle.question_types.specs.declared.kind.CallKind.{CallKind}
-use Rattle.question_types.specs.declared.kind.CallKind.TheVariants as k
-use Rattle.filter_rules.specs.declared.namespace_types.NamespaceType.TheVariants as namespace
-use Rattle.question_types.specs.declared.wish.Wish.TheVariants as wish_to
+use Rattle.filter_settings.specs.bpf_code.declared.machine.CallData.{CallData}
+use Rattle.filter_settings.specs.bpf_code.declared.decision.Decision.TheVariants as decision
+use Rattle.filter_settings.specs.bpf_code.Stack.{decision_of}
+use Rattle.kernel_model.specs.cap_sets.Sets.{has, none, cut, union, single, within}
+use Rattle.kernel_model.proofs.Caps.Members.{has_cut, has_none, has_union, has_single, same_sets, within_through, IsWithin-from_within, within-from_IsWithin}
+use Rattle.filter_settings.specs.call_table.declared.listed.CallLine.{CallLine}
+use Rattle.filter_settings.specs.call_table.call_names.Known.{known_call}
+use Rattle.filter_settings.specs.declared.filter_rules.mentions.FamilyList.{FamilyList}
+use Rattle.filter_settings.specs.declared.filter_rules.names.FilterName.TheVariants as filter
+use Rattle.filter_settings.specs.declared.filter_rules.namespace_types.NamespaceType.{NamespaceType}
+use Rattle.filter_settings.specs.declared.filter_rules.namespace_types.NamespaceTypes.{NamespaceTypes}
+use Rattle.filter_settings.specs.filter_rules.NamespaceTypes as spaces
+use Rattle.filter_settings.specs.filter_rules.Actions.{low, has_bits, unless_refused, is_one_of}
+use Rattle.filter_settings.specs.filter_rules.Families.{refuses_family, is_refused_family}
+use Rattle.filter_settings.specs.filter_rules.Mapping.{refuses_mapping}
+use Rattle.filter_settings.specs.filter_rules.Realtime.{refuses_policy, is_ordinary}
+use Rattle.filter_settings.specs.filter_rules.Suid.{refuses_mode, sets_id_bit, has_mode}
+use Rattle.filter_settings.specs.filter_rules.Namespaces.{refuses_namespace, has_forbidden, forbidden_types}
+use Rattle.filter_settings.specs.filter_rules.Personality.{refuses_personality, keeps_domain}
+use Rattle.kernel_model.specs.kernel_calls.Words.{low_word}
+use Rattle.kernel_model.specs.kern_files.Bits.{has_some, has_all}
+use Rattle.kernel_model.specs.declared.kernel_calls.payload.Payload.{Payload}
+use Rattle.kernel_model.specs.kernel_calls.Doing as d
+use Rattle.kernel_model.specs.kernel_calls.Doing.{Doing, bare, doing_by}
+use Rattle.kernel_laws.specs.declared.question_types.kind.CallKind.{CallKind}
+use Rattle.kernel_laws.specs.declared.question_types.kind.CallKind.TheVariants as k
+use Rattle.filter_settings.specs.declared.filter_rules.namespace_types.NamespaceType.TheVariants as namespace
+use Rattle.kernel_laws.specs.declared.question_types.wish.Wish.TheVariants as wish_to
 use Rattle.kernel_laws.specs.Kinds.{asks, words, one_word, no_words}
 use Rattle.kernel_laws.specs.Questions as q
-use Rattle.call_names.specs.Known.{place_of}
-use Rattle.call_names.specs.declared.rule.Argument.{Argument}
-use Rattle.call_names.specs.declared.rule.Argument.TheVariants as argument
-use Rattle.call_rules.specs.Action.{word_of}
-use Rattle.kernel_calls.specs.declared.rule.Rule.TheVariants as rule
-use Rattle.call_names.specs.declared.rule.CallRule.TheVariants as known
-use Rattle.kernel_calls.specs.declared.rule.Rule.{Rule}
-use Rattle.kernel_calls.specs.Rules.{rule_of}
+use Rattle.filter_settings.specs.call_table.call_names.Known.{place_of}
+use Rattle.filter_settings.specs.call_table.declared.call_names.rule.Argument.{Argument}
+use Rattle.filter_settings.specs.call_table.declared.call_names.rule.Argument.TheVariants as argument
+use Rattle.filter_settings.specs.call_rules.Action.{word_of}
+use Rattle.kernel_model.specs.declared.kernel_calls.rule.Rule.TheVariants as rule
+use Rattle.filter_settings.specs.call_table.declared.call_names.rule.CallRule.TheVariants as known
+use Rattle.kernel_model.specs.declared.kernel_calls.rule.Rule.{Rule}
+use Rattle.kernel_model.specs.kernel_calls.Rules.{rule_of}
 use Rattle.kernel_laws.specs.FirstChoice.{FirstPasses}
 use Rattle.kernel_laws.proofs.Filters.{bare_is}
 use Rattle.kernel_laws.proofs.FirstWords.{no_wish}

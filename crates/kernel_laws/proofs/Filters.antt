@@ -3,28 +3,28 @@ use Rattle.std.proofs.Common.{◌≡◌, ℕ, zero, suc, Bool, true, false, List
 use Rattle.std.specs.Prelude.{slice_get, option_and_then, ◌||◌, ◌<◌, ◌^◌}
 use Rattle.std.specs.List.{list_any, All}
 use Rattle.std.proofs.lemmas.Bool.{or_left, or_right, eqb-true}
-use Rattle.bpf_code.specs.declared.machine.Insn.{Insn}
-use Rattle.bpf_code.specs.declared.machine.CallData.{CallData}
-use Rattle.bpf_code.specs.declared.decision.Decision.{Decision}
-use Rattle.bpf_code.specs.declared.decision.Decision.TheVariants as decision
-use Rattle.bpf_code.specs.Meaning.{IsCallData}
-use Rattle.bpf_code.specs.Stack.{decision_on}
-use Rattle.bpf_code.proofs.Stacks.{refusals_stand}
-use Rattle.call_table.specs.declared.listed.CallLine.{CallLine}
+use Rattle.filter_settings.specs.bpf_code.declared.machine.Insn.{Insn}
+use Rattle.filter_settings.specs.bpf_code.declared.machine.CallData.{CallData}
+use Rattle.filter_settings.specs.bpf_code.declared.decision.Decision.{Decision}
+use Rattle.filter_settings.specs.bpf_code.declared.decision.Decision.TheVariants as decision
+use Rattle.filter_settings.specs.bpf_code.Meaning.{IsCallData}
+use Rattle.filter_settings.specs.bpf_code.Stack.{decision_on}
+use Rattle.filter_settings.proofs.BpfCode.Stacks.{refusals_stand}
+use Rattle.filter_settings.specs.call_table.declared.listed.CallLine.{CallLine}
 use Rattle.std.proofs.lemmas.List.Folds.{find_at, list_any-append}
-use Rattle.call_table.proofs.Places.{place_is, found_holds}
-use Rattle.call_table.specs.Table.{Abi, Table, native, second_calls, every_call, arch_of, calls_in}
+use Rattle.filter_settings.proofs.CallTable.Places.{place_is, found_holds}
+use Rattle.filter_settings.specs.call_table.Table.{Abi, Table, native, second_calls, every_call, arch_of, calls_in}
 use Rattle.std.proofs.lemmas.List.Elements.{All-head, All-tail, All-cons}
 use Rattle.std.specs.Option.{option_map_or, option_to_list}
-use Rattle.call_table.specs.Lookups.{numbered, has_number, place_numbered}
-use Rattle.kernel_calls.specs.declared.call.Call.{Call}
-use Rattle.kernel_calls.specs.Calls.{IsCall}
-use Rattle.kernel_calls.specs.declared.rule.Rule.{Rule}
-use Rattle.kernel_calls.specs.Rules.{rule_of, rule_at}
-use Rattle.kernel_calls.specs.Doing.{Doing, Does, asked_if, asked_by, asked_of, doing_by, bare}
-use Rattle.kernel_calls.specs.declared.payload.Payload.{Payload}
-use Rattle.kernel_calls.specs.declared.payload.Payload.TheVariants as pay
-use Rattle.question_types.specs.declared.kind.CallKind.{CallKind}
+use Rattle.filter_settings.specs.call_table.Lookups.{numbered, has_number, place_numbered}
+use Rattle.kernel_model.specs.declared.kernel_calls.call.Call.{Call}
+use Rattle.kernel_model.specs.kernel_calls.Calls.{IsCall}
+use Rattle.kernel_model.specs.declared.kernel_calls.rule.Rule.{Rule}
+use Rattle.kernel_model.specs.kernel_calls.Rules.{rule_of, rule_at}
+use Rattle.kernel_model.specs.kernel_calls.Doing.{Doing, Does, asked_if, asked_by, asked_of, doing_by, bare}
+use Rattle.kernel_model.specs.declared.kernel_calls.payload.Payload.{Payload}
+use Rattle.kernel_model.specs.declared.kernel_calls.payload.Payload.TheVariants as pay
+use Rattle.kernel_laws.specs.declared.question_types.kind.CallKind.{CallKind}
 use Rattle.kernel_laws.specs.Kinds.{asks, words}
 use Rattle.kernel_laws.specs.Launched.{Launch, data_at, is_pass, lets_words, lets_rule, lets_line, lets, Chosen, IsLaunched}
 

@@ -1,29 +1,25 @@
 -- Each call that asks for a kind of thing has words that ask for it first; so filters that go by the number alone let the
 -- first choice through where they let any through.
-use Rattle.std.proofs.Common.{◌≡◌, ℕ, Bool, true, false, List, Option, Some, refl, ◌∙◌, subst}
-use Rattle.std.specs.Prelude.{◌<◌, ◌^◌, ◌||◌, is_some}
+use Rattle.std.proofs.Common.{◌≡◌, ℕ, Bool, true, false, List, Option, Some, refl, subst}
+use Rattle.std.specs.Prelude.{◌||◌, is_some}
 use Rattle.std.proofs.lemmas.Bool.{or_left, or_right}
-use Rattle.abs_path.specs.Paths.{Path}
-use Rattle.bpf_code.specs.Stack.{decision_on}
-use Rattle.kernel_calls.specs.Words.{low_word}
-use Rattle.kernel_calls.specs.declared.payload.Payload.TheVariants as pay
-use Rattle.kernel_calls.specs.declared.payload.Payload.{Payload}
-use Rattle.call_names.specs.Known.{place_of}
-use Rattle.call_names.specs.declared.rule.Argument.{Argument}
-use Rattle.kernel_calls.specs.declared.rule.Rule.TheVariants as rule
-use Rattle.call_names.specs.declared.rule.CallRule.TheVariants as known
-use Rattle.kernel_calls.specs.declared.rule.Rule.{Rule}
-use Rattle.kernel_calls.specs.Rules.{rule_at}
-use Rattle.kernel_calls.specs.Doing as d
-use Rattle.kernel_calls.specs.Doing.{Doing, doing_by}
+use Rattle.kernel_model.specs.abs_path.Paths.{Path}
+use Rattle.kernel_model.specs.kernel_calls.Words.{low_word}
+use Rattle.kernel_model.specs.declared.kernel_calls.payload.Payload.TheVariants as pay
+use Rattle.kernel_model.specs.declared.kernel_calls.payload.Payload.{Payload}
+use Rattle.filter_settings.specs.call_table.call_names.Known.{place_of}
+use Rattle.filter_settings.specs.call_table.declared.call_names.rule.Argument.{Argument}
+use Rattle.kernel_model.specs.declared.kernel_calls.rule.Rule.TheVariants as rule
+use Rattle.filter_settings.specs.call_table.declared.call_names.rule.CallRule.TheVariants as known
+use Rattle.kernel_model.specs.declared.kernel_calls.rule.Rule.{Rule}
+use Rattle.kernel_model.specs.kernel_calls.Doing as d
+use Rattle.kernel_model.specs.kernel_calls.Doing.{Doing, doing_by}
 use Rattle.kernel_laws.specs.Denied.{path_for}
-use Rattle.question_types.specs.declared.wish.Wish.{Wish}
-use Rattle.question_types.specs.declared.kind.CallKind.{CallKind}
-use Rattle.question_types.specs.declared.wish.Wish.TheVariants as wish_to
-use Rattle.question_types.specs.declared.kind.CallKind.TheVariants as k
-use Rattle.kernel_laws.specs.Kinds.{asks, words, AreWords}
-use Rattle.call_table.specs.Table.{calls_in}
-use Rattle.kernel_laws.specs.Launched.{Launch, data_at, passes, Chosen}
+use Rattle.kernel_laws.specs.declared.question_types.wish.Wish.{Wish}
+use Rattle.kernel_laws.specs.declared.question_types.kind.CallKind.{CallKind}
+use Rattle.kernel_laws.specs.declared.question_types.wish.Wish.TheVariants as wish_to
+use Rattle.kernel_laws.specs.declared.question_types.kind.CallKind.TheVariants as k
+use Rattle.kernel_laws.specs.Kinds.{asks, words}
 
 pub record Has (kind : CallKind) (rule' : Rule) : Type 0 where
   pub args : List ℕ
@@ -257,11 +253,3 @@ has_words (rule.Known known.Seccomp) args (pay.Code bytes) doing f = by_same (d.
 has_words (rule.Known known.Seccomp) args payload doing f = cc
 has_words (rule.Plain number) args pay.Nothing doing f = by_same (d.Plain number) doing (rule.Plain number) (given-Plain number) (cc)
 has_words (rule.Plain number) args payload doing f = cc
-
--- filters that go by the number alone
-pub chosen_by_number : (launch : Launch) → ((abi nr : ℕ) (args other : List ℕ) → decision_on launch.stack (data_at launch abi nr args) ≡ decision_on launch.stack (data_at launch abi nr other))
-    → (kind : CallKind) (abi nr : ℕ) (args : List ℕ) (rule' : Rule) (payload : Payload) (doing : Doing) → nr < 2 ^ 32 → AreWords args
-    → rule_at (calls_in launch.calls abi) nr ≡ Some rule' → doing_by rule' args payload ≡ Some doing → asks kind doing ≡ true → passes launch abi nr args → Chosen launch kind rule' abi nr
-chosen_by_number launch alike kind abi nr args rule' payload doing few fit at is asked p =
-    let w = has_words rule' args payload doing is kind asked in
-    record { args = w.args; are = w.are; passes = alike abi nr w.args args ∙ p }

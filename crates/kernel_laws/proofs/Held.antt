@@ -3,22 +3,22 @@ use Rattle.std.proofs.Common.{◌≡◌, ℕ, Bool, true, false, List, [], ◌�
 use Rattle.std.specs.Prelude.{slice_get, not, ◌-◌}
 use Rattle.std.specs.List.{list_any, AllByRecursion}
 use Rattle.std.proofs.lemmas.Bool.{or_cases, eqb-true}
-use Rattle.cap_sets.specs.Sets.{has}
-use Rattle.kern_creds.specs.declared.creds.Creds.{Creds}
-use Rattle.kern_mounts.specs.Split.{Table}
-use Rattle.kern_mounts.specs.Mounts.{Mounts}
-use Rattle.kern_mounts.specs.Table.{StartsAtRoot}
-use Rattle.kern_mounts.proofs.Unmounting.{trimmed_self}
-use Rattle.kernel_calls.specs.declared.call.Call.{Call}
-use Rattle.kernel_calls.specs.Calls.{IsCall, AreCalls}
+use Rattle.kernel_model.specs.cap_sets.Sets.{has}
+use Rattle.kernel_model.specs.kern_creds.declared.creds.Creds.{Creds}
+use Rattle.kernel_model.specs.kern_mounts.Split.{Table}
+use Rattle.kernel_model.specs.kern_mounts.Mounts.{Mounts}
+use Rattle.kernel_model.specs.kern_mounts.Table.{StartsAtRoot}
+use Rattle.kernel_model.proofs.KernMounts.Unmounting.{trimmed_self}
+use Rattle.kernel_model.specs.declared.kernel_calls.call.Call.{Call}
+use Rattle.kernel_model.specs.kernel_calls.Calls.{IsCall, AreCalls}
 use Rattle.kernel_laws.specs.Bound.{bounds_by, power_of, ceiling}
 use Rattle.kernel_laws.specs.Bounds.{Bounds, Keeps, KeepsIds, KeepsIn}
 use Rattle.kernel_laws.specs.Ceiling.{CanHave, IsClosed, IsStable, IsHeld, AreHeld}
 use Rattle.kernel_laws.specs.Denied.{Holds, SomeLiving, HasGid}
-use Rattle.question_types.specs.declared.kind.CallKind.TheVariants.{TakesUid, TakesGid}
-use Rattle.question_types.specs.declared.power.Power.{Power}
-use Rattle.question_types.specs.declared.power.Power.TheVariants.{None as Nowise, Unmount as Unmounting, Mount as Mounting}
-use Rattle.question_types.specs.declared.question.Question.TheVariants as asking
+use Rattle.kernel_laws.specs.declared.question_types.kind.CallKind.TheVariants.{TakesUid, TakesGid}
+use Rattle.kernel_laws.specs.declared.question_types.power.Power.{Power}
+use Rattle.kernel_laws.specs.declared.question_types.power.Power.TheVariants.{None as Nowise, Unmount as Unmounting, Mount as Mounting}
+use Rattle.kernel_laws.specs.declared.question_types.question.Question.TheVariants as asking
 use Rattle.kernel_laws.specs.Launched.{Launch, lets, launch_of, first_of, IsLaunched, IsLaunchedWorld}
 use Rattle.kernel_model.specs.Runs.{run}
 use Rattle.kernel_model.specs.Step.{step}

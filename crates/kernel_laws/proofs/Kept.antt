@@ -2,20 +2,17 @@
 use Rattle.std.proofs.Common.{◌≡◌, ℕ, Bool, true, false, arith, rules, cond, Ok, Err}
 use Rattle.std.specs.Prelude.{◌&&◌, not}
 use Rattle.std.proofs.lemmas.Bool.{and_parts, not-false}
-use Rattle.cap_sets.specs.Sets.{has, union, single, IsWithin, within}
-use Rattle.kern_creds.specs.declared.creds.Creds.{Creds}
-use Rattle.kern_creds.specs.Capset.{may_capset, with_sets, after_capset}
-use Rattle.kern_creds.specs.Prctl.{after_drop_bounding, after_raise, after_lower, after_clear_ambient, after_set_keepcaps, after_set_no_new_privs}
-use Rattle.kern_creds.proofs.Answers.{Leaves, left_err, left_ok, left_if}
+use Rattle.kernel_model.specs.cap_sets.Sets.{has, union, single, IsWithin}
+use Rattle.kernel_model.specs.kern_creds.declared.creds.Creds.{Creds}
+use Rattle.kernel_model.specs.kern_creds.Capset.{may_capset, with_sets, after_capset}
+use Rattle.kernel_model.specs.kern_creds.Prctl.{after_drop_bounding, after_raise, after_lower, after_clear_ambient, after_set_keepcaps, after_set_no_new_privs}
+use Rattle.kernel_model.proofs.KernCreds.Answers.{Leaves, left_err, left_ok, left_if}
 use Rattle.kernel_laws.specs.Bounds.{Bounds, Keeps}
-use Rattle.cap_sets.proofs.Members.{within_self, within_through, none_within, cut_within_left, cut_within_right, within_cut, union_within, within_union_left, within_union_right, minus_within, single_within, IsWithin-from_within}
+use Rattle.kernel_model.proofs.Caps.Members.{within_self, within_through, none_within, cut_within_left, cut_within_right, within_cut, union_within, within_union_left, within_union_right, minus_within, single_within, IsWithin-from_within}
 
 pub cond_within : (b : Bool) (x y a : ℕ) → IsWithin x a → IsWithin y a → IsWithin (cond b x y) a
 cond_within true x y a p q = p
 cond_within false x y a p q = q
-
-pub within_true : (a b : ℕ) → not (within a b) ≡ false → IsWithin a b
-within_true a b h = IsWithin-from_within a b (not-false (within a b) h)
 
 pub ruleset order = (none_within, cut_within_left, cut_within_right, within_cut, union_within, within_union_left, within_union_right, minus_within, cond_within, within_self)
 

@@ -2,14 +2,14 @@
 use Rattle.std.proofs.Common.{◌≡◌, ℕ, Bool, true, false, arith, rules, refl, cond, Option, Some, None, Ok, Err, eqb}
 use Rattle.std.specs.Prelude.{◌&&◌, ◌||◌}
 use Rattle.std.proofs.lemmas.Bool.Decides.{nat_tests}
-use Rattle.cap_sets.specs.Sets.{none, union, cut, IsWithin}
-use Rattle.kern_creds.specs.declared.ids.Ids.{Ids}
-use Rattle.kern_creds.specs.declared.creds.Creds.{Creds}
-use Rattle.kern_creds.specs.declared.file.FileCreds.{FileCreds}
-use Rattle.kern_creds.specs.Exec.{honours, is_privileged, exec_ids, exec_ambient, exec_gains, exec_permitted, exec_done, is_refused, after_exec}
+use Rattle.kernel_model.specs.cap_sets.Sets.{none, union, cut, IsWithin}
+use Rattle.kernel_model.specs.kern_creds.declared.ids.Ids.{Ids}
+use Rattle.kernel_model.specs.kern_creds.declared.creds.Creds.{Creds}
+use Rattle.kernel_model.specs.kern_creds.declared.file.FileCreds.{FileCreds}
+use Rattle.kernel_model.specs.kern_creds.Exec.{honours, is_privileged, exec_ids, exec_ambient, exec_gains, exec_permitted, exec_done, is_refused, after_exec}
 use Rattle.kernel_laws.specs.Bounds.{Bounds, Keeps, IsIdsWithin, IsSettled, Admits}
-use Rattle.cap_sets.proofs.Members.{none_within, within_self, within_through, cut_within_left, cut_within_right, within_cut, union_within, within_union_left, within_union_right}
-use Rattle.kern_creds.proofs.Answers.{Leaves, left_if, left_ok, left_err}
+use Rattle.kernel_model.proofs.Caps.Members.{none_within, within_self, within_through, cut_within_left, cut_within_right, within_cut, union_within, within_union_left, within_union_right}
+use Rattle.kernel_model.proofs.KernCreds.Answers.{Leaves, left_if, left_ok, left_err}
 use Rattle.kernel_laws.proofs.Kept.{cond_within}
 use Rattle.kernel_laws.proofs.KeptIds.{at_zero}
 

@@ -4,18 +4,18 @@ use Rattle.std.specs.Prelude.{◌&&◌, ◌||◌, not, List, [], ◌∷◌, nat_
 use Rattle.std.proofs.lemmas.Bool.{and_parts, not-false, eqb-true}
 use Rattle.std.proofs.lemmas.Bool.Decides.{nat_tests}
 use Rattle.std.specs.List.{AllByRecursion}
-use Rattle.cap_sets.specs.Sets.{has, IsWithin}
-use Rattle.kern_creds.specs.declared.ids.Ids.{Ids}
-use Rattle.kern_creds.specs.declared.creds.Creds.{Creds}
-use Rattle.linux_numbers.specs.Limits.{no_id}
-use Rattle.kern_creds.specs.Ids.{is_one_of, may_take, may_take_all, kept_id, kept_ids, all_of}
-use Rattle.kern_creds.specs.RootChange.{has_root, with_uids, after_switch, after_leaving_root}
-use Rattle.kern_creds.specs.Setuid.{after_setuid, after_setgid}
-use Rattle.kern_creds.specs.Setresuid.{after_setresuid, after_setresgid}
-use Rattle.kern_creds.specs.Setgroups.{after_setgroups}
+use Rattle.kernel_model.specs.cap_sets.Sets.{has, IsWithin}
+use Rattle.kernel_model.specs.kern_creds.declared.ids.Ids.{Ids}
+use Rattle.kernel_model.specs.kern_creds.declared.creds.Creds.{Creds}
+use Rattle.filter_settings.specs.linux_numbers.Limits.{no_id}
+use Rattle.kernel_model.specs.kern_creds.Ids.{is_one_of, may_take, may_take_all, kept_id, kept_ids, all_of}
+use Rattle.kernel_model.specs.kern_creds.RootChange.{has_root, with_uids, after_switch, after_leaving_root}
+use Rattle.kernel_model.specs.kern_creds.Setuid.{after_setuid, after_setgid}
+use Rattle.kernel_model.specs.kern_creds.Setresuid.{after_setresuid, after_setresgid}
+use Rattle.kernel_model.specs.kern_creds.Setgroups.{after_setgroups}
 use Rattle.kernel_laws.specs.Bounds.{Bounds, Keeps, IsIdsWithin, IsSettled}
-use Rattle.cap_sets.proofs.Members.{none_within, within_self}
-use Rattle.kern_creds.proofs.Answers.{Leaves, left_if, left_ok, left_err}
+use Rattle.kernel_model.proofs.Caps.Members.{none_within, within_self}
+use Rattle.kernel_model.proofs.KernCreds.Answers.{Leaves, left_if, left_ok, left_err}
 use Rattle.kernel_laws.proofs.Kept.{cond_within}
 
 pub at_zero : (ok : ℕ → Bool) (id : ℕ) → ok id ≡ true → eqb id 0 ≡ true → ok 0 ≡ true

@@ -30,3 +30,8 @@ pub mod NewerTables
 pub mod Blind
 pub mod Exposed
 pub mod ExposedByMount
+pub use Rattle.kernel_model.proofs.AbsPath as AbsPath
+pub use Rattle.filter_settings.proofs.BpfCode as BpfCode
+pub use Rattle.filter_settings.proofs.CallTable as CallTable
+pub use Rattle.kernel_model.proofs.KernMounts as KernMounts
+pub use Rattle.kernel_model.proofs as KernelModel

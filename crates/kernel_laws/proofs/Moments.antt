@@ -1,8 +1,8 @@
 -- Moments of runs: what holds of none of them, and the last one.
 use Rattle.std.proofs.Common.{zero, suc, List, [], ◌∷◌, ◌⊎◌, inl, inr, refl, sym, subst, length, arith, ◌<◌}
 use Rattle.std.specs.Prelude.{Any}
-use Rattle.kernel_calls.specs.declared.call.Call.{Call}
-use Rattle.kernel_calls.specs.Calls.{IsCall, AreCalls}
+use Rattle.kernel_model.specs.declared.kernel_calls.call.Call.{Call}
+use Rattle.kernel_model.specs.kernel_calls.Calls.{IsCall, AreCalls}
 use Rattle.kernel_model.specs.World.{World}
 use Rattle.kernel_model.specs.Step.{step}
 use Rattle.kernel_model.specs.Runs.{Moment, moment_at, moments}

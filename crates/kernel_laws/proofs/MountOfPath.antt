@@ -1,11 +1,11 @@
 -- The mounts about a path's mount, and the entries about the path's entry.
 use Rattle.std.proofs.Common.{◌≡◌, Bool, true, false, [], ◌∷◌, Option, Some, None, refl, sym, ap, ◌∙◌}
-use Rattle.abs_path.specs.Paths.{Path}
-use Rattle.kern_mounts.specs.Split as table
-use Rattle.kern_mounts.specs.declared.step.Mount.{Mount}
-use Rattle.kern_mounts.specs.Mounts.{Mounts, steps_of, leads}
-use Rattle.kern_mounts.specs.Split.{SplitOf, split_or}
-use Rattle.kern_mounts.specs.MountAt.{mount_at}
+use Rattle.kernel_model.specs.abs_path.Paths.{Path}
+use Rattle.kernel_model.specs.kern_mounts.Split as table
+use Rattle.kernel_model.specs.kern_mounts.declared.step.Mount.{Mount}
+use Rattle.kernel_model.specs.kern_mounts.Mounts.{Mounts, steps_of, leads}
+use Rattle.kernel_model.specs.kern_mounts.Split.{SplitOf, split_or}
+use Rattle.kernel_model.specs.kern_mounts.MountAt.{mount_at}
 
 abbrev pub steps_split : Option (SplitOf Mount) → Option table.Split
 steps_split None = None

@@ -2,13 +2,13 @@
 use Rattle.std.proofs.Common.{◌≡◌, ℕ, Bool, true, false, rules, refl, cond, Ok, Err, eqb, arith}
 use Rattle.std.specs.Prelude.{◌+◌, not}
 use Rattle.std.proofs.lemmas.Bool.Decides.{nat_tests}
-use Rattle.kern_creds.specs.declared.creds.Creds.{Creds}
-use Rattle.kern_creds.specs.declared.file.FileCreds.{FileCreds}
-use Rattle.kern_creds.specs.Capset.{may_capset, with_sets, after_capset}
-use Rattle.kern_creds.specs.Enter.{entered}
-use Rattle.kern_creds.specs.Exec.{is_refused, exec_done_in, exec_in}
-use Rattle.kern_creds.specs.Prctl.{after_drop_bounding, after_raise, after_lower, after_clear_ambient, after_set_keepcaps, after_set_no_new_privs}
-use Rattle.kern_creds.proofs.Answers.{Leaves, left_err, left_ok, left_if}
+use Rattle.kernel_model.specs.kern_creds.declared.creds.Creds.{Creds}
+use Rattle.kernel_model.specs.kern_creds.declared.file.FileCreds.{FileCreds}
+use Rattle.kernel_model.specs.kern_creds.Capset.{may_capset, with_sets, after_capset}
+use Rattle.kernel_model.specs.kern_creds.Enter.{entered}
+use Rattle.kernel_model.specs.kern_creds.Exec.{is_refused, exec_done_in, exec_in}
+use Rattle.kernel_model.specs.kern_creds.Prctl.{after_drop_bounding, after_raise, after_lower, after_clear_ambient, after_set_keepcaps, after_set_no_new_privs}
+use Rattle.kernel_model.proofs.KernCreds.Answers.{Leaves, left_err, left_ok, left_if}
 use Rattle.kernel_laws.specs.Bounds.{Bounds, Keeps, KeepsIds, KeepsIn}
 
 -- of a process in whatever user namespace

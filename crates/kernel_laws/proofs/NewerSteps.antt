@@ -1,36 +1,36 @@
 -- What a process in a newer user namespace does leaves the bounds on its ids, and on the tables of newer user namespaces.
 use Rattle.std.proofs.Common.{◌≡◌, ℕ, Bool, true, false, List, Option, Some, None, Result, Ok, Err, refl, cond, eqb, subst, sym}
 use Rattle.std.specs.Prelude.{◌&&◌, ◌||◌, ◌+◌, nat_lt, nat_le, length, not}
-use Rattle.abs_path.specs.Paths.{Path}
-use Rattle.bpf_code.specs.declared.machine.Insn.{Insn}
-use Rattle.bpf_code.specs.ProgramOf.{program_of}
-use Rattle.bpf_code.specs.Stack.{room_of}
-use Rattle.cap_sets.specs.Sets.{has}
-use Rattle.call_table.specs.declared.listed.CallLine.{CallLine}
-use Rattle.site_table.specs.declared.row.Row.{Row}
-use Rattle.site_table.specs.Table.{row_at}
-use Rattle.linux_numbers.specs.Limits.{no_id}
-use Rattle.kern_creds.specs.declared.creds.Creds.{Creds}
-use Rattle.kern_creds.specs.Prctl.{after_drop_bounding, after_raise, after_lower, after_clear_ambient, after_set_keepcaps, after_set_no_new_privs}
-use Rattle.kern_creds.proofs.Answers.{Leaves}
-use Rattle.kern_mounts.specs.Finds.{Found, finds}
-use Rattle.kern_mounts.specs.Mounts.{Mounts as Table, steps_of}
-use Rattle.kern_files.specs.Bits.{has_some, has_all}
-use Rattle.kern_files.specs.Looking.{flags_at}
-use Rattle.kern_files.specs.Executing.{program_answer, executed_in, exec_answer_in}
-use Rattle.kern_files.specs.MountsCall.{mounts_after_mount, mounts_umount_answer}
-use Rattle.kern_files.specs.declared.program.Program.{Program}
-use Rattle.kernel_calls.specs.Doing as d
-use Rattle.kernel_calls.specs.Doing.{Doing}
+use Rattle.kernel_model.specs.abs_path.Paths.{Path}
+use Rattle.filter_settings.specs.bpf_code.declared.machine.Insn.{Insn}
+use Rattle.filter_settings.specs.bpf_code.ProgramOf.{program_of}
+use Rattle.filter_settings.specs.bpf_code.Stack.{room_of}
+use Rattle.kernel_model.specs.cap_sets.Sets.{has}
+use Rattle.filter_settings.specs.call_table.declared.listed.CallLine.{CallLine}
+use Rattle.kernel_model.specs.site_table.declared.row.Row.{Row}
+use Rattle.kernel_model.specs.site_table.Table.{row_at}
+use Rattle.filter_settings.specs.linux_numbers.Limits.{no_id}
+use Rattle.kernel_model.specs.kern_creds.declared.creds.Creds.{Creds}
+use Rattle.kernel_model.specs.kern_creds.Prctl.{after_drop_bounding, after_raise, after_lower, after_clear_ambient, after_set_keepcaps, after_set_no_new_privs}
+use Rattle.kernel_model.proofs.KernCreds.Answers.{Leaves}
+use Rattle.kernel_model.specs.kern_mounts.Finds.{Found, finds}
+use Rattle.kernel_model.specs.kern_mounts.Mounts.{Mounts as Table, steps_of}
+use Rattle.kernel_model.specs.kern_files.Bits.{has_some, has_all}
+use Rattle.kernel_model.specs.kern_files.Looking.{flags_at}
+use Rattle.kernel_model.specs.kern_files.Executing.{program_answer, executed_in, exec_answer_in}
+use Rattle.kernel_model.specs.kern_files.MountsCall.{mounts_after_mount, mounts_umount_answer}
+use Rattle.kernel_model.specs.declared.kern_files.program.Program.{Program}
+use Rattle.kernel_model.specs.kernel_calls.Doing as d
+use Rattle.kernel_model.specs.kernel_calls.Doing.{Doing}
 use Rattle.kernel_model.specs.Effects.{Effect, Refuse, Answer, SetCreds, Push, Child, OwnTable, UserChild, OwnUser, Caller, effect_of, looks, creds_effect, table_effect, first_alone, with_cap_of, with_admin, with_own, socket_effect, socketcall_effect, clone_effect, unshare_effect, ambient_effect, prctl_effect, push_effect, seccomp_effect, newuser, other_spaces, newns}
 use Rattle.kernel_laws.specs.Bounds.{Bounds, KeepsIds}
 use Rattle.kernel_laws.specs.Ceiling.{TableIn, IsStable, IsSafe}
 use Rattle.kernel_laws.specs.Kinds.{asks}
 use Rattle.kernel_laws.specs.Launched.{Launch, lets}
-use Rattle.question_types.specs.declared.kind.CallKind.{CallKind}
-use Rattle.filter_rules.specs.declared.namespace_types.NamespaceType.TheVariants.{User}
-use Rattle.question_types.specs.declared.power.Power.{Power}
-use Rattle.question_types.specs.declared.kind.CallKind.TheVariants as k
+use Rattle.kernel_laws.specs.declared.question_types.kind.CallKind.{CallKind}
+use Rattle.filter_settings.specs.declared.filter_rules.namespace_types.NamespaceType.TheVariants.{User}
+use Rattle.kernel_laws.specs.declared.question_types.power.Power.{Power}
+use Rattle.kernel_laws.specs.declared.question_types.kind.CallKind.TheVariants as k
 use Rattle.kernel_laws.proofs.Flags.{user_flag}
 use Rattle.kernel_laws.proofs.Newer.{ids-clear_ambient, ids-no_new_privs, ids-keepcaps, ids-lower, ids-drop_bounding, ids-raise, ids-capset, ids-exec}
 

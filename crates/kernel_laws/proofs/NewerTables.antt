@@ -1,35 +1,35 @@
 -- Mount tables of newer user namespaces stay what they are, whatever is called, and show what is shown without them.
 use Rattle.std.proofs.Common.{◌≡◌, true, false, ◌++◌, Option, Some, None, refl, sym, ap, ◌∙◌, subst, map}
 use Rattle.std.specs.Prelude.{not, option_and_then}
-use Rattle.abs_path.specs.Paths.{Path}
-use Rattle.abs_path.specs.Prefix.{rest_of}
-use Rattle.abs_path.proofs.Prefixes.{rest-append}
-use Rattle.kern_mounts.specs.Entry.{entry_of}
-use Rattle.kern_mounts.specs.Finds.{host_place, host_place_by}
-use Rattle.kern_mounts.specs.Split as table
-use Rattle.kern_mounts.specs.Split.{Table}
-use Rattle.kern_mounts.specs.declared.step.Flags.{Flags}
-use Rattle.kern_mounts.specs.declared.step.What.{What}
-use Rattle.kern_mounts.specs.declared.step.What.TheVariants.{Host, Empty, Hidden}
-use Rattle.kern_mounts.specs.declared.step.MountStep.{MountStep}
-use Rattle.kern_mounts.proofs.Splits.{split_of}
-use Rattle.kern_mounts.proofs.Unmounting.{trimmed_part}
-use Rattle.kern_mounts.specs.Mounts.{Mounts, plain, steps_of}
-use Rattle.kern_mounts.specs.Copying.{locked_copy}
-use Rattle.kern_mounts.specs.Backing.{AreBacked}
-use Rattle.kern_mounts.proofs.Backing.{backed_first}
-use Rattle.kern_mounts.proofs.Calls.{changes_backed, path_backed}
+use Rattle.kernel_model.specs.abs_path.Paths.{Path}
+use Rattle.kernel_model.specs.abs_path.Prefix.{rest_of}
+use Rattle.kernel_model.proofs.AbsPath.Prefixes.{rest-append}
+use Rattle.kernel_model.specs.kern_mounts.Entry.{entry_of}
+use Rattle.kernel_model.specs.kern_mounts.Finds.{host_place, host_place_by}
+use Rattle.kernel_model.specs.kern_mounts.Split as table
+use Rattle.kernel_model.specs.kern_mounts.Split.{Table}
+use Rattle.kernel_model.specs.kern_mounts.declared.step.Flags.{Flags}
+use Rattle.kernel_model.specs.kern_mounts.declared.step.What.{What}
+use Rattle.kernel_model.specs.kern_mounts.declared.step.What.TheVariants.{Host, Empty, Hidden}
+use Rattle.kernel_model.specs.kern_mounts.declared.step.MountStep.{MountStep}
+use Rattle.kernel_model.proofs.KernMounts.Splits.{split_of}
+use Rattle.kernel_model.proofs.KernMounts.Unmounting.{trimmed_part}
+use Rattle.kernel_model.specs.kern_mounts.Mounts.{Mounts, plain, steps_of}
+use Rattle.kernel_model.specs.kern_mounts.Copying.{locked_copy}
+use Rattle.kernel_model.specs.kern_mounts.Backing.{AreBacked}
+use Rattle.kernel_model.proofs.KernMounts.Backing.{backed_first}
+use Rattle.kernel_model.proofs.KernMounts.Calls.{changes_backed, path_backed}
 use Rattle.kernel_laws.specs.Blind.{SeesBelow}
-use Rattle.question_types.specs.declared.wish.Wish.{Wish}
-use Rattle.question_types.specs.declared.power.Power.{Power}
-use Rattle.question_types.specs.declared.power.Power.TheVariants.{None as Nowise, Unmount as Unmounting, Mount as Mounting}
+use Rattle.kernel_laws.specs.declared.question_types.wish.Wish.{Wish}
+use Rattle.kernel_laws.specs.declared.question_types.power.Power.{Power}
+use Rattle.kernel_laws.specs.declared.question_types.power.Power.TheVariants.{None as Nowise, Unmount as Unmounting, Mount as Mounting}
 use Rattle.kernel_laws.specs.Launched.{Launch}
 use Rattle.kernel_laws.specs.Ceiling.{IsStable}
-use Rattle.site_table.specs.Table.{row_at}
-use Rattle.kern_mounts.specs.Unmounts.{IsOrdered}
-use Rattle.kern_mounts.specs.Changes.{still, then_locked}
-use Rattle.kern_mounts.proofs.Plain.{plain_again}
-use Rattle.kern_files.proofs.MountsCall.{mount_changes, umount_changes}
+use Rattle.kernel_model.specs.site_table.Table.{row_at}
+use Rattle.kernel_model.specs.kern_mounts.Unmounts.{IsOrdered}
+use Rattle.kernel_model.specs.kern_mounts.Changes.{still, then_locked}
+use Rattle.kernel_model.proofs.KernMounts.Plain.{plain_again}
+use Rattle.kernel_model.proofs.MountsCall.{mount_changes, umount_changes}
 use Rattle.kernel_laws.specs.Reach.{Leads}
 use Rattle.kernel_laws.specs.Showing.{shown_by, shows_from}
 use Rattle.kernel_laws.specs.NewerTables.{CanHaveNewer, FirstCopies, CallsKeep, RowsAreReached, FoldersAreSeen}

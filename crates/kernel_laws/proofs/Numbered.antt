@@ -12,13 +12,6 @@ get_put (x ∷ xs) zero (suc j) y z e = inr e
 get_put (x ∷ xs) (suc i) zero y z e = inr e
 get_put (x ∷ xs) (suc i) (suc j) y z e = get_put xs i j y z e
 
-pub put_some : {X : Type 0} (xs : List X) (i j : ℕ) (y z : X) → slice_get xs j ≡ Some z → (v : X) × (slice_get (slice_set xs i y) j ≡ Some v) × ((v ≡ y) ⊎ (v ≡ z))
-put_some [] i j y z e = cc
-put_some (x ∷ xs) zero zero y z e = (y, refl, inl refl)
-put_some (x ∷ xs) zero (suc j) y z e = (z, e, inr refl)
-put_some (x ∷ xs) (suc i) zero y z e = (z, e, inr refl)
-put_some (x ∷ xs) (suc i) (suc j) y z e = put_some xs i j y z e
-
 -- the same, by whether the place is this one
 pub put_some_at : {X : Type 0} (xs : List X) (i j : ℕ) (y z : X) → slice_get xs j ≡ Some z → (v : X) × (slice_get (slice_set xs i y) j ≡ Some v) × (((i ≡ j) × (v ≡ y)) ⊎ (v ≡ z))
 put_some_at [] i j y z e = cc

@@ -1,13 +1,13 @@
 -- What a program that execve runs is.
 use Rattle.std.proofs.Common.{◌≡◌, ℕ, Bool, true, false, Result, Ok, Err, refl, cond}
 use Rattle.std.specs.Prelude.{not}
-use Rattle.linux_numbers.specs.Errnos.{eacces}
-use Rattle.site_table.specs.declared.row.Row.{Row}
-use Rattle.site_table.specs.Kinds.{is_exe}
-use Rattle.kern_mounts.specs.Finds.{row}
-use Rattle.kern_mounts.specs.declared.step.Flags.{Flags}
-use Rattle.kern_files.specs.declared.program.Program.{Program}
-use Rattle.kern_files.specs.Executing.{marks_of, program_answer}
+use Rattle.filter_settings.specs.linux_numbers.Errnos.{eacces}
+use Rattle.kernel_model.specs.site_table.declared.row.Row.{Row}
+use Rattle.kernel_model.specs.site_table.Kinds.{is_exe}
+use Rattle.kernel_model.specs.kern_mounts.Finds.{row}
+use Rattle.kernel_model.specs.kern_mounts.declared.step.Flags.{Flags}
+use Rattle.kernel_model.specs.declared.kern_files.program.Program.{Program}
+use Rattle.kernel_model.specs.kern_files.Executing.{marks_of, program_answer}
 
 pub record Ran (flags : Flags) (target : Row) (program : Program) : Type 0 where
   pub exe : is_exe target.kind ≡ true

@@ -4,32 +4,32 @@ use Rattle.std.proofs.lemmas.Bool.Decides.{nat_tests}
 use Rattle.kernel_model.proofs.Lists.{length-push, length-set}
 use Rattle.std.proofs.Common.{arith, ◌≡◌, ℕ, Bool, true, false, List, [], ◌∷◌, ◌++◌, Option, Some, None, ◌⊎◌, inl, inr, refl, cond, ap, ◌∙◌, sym, subst, length, append_assoc, eqb}
 use Rattle.std.specs.Prelude.{slice_get, slice_set, nat_lt, not, ◌-◌, ◌+◌}
-use Rattle.bpf_code.specs.declared.machine.Insn.{Insn}
-use Rattle.bpf_code.specs.declared.decision.Decision.{Decision}
-use Rattle.bpf_code.specs.declared.decision.Decision.TheVariants as decision
-use Rattle.bpf_code.specs.Stack.{decision_on}
-use Rattle.call_table.specs.Table as calls
-use Rattle.site_table.specs.Table.{Site, row_at}
+use Rattle.filter_settings.specs.bpf_code.declared.machine.Insn.{Insn}
+use Rattle.filter_settings.specs.bpf_code.declared.decision.Decision.{Decision}
+use Rattle.filter_settings.specs.bpf_code.declared.decision.Decision.TheVariants as decision
+use Rattle.filter_settings.specs.bpf_code.Stack.{decision_on}
+use Rattle.filter_settings.specs.call_table.Table as calls
+use Rattle.kernel_model.specs.site_table.Table.{Site, row_at}
 use Rattle.kernel_laws.specs.Bounds.{Bounds, KeepsIn}
-use Rattle.kern_creds.specs.Enter.{entered}
-use Rattle.kern_mounts.specs.Copying.{copied, locked_copy}
-use Rattle.kernel_calls.specs.declared.call.Call.{Call}
-use Rattle.kernel_calls.specs.Calls.{IsCall, AreCalls}
-use Rattle.kern_mounts.specs.Mounts.{Mounts as Table}
-use Rattle.kernel_calls.specs.Doing.{Doing, Asked, Lacking, Misformed, Does, asked_of}
+use Rattle.kernel_model.specs.kern_creds.Enter.{entered}
+use Rattle.kernel_model.specs.kern_mounts.Copying.{copied, locked_copy}
+use Rattle.kernel_model.specs.declared.kernel_calls.call.Call.{Call}
+use Rattle.kernel_model.specs.kernel_calls.Calls.{IsCall, AreCalls}
+use Rattle.kernel_model.specs.kern_mounts.Mounts.{Mounts as Table}
+use Rattle.kernel_model.specs.kernel_calls.Doing.{Doing, Asked, Lacking, Misformed, Does, asked_of}
 use Rattle.kernel_model.specs.Effects as f
 use Rattle.kernel_model.specs.Effects.{Effect, effect_of}
 use Rattle.kernel_model.specs.declared.reply.Reply.TheVariants as reply
 use Rattle.kernel_model.specs.World.{World, table_or, mounts_of, table_of, with_process, with_child, with_copy, moved_to, ended, living_of, host_of, caller_of, owner_or, owner_of, is_newer, with_user, entered_by}
 use Rattle.kernel_model.specs.declared.process.Process.{Process}
 use Rattle.kernel_model.specs.declared.reply.Reply.{Reply}
-use Rattle.linux_numbers.specs.Errnos.{eagain, enospc}
+use Rattle.filter_settings.specs.linux_numbers.Errnos.{eagain, enospc}
 use Rattle.kernel_model.specs.Step.{most_processes, most_namespaces, child_in, child_of, moved_in, has_user_left, applied, answered, decided, data_of, step_by, step, decision_of}
 use Rattle.kernel_model.specs.Runs.{run}
-use Rattle.question_types.specs.declared.power.Power.{Power}
-use Rattle.question_types.specs.declared.kind.CallKind.{CallKind}
-use Rattle.question_types.specs.declared.kind.CallKind.TheVariants.{TakesUid, TakesGid, ForNamespace}
-use Rattle.filter_rules.specs.declared.namespace_types.NamespaceType.TheVariants.{User}
+use Rattle.kernel_laws.specs.declared.question_types.power.Power.{Power}
+use Rattle.kernel_laws.specs.declared.question_types.kind.CallKind.{CallKind}
+use Rattle.kernel_laws.specs.declared.question_types.kind.CallKind.TheVariants.{TakesUid, TakesGid, ForNamespace}
+use Rattle.filter_settings.specs.declared.filter_rules.namespace_types.NamespaceType.TheVariants.{User}
 use Rattle.kernel_laws.specs.Kinds.{asks}
 use Rattle.kernel_laws.specs.Launched.{Launch, data_at, lets, can_make_user}
 use Rattle.kernel_laws.specs.Ceiling.{CanHave, CanHold, IsClosed, IsHeld, AreHeld, IsSafe, IsStable, TableIn}

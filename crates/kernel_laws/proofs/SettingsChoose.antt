@@ -5,39 +5,39 @@ use Rattle.std.specs.List.{AllByRecursion}
 use Rattle.std.specs.Option.{option_map_or}
 use Rattle.std.proofs.lemmas.Bool.{eq-eqb, eqb-true}
 use Rattle.std.proofs.lemmas.List.Elements.{All-from_recursion}
-use Rattle.bpf_code.specs.declared.machine.Insn.{Insn}
-use Rattle.bpf_code.specs.declared.decision.Decision.TheVariants as decision
-use Rattle.bpf_code.specs.Meaning.{IsCallData}
-use Rattle.bpf_code.specs.Stack.{answer_of, decision_of}
-use Rattle.call_table.specs.declared.listed.CallLine.{CallLine}
-use Rattle.call_table.specs.Lookups.{numbered}
-use Rattle.filter_rules.specs.declared.settings.FilterSettings.{FilterSettings}
-use Rattle.filter_rules.specs.declared.names.FilterName.{FilterName}
-use Rattle.call_names.specs.Known.{place_of}
-use Rattle.call_rules.specs.Action.{word_of}
-use Rattle.filter_rules.specs.Wanted.{named_action, unnamed_action, wanted_action}
-use Rattle.kernel_calls.specs.Words.{low_word}
-use Rattle.kernel_calls.specs.declared.payload.Payload.{Payload}
-use Rattle.kernel_calls.specs.Doing as d
-use Rattle.kernel_calls.specs.Doing.{Doing, doing_by}
+use Rattle.filter_settings.specs.bpf_code.declared.machine.Insn.{Insn}
+use Rattle.filter_settings.specs.bpf_code.declared.decision.Decision.TheVariants as decision
+use Rattle.filter_settings.specs.bpf_code.Meaning.{IsCallData}
+use Rattle.filter_settings.specs.bpf_code.Stack.{answer_of, decision_of}
+use Rattle.filter_settings.specs.call_table.declared.listed.CallLine.{CallLine}
+use Rattle.filter_settings.specs.call_table.Lookups.{numbered}
+use Rattle.filter_settings.specs.declared.filter_rules.settings.FilterSettings.{FilterSettings}
+use Rattle.filter_settings.specs.declared.filter_rules.names.FilterName.{FilterName}
+use Rattle.filter_settings.specs.call_table.call_names.Known.{place_of}
+use Rattle.filter_settings.specs.call_rules.Action.{word_of}
+use Rattle.filter_settings.specs.filter_rules.Wanted.{named_action, unnamed_action, wanted_action}
+use Rattle.kernel_model.specs.kernel_calls.Words.{low_word}
+use Rattle.kernel_model.specs.declared.kernel_calls.payload.Payload.{Payload}
+use Rattle.kernel_model.specs.kernel_calls.Doing as d
+use Rattle.kernel_model.specs.kernel_calls.Doing.{Doing, doing_by}
 use Rattle.kernel_laws.specs.FirstChoice.{Means, SettingsChoose}
-use Rattle.question_types.specs.declared.kind.CallKind.{CallKind}
-use Rattle.question_types.specs.declared.kind.CallKind.TheVariants as k
-use Rattle.filter_rules.specs.declared.namespace_types.NamespaceType.{NamespaceType}
-use Rattle.filter_rules.specs.declared.namespace_types.NamespaceType.TheVariants as namespace
-use Rattle.question_types.specs.declared.wish.Wish.TheVariants as wish_to
-use Rattle.question_types.specs.declared.wish.Wish.{Wish}
+use Rattle.kernel_laws.specs.declared.question_types.kind.CallKind.{CallKind}
+use Rattle.kernel_laws.specs.declared.question_types.kind.CallKind.TheVariants as k
+use Rattle.filter_settings.specs.declared.filter_rules.namespace_types.NamespaceType.{NamespaceType}
+use Rattle.filter_settings.specs.declared.filter_rules.namespace_types.NamespaceType.TheVariants as namespace
+use Rattle.kernel_laws.specs.declared.question_types.wish.Wish.TheVariants as wish_to
+use Rattle.kernel_laws.specs.declared.question_types.wish.Wish.{Wish}
 use Rattle.kernel_laws.specs.Kinds.{asks, words, one_word, no_words, AreWords}
-use Rattle.call_table.specs.Table.{Abi, Table, native, abi_at, arch_of, calls_in}
-use Rattle.filter_rules.specs.Wanted.{other_action}
+use Rattle.filter_settings.specs.call_table.Table.{Abi, Table, native, abi_at, arch_of, calls_in}
+use Rattle.filter_settings.specs.filter_rules.Wanted.{other_action}
 use Rattle.std.specs.Option.{option_to_list}
 use Rattle.std.proofs.lemmas.Bool.{false≢true}
 use Rattle.kernel_laws.specs.Launched.{Launch, data_at}
 use Rattle.kernel_laws.specs.Questions as q
-use Rattle.kernel_calls.specs.declared.rule.Rule.TheVariants as rule
-use Rattle.call_names.specs.declared.rule.CallRule.{CallRule}
-use Rattle.call_names.specs.declared.rule.CallRule.TheVariants as known
-use Rattle.kernel_calls.specs.declared.rule.Rule.{Rule}
+use Rattle.kernel_model.specs.declared.kernel_calls.rule.Rule.TheVariants as rule
+use Rattle.filter_settings.specs.call_table.declared.call_names.rule.CallRule.{CallRule}
+use Rattle.filter_settings.specs.call_table.declared.call_names.rule.CallRule.TheVariants as known
+use Rattle.kernel_model.specs.declared.kernel_calls.rule.Rule.{Rule}
 use Rattle.kernel_laws.proofs.FirstWords.{has_words}
 use Rattle.kernel_laws.proofs.FilterChoices.{first_passes}
 use Rattle.kernel_laws.proofs.Filters.{bare_is, HasRule, has_rule}

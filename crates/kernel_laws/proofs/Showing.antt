@@ -3,25 +3,25 @@ use Rattle.std.proofs.Common.{◌≡◌, ℕ, Bool, true, false, cond, [], ◌�
 use Rattle.std.specs.Prelude.{not, ◌&&◌, ◌||◌, is_some}
 use Rattle.std.specs.List.{list_any, AllByRecursion}
 use Rattle.std.proofs.lemmas.Bool.{and_parts, and_from, or_left, or_right, or_parts, not-true, false≢true}
-use Rattle.abs_path.specs.Paths.{Path}
-use Rattle.abs_path.specs.Prefix.{is_prefix, is_same, rest_of, is_below}
-use Rattle.abs_path.proofs.Prefixes.{prefix-append, prefix_chain, prefix_itself, rest-append, rest_through, same_path}
-use Rattle.kern_mounts.specs.Entry.{leads_to}
-use Rattle.kern_mounts.specs.Split.{Table}
-use Rattle.kern_mounts.specs.Unmounts.{IsPart, nothing, keeps, leaves, IsOrdered}
-use Rattle.kern_mounts.specs.declared.step.Flags.{Flags}
-use Rattle.kern_mounts.specs.declared.step.What.{What}
-use Rattle.kern_mounts.specs.declared.step.What.TheVariants.{Host, Empty, Hidden}
-use Rattle.kern_mounts.specs.declared.step.MountStep.{MountStep}
-use Rattle.kern_mounts.proofs.Paths.{leads_not, either}
-use Rattle.kern_mounts.specs.Keeping.{lacks, AreAmong}
-use Rattle.kern_mounts.specs.Backing.{Shows, Widens, AreShown}
-use Rattle.kern_mounts.proofs.Keeping.{among_trans}
+use Rattle.kernel_model.specs.abs_path.Paths.{Path}
+use Rattle.kernel_model.specs.abs_path.Prefix.{is_prefix, is_same, rest_of, is_below}
+use Rattle.kernel_model.proofs.AbsPath.Prefixes.{prefix-append, prefix_chain, prefix_itself, rest-append, rest_through, same_path}
+use Rattle.kernel_model.specs.kern_mounts.Entry.{leads_to}
+use Rattle.kernel_model.specs.kern_mounts.Split.{Table}
+use Rattle.kernel_model.specs.kern_mounts.Unmounts.{IsPart, nothing, keeps, leaves, IsOrdered}
+use Rattle.kernel_model.specs.kern_mounts.declared.step.Flags.{Flags}
+use Rattle.kernel_model.specs.kern_mounts.declared.step.What.{What}
+use Rattle.kernel_model.specs.kern_mounts.declared.step.What.TheVariants.{Host, Empty, Hidden}
+use Rattle.kernel_model.specs.kern_mounts.declared.step.MountStep.{MountStep}
+use Rattle.kernel_model.proofs.KernMounts.Paths.{leads_not, either}
+use Rattle.kernel_model.specs.kern_mounts.Keeping.{lacks, AreAmong}
+use Rattle.kernel_model.specs.kern_mounts.Backing.{Shows, Widens, AreShown}
+use Rattle.kernel_model.proofs.KernMounts.Keeping.{among_trans}
 use Rattle.kernel_laws.specs.Blind.{is_clear, shows_below, exposes}
-use Rattle.question_types.specs.declared.wish.Wish.{Wish}
-use Rattle.question_types.specs.declared.wish.Wish.TheVariants.{See as ToSee, Read as ToRead, Write as ToWrite, Exec as ToExec}
-use Rattle.question_types.specs.declared.power.Power.{Power}
-use Rattle.question_types.specs.declared.power.Power.TheVariants.{None as Nowise, Unmount as Unmounting, Mount as Mounting}
+use Rattle.kernel_laws.specs.declared.question_types.wish.Wish.{Wish}
+use Rattle.kernel_laws.specs.declared.question_types.wish.Wish.TheVariants.{See as ToSee, Read as ToRead, Write as ToWrite, Exec as ToExec}
+use Rattle.kernel_laws.specs.declared.question_types.power.Power.{Power}
+use Rattle.kernel_laws.specs.declared.question_types.power.Power.TheVariants.{None as Nowise, Unmount as Unmounting, Mount as Mounting}
 use Rattle.kernel_laws.specs.Reach.{fits, shows_row, serves, reach_from}
 use Rattle.kernel_laws.specs.Showing.{shows_from, shown_by}
 
@@ -53,9 +53,6 @@ widens_by Mounting launched = λ host few more among h. h
 pub shown_more : (shows others : Shows) → ((host : Path) (flags : Flags) → shows host flags ≡ true → others host flags ≡ true) → (table : Table) → AreShown shows table → AreShown others table
 shown_more shows others more [] h = tt
 shown_more shows others more (step ∷ later) h = ((λ source rest host clear. more (source ++ rest) step.flags (h.0 source rest host clear)), shown_more shows others more later h.1)
-
-not_any : (a : Bool) → a ≡ false → not a ≡ true
-not_any a e = ap not e
 
 or_clear : (uncover a : Bool) → a ≡ false → (uncover || not a) ≡ true
 or_clear true a e = refl

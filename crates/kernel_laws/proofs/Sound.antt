@@ -3,31 +3,31 @@ use Rattle.std.proofs.Common.{◌≡◌, ℕ, Bool, true, false, Option, Some, N
 use Rattle.std.specs.Prelude.{not, nat_lt, length}
 use Rattle.std.specs.List.{AllByRecursion}
 use Rattle.std.proofs.lemmas.Bool.{eqb-true, and_parts, and_from}
-use Rattle.abs_path.specs.Paths.{Path}
-use Rattle.cap_sets.specs.Sets.{has, cut, none}
-use Rattle.cap_sets.proofs.Members.{has_cut, has_none}
-use Rattle.site_table.specs.declared.row.Row.{Row}
-use Rattle.site_table.specs.Table.{row_at}
-use Rattle.kern_creds.specs.declared.creds.Creds.{Creds}
-use Rattle.kern_creds.specs.Exec.{is_refused, exec_done_in, exec_in}
-use Rattle.kern_mounts.specs.Entry.{entry_of}
-use Rattle.kern_mounts.specs.Finds.{Found, row, finds}
-use Rattle.kern_mounts.specs.declared.step.Flags.{Flags}
-use Rattle.kern_mounts.specs.declared.step.MountStep.{MountStep}
-use Rattle.kern_mounts.proofs.Entries.{entry_is}
+use Rattle.kernel_model.specs.abs_path.Paths.{Path}
+use Rattle.kernel_model.specs.cap_sets.Sets.{has, cut, none}
+use Rattle.kernel_model.proofs.Caps.Members.{has_cut, has_none}
+use Rattle.kernel_model.specs.site_table.declared.row.Row.{Row}
+use Rattle.kernel_model.specs.site_table.Table.{row_at}
+use Rattle.kernel_model.specs.kern_creds.declared.creds.Creds.{Creds}
+use Rattle.kernel_model.specs.kern_creds.Exec.{is_refused, exec_done_in, exec_in}
+use Rattle.kernel_model.specs.kern_mounts.Entry.{entry_of}
+use Rattle.kernel_model.specs.kern_mounts.Finds.{Found, row, finds}
+use Rattle.kernel_model.specs.kern_mounts.declared.step.Flags.{Flags}
+use Rattle.kernel_model.specs.kern_mounts.declared.step.MountStep.{MountStep}
+use Rattle.kernel_model.proofs.KernMounts.Entries.{entry_is}
 use Rattle.std.specs.Int.RustNames.{bit_and}
-use Rattle.kern_files.specs.Bits.{has_some, has_all}
-use Rattle.kern_mounts.specs.Split.{Table}
-use Rattle.site_table.specs.Kinds.{is_dir, is_exe}
-use Rattle.kern_mounts.specs.Unmounts.{IsPart, nothing, keeps, leaves}
-use Rattle.kernel_calls.specs.Doing as d
-use Rattle.kernel_calls.specs.Doing.{Doing}
+use Rattle.kernel_model.specs.kern_files.Bits.{has_some, has_all}
+use Rattle.kernel_model.specs.kern_mounts.Split.{Table}
+use Rattle.kernel_model.specs.site_table.Kinds.{is_dir, is_exe}
+use Rattle.kernel_model.specs.kern_mounts.Unmounts.{IsPart, nothing, keeps, leaves}
+use Rattle.kernel_model.specs.kernel_calls.Doing as d
+use Rattle.kernel_model.specs.kernel_calls.Doing.{Doing}
 use Rattle.kernel_model.specs.Effects as f
 use Rattle.kernel_model.specs.Effects.{Effect, effect_of, looks, creds_effect, with_admin, newuser, other_spaces, newns}
-use Rattle.kern_files.specs.Looking.{flags_by, flags_at, access_mode, is_writing, see_answer, write_answer, open_answer}
-use Rattle.linux_numbers.specs.Errnos.{eperm, eagain, enospc, eisdir, einval, erofs}
-use Rattle.kern_files.specs.declared.program.Program.{Program}
-use Rattle.kern_files.specs.Executing.{marks_of, program_answer, executed_in, exec_answer_in}
+use Rattle.kernel_model.specs.kern_files.Looking.{flags_by, flags_at, access_mode, is_writing, see_answer, write_answer, open_answer}
+use Rattle.filter_settings.specs.linux_numbers.Errnos.{eperm, eagain, enospc, eisdir, einval, erofs}
+use Rattle.kernel_model.specs.declared.kern_files.program.Program.{Program}
+use Rattle.kernel_model.specs.kern_files.Executing.{marks_of, program_answer, executed_in, exec_answer_in}
 use Rattle.kernel_model.specs.World.{World, table_of, host_of, caller_of, is_newer, with_user, entered_by}
 use Rattle.kernel_model.specs.declared.process.Process.{Process}
 use Rattle.kernel_model.specs.Step.{most_processes, child_in, moved_in, has_user_left, applied}
@@ -35,19 +35,19 @@ use Rattle.kernel_model.specs.declared.reply.Reply.{Reply}
 use Rattle.kernel_model.specs.declared.reply.Reply.TheVariants as reply
 use Rattle.kernel_laws.proofs.Flags.{user_flag}
 use Rattle.kernel_model.specs.Runs.{IsDone}
-use Rattle.question_types.specs.declared.wish.Wish.{Wish}
-use Rattle.question_types.specs.declared.wish.Wish.TheVariants.{See as ToSee, Read as ToRead, Write as ToWrite, Exec as ToExec}
-use Rattle.filter_rules.specs.declared.namespace_types.NamespaceType.{NamespaceType}
-use Rattle.question_types.specs.declared.power.Power.{Power}
-use Rattle.question_types.specs.declared.power.Power.TheVariants.{None as Nowise, Unmount as Unmounting, Mount as Mounting}
-use Rattle.filter_rules.specs.declared.namespace_types.NamespaceType.TheVariants as namespace
+use Rattle.kernel_laws.specs.declared.question_types.wish.Wish.{Wish}
+use Rattle.kernel_laws.specs.declared.question_types.wish.Wish.TheVariants.{See as ToSee, Read as ToRead, Write as ToWrite, Exec as ToExec}
+use Rattle.filter_settings.specs.declared.filter_rules.namespace_types.NamespaceType.{NamespaceType}
+use Rattle.kernel_laws.specs.declared.question_types.power.Power.{Power}
+use Rattle.kernel_laws.specs.declared.question_types.power.Power.TheVariants.{None as Nowise, Unmount as Unmounting, Mount as Mounting}
+use Rattle.filter_settings.specs.declared.filter_rules.namespace_types.NamespaceType.TheVariants as namespace
 use Rattle.kernel_laws.specs.Questions.{flag_of}
 use Rattle.kernel_laws.specs.Denied.{path_for, asks_space}
 use Rattle.kernel_laws.specs.Reach.{fits}
 use Rattle.kernel_laws.specs.Bound.{is_user}
 use Rattle.kernel_laws.specs.Ceiling.{CanHave}
 use Rattle.kernel_laws.proofs.Ran.{ran_program}
-use Rattle.kern_mounts.proofs.Unmounting.{trimmed_part}
+use Rattle.kernel_model.proofs.KernMounts.Unmounting.{trimmed_part}
 
 -- ---- effects that are done
 -- the reply to an effect on a process

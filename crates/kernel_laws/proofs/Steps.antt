@@ -1,41 +1,41 @@
 -- No effect of a call that uses only what may be used leaves closed bounds.
 use Rattle.std.proofs.Common.{◌≡◌, ℕ, Bool, true, false, List, Option, Some, None, Result, Ok, Err, arith, refl, cond, sym, subst, eqb}
 use Rattle.std.specs.Prelude.{not, nat_lt, nat_le, ◌&&◌, ◌||◌, ◌+◌, length}
-use Rattle.abs_path.specs.Paths.{Path}
-use Rattle.bpf_code.specs.declared.machine.Insn.{Insn}
-use Rattle.bpf_code.specs.ProgramOf.{program_of}
-use Rattle.bpf_code.specs.Stack.{room_of}
-use Rattle.cap_sets.specs.Sets.{has, IsWithin, within}
-use Rattle.cap_sets.proofs.Members.{within_through, IsWithin-from_within}
-use Rattle.call_table.specs.declared.listed.CallLine.{CallLine}
-use Rattle.site_table.specs.declared.row.Row.{Row}
-use Rattle.site_table.specs.Table.{row_at}
-use Rattle.kern_creds.specs.declared.creds.Creds.{Creds}
-use Rattle.kern_creds.specs.declared.file.FileCreds.{FileCreds}
-use Rattle.kern_creds.specs.Exec.{honours, is_refused, after_exec}
-use Rattle.kern_creds.specs.Prctl.{after_drop_bounding, after_raise, after_lower, after_clear_ambient, after_set_keepcaps, after_set_no_new_privs}
-use Rattle.kern_creds.proofs.Answers.{Leaves}
-use Rattle.kern_mounts.specs.Finds.{Found, row, empty_directory, nothing, finds}
-use Rattle.kern_files.specs.Bits.{has_some, has_all}
+use Rattle.kernel_model.specs.abs_path.Paths.{Path}
+use Rattle.filter_settings.specs.bpf_code.declared.machine.Insn.{Insn}
+use Rattle.filter_settings.specs.bpf_code.ProgramOf.{program_of}
+use Rattle.filter_settings.specs.bpf_code.Stack.{room_of}
+use Rattle.kernel_model.specs.cap_sets.Sets.{has, IsWithin, within}
+use Rattle.kernel_model.proofs.Caps.Members.{within_through, IsWithin-from_within}
+use Rattle.filter_settings.specs.call_table.declared.listed.CallLine.{CallLine}
+use Rattle.kernel_model.specs.site_table.declared.row.Row.{Row}
+use Rattle.kernel_model.specs.site_table.Table.{row_at}
+use Rattle.kernel_model.specs.kern_creds.declared.creds.Creds.{Creds}
+use Rattle.kernel_model.specs.kern_creds.declared.file.FileCreds.{FileCreds}
+use Rattle.kernel_model.specs.kern_creds.Exec.{honours, is_refused, after_exec}
+use Rattle.kernel_model.specs.kern_creds.Prctl.{after_drop_bounding, after_raise, after_lower, after_clear_ambient, after_set_keepcaps, after_set_no_new_privs}
+use Rattle.kernel_model.proofs.KernCreds.Answers.{Leaves}
+use Rattle.kernel_model.specs.kern_mounts.Finds.{Found, row, empty_directory, nothing, finds}
+use Rattle.kernel_model.specs.kern_files.Bits.{has_some, has_all}
 use Rattle.kernel_laws.specs.Bounds.{Bounds, Keeps}
-use Rattle.kern_mounts.specs.Split.{Table}
-use Rattle.kern_mounts.specs.Umount.{after_umount}
-use Rattle.kern_files.specs.MountsCall.{mounts_after_mount, mounts_umount_answer}
-use Rattle.kern_files.proofs.MountsCall.{umount_answer_steps, mount_stays_plain, umount_stays_plain}
-use Rattle.kern_mounts.specs.Mounts.{Mounts, steps_of}
-use Rattle.kernel_calls.specs.Doing as d
-use Rattle.kernel_calls.specs.Doing.{Doing}
+use Rattle.kernel_model.specs.kern_mounts.Split.{Table}
+use Rattle.kernel_model.specs.kern_mounts.Umount.{after_umount}
+use Rattle.kernel_model.specs.kern_files.MountsCall.{mounts_after_mount, mounts_umount_answer}
+use Rattle.kernel_model.proofs.MountsCall.{umount_answer_steps, mount_stays_plain, umount_stays_plain}
+use Rattle.kernel_model.specs.kern_mounts.Mounts.{Mounts, steps_of}
+use Rattle.kernel_model.specs.kernel_calls.Doing as d
+use Rattle.kernel_model.specs.kernel_calls.Doing.{Doing}
 use Rattle.kernel_model.specs.Effects.{Effect, Refuse, Answer, SetCreds, Push, Child, OwnTable, UserChild, OwnUser, Caller, effect_of, looks, creds_effect, table_effect, with_cap_of, with_admin, socket_effect, clone_effect, unshare_effect, ambient_effect, prctl_effect, push_effect, seccomp_effect, newuser, other_spaces, newns, socketcall_effect}
-use Rattle.kern_files.specs.Looking.{flags_at}
-use Rattle.linux_numbers.specs.Errnos.{einval}
-use Rattle.kern_files.specs.declared.program.Program.{Program}
-use Rattle.kern_files.specs.Executing.{marks_of, program_answer, executed, exec_answer}
-use Rattle.kern_files.specs.UmountCall.{mnt_detach}
-use Rattle.question_types.specs.declared.power.Power.{Power}
-use Rattle.question_types.specs.declared.power.Power.TheVariants.{None as Nowise, Unmount as Unmounting, Mount as Mounting}
-use Rattle.question_types.specs.declared.kind.CallKind.{CallKind}
-use Rattle.filter_rules.specs.declared.namespace_types.NamespaceType.TheVariants.{User}
-use Rattle.question_types.specs.declared.kind.CallKind.TheVariants as k
+use Rattle.kernel_model.specs.kern_files.Looking.{flags_at}
+use Rattle.filter_settings.specs.linux_numbers.Errnos.{einval}
+use Rattle.kernel_model.specs.declared.kern_files.program.Program.{Program}
+use Rattle.kernel_model.specs.kern_files.Executing.{marks_of, program_answer, executed, exec_answer}
+use Rattle.kernel_model.specs.kern_files.UmountCall.{mnt_detach}
+use Rattle.kernel_laws.specs.declared.question_types.power.Power.{Power}
+use Rattle.kernel_laws.specs.declared.question_types.power.Power.TheVariants.{None as Nowise, Unmount as Unmounting, Mount as Mounting}
+use Rattle.kernel_laws.specs.declared.question_types.kind.CallKind.{CallKind}
+use Rattle.filter_settings.specs.declared.filter_rules.namespace_types.NamespaceType.TheVariants.{User}
+use Rattle.kernel_laws.specs.declared.question_types.kind.CallKind.TheVariants as k
 use Rattle.kernel_laws.specs.Kinds.{asks}
 use Rattle.kernel_laws.specs.Launched.{Launch, lets}
 use Rattle.kernel_laws.specs.Ceiling.{CanHave, CanHold, IsClosed, IsSafe}
@@ -45,7 +45,7 @@ use Rattle.kernel_laws.proofs.Kept.{kept-clear_ambient, kept-no_new_privs, kept-
 use Rattle.kernel_laws.proofs.KeptIds.{kept-setuid, kept-setresuid, kept-setgid, kept-setresgid, kept-setgroups}
 use Rattle.kernel_laws.proofs.KeptExec.{kept-exec, off}
 use Rattle.kernel_laws.proofs.Ran.{ran_program}
-use Rattle.kern_mounts.proofs.Unmounting.{trims, trimmed_through, trimmed_top}
+use Rattle.kernel_model.proofs.KernMounts.Unmounting.{trims, trimmed_through, trimmed_top}
 
 module _ (launch : Launch) (may_uids may_gids : Bool) (power : Power) (top : Bounds) (below : Mounts → Type 0) (closed : IsClosed launch may_uids may_gids power top) where
   abbrev Safe : Effect → Type 0

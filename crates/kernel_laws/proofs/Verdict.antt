@@ -5,46 +5,46 @@ use Rattle.std.specs.List as list
 use Rattle.std.specs.List.{list_any}
 use Rattle.std.specs.Str.{bytes_eq}
 use Rattle.std.proofs.lemmas.Slice.Eq.{bytes_eq-Decides}
-use Rattle.call_names.specs.Known.{known_call}
+use Rattle.filter_settings.specs.call_table.call_names.Known.{known_call}
 use Rattle.std.proofs.lemmas.Bool.{eqb-true, eq-eqb, and_from, or_left, or_right, and_parts}
-use Rattle.bpf_code.specs.declared.machine.Insn.{Insn}
-use Rattle.bpf_code.specs.declared.decision.Decision.TheVariants as decision
-use Rattle.bpf_code.specs.Stack.{decision_on}
-use Rattle.abs_path.specs.Paths.{Path}
-use Rattle.cap_sets.specs.Sets.{has, within, IsWithin}
-use Rattle.cap_sets.proofs.Members.{within-from_IsWithin, IsWithin-from_within, within_through}
-use Rattle.call_table.specs.declared.listed.CallLine.{CallLine}
-use Rattle.call_table.specs.Table as calls
-use Rattle.call_table.specs.Lookups.{numbered}
-use Rattle.linux_numbers.specs.Errnos.{einval}
-use Rattle.site_table.specs.declared.row.Row.{Row}
-use Rattle.site_table.specs.Table.{Site, row_at}
-use Rattle.kern_creds.specs.Exec.{is_refused}
-use Rattle.kern_mounts.specs.Finds.{row, finds}
+use Rattle.filter_settings.specs.bpf_code.declared.machine.Insn.{Insn}
+use Rattle.filter_settings.specs.bpf_code.declared.decision.Decision.TheVariants as decision
+use Rattle.filter_settings.specs.bpf_code.Stack.{decision_on}
+use Rattle.kernel_model.specs.abs_path.Paths.{Path}
+use Rattle.kernel_model.specs.cap_sets.Sets.{has, within, IsWithin}
+use Rattle.kernel_model.proofs.Caps.Members.{within-from_IsWithin, IsWithin-from_within, within_through}
+use Rattle.filter_settings.specs.call_table.declared.listed.CallLine.{CallLine}
+use Rattle.filter_settings.specs.call_table.Table as calls
+use Rattle.filter_settings.specs.call_table.Lookups.{numbered}
+use Rattle.filter_settings.specs.linux_numbers.Errnos.{einval}
+use Rattle.kernel_model.specs.site_table.declared.row.Row.{Row}
+use Rattle.kernel_model.specs.site_table.Table.{Site, row_at}
+use Rattle.kernel_model.specs.kern_creds.Exec.{is_refused}
+use Rattle.kernel_model.specs.kern_mounts.Finds.{row, finds}
 use Rattle.kernel_laws.specs.Bounds.{Bounds, Keeps, KeepsIn}
-use Rattle.kernel_calls.specs.declared.call.Call.{Call}
-use Rattle.kernel_calls.specs.Calls.{IsCall}
-use Rattle.kernel_calls.specs.declared.rule.Rule.TheVariants as rule
-use Rattle.kernel_calls.specs.declared.rule.Rule.{Rule}
-use Rattle.kernel_calls.specs.Rules.{rule_of, rule_by}
-use Rattle.kernel_calls.specs.Doing as d
-use Rattle.kernel_calls.specs.Doing.{Doing, Does, asked_of, bare, doing_by}
+use Rattle.kernel_model.specs.declared.kernel_calls.call.Call.{Call}
+use Rattle.kernel_model.specs.kernel_calls.Calls.{IsCall}
+use Rattle.kernel_model.specs.declared.kernel_calls.rule.Rule.TheVariants as rule
+use Rattle.kernel_model.specs.declared.kernel_calls.rule.Rule.{Rule}
+use Rattle.kernel_model.specs.kernel_calls.Rules.{rule_of, rule_by}
+use Rattle.kernel_model.specs.kernel_calls.Doing as d
+use Rattle.kernel_model.specs.kernel_calls.Doing.{Doing, Does, asked_of, bare, doing_by}
 use Rattle.kernel_model.specs.Effects as f
 use Rattle.kernel_model.specs.Effects.{Effect, Host, Caller, effect_of, socket_effect}
-use Rattle.kern_files.specs.Looking.{flags_at}
-use Rattle.kern_files.specs.Executing.{marks_of}
+use Rattle.kernel_model.specs.kern_files.Looking.{flags_at}
+use Rattle.kernel_model.specs.kern_files.Executing.{marks_of}
 use Rattle.kernel_model.specs.World.{World, mounts_of, table_of, host_of, caller_of, is_newer}
 use Rattle.kernel_model.specs.declared.process.Process.{Process}
 use Rattle.kernel_model.specs.Runs.{moment_at, run}
-use Rattle.question_types.specs.declared.wish.Wish.{Wish}
-use Rattle.question_types.specs.declared.wish.Wish.TheVariants.{See as ToSee, Read as ToRead, Write as ToWrite, Exec as ToExec}
-use Rattle.filter_rules.specs.declared.namespace_types.NamespaceType.{NamespaceType}
-use Rattle.question_types.specs.declared.question.Question.{Question}
-use Rattle.question_types.specs.declared.power.Power.{Power}
-use Rattle.question_types.specs.declared.kind.CallKind.{CallKind}
-use Rattle.question_types.specs.declared.question.Question.TheVariants as asking
-use Rattle.filter_rules.specs.declared.namespace_types.NamespaceType.TheVariants as namespace
-use Rattle.question_types.specs.declared.kind.CallKind.TheVariants as k
+use Rattle.kernel_laws.specs.declared.question_types.wish.Wish.{Wish}
+use Rattle.kernel_laws.specs.declared.question_types.wish.Wish.TheVariants.{See as ToSee, Read as ToRead, Write as ToWrite, Exec as ToExec}
+use Rattle.filter_settings.specs.declared.filter_rules.namespace_types.NamespaceType.{NamespaceType}
+use Rattle.kernel_laws.specs.declared.question_types.question.Question.{Question}
+use Rattle.kernel_laws.specs.declared.question_types.power.Power.{Power}
+use Rattle.kernel_laws.specs.declared.question_types.kind.CallKind.{CallKind}
+use Rattle.kernel_laws.specs.declared.question_types.question.Question.TheVariants as asking
+use Rattle.filter_settings.specs.declared.filter_rules.namespace_types.NamespaceType.TheVariants as namespace
+use Rattle.kernel_laws.specs.declared.question_types.kind.CallKind.TheVariants as k
 use Rattle.kernel_laws.specs.Questions.{is_plain, IsAsked}
 use Rattle.kernel_laws.specs.Denied.{path_for, ReachesRow, ReachesCall, Performs, Reaches, Holds, IsDenied, is_family, asks_family, asks_space, asks_map, asks_protect, asks_attach, asks_realtime, asks_personality, asks_mode}
 use Rattle.kernel_laws.specs.Reach.{Leads, reaches}
@@ -54,8 +54,8 @@ use Rattle.kernel_laws.specs.Ceiling.{IsHeld, IsStable, TableIn}
 use Rattle.kernel_laws.specs.Bound.{power_of, ceiling, is_open, can_reach, is_to_exec, is_user, is_mounting, is_barred, can_have_cap, can_have_for, if_listed, is_call_open}
 use Rattle.kernel_laws.specs.NewerTables.{CanHaveNewer}
 use Rattle.kernel_laws.proofs.NewerTables.{tables_stable, rows_are_reached}
-use Rattle.kern_mounts.specs.Split.{Table}
-use Rattle.kern_mounts.specs.Mounts.{Mounts, steps_of}
+use Rattle.kernel_model.specs.kern_mounts.Split.{Table}
+use Rattle.kernel_model.specs.kern_mounts.Mounts.{Mounts, steps_of}
 use Rattle.kernel_model.specs.Step.{has_user_left}
 use Rattle.kernel_laws.specs.Laws.{DenialIsSound}
 use Rattle.kernel_laws.proofs.Runs.{through_of, own_allowed, first_allowed, can_make_one}

@@ -1,26 +1,26 @@
 -- Which folders a service cannot look into: no entry of a table that the power allows shows a place strictly below.
 use Rattle.std.specs.Prelude.{◌≡◌, ◌≤◌, ◌<◌, Bool, true, false, ◌&&◌, ◌||◌, not, [], ◌∷◌, ◌++◌, length, Option, Some, Ok}
 use Rattle.std.specs.List.{list_any, AllByRecursion}
-use Rattle.linux_numbers.specs.Limits.{mount_max}
-use Rattle.abs_path.specs.Paths.{Path, text_of, is_normal, is_root, proc}
-use Rattle.abs_path.specs.Prefix.{is_prefix, is_below, rest_of}
-use Rattle.site_table.specs.Kinds.{is_dir}
-use Rattle.site_table.specs.declared.row.Row.{Row}
-use Rattle.kern_mounts.specs.Entry.{leads_to}
-use Rattle.kern_mounts.specs.Finds.{host_place}
-use Rattle.kern_mounts.specs.Launch.{HasShortPlace}
-use Rattle.kern_mounts.specs.Split.{Table}
-use Rattle.kern_mounts.specs.Unmounts.{Unmounts, IsOrdered}
-use Rattle.kern_mounts.specs.declared.step.What.{What}
-use Rattle.kern_mounts.specs.declared.step.What.TheVariants.{Host, Empty, Hidden}
-use Rattle.kern_mounts.specs.declared.step.MountStep.{MountStep}
-use Rattle.kern_files.specs.MountCall.{ms_bind, target_kind, after_mount}
+use Rattle.filter_settings.specs.linux_numbers.Limits.{mount_max}
+use Rattle.kernel_model.specs.abs_path.Paths.{Path, text_of, is_normal, is_root, proc}
+use Rattle.kernel_model.specs.abs_path.Prefix.{is_prefix, is_below, rest_of}
+use Rattle.kernel_model.specs.site_table.Kinds.{is_dir}
+use Rattle.kernel_model.specs.site_table.declared.row.Row.{Row}
+use Rattle.kernel_model.specs.kern_mounts.Entry.{leads_to}
+use Rattle.kernel_model.specs.kern_mounts.Finds.{host_place}
+use Rattle.kernel_model.specs.kern_mounts.Launch.{HasShortPlace}
+use Rattle.kernel_model.specs.kern_mounts.Split.{Table}
+use Rattle.kernel_model.specs.kern_mounts.Unmounts.{Unmounts, IsOrdered}
+use Rattle.kernel_model.specs.kern_mounts.declared.step.What.{What}
+use Rattle.kernel_model.specs.kern_mounts.declared.step.What.TheVariants.{Host, Empty, Hidden}
+use Rattle.kernel_model.specs.kern_mounts.declared.step.MountStep.{MountStep}
+use Rattle.kernel_model.specs.kern_files.MountCall.{ms_bind, target_kind, after_mount}
 use Rattle.kernel_model.specs.World.{World}
 use Rattle.kernel_laws.specs.Bound.{power_of}
 use Rattle.kernel_laws.specs.Denied.{IsBlind, Exposes}
 use Rattle.kernel_laws.specs.Launched.{Launch, launch_of, IsLaunchedWorld}
-use Rattle.question_types.specs.declared.power.Power.{Power}
-use Rattle.question_types.specs.declared.power.Power.TheVariants.{None as Nowise, Unmount as Unmounting, Mount as Mounting}
+use Rattle.kernel_laws.specs.declared.question_types.power.Power.{Power}
+use Rattle.kernel_laws.specs.declared.question_types.power.Power.TheVariants.{None as Nowise, Unmount as Unmounting, Mount as Mounting}
 
 -- no later entry covers the path, or it can be uncovered
 abbrev pub is_clear : Bool → Path → Table → Bool

@@ -2,26 +2,26 @@
 use Rattle.std.specs.Prelude.{ℕ, ◌==◌, Bool, true, false, List, [], ◌∷◌, Option, Some, None, if◌then◌else◌, not, ◌&&◌, ◌||◌, slice_get}
 use Rattle.std.specs.List.{list_any}
 use Rattle.std.specs.Str.{bytes_eq}
-use Rattle.call_table.specs.declared.listed.CallLine.{CallLine}
-use Rattle.call_table.specs.Table.{every_call}
-use Rattle.cap_sets.specs.Sets.{has, none, union, cut, within}
-use Rattle.site_table.specs.declared.row.Row.{Row}
-use Rattle.linux_numbers.specs.Capabilities.{cap_sys_admin, cap_setuid, cap_setgid}
+use Rattle.filter_settings.specs.call_table.declared.listed.CallLine.{CallLine}
+use Rattle.filter_settings.specs.call_table.Table.{every_call}
+use Rattle.kernel_model.specs.cap_sets.Sets.{has, none, union, cut, within}
+use Rattle.kernel_model.specs.site_table.declared.row.Row.{Row}
+use Rattle.filter_settings.specs.linux_numbers.Capabilities.{cap_sys_admin, cap_setuid, cap_setgid}
 use Rattle.kernel_laws.specs.Bounds.{Bounds}
-use Rattle.site_table.specs.Kinds.{is_exe}
+use Rattle.kernel_model.specs.site_table.Kinds.{is_exe}
 use Rattle.kernel_laws.specs.Reach.{reaches}
-use Rattle.kernel_calls.specs.declared.rule.Rule.{Rule}
-use Rattle.kernel_calls.specs.declared.rule.Rule.TheVariants.{Plain}
-use Rattle.kernel_calls.specs.Rules.{rule_of}
-use Rattle.question_types.specs.declared.power.Power.{Power}
-use Rattle.question_types.specs.declared.power.Power.TheVariants.{None as Nowise, Unmount as Unmounting, Mount as Mounting}
-use Rattle.question_types.specs.declared.kind.CallKind.TheVariants.{ForPath, PlainCall, ForFamily, ForNamespace, MapsWx, ProtectsX, AttachesX, SchedulesRealtime, TakesPersonality, SetsMode, ChangesMounts, RemovesMounts, SetsCaps, TakesUid, TakesGid}
-use Rattle.question_types.specs.declared.wish.Wish.{Wish}
-use Rattle.question_types.specs.declared.wish.Wish.TheVariants.{See as ToSee, Read as ToRead, Write as ToWrite, Exec as ToExec}
-use Rattle.filter_rules.specs.declared.namespace_types.NamespaceType.{NamespaceType}
-use Rattle.filter_rules.specs.declared.namespace_types.NamespaceType.TheVariants.{User}
-use Rattle.question_types.specs.declared.question.Question.{Question}
-use Rattle.question_types.specs.declared.question.Question.TheVariants.{Path as ByPath, Call, Socket, Namespace as Ns, MapWx, ProtectX, ShmX, Realtime, Personality, SuidBit, Cap, Uid, Gid}
+use Rattle.kernel_model.specs.declared.kernel_calls.rule.Rule.{Rule}
+use Rattle.kernel_model.specs.declared.kernel_calls.rule.Rule.TheVariants.{Plain}
+use Rattle.kernel_model.specs.kernel_calls.Rules.{rule_of}
+use Rattle.kernel_laws.specs.declared.question_types.power.Power.{Power}
+use Rattle.kernel_laws.specs.declared.question_types.power.Power.TheVariants.{None as Nowise, Unmount as Unmounting, Mount as Mounting}
+use Rattle.kernel_laws.specs.declared.question_types.kind.CallKind.TheVariants.{ForPath, PlainCall, ForFamily, ForNamespace, MapsWx, ProtectsX, AttachesX, SchedulesRealtime, TakesPersonality, SetsMode, ChangesMounts, RemovesMounts, SetsCaps, TakesUid, TakesGid}
+use Rattle.kernel_laws.specs.declared.question_types.wish.Wish.{Wish}
+use Rattle.kernel_laws.specs.declared.question_types.wish.Wish.TheVariants.{See as ToSee, Read as ToRead, Write as ToWrite, Exec as ToExec}
+use Rattle.filter_settings.specs.declared.filter_rules.namespace_types.NamespaceType.{NamespaceType}
+use Rattle.filter_settings.specs.declared.filter_rules.namespace_types.NamespaceType.TheVariants.{User}
+use Rattle.kernel_laws.specs.declared.question_types.question.Question.{Question}
+use Rattle.kernel_laws.specs.declared.question_types.question.Question.TheVariants.{Path as ByPath, Call, Socket, Namespace as Ns, MapWx, ProtectX, ShmX, Realtime, Personality, SuidBit, Cap, Uid, Gid}
 use Rattle.kernel_laws.specs.Launched.{Launch, lets, lets_line, can_make_user}
 
 -- the union over the rows

@@ -1,10 +1,10 @@
 -- What no process of the service passes.
 use Rattle.std.specs.Prelude.{◌≡◌, ℕ, Bool, true, false, Some}
 use Rattle.std.specs.List.{AllByRecursion}
-use Rattle.cap_sets.specs.Sets.{IsWithin, cut}
-use Rattle.kern_creds.specs.declared.ids.Ids.{Ids}
-use Rattle.kern_creds.specs.declared.creds.Creds.{Creds}
-use Rattle.kern_creds.specs.declared.file.FileCreds.{FileCreds}
+use Rattle.kernel_model.specs.cap_sets.Sets.{IsWithin, cut}
+use Rattle.kernel_model.specs.kern_creds.declared.ids.Ids.{Ids}
+use Rattle.kernel_model.specs.kern_creds.declared.creds.Creds.{Creds}
+use Rattle.kernel_model.specs.kern_creds.declared.file.FileCreds.{FileCreds}
 
 -- most of the capabilities of each set, capabilities(7); the uids and gids that can be had, credentials(7); and whether
 -- no_new_privs is on for good, prctl(2)

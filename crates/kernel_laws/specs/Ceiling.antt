@@ -1,27 +1,27 @@
 -- What bounds every process of the service, and when such bounds are left by no call.
 use Rattle.std.specs.Prelude.{◌≡◌, ℕ, ◌-◌, Bool, true, false, ◌==◌, List, ◌++◌, length, Some, Ok, slice_get}
-use Rattle.bpf_code.specs.declared.machine.Insn.{Insn}
-use Rattle.abs_path.specs.Paths.{Path}
-use Rattle.cap_sets.specs.Sets.{has, IsWithin}
-use Rattle.site_table.specs.declared.row.Row.{Row}
-use Rattle.site_table.specs.Table.{row_at}
-use Rattle.kern_mounts.specs.Finds.{row, finds}
-use Rattle.kern_mounts.specs.Table.{StartsAtRoot}
-use Rattle.linux_numbers.specs.Capabilities.{cap_sys_admin, cap_setuid, cap_setgid}
+use Rattle.filter_settings.specs.bpf_code.declared.machine.Insn.{Insn}
+use Rattle.kernel_model.specs.abs_path.Paths.{Path}
+use Rattle.kernel_model.specs.cap_sets.Sets.{has, IsWithin}
+use Rattle.kernel_model.specs.site_table.declared.row.Row.{Row}
+use Rattle.kernel_model.specs.site_table.Table.{row_at}
+use Rattle.kernel_model.specs.kern_mounts.Finds.{row, finds}
+use Rattle.kernel_model.specs.kern_mounts.Table.{StartsAtRoot}
+use Rattle.filter_settings.specs.linux_numbers.Capabilities.{cap_sys_admin, cap_setuid, cap_setgid}
 use Rattle.kernel_laws.specs.Bounds.{Bounds, Keeps, IsSettled, Admits, KeepsIn}
-use Rattle.kern_mounts.specs.Mounts.{Mounts, steps_of, ArePlain}
-use Rattle.kern_mounts.specs.Split.{Table}
-use Rattle.site_table.specs.Kinds.{is_exe}
-use Rattle.kern_mounts.specs.Unmounts.{IsTrimmed}
-use Rattle.question_types.specs.declared.power.Power.{Power}
-use Rattle.question_types.specs.declared.power.Power.TheVariants.{None as Nowise, Unmount as Unmounting, Mount as Mounting}
-use Rattle.question_types.specs.declared.kind.CallKind.TheVariants.{ForNamespace, ChangesMounts, RemovesMounts, SetsCaps}
-use Rattle.filter_rules.specs.declared.namespace_types.NamespaceType.TheVariants.{User}
+use Rattle.kernel_model.specs.kern_mounts.Mounts.{Mounts, steps_of, ArePlain}
+use Rattle.kernel_model.specs.kern_mounts.Split.{Table}
+use Rattle.kernel_model.specs.site_table.Kinds.{is_exe}
+use Rattle.kernel_model.specs.kern_mounts.Unmounts.{IsTrimmed}
+use Rattle.kernel_laws.specs.declared.question_types.power.Power.{Power}
+use Rattle.kernel_laws.specs.declared.question_types.power.Power.TheVariants.{None as Nowise, Unmount as Unmounting, Mount as Mounting}
+use Rattle.kernel_laws.specs.declared.question_types.kind.CallKind.TheVariants.{ForNamespace, ChangesMounts, RemovesMounts, SetsCaps}
+use Rattle.filter_settings.specs.declared.filter_rules.namespace_types.NamespaceType.TheVariants.{User}
 use Rattle.kernel_model.specs.Effects.{Effect, Refuse, Answer, SetCreds, SetTable, Push, Child, OwnTable, UserChild, OwnUser, End}
-use Rattle.kern_files.specs.Looking.{flags_at}
-use Rattle.kern_files.specs.Executing.{marks_of}
-use Rattle.kern_files.specs.MountsCall.{mounts_after_mount, mounts_umount_answer}
-use Rattle.kern_mounts.specs.Copying.{locked_copy}
+use Rattle.kernel_model.specs.kern_files.Looking.{flags_at}
+use Rattle.kernel_model.specs.kern_files.Executing.{marks_of}
+use Rattle.kernel_model.specs.kern_files.MountsCall.{mounts_after_mount, mounts_umount_answer}
+use Rattle.kernel_model.specs.kern_mounts.Copying.{locked_copy}
 use Rattle.kernel_model.specs.World.{World, is_newer}
 use Rattle.kernel_model.specs.declared.process.Process.{Process}
 use Rattle.kernel_laws.specs.Launched.{Launch, lets, can_make_user}

@@ -2,30 +2,30 @@
 -- service cannot see.
 use Rattle.std.specs.Prelude.{◌≡◌, ℕ, ◌==◌, ◌&&◌, ◌||◌, ◌⊎◌, not, Bool, true, false, List, [], ◌∷◌, slice_get, Option, Some, None, Any, if◌then◌else◌}
 use Rattle.std.specs.List.{list_any}
-use Rattle.abs_path.specs.Paths.{Path}
-use Rattle.abs_path.specs.Prefix.{is_below}
-use Rattle.cap_sets.specs.Sets.{has}
-use Rattle.call_table.specs.declared.listed.CallLine.{CallLine}
-use Rattle.call_table.specs.Lookups.{numbered}
-use Rattle.call_table.specs.Table.{every_call, calls_in}
-use Rattle.site_table.specs.declared.row.Row.{Row}
-use Rattle.site_table.specs.Table.{row_at}
-use Rattle.kern_creds.specs.declared.creds.Creds.{Creds}
-use Rattle.kern_mounts.specs.Finds.{row, finds, host_place}
-use Rattle.kern_files.specs.Bits.{has_some, has_all}
-use Rattle.kern_files.specs.Looking.{is_reading, is_writing}
-use Rattle.kernel_calls.specs.declared.call.Call as call
-use Rattle.kernel_calls.specs.Calls.{IsPath, AreCalls}
-use Rattle.kernel_calls.specs.Doing as doing
-use Rattle.kernel_calls.specs.Doing.{Doing, Does, asked_of}
+use Rattle.kernel_model.specs.abs_path.Paths.{Path}
+use Rattle.kernel_model.specs.abs_path.Prefix.{is_below}
+use Rattle.kernel_model.specs.cap_sets.Sets.{has}
+use Rattle.filter_settings.specs.call_table.declared.listed.CallLine.{CallLine}
+use Rattle.filter_settings.specs.call_table.Lookups.{numbered}
+use Rattle.filter_settings.specs.call_table.Table.{every_call, calls_in}
+use Rattle.kernel_model.specs.site_table.declared.row.Row.{Row}
+use Rattle.kernel_model.specs.site_table.Table.{row_at}
+use Rattle.kernel_model.specs.kern_creds.declared.creds.Creds.{Creds}
+use Rattle.kernel_model.specs.kern_mounts.Finds.{row, finds, host_place}
+use Rattle.kernel_model.specs.kern_files.Bits.{has_some, has_all}
+use Rattle.kernel_model.specs.kern_files.Looking.{is_reading, is_writing}
+use Rattle.kernel_model.specs.declared.kernel_calls.call.Call as call
+use Rattle.kernel_model.specs.kernel_calls.Calls.{IsPath, AreCalls}
+use Rattle.kernel_model.specs.kernel_calls.Doing as doing
+use Rattle.kernel_model.specs.kernel_calls.Doing.{Doing, Does, asked_of}
 use Rattle.kernel_model.specs.declared.process.Process.{Process}
 use Rattle.kernel_model.specs.World.{World, process_of, living_of, table_of}
 use Rattle.kernel_model.specs.Runs.{Moment, moments, run, IsDone, AllDone}
-use Rattle.question_types.specs.declared.wish.Wish.{Wish}
-use Rattle.question_types.specs.declared.wish.Wish.TheVariants.{See as ToSee, Read as ToRead, Write as ToWrite, Exec as ToExec}
-use Rattle.filter_rules.specs.declared.namespace_types.NamespaceType.{NamespaceType}
-use Rattle.question_types.specs.declared.question.Question.{Question}
-use Rattle.question_types.specs.declared.question.Question.TheVariants.{Path as ByPath, Call, Socket, Namespace as Ns, MapWx, ProtectX, ShmX, Realtime, Personality, SuidBit, Cap, Uid, Gid}
+use Rattle.kernel_laws.specs.declared.question_types.wish.Wish.{Wish}
+use Rattle.kernel_laws.specs.declared.question_types.wish.Wish.TheVariants.{See as ToSee, Read as ToRead, Write as ToWrite, Exec as ToExec}
+use Rattle.filter_settings.specs.declared.filter_rules.namespace_types.NamespaceType.{NamespaceType}
+use Rattle.kernel_laws.specs.declared.question_types.question.Question.{Question}
+use Rattle.kernel_laws.specs.declared.question_types.question.Question.TheVariants.{Path as ByPath, Call, Socket, Namespace as Ns, MapWx, ProtectX, ShmX, Realtime, Personality, SuidBit, Cap, Uid, Gid}
 use Rattle.kernel_laws.specs.Questions.{flag_of}
 
 -- the path by which a call does what is wished: stat(2) and its like see, open(2) reads and writes by its access mode, creat(2)

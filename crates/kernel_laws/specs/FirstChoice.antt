@@ -1,25 +1,25 @@
 -- The filters of settings look at no more words than the first choices need.
 use Rattle.std.specs.Prelude.{◌≡◌, ℕ, ◌==◌, ◌<◌, ◌^◌, true, false, IfSome, List, Some}
 use Rattle.std.specs.List.{AllByRecursion}
-use Rattle.bpf_code.specs.declared.machine.CallData.{CallData}
-use Rattle.bpf_code.specs.declared.machine.Insn.{Insn}
-use Rattle.bpf_code.specs.declared.decision.Decision.TheVariants as decision
-use Rattle.bpf_code.specs.Meaning.{IsCallData}
-use Rattle.bpf_code.specs.Refusing.{ArePlain}
-use Rattle.bpf_code.specs.Stack.{answer_of, answers_of, decision_of}
-use Rattle.call_rules.specs.Action.{word_of}
-use Rattle.call_table.specs.declared.listed.CallLine.{CallLine}
-use Rattle.call_table.specs.Table as calls
-use Rattle.filter_rules.specs.declared.settings.FilterSettings.{FilterSettings}
-use Rattle.filter_rules.specs.declared.names.FilterName.{FilterName}
-use Rattle.filter_rules.specs.Wanted.{named_action, wanted_action}
-use Rattle.kernel_calls.specs.declared.payload.Payload.{Payload}
-use Rattle.kernel_calls.specs.Doing.{Doing, doing_by}
-use Rattle.question_types.specs.declared.kind.CallKind.{CallKind}
+use Rattle.filter_settings.specs.bpf_code.declared.machine.CallData.{CallData}
+use Rattle.filter_settings.specs.bpf_code.declared.machine.Insn.{Insn}
+use Rattle.filter_settings.specs.bpf_code.declared.decision.Decision.TheVariants as decision
+use Rattle.filter_settings.specs.bpf_code.Meaning.{IsCallData}
+use Rattle.filter_settings.specs.bpf_code.Refusing.{ArePlain}
+use Rattle.filter_settings.specs.bpf_code.Stack.{answer_of, answers_of, decision_of}
+use Rattle.filter_settings.specs.call_rules.Action.{word_of}
+use Rattle.filter_settings.specs.call_table.declared.listed.CallLine.{CallLine}
+use Rattle.filter_settings.specs.call_table.Table as calls
+use Rattle.filter_settings.specs.declared.filter_rules.settings.FilterSettings.{FilterSettings}
+use Rattle.filter_settings.specs.declared.filter_rules.names.FilterName.{FilterName}
+use Rattle.filter_settings.specs.filter_rules.Wanted.{named_action, wanted_action}
+use Rattle.kernel_model.specs.declared.kernel_calls.payload.Payload.{Payload}
+use Rattle.kernel_model.specs.kernel_calls.Doing.{Doing, doing_by}
+use Rattle.kernel_laws.specs.declared.question_types.kind.CallKind.{CallKind}
 use Rattle.kernel_laws.specs.Kinds.{asks, words, AreWords}
 use Rattle.kernel_laws.specs.Launched.{Launch, passes, Chosen}
-use Rattle.kernel_calls.specs.declared.rule.Rule.{Rule}
-use Rattle.kernel_calls.specs.Rules.{rule_of, rule_at}
+use Rattle.kernel_model.specs.declared.kernel_calls.rule.Rule.{Rule}
+use Rattle.kernel_model.specs.kernel_calls.Rules.{rule_of, rule_at}
 
 -- a filter that lets a call through that asks for a kind of thing lets the words through that ask for it first
 abbrev pub FirstPasses : Type 0

@@ -1,17 +1,17 @@
 -- Kinds of calls, by what they ask for; and the words, and of families the payload, with which a kind is asked for first.
 use Rattle.std.specs.Prelude.{◌≡◌, ℕ, ◌==◌, ◌&&◌, ◌<◌, ◌^◌, Bool, true, false, List, [], ◌∷◌, length, All, set, Option, Some, None}
 use Rattle.std.specs.Option.{is_some}
-use Rattle.call_names.specs.Known.{place_of}
-use Rattle.call_names.specs.declared.rule.CallRule.TheVariants as known
-use Rattle.kernel_calls.specs.declared.payload.Payload.{Payload}
-use Rattle.kernel_calls.specs.declared.payload.Payload.TheVariants.{Family, Nothing}
-use Rattle.kernel_calls.specs.declared.rule.Rule.{Rule}
-use Rattle.kernel_calls.specs.declared.rule.Rule.TheVariants as rule
-use Rattle.kernel_calls.specs.Doing as doing
-use Rattle.kernel_calls.specs.Doing.{Doing}
-use Rattle.question_types.specs.declared.wish.Wish.TheVariants.{See as ToSee, Read as ToRead, Write as ToWrite, Exec as ToExec}
-use Rattle.question_types.specs.declared.kind.CallKind.{CallKind}
-use Rattle.question_types.specs.declared.kind.CallKind.TheVariants.{ForPath, PlainCall, ForFamily, ForNamespace, MapsWx, ProtectsX, AttachesX, SchedulesRealtime, TakesPersonality, SetsMode, ChangesMounts, RemovesMounts, SetsCaps, TakesUid, TakesGid}
+use Rattle.filter_settings.specs.call_table.call_names.Known.{place_of}
+use Rattle.filter_settings.specs.call_table.declared.call_names.rule.CallRule.TheVariants as known
+use Rattle.kernel_model.specs.declared.kernel_calls.payload.Payload.{Payload}
+use Rattle.kernel_model.specs.declared.kernel_calls.payload.Payload.TheVariants.{Family, Nothing}
+use Rattle.kernel_model.specs.declared.kernel_calls.rule.Rule.{Rule}
+use Rattle.kernel_model.specs.declared.kernel_calls.rule.Rule.TheVariants as rule
+use Rattle.kernel_model.specs.kernel_calls.Doing as doing
+use Rattle.kernel_model.specs.kernel_calls.Doing.{Doing}
+use Rattle.kernel_laws.specs.declared.question_types.wish.Wish.TheVariants.{See as ToSee, Read as ToRead, Write as ToWrite, Exec as ToExec}
+use Rattle.kernel_laws.specs.declared.question_types.kind.CallKind.{CallKind}
+use Rattle.kernel_laws.specs.declared.question_types.kind.CallKind.TheVariants.{ForPath, PlainCall, ForFamily, ForNamespace, MapsWx, ProtectsX, AttachesX, SchedulesRealtime, TakesPersonality, SetsMode, ChangesMounts, RemovesMounts, SetsCaps, TakesUid, TakesGid}
 use Rattle.kernel_laws.specs.Questions.{flag_of}
 use Rattle.kernel_laws.specs.Denied.{path_for, asks_space, asks_map, asks_protect, asks_attach, asks_realtime, asks_personality, asks_mode}
 

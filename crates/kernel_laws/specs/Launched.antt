@@ -1,36 +1,36 @@
 -- A launched service: what it begins with, what its filters let through, and the facts that a launch ensures.
 use Rattle.std.specs.Prelude.{◌≡◌, ℕ, ◌<◌, ◌^◌, ◌&&◌, nat_lt, Bool, true, false, List, [], ◌∷◌, length, All, slice_get, Option, Some, None}
 use Rattle.std.specs.List.{AllByRecursion, list_any}
-use Rattle.bpf_code.specs.declared.machine.Insn.{Insn}
-use Rattle.bpf_code.specs.declared.machine.CallData.{CallData}
-use Rattle.bpf_code.specs.declared.decision.Decision.{Decision}
-use Rattle.bpf_code.specs.declared.decision.Decision.TheVariants as decision
-use Rattle.bpf_code.specs.Meaning.{IsCallData}
-use Rattle.bpf_code.specs.Stack.{answers_of, decision_on}
-use Rattle.bpf_code.specs.Refusing.{ArePlain}
-use Rattle.cap_sets.specs.Sets.{IsWithin}
-use Rattle.call_table.specs.declared.listed.CallLine.{CallLine}
-use Rattle.call_table.specs.Table as calls
-use Rattle.call_table.specs.Lookups.{IsInRange, place_numbered}
-use Rattle.call_table.specs.Facts.{AreOf}
-use Rattle.site_table.specs.Table.{Site}
-use Rattle.kern_creds.specs.declared.creds.Creds.{Creds}
-use Rattle.kern_creds.specs.Start as creds
-use Rattle.kern_mounts.specs.Mounts.{ArePlain as ArePlainMounts}
-use Rattle.kern_mounts.specs.Split.{Table}
-use Rattle.kern_mounts.specs.Table.{StartsAtRoot}
-use Rattle.kern_mounts.specs.Unmounts.{IsOrdered}
-use Rattle.kern_mounts.specs.declared.step.MountStep.{MountStep}
-use Rattle.kernel_calls.specs.declared.payload.Payload.{Payload}
-use Rattle.kernel_calls.specs.declared.rule.Rule.{Rule}
-use Rattle.kernel_calls.specs.Rules.{rule_of, rule_at}
-use Rattle.kernel_calls.specs.Doing.{Doing, doing_by}
+use Rattle.filter_settings.specs.bpf_code.declared.machine.Insn.{Insn}
+use Rattle.filter_settings.specs.bpf_code.declared.machine.CallData.{CallData}
+use Rattle.filter_settings.specs.bpf_code.declared.decision.Decision.{Decision}
+use Rattle.filter_settings.specs.bpf_code.declared.decision.Decision.TheVariants as decision
+use Rattle.filter_settings.specs.bpf_code.Meaning.{IsCallData}
+use Rattle.filter_settings.specs.bpf_code.Stack.{answers_of, decision_on}
+use Rattle.filter_settings.specs.bpf_code.Refusing.{ArePlain}
+use Rattle.kernel_model.specs.cap_sets.Sets.{IsWithin}
+use Rattle.filter_settings.specs.call_table.declared.listed.CallLine.{CallLine}
+use Rattle.filter_settings.specs.call_table.Table as calls
+use Rattle.filter_settings.specs.call_table.Lookups.{IsInRange, place_numbered}
+use Rattle.filter_settings.specs.call_table.Facts.{AreOf}
+use Rattle.kernel_model.specs.site_table.Table.{Site}
+use Rattle.kernel_model.specs.kern_creds.declared.creds.Creds.{Creds}
+use Rattle.kernel_model.specs.kern_creds.Start as creds
+use Rattle.kernel_model.specs.kern_mounts.Mounts.{ArePlain as ArePlainMounts}
+use Rattle.kernel_model.specs.kern_mounts.Split.{Table}
+use Rattle.kernel_model.specs.kern_mounts.Table.{StartsAtRoot}
+use Rattle.kernel_model.specs.kern_mounts.Unmounts.{IsOrdered}
+use Rattle.kernel_model.specs.kern_mounts.declared.step.MountStep.{MountStep}
+use Rattle.kernel_model.specs.declared.kernel_calls.payload.Payload.{Payload}
+use Rattle.kernel_model.specs.declared.kernel_calls.rule.Rule.{Rule}
+use Rattle.kernel_model.specs.kernel_calls.Rules.{rule_of, rule_at}
+use Rattle.kernel_model.specs.kernel_calls.Doing.{Doing, doing_by}
 use Rattle.kernel_model.specs.declared.process.Process.{Process}
 use Rattle.kernel_model.specs.World.{World, of_number, process_of, mounts_of, table_of}
 use Rattle.kernel_laws.specs.Kinds.{asks, words, AreWords}
-use Rattle.question_types.specs.declared.kind.CallKind.{CallKind}
-use Rattle.question_types.specs.declared.kind.CallKind.TheVariants.{ForNamespace}
-use Rattle.filter_rules.specs.declared.namespace_types.NamespaceType.TheVariants.{User}
+use Rattle.kernel_laws.specs.declared.question_types.kind.CallKind.{CallKind}
+use Rattle.kernel_laws.specs.declared.question_types.kind.CallKind.TheVariants.{ForNamespace}
+use Rattle.filter_settings.specs.declared.filter_rules.namespace_types.NamespaceType.TheVariants.{User}
 
 -- the tables that the kernel is told, and what process 1 has: credentials(7), its filters (seccomp(2)), the oldest first, and its
 -- mount table (mount_namespaces(7))

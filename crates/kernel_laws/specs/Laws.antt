@@ -1,12 +1,12 @@
 -- What the ceiling of a launched service promises.
 use Rattle.std.specs.Prelude.{◌≡◌, false}
 use Rattle.std.specs.List.{AllByRecursion}
-use Rattle.call_table.specs.Table as table
-use Rattle.site_table.specs.Table.{Site}
+use Rattle.filter_settings.specs.call_table.Table as table
+use Rattle.kernel_model.specs.site_table.Table.{Site}
 use Rattle.kernel_laws.specs.Bound.{is_open, power_of}
 use Rattle.kernel_laws.specs.Denied.{IsDenied}
 use Rattle.kernel_laws.specs.Launched.{launch_of, IsLaunchedWorld}
-use Rattle.question_types.specs.declared.question.Question.{Question}
+use Rattle.kernel_laws.specs.declared.question_types.question.Question.{Question}
 use Rattle.kernel_laws.specs.Questions.{IsAsked, questions}
 use Rattle.kernel_model.specs.World.{World}
 

@@ -1,17 +1,17 @@
 -- What a namespace that belongs to a newer user namespace shows is shown without it.
 use Rattle.std.specs.Prelude.{◌≡◌, true, false, map}
-use Rattle.abs_path.specs.Paths.{Path}
-use Rattle.kern_mounts.specs.Split.{Table}
-use Rattle.kern_mounts.specs.Unmounts.{IsOrdered}
-use Rattle.kern_mounts.specs.Mounts.{Mounts, plain, steps_of}
-use Rattle.kern_mounts.specs.Copying.{locked_copy}
-use Rattle.kern_mounts.specs.Backing.{AreBacked}
-use Rattle.kern_mounts.specs.Changes.{Changes}
+use Rattle.kernel_model.specs.abs_path.Paths.{Path}
+use Rattle.kernel_model.specs.kern_mounts.Split.{Table}
+use Rattle.kernel_model.specs.kern_mounts.Unmounts.{IsOrdered}
+use Rattle.kernel_model.specs.kern_mounts.Mounts.{Mounts, plain, steps_of}
+use Rattle.kernel_model.specs.kern_mounts.Copying.{locked_copy}
+use Rattle.kernel_model.specs.kern_mounts.Backing.{AreBacked}
+use Rattle.kernel_model.specs.kern_mounts.Changes.{Changes}
 use Rattle.kernel_laws.specs.Blind.{SeesBelow, blind_at}
 use Rattle.kernel_laws.specs.Ceiling.{CanHave}
-use Rattle.question_types.specs.declared.wish.Wish.{Wish}
-use Rattle.question_types.specs.declared.power.Power.{Power}
-use Rattle.question_types.specs.declared.power.Power.TheVariants.{None as Nowise, Unmount as Unmounting, Mount as Mounting}
+use Rattle.kernel_laws.specs.declared.question_types.wish.Wish.{Wish}
+use Rattle.kernel_laws.specs.declared.question_types.power.Power.{Power}
+use Rattle.kernel_laws.specs.declared.question_types.power.Power.TheVariants.{None as Nowise, Unmount as Unmounting, Mount as Mounting}
 use Rattle.kernel_laws.specs.Reach.{Leads, reaches}
 use Rattle.kernel_laws.specs.Showing.{shown_by}
 

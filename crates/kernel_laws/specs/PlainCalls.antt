@@ -1,9 +1,9 @@
 -- A call that process 1 makes without words and without a payload; what is shown is not denied.
 use Rattle.std.specs.Prelude.{ℕ, List}
-use Rattle.kernel_calls.specs.declared.call.Call as call
-use Rattle.kernel_calls.specs.declared.payload.Payload.TheVariants.{Nothing}
+use Rattle.kernel_model.specs.declared.kernel_calls.call.Call as call
+use Rattle.kernel_model.specs.declared.kernel_calls.payload.Payload.TheVariants.{Nothing}
 use Rattle.kernel_model.specs.World.{World}
-use Rattle.question_types.specs.declared.question.Question.{Question}
+use Rattle.kernel_laws.specs.declared.question_types.question.Question.{Question}
 use Rattle.kernel_laws.specs.Kinds.{no_words}
 use Rattle.kernel_laws.specs.Denied.{IsDenied, Shows}
 

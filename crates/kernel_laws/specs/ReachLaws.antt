@@ -1,12 +1,12 @@
 -- Reach says exactly what can be found.
 use Rattle.std.specs.Prelude.{◌≡◌, true}
-use Rattle.abs_path.specs.Paths.{Path}
-use Rattle.kern_mounts.specs.Table.{StartsAtRoot}
-use Rattle.kern_mounts.specs.Split.{Table}
-use Rattle.question_types.specs.declared.wish.Wish.{Wish}
-use Rattle.question_types.specs.declared.power.Power.TheVariants.{None as Nowise, Unmount as Unmounting}
+use Rattle.kernel_model.specs.abs_path.Paths.{Path}
+use Rattle.kernel_model.specs.kern_mounts.Table.{StartsAtRoot}
+use Rattle.kernel_model.specs.kern_mounts.Split.{Table}
+use Rattle.kernel_laws.specs.declared.question_types.wish.Wish.{Wish}
+use Rattle.kernel_laws.specs.declared.question_types.power.Power.TheVariants.{None as Nowise, Unmount as Unmounting}
 use Rattle.kernel_laws.specs.Reach.{Leads, reaches}
-use Rattle.kern_mounts.specs.Unmounts.{Unmounts, IsOrdered}
+use Rattle.kernel_model.specs.kern_mounts.Unmounts.{Unmounts, IsOrdered}
 
 -- with no power: exactly where a path of this very table finds the row
 abbrev pub ReachOfTheTable : Type 0

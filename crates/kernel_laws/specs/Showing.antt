@@ -1,11 +1,11 @@
 -- What the mounts of the first user namespace show of the host, by how far they can be changed.
 use Rattle.std.specs.Prelude.{Bool, true, false, [], ◌∷◌, not, ◌&&◌, ◌||◌}
-use Rattle.abs_path.specs.Paths.{Path}
-use Rattle.kern_mounts.specs.declared.step.Flags.{Flags}
-use Rattle.kern_mounts.specs.Split.{Table}
-use Rattle.kern_mounts.specs.Keeping.{lacks}
-use Rattle.question_types.specs.declared.power.Power.{Power}
-use Rattle.question_types.specs.declared.power.Power.TheVariants.{None as Nowise, Unmount as Unmounting, Mount as Mounting}
+use Rattle.kernel_model.specs.abs_path.Paths.{Path}
+use Rattle.kernel_model.specs.kern_mounts.declared.step.Flags.{Flags}
+use Rattle.kernel_model.specs.kern_mounts.Split.{Table}
+use Rattle.kernel_model.specs.kern_mounts.Keeping.{lacks}
+use Rattle.kernel_laws.specs.declared.question_types.power.Power.{Power}
+use Rattle.kernel_laws.specs.declared.question_types.power.Power.TheVariants.{None as Nowise, Unmount as Unmounting, Mount as Mounting}
 use Rattle.kernel_laws.specs.Reach.{shows_row}
 
 -- an entry of the table, with these flags or fewer, shows the host's path at a path that no later entry covers, or that can

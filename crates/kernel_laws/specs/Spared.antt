@@ -2,15 +2,15 @@
 -- the second whether CAP_SETGID may.
 use Rattle.std.specs.Prelude.{◌≡◌, Bool, true, false, List, Some}
 use Rattle.std.specs.List.{AllByRecursion}
-use Rattle.cap_sets.specs.Sets.{has}
-use Rattle.linux_numbers.specs.Capabilities.{cap_setuid, cap_setgid}
-use Rattle.kern_creds.specs.declared.creds.Creds.{Creds}
-use Rattle.kernel_calls.specs.declared.call.Call.{Call}
-use Rattle.kernel_calls.specs.Doing.{Doing, Does, asked_of}
+use Rattle.kernel_model.specs.cap_sets.Sets.{has}
+use Rattle.filter_settings.specs.linux_numbers.Capabilities.{cap_setuid, cap_setgid}
+use Rattle.kernel_model.specs.kern_creds.declared.creds.Creds.{Creds}
+use Rattle.kernel_model.specs.declared.kernel_calls.call.Call.{Call}
+use Rattle.kernel_model.specs.kernel_calls.Doing.{Doing, Does, asked_of}
 use Rattle.kernel_model.specs.Runs.{moments}
 use Rattle.kernel_model.specs.World.{World, living_of, is_newer}
 use Rattle.kernel_model.specs.declared.process.Process.{Process}
-use Rattle.question_types.specs.declared.kind.CallKind.TheVariants.{TakesUid, TakesGid}
+use Rattle.kernel_laws.specs.declared.question_types.kind.CallKind.TheVariants.{TakesUid, TakesGid}
 use Rattle.kernel_laws.specs.Kinds.{asks}
 
 -- a call that takes a uid is made with CAP_SETUID only where this may be used, and one that takes a gid with CAP_SETGID only where

@@ -40,3 +40,10 @@ pub fn blindness()
     ensures by_unmounts { ExposesByUnmounts }
     ensures by_mount { ExposedByMount }
 {}
+
+pub mod question_types;
+
+pub use filter_settings;
+pub use filter_settings::{bpf_code, call_table, linux_numbers};
+pub use kernel_model;
+pub use kernel_model::{abs_path, kern_mounts, site_table};

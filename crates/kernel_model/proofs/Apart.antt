@@ -1,7 +1,6 @@
 -- Processes in namespaces of their own: children, as clone(2) makes them, and callers that are moved, as by unshare(2).
-use Rattle.std.proofs.Common.{◌≡◌, ℕ, ◌<◌, ◌+◌, ◌==◌, true, false, Bool, List, [], ◌∷◌, ◌++◌, length, get_or, Some, refl, sym, ap, ◌∙◌, subst}
+use Rattle.std.proofs.Common.{◌≡◌, ℕ, ◌<◌, ◌+◌, ◌==◌, true, false, List, [], ◌∷◌, ◌++◌, length, get_or, Some, refl, sym, ap, ◌∙◌, subst}
 use Rattle.std.specs.Prelude.{slice_get, slice_set, not}
-use Rattle.site_table.specs.Table.{Site}
 use Rattle.kern_creds.specs.declared.creds.Creds.{Creds}
 use Rattle.kern_creds.specs.Enter.{entered}
 use Rattle.kern_mounts.specs.Mounts.{Mounts as Table}
@@ -85,26 +84,6 @@ moved_apart viewed state v place at who old names table ps ts os count space ins
     let out : ◌≡◌ {A = Reply × World} (Done 0, world_of calls site (record { processes = ps; tables = ts; owners = os; users = viewed.users })) (Done 0, with_process (with_copy world process.namespace process.user) pid (moved_to process (length state.tables))) =
     rw (made, copies_it, owned, used) refl in
     out ∙ effect_is world pid process OwnTable _ (case.moves space)
-
--- the same in a user namespace that is made with it
-pub user_shared : (viewed state : State) → viewed ≡ state → (place : ℕ) (old child : Process) (sets : Creds) (ps : List Process) (count : ℕ)
-    → length state.processes < most_processes → old ≡ get_or viewed.processes place old → child ≡ old → sets ≡ entered child.creds
-    → ps ≡ viewed.processes ++ record child { creds = sets; user = viewed.users + 2 } ∷ [] → count ≡ length ps
-    → AppliesUser state place (UserChild false) (Done count) (record { processes = ps; tables = viewed.tables; owners = viewed.owners; users = viewed.users + 1 })
-user_shared viewed state v place old child sets ps count room is child_is sets_is ps_is count_is = λ site left calls pid process place_is stands.
-    let world : World = world_of calls site state in
-    let same : child ≡ process = child_is ∙ seated viewed state v place old process is stands in
-    let enters : record child { creds = sets; user = viewed.users + 2 } ≡ entered_by process state.users =
-    ap (λ (c : Creds). record child { creds = c; user = viewed.users + 2 }) sets_is ∙ ap (λ (p : Process). entered_by p viewed.users) same ∙ ap (λ (s : State). entered_by process s.users) v in
-    let made : ps ≡ state.processes ++ entered_by process state.users ∷ [] =
-    ps_is ∙ ap (λ (s : State). s.processes ++ record child { creds = sets; user = viewed.users + 2 } ∷ []) v ∙ ap (λ (p : Process). state.processes ++ p ∷ []) enters in
-    let counted : count ≡ length state.processes + 1 = count_is ∙ ap (λ (xs : List Process). length xs) made ∙ length-push state.processes (entered_by process state.users) in
-    let tabled : viewed.tables ≡ state.tables = ap (λ (s : State). s.tables) v in
-    let owned : viewed.owners ≡ state.owners = ap (λ (s : State). s.owners) v in
-    let used : viewed.users ≡ state.users = ap (λ (s : State). s.users) v in
-    let out : ◌≡◌ {A = Reply × World} (Done count, world_of calls site (record { processes = ps; tables = viewed.tables; owners = viewed.owners; users = viewed.users + 1 })) (Done (length state.processes + 1), with_child (with_user world) (entered_by process state.users)) =
-    rw (counted, made, tabled, owned, used) refl in
-    out ∙ effect_is world pid process (UserChild false) _ (case.gives_user left room)
 
 pub user_made_apart : (viewed state : State) → viewed ≡ state → (place at : ℕ) (old child : Process) (sets : Creds) (mid : List Table) (names : List ℕ) (table : Table) (ps : List Process) (ts : List Table) (os : List ℕ) (namespace count : ℕ)
     → length state.processes < most_processes → length state.tables < most_namespaces → at < length state.tables → length state.owners ≡ length state.tables → AtPlace state place (λ pid process. at + 1 ≡ process.namespace)
@@ -192,11 +171,3 @@ owns_here viewed state v place at owner who inside each spaces owner_is who_is p
     let same : owner ≡ found.0 = get_same state.owners at owner found.0 (subst (λ (s : State). owner ≡ get_or s.owners at owner) v owner_is) found.1 in
     let belongs : of_number state.owners process.namespace ≡ Some found.0 = has_number state.owners process.namespace at found.0 (spaces pid process place_is stands) found.1 in
     ap (λ (n : ℕ). n == who.user) (same ∙ sym (ap owner_or belongs)) ∙ ap (λ (p : Process). owner_or (of_number state.owners process.namespace) == p.user) (seated viewed state v place who process who_is stands)
-
--- the copy is that of the table, or the locked one
-pub copy_for : (viewed state : State) → viewed ≡ state → (at owner user : ℕ) (own table : Table) → at < length state.tables → owner ≡ get_or viewed.owners at owner → own ≡ get_or viewed.tables at own
-    → table ≡ copied (not (owner == user)) own → IsCopyFor state at user table
-copy_for viewed state v at owner user own table inside owner_is own_is is other name other_is name_is =
-    let same_own : own ≡ other = get_same state.tables at own other (subst (λ (s : State). own ≡ get_or s.tables at own) v own_is) other_is in
-    let same_owner : owner ≡ name = get_same state.owners at owner name (subst (λ (s : State). owner ≡ get_or s.owners at owner) v owner_is) name_is in
-    is ∙ ap (λ (t : Table). copied (not (owner == user)) t) same_own ∙ ap (λ (n : ℕ). copied (not (n == user)) other) same_owner

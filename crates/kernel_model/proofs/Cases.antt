@@ -4,9 +4,9 @@ use Rattle.std.specs.Prelude.{nat_lt}
 use Rattle.bpf_code.specs.declared.decision.Decision.{Decision}
 use Rattle.bpf_code.specs.declared.decision.Decision.TheVariants as decision
 use Rattle.bpf_code.specs.Stack.{decision_on}
-use Rattle.linux_numbers.specs.Errnos.{eagain, enospc}
-use Rattle.kernel_calls.specs.declared.call.Call.{Call}
-use Rattle.kernel_calls.specs.Doing.{Asked, Lacking, Misformed, Does, asked_of}
+use Rattle.kern_mounts.specs.linux_numbers.Errnos.{eagain, enospc}
+use Rattle.kernel_model.specs.declared.kernel_calls.call.Call.{Call}
+use Rattle.kernel_model.specs.kernel_calls.Doing.{Asked, Lacking, Misformed, Does, asked_of}
 use Rattle.kernel_model.specs.declared.process.Process.{Process}
 use Rattle.kernel_model.specs.declared.reply.Reply.{Reply}
 use Rattle.kernel_model.specs.declared.reply.Reply.TheVariants as reply

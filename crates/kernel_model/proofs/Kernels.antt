@@ -5,11 +5,11 @@ use Rattle.std.specs.List.{AllByRecursion}
 use Rattle.bpf_code.specs.declared.machine.Insn.{Insn}
 use Rattle.bpf_code.specs.ProgramOf.{program_of}
 use Rattle.bpf_code.specs.Stack.{room_of}
-use Rattle.cap_sets.specs.Sets.{has}
-use Rattle.linux_numbers.specs.Errnos.{eperm, eacces, einval, enospc, enomem}
-use Rattle.linux_numbers.specs.Capabilities.{cap_sys_admin, cap_last_cap}
-use Rattle.linux_numbers.specs.Limits.{max_insns_per_path, no_id}
-use Rattle.kern_files.specs.Bits.{has_some}
+use Rattle.site_table.specs.cap_sets.Sets.{has}
+use Rattle.kern_mounts.specs.linux_numbers.Errnos.{eperm, eacces, einval, enomem}
+use Rattle.kern_mounts.specs.linux_numbers.Capabilities.{cap_sys_admin, cap_last_cap}
+use Rattle.kern_mounts.specs.linux_numbers.Limits.{max_insns_per_path, no_id}
+use Rattle.kernel_model.specs.kern_files.Bits.{has_some}
 use Rattle.call_table.specs.declared.listed.CallLine.{CallLine}
 use Rattle.kern_creds.specs.declared.creds.Creds.{Creds}
 use Rattle.kern_creds.specs.Prctl.{after_drop_bounding, after_raise, after_lower, after_clear_ambient, after_set_keepcaps, after_set_no_new_privs}
@@ -18,10 +18,10 @@ use Rattle.kern_creds.specs.Setresuid.{after_setresuid, after_setresgid}
 use Rattle.kern_creds.specs.Setgroups.{after_setgroups}
 use Rattle.kern_mounts.specs.Copying.{locked_copy, copied}
 use Rattle.kern_mounts.specs.Mounts.{Mounts as Table}
-use Rattle.kern_files.specs.MountsCall.{mounts_after_mount, mounts_umount_answer}
-use Rattle.kernel_calls.specs.declared.call.Call.{Call}
-use Rattle.kernel_calls.specs.Doing as d
-use Rattle.kernel_calls.specs.Doing.{Doing}
+use Rattle.kernel_model.specs.kern_files.MountsCall.{mounts_after_mount, mounts_umount_answer}
+use Rattle.kernel_model.specs.declared.kernel_calls.call.Call.{Call}
+use Rattle.kernel_model.specs.kernel_calls.Doing as d
+use Rattle.kernel_model.specs.kernel_calls.Doing.{Doing}
 use Rattle.kernel_model.specs.declared.process.Process.{Process}
 use Rattle.kernel_model.specs.declared.reply.Reply.{Reply}
 use Rattle.kernel_model.specs.Effects as f
@@ -317,10 +317,6 @@ kernel_copy world namespace user k room h =
 moved_space : (world : World) (namespace user : ℕ) (process : Process) → HasSpace (length (with_copy world namespace user).tables) (moved_to process (length world.tables))
 moved_space world namespace user process =
     subst (λ (n : ℕ). HasSpace n (moved_to process (length world.tables))) (sym (length-push world.tables (copied (not (owner_of world namespace == user)) (mounts_of world namespace)))) (new_space (length world.tables) process)
-
--- one user namespace more
-kernel_user : (world : World) → Kernel world → Kernel (with_user world)
-kernel_user world k = k
 
 kernel_effect : (world : World) (pid : ℕ) (process : Process) (effect : Effect) (out : Reply × World) → Kernel world → HasSpace (length world.tables) process → IsRooted (mounts_of world process.namespace) → MakesRooted effect
     → EffectCase world pid process effect out → Kernel out.1

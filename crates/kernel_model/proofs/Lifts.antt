@@ -1,10 +1,9 @@
 -- From what is done at a caller's place to the whole world.
-use Rattle.std.proofs.Common.{◌≡◌, ℕ, ◌<◌, ◌-◌, ◌+◌, Bool, true, false, [], ◌∷◌, ◌++◌, length, get_or, Some, Result, Ok, Err, refl, sym, ap, ◌∙◌, subst, arith, ◌≤◌, Option}
+use Rattle.std.proofs.Common.{◌≡◌, ℕ, ◌<◌, ◌-◌, ◌+◌, Bool, true, false, [], ◌∷◌, ◌++◌, length, get_or, Some, Result, Ok, Err, refl, sym, ap, ◌∙◌, subst, arith, Option}
 use Rattle.std.specs.Prelude.{◌||◌, ◌==◌, nat_lt, slice_get, slice_set, IfOk, OnErr, IsOk}
 use Rattle.std.specs.List.{AllByRecursion}
 use Rattle.std.specs.Option.{option_map_or}
-use Rattle.std.proofs.lemmas.Option.{slice_get-get_or, slice_get_past}
-use Rattle.linux_numbers.specs.Errnos.{enosys}
+use Rattle.std.proofs.lemmas.Option.{slice_get-get_or}
 use Rattle.kernel_model.specs.declared.reply.Reply.TheVariants.{Refused}
 use Rattle.bpf_code.specs.declared.decision.Decision.{Decision}
 use Rattle.bpf_code.specs.declared.decision.Decision.TheVariants as decision
@@ -13,8 +12,8 @@ use Rattle.call_table.specs.Table as calls
 use Rattle.call_table.specs.Table.{Abi, abis, native, abi_at, arch_of}
 use Rattle.site_table.specs.Table.{Site}
 use Rattle.kern_mounts.specs.Mounts.{Mounts as Table}
-use Rattle.kernel_calls.specs.declared.call.Call.{Call}
-use Rattle.kernel_calls.specs.Doing.{Doing, Does, asked_of}
+use Rattle.kernel_model.specs.declared.kernel_calls.call.Call.{Call}
+use Rattle.kernel_model.specs.kernel_calls.Doing.{Doing, Does, asked_of}
 use Rattle.kernel_model.specs.declared.process.Process.{Process}
 use Rattle.kernel_model.specs.declared.reply.Reply.{Reply}
 use Rattle.kernel_model.specs.declared.reply.Reply.TheVariants as reply
@@ -297,15 +296,6 @@ pub decides_here : (calls : calls.Table) (site : Site) (state : State) (place : 
     → AtPlace state place (λ pid process. d ≡ decision_of (world_of calls site state) call process)
 decides_here calls site state place call arch d lt e h pid process at stands =
     h pid process at stands ∙ ap (λ (a : ℕ). decision_on process.stack (record { nr = call.nr; arch = a; ip = 0; args = call.args })) e ∙ in_abi calls call process lt
-
--- an ABI that the table lacks
-pub no_abi : (table : calls.Table) (call : Call) (process : Process) → length (abis table) ≤ call.abi → decision_by call process (abi_at table call.abi) ≡ decision.Errno enosys
-no_abi table call process le = ap (decision_by call process) (slice_get_past (abis table) call.abi le)
-
-pub step_lacks_abi : (viewed world : World) → viewed ≡ world → (call : Call) (place : ℕ) → place_of viewed.processes call.pid ≡ Some place → length (abis viewed.calls) ≤ call.abi → (Refused enosys, world) ≡ step world call
-step_lacks_abi viewed world v call place at le =
-    let who = stands viewed call.pid place at in
-    subst (λ (w : World). (Refused enosys, w) ≡ step w call) v (sym (ap (step_by viewed call) who.lives ∙ ap (decided viewed call who.caller) (no_abi viewed.calls call who.caller le)))
 
 -- the effect of what the process at a place asks for
 abbrev pub effect_at : calls.Table → Site → State → Doing → Process → Effect

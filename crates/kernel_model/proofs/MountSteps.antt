@@ -1,8 +1,8 @@
 -- Mount steps: at the root, on a table, and in the world.
 use Rattle.std.proofs.Common.{◌≡◌, ℕ, zero, suc, ◌<◌, ◌-◌, ◌+◌, true, List, [], ◌∷◌, length, get_or, Option, Some, Result, Ok, Err, refl, sym, ap, ◌∙◌, subst, arith}
 use Rattle.std.specs.Prelude.{slice_get, slice_set, OnErr, OnOk}
-use Rattle.abs_path.specs.Paths.{is_root}
-use Rattle.linux_numbers.specs.Limits.{mount_max}
+use Rattle.site_table.specs.abs_path.Paths.{is_root}
+use Rattle.kern_mounts.specs.linux_numbers.Limits.{mount_max}
 use Rattle.call_table.specs.Table as calls
 use Rattle.site_table.specs.Table.{Site}
 use Rattle.kern_mounts.specs.declared.step.MountStep.{MountStep}

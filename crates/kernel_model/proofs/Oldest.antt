@@ -1,7 +1,7 @@
 -- The oldest programs of every process stay, whatever is called.
 use Rattle.std.proofs.Common.{◌≡◌, ℕ, ◌-◌, List, [], ◌∷◌, ◌++◌, length, append_assoc, Some, ap, ◌∙◌}
 use Rattle.bpf_code.specs.declared.machine.Insn.{Insn}
-use Rattle.kernel_calls.specs.declared.call.Call.{Call}
+use Rattle.kernel_model.specs.declared.kernel_calls.call.Call.{Call}
 use Rattle.kernel_model.specs.declared.process.Process.{Process}
 use Rattle.kernel_model.specs.declared.reply.Reply.{Reply}
 use Rattle.kernel_model.specs.Effects.{Effect, effect_of}

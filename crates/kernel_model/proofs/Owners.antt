@@ -5,7 +5,7 @@ use Rattle.kern_mounts.specs.Copying.{copied}
 use Rattle.site_table.specs.Table.{Site}
 use Rattle.call_table.specs.Table as calls
 use Rattle.kern_mounts.specs.Mounts.{Mounts as Table}
-use Rattle.kernel_calls.specs.declared.call.Call.{Call}
+use Rattle.kernel_model.specs.declared.kernel_calls.call.Call.{Call}
 use Rattle.kernel_model.specs.declared.process.Process.{Process}
 use Rattle.kernel_model.specs.declared.reply.Reply.{Reply}
 use Rattle.kernel_model.specs.Effects.{Effect, effect_of}

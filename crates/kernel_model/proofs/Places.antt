@@ -1,13 +1,11 @@
 -- Processes, living ones and their tables, by number and by place.
 use Rattle.std.proofs.Common.{◌≡◌, ℕ, zero, suc, ◌<◌, ◌-◌, ◌+◌, ◌==◌, Bool, true, false, cond, List, [], ◌∷◌, length, Option, Some, None, refl, sym, ap, ◌∙◌, subst, arith}
 use Rattle.std.specs.Prelude.{slice_get, option_map}
-use Rattle.std.specs.List.{AllByRecursion}
 use Rattle.kern_mounts.specs.Mounts.{Mounts as Table}
 use Rattle.kernel_model.specs.declared.process.Process.{Process}
 use Rattle.kernel_model.specs.World.{World, of_number, process_of, living_of, if_alive}
 use Rattle.kernel_model.specs.State.{place_of}
-use Rattle.kernel_model.specs.Worlds.{HasSpace}
-use Rattle.kernel_model.proofs.Lists.{each-get, get_within}
+use Rattle.kernel_model.proofs.Lists.{get_within}
 
 alive_by : (p process : Process) (t : Bool) → cond t (Some p) None ≡ Some process → Some p ≡ Some process
 alive_by p process true e = e
@@ -33,9 +31,6 @@ living_made world pid process e = alive_same (process_of world pid) process e
 
 pub living_get : (world : World) (pid : ℕ) (process : Process) → living_of world pid ≡ Some process → slice_get world.processes (pid - 1) ≡ Some process
 living_get world pid process e = (number_get world.processes pid process (living_made world pid process e)).1
-
-pub living_numbered : (world : World) (pid : ℕ) (process : Process) → living_of world pid ≡ Some process → (pid == 0) ≡ false
-living_numbered world pid process e = (number_get world.processes pid process (living_made world pid process e)).0
 
 -- the place of a living process
 place_alive : (process : Process) (t : Bool) (place at : ℕ) → option_map (λ p. at) (cond t (Some process) None) ≡ Some place → (place ≡ at) × (cond t (Some process) None ≡ Some process)
@@ -70,18 +65,6 @@ place_by world pid place false n e =
 pub stands : (world : World) (pid place : ℕ) → place_of world.processes pid ≡ Some place → Stands world pid place
 stands world pid place e = place_by world pid place (pid == 0) refl e
 
-absent_by : (world : World) (pid : ℕ) (t : Bool) → (pid == 0) ≡ t → cond t None (option_map (λ process. pid - 1) (if_alive (slice_get world.processes (pid - 1)))) ≡ None → if_alive (cond t None (slice_get world.processes (pid - 1))) ≡ None
-absent_by world pid true n e = refl
-absent_by world pid false n e = absent_found (if_alive (slice_get world.processes (pid - 1))) e
-  where
-    absent_found : (found : Option Process) → option_map (λ process. pid - 1) found ≡ None → found ≡ None
-    absent_found None e = refl
-    absent_found (Some process) e = cc
-
--- nobody lives where there is no place
-pub absent : (world : World) (pid : ℕ) → place_of world.processes pid ≡ None → living_of world pid ≡ None
-absent world pid e = absent_by world pid (pid == 0) refl e
-
 -- the thing of a number
 pub has_number : {X : Type 0} (xs : List X) (number at : ℕ) (x : X) → at + 1 ≡ number → slice_get xs at ≡ Some x → of_number xs number ≡ Some x
 has_number xs number at x is e =
@@ -106,6 +89,3 @@ has_table tables process at table is e =
   where
     positive : (k : ℕ) → (k + 1 == 0) ≡ false
     positive k = grind arith
-
-pub space_of : (count : ℕ) (processes : List Process) (place : ℕ) (process : Process) → AllByRecursion (HasSpace count) processes → slice_get processes place ≡ Some process → HasSpace count process
-space_of count processes place process all e = each-get (HasSpace count) processes place process all e

@@ -2,10 +2,10 @@
 use Rattle.std.proofs.Common.{◌≡◌, ℕ, Bool, true, false, cond, [], ◌∷◌, ◌++◌, map, length, Option, Some, None, Result, Ok, Err, refl, sym, ◌∙◌, subst}
 use Rattle.std.specs.Prelude.{not, ◌||◌, ◌==◌, ◌+◌, filter, nat_lt}
 use Rattle.std.specs.List.{AllByRecursion, list_any}
-use Rattle.abs_path.specs.Paths.{Path, is_root}
-use Rattle.abs_path.specs.Prefix.{rest_of}
-use Rattle.linux_numbers.specs.Errnos.{einval, ebusy, enotdir, enametoolong, enospc}
-use Rattle.linux_numbers.specs.Limits.{mount_max}
+use Rattle.site_table.specs.abs_path.Paths.{Path, is_root}
+use Rattle.site_table.specs.abs_path.Prefix.{rest_of}
+use Rattle.kern_mounts.specs.linux_numbers.Errnos.{einval, ebusy, enotdir, enametoolong, enospc}
+use Rattle.kern_mounts.specs.linux_numbers.Limits.{mount_max}
 use Rattle.site_table.specs.declared.row.Row.{Row}
 use Rattle.kern_mounts.specs.declared.step.Flags.{Flags}
 use Rattle.kern_mounts.specs.declared.step.What.TheVariants.{Empty}
@@ -19,12 +19,12 @@ use Rattle.kern_mounts.specs.Remount.{remounted, after_remount}
 use Rattle.kern_mounts.specs.Umount.{after_umount}
 use Rattle.kern_mounts.proofs.Splits.{split_some}
 use Rattle.kern_mounts.proofs.Unmounting.{removes}
-use Rattle.kern_files.specs.Bits.{has_some, has_all}
-use Rattle.kern_files.specs.MountCall.{has_other_kind, ms_remount_bind, ms_remount, ms_bind, ms_rec, flags_of, target_kind, kind_found, bind_found, is_same_kind, mount_onto, after_mount}
-use Rattle.kern_files.specs.UmountCall.{umount_answer, mnt_detach}
+use Rattle.kernel_model.specs.kern_files.Bits.{has_some, has_all}
+use Rattle.kernel_model.specs.kern_files.MountCall.{has_other_kind, ms_remount_bind, ms_remount, ms_bind, ms_rec, flags_of, target_kind, kind_found, bind_found, is_same_kind, mount_onto, after_mount}
+use Rattle.kernel_model.specs.kern_files.UmountCall.{umount_answer, mnt_detach}
 use Rattle.kernel_model.specs.Worlds.{AreRooted, IsRooted}
-use Rattle.kern_files.specs.MountsCall.{mounts_after_mount, mounts_umount_answer}
-use Rattle.kern_files.proofs.MountsCall.{mount_steps, umount_answer_steps}
+use Rattle.kernel_model.specs.kern_files.MountsCall.{mounts_after_mount, mounts_umount_answer}
+use Rattle.kernel_model.proofs.MountsCall.{mount_steps, umount_answer_steps}
 use Rattle.kern_mounts.specs.Mounts.{Mounts, steps_of, plain}
 use Rattle.kern_mounts.specs.MountsRemount.{with_root_flags}
 use Rattle.kern_mounts.proofs.Mounts.{steps_append}
@@ -34,10 +34,6 @@ use Rattle.kernel_model.proofs.Lists.{each-append, each-front, each-back, each-f
 -- the entry is not at the root
 abbrev Lower : MountStep → Type 0
 Lower entry = is_root entry.place ≡ false
-
--- a table whose first entry is at the root, if it has one
-first_is : (first : MountStep) (table : Table) → AreRooted (first ∷ table) → first.place ≡ []
-first_is first table h = h.0
 
 pub rooted_push : (table more : Table) → AreRooted table → AllByRecursion Lower more → AreRooted (table ++ more)
 rooted_push [] more h low = absurd h

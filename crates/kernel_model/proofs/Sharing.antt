@@ -6,15 +6,15 @@ use Rattle.std.proofs.lemmas.Nat.{and_assoc}
 use Rattle.bpf_code.specs.declared.decision.Decision.{Decision}
 use Rattle.bpf_code.specs.declared.decision.Decision.TheVariants as decision
 use Rattle.bpf_code.specs.Stack.{decision_on}
-use Rattle.linux_numbers.specs.Errnos.{eperm, einval, enospc}
-use Rattle.linux_numbers.specs.Capabilities.{cap_sys_admin}
-use Rattle.cap_sets.specs.Sets.{has}
+use Rattle.kern_mounts.specs.linux_numbers.Errnos.{eperm, einval, enospc}
+use Rattle.kern_mounts.specs.linux_numbers.Capabilities.{cap_sys_admin}
+use Rattle.site_table.specs.cap_sets.Sets.{has}
 use Rattle.kern_creds.specs.declared.creds.Creds.{Creds}
-use Rattle.kern_files.specs.Bits.{has_some}
+use Rattle.kernel_model.specs.kern_files.Bits.{has_some}
 use Rattle.kern_mounts.specs.Mounts.{Mounts as Table}
 use Rattle.kern_mounts.specs.Copying.{copied}
-use Rattle.kernel_calls.specs.declared.call.Call.{Call}
-use Rattle.kernel_calls.specs.Doing.{Doing, Does, Fork, Clone, Unshare, asked_of}
+use Rattle.kernel_model.specs.declared.kernel_calls.call.Call.{Call}
+use Rattle.kernel_model.specs.kernel_calls.Doing.{Doing, Does, Fork, Clone, Unshare, asked_of}
 use Rattle.kernel_model.specs.declared.process.Process.{Process}
 use Rattle.kernel_model.specs.declared.reply.Reply.{Reply}
 use Rattle.kernel_model.specs.declared.reply.Reply.TheVariants as reply

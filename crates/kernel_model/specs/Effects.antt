@@ -3,11 +3,11 @@ use Rattle.std.specs.Prelude.{ℕ, ◌+◌, ◌==◌, ◌&&◌, ◌||◌, not, n
 use Rattle.bpf_code.specs.declared.machine.Insn.{Insn}
 use Rattle.bpf_code.specs.ProgramOf.{program_of}
 use Rattle.bpf_code.specs.Stack.{room_of}
-use Rattle.cap_sets.specs.Sets.{has}
-use Rattle.abs_path.specs.Paths.{Path}
-use Rattle.linux_numbers.specs.Errnos.{eperm, ebadf, eacces, einval, enomem, eafnosupport}
-use Rattle.linux_numbers.specs.Capabilities.{cap_sys_admin, cap_last_cap}
-use Rattle.linux_numbers.specs.Limits.{max_insns_per_path, no_id}
+use Rattle.site_table.specs.cap_sets.Sets.{has}
+use Rattle.site_table.specs.abs_path.Paths.{Path}
+use Rattle.kern_mounts.specs.linux_numbers.Errnos.{eperm, ebadf, eacces, einval, enomem, eafnosupport}
+use Rattle.kern_mounts.specs.linux_numbers.Capabilities.{cap_sys_admin, cap_last_cap}
+use Rattle.kern_mounts.specs.linux_numbers.Limits.{max_insns_per_path, no_id}
 use Rattle.call_table.specs.declared.listed.CallLine.{CallLine}
 use Rattle.call_table.specs.Lookups.{numbered}
 use Rattle.site_table.specs.declared.row.Row.{Row}
@@ -19,11 +19,11 @@ use Rattle.kern_creds.specs.Capset.{after_capset}
 use Rattle.kern_creds.specs.Prctl.{after_drop_bounding, after_raise, after_lower, after_clear_ambient, after_set_keepcaps, after_set_no_new_privs}
 use Rattle.kern_mounts.specs.Finds.{finds}
 use Rattle.kern_mounts.specs.Mounts.{Mounts as Table, steps_of}
-use Rattle.kern_files.specs.Bits.{has_some}
-use Rattle.kern_files.specs.Looking.{flags_at, see_answer, write_answer, open_answer}
-use Rattle.kern_files.specs.Executing.{exec_answer_in}
-use Rattle.kernel_calls.specs.Doing.{Doing, See, Open, Create, Truncate, Execve, SetMode, Map, Protect, Attach, Schedule, Personality, Socket, Enter, Fork, Clone, Unshare, Exit, Mount, Umount, Setuid, Setgid, Setresuid, Setresgid, Setgroups, Capset, Prctl, Seccomp, Plain, Socketcall}
-use Rattle.kern_files.specs.MountsCall.{mounts_after_mount, mounts_umount_answer}
+use Rattle.kernel_model.specs.kern_files.Bits.{has_some}
+use Rattle.kernel_model.specs.kern_files.Looking.{flags_at, see_answer, write_answer, open_answer}
+use Rattle.kernel_model.specs.kern_files.Executing.{exec_answer_in}
+use Rattle.kernel_model.specs.kernel_calls.Doing.{Doing, See, Open, Create, Truncate, Execve, SetMode, Map, Protect, Attach, Schedule, Personality, Socket, Enter, Fork, Clone, Unshare, Exit, Mount, Umount, Setuid, Setgid, Setresuid, Setresgid, Setgroups, Capset, Prctl, Seccomp, Plain, Socketcall}
+use Rattle.kernel_model.specs.kern_files.MountsCall.{mounts_after_mount, mounts_umount_answer}
 
 pub data Effect : Type 0 where
   -- an errno, and nothing changes

@@ -3,10 +3,10 @@
 use Rattle.std.specs.Prelude.{ℕ, ◌&&◌, ◌||◌, not, nat_lt, Bool, true, false, length, Option, Some, None}
 use Rattle.bpf_code.specs.declared.decision.Decision.{Decision}
 use Rattle.bpf_code.specs.declared.decision.Decision.TheVariants as decision
-use Rattle.kern_files.specs.Bits.{has_all}
-use Rattle.kern_files.specs.MountCall.{ms_remount_bind}
-use Rattle.kernel_calls.specs.declared.call.Call.{Call}
-use Rattle.kernel_calls.specs.Doing.{Doing, Mount, Setgroups, Seccomp, Asked, Lacking, Misformed, Does, asked_of}
+use Rattle.kernel_model.specs.kern_files.Bits.{has_all}
+use Rattle.kernel_model.specs.kern_files.MountCall.{ms_remount_bind}
+use Rattle.kernel_model.specs.declared.kernel_calls.call.Call.{Call}
+use Rattle.kernel_model.specs.kernel_calls.Doing.{Doing, Mount, Setgroups, Seccomp, Asked, Lacking, Misformed, Does, asked_of}
 use Rattle.kernel_model.specs.declared.process.Process.{Process}
 use Rattle.kernel_model.specs.Effects.{Effect, Refuse, Answer, SetCreds, SetTable, Push, Child, OwnTable, UserChild, OwnUser, End, effect_of}
 use Rattle.kernel_model.specs.World.{World, living_of, host_of, caller_of}

@@ -1,8 +1,8 @@
 -- A mount step, which a launcher makes for a process: no rule of mount(2) is asked. At `/` it gives the first entry of the
 -- process's table its flags, and everywhere else it puts its entry behind the others.
 use Rattle.std.specs.Prelude.{ℕ, ◌<◌, [], ◌∷◌, ◌++◌, length, Option, Some, None, if◌then◌else◌}
-use Rattle.abs_path.specs.Paths.{is_root}
-use Rattle.linux_numbers.specs.Limits.{mount_max}
+use Rattle.site_table.specs.abs_path.Paths.{is_root}
+use Rattle.kern_mounts.specs.linux_numbers.Limits.{mount_max}
 use Rattle.kern_mounts.specs.declared.step.MountStep.{MountStep}
 use Rattle.kern_mounts.specs.Mounts.{Mounts as Table, plain}
 use Rattle.kern_mounts.specs.MountsRemount.{with_root_flags}

@@ -7,7 +7,7 @@ use Rattle.kern_mounts.specs.Mounts.{Mounts as Table}
 use Rattle.kernel_model.specs.declared.process.Process.{Process}
 use Rattle.kernel_model.specs.declared.reply.Reply.{Reply}
 use Rattle.kernel_model.specs.declared.told.Told.{Told}
-use Rattle.kernel_calls.specs.Doing.{Doing}
+use Rattle.kernel_model.specs.kernel_calls.Doing.{Doing}
 use Rattle.kernel_model.specs.Effects.{Effect, Host, effect_of}
 use Rattle.kernel_model.specs.World.{World, if_alive, host_of, caller_of}
 use Rattle.kernel_model.specs.Step.{applied}

@@ -4,10 +4,10 @@ use Rattle.bpf_code.specs.declared.machine.CallData.{CallData}
 use Rattle.bpf_code.specs.declared.decision.Decision.{Decision}
 use Rattle.bpf_code.specs.declared.decision.Decision.TheVariants as decision
 use Rattle.bpf_code.specs.Stack.{decision_on}
-use Rattle.linux_numbers.specs.Errnos.{esrch, eagain, efault, enospc, enosys}
+use Rattle.kern_mounts.specs.linux_numbers.Errnos.{esrch, eagain, efault, enospc, enosys}
 use Rattle.call_table.specs.Table.{Abi, abi_at, arch_of}
-use Rattle.kernel_calls.specs.declared.call.Call.{Call}
-use Rattle.kernel_calls.specs.Doing.{Asked, Lacking, Misformed, Does, asked_of}
+use Rattle.kernel_model.specs.declared.kernel_calls.call.Call.{Call}
+use Rattle.kernel_model.specs.kernel_calls.Doing.{Asked, Lacking, Misformed, Does, asked_of}
 use Rattle.kernel_model.specs.declared.reply.Reply.{Reply}
 use Rattle.kernel_model.specs.declared.reply.Reply.TheVariants.{Done, Refused, Killed}
 use Rattle.kernel_model.specs.declared.process.Process.{Process}

@@ -1,7 +1,7 @@
 -- What holds of every world, whatever was called.
 use Rattle.std.specs.Prelude.{◌≡◌, ℕ, ◌≤◌, false, List, [], ◌∷◌, length}
 use Rattle.std.specs.List.{AllByRecursion}
-use Rattle.abs_path.specs.Paths.{is_root}
+use Rattle.site_table.specs.abs_path.Paths.{is_root}
 use Rattle.kern_mounts.specs.Split as entries
 use Rattle.kern_mounts.specs.Mounts.{Mounts as Table, steps_of}
 use Rattle.kernel_model.specs.declared.process.Process.{Process}

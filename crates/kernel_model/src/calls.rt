@@ -2,19 +2,19 @@
 
 ghost use Rattle.std.specs.Prelude.{◌≡◌, ◌<◌, false, length, IfOk, IsOk, OnErr};
 ghost use Rattle.std.specs.List.{AllByRecursion};
-ghost use Rattle.kernel_calls.specs.Seen.{seen};
+ghost use Rattle.kernel_model.specs.kernel_calls.Seen.{seen};
 ghost use Rattle.kernel_model.specs.Memory.{asks_for_room, takes_doing};
 ghost use Rattle.kernel_model.specs.Parts.{Left, UnlessReplied};
 ghost use Rattle.kernel_model.specs.State.{world_with, effect_in, AtPlace};
 ghost use Rattle.kernel_model.specs.Step.{applied};
 ghost use Rattle.kernel_model.specs.Worlds.{HasSpace};
 
+use crate::kernel_calls::Doing;
 use crate::outcome::Outcome;
 use crate::perform::perform;
 use crate::reply::Reply;
 use crate::state::State;
 use crate::told::Told;
-use kernel_calls::Doing;
 use std::alloc::{AllocError, Global};
 
 impl State {

@@ -6,8 +6,8 @@ ghost use Rattle.kernel_model.specs.Parts.{Leaves};
 use crate::outcome::Outcome;
 use crate::reply::Reply;
 use kern_creds::Creds;
-use linux_numbers::capabilities::CAP_SYS_ADMIN;
-use linux_numbers::errnos::{EINVAL, EPERM};
+use kern_mounts::linux_numbers::capabilities::CAP_SYS_ADMIN;
+use kern_mounts::linux_numbers::errnos::{EINVAL, EPERM};
 
 // CLONE_THREAD: the child is a thread of the caller.
 const CLONE_THREAD: u32 = 0x1_0000;

@@ -5,19 +5,19 @@ ghost use Rattle.site_table.specs.Table.{row_at};
 ghost use Rattle.kern_creds.specs.Answer.{Becomes};
 ghost use Rattle.kern_creds.specs.Setgroups.{after_setgroups};
 ghost use Rattle.kern_mounts.specs.Finds.{finds};
-ghost use Rattle.kern_files.specs.Executing.{exec_answer_in};
+ghost use Rattle.kernel_model.specs.kern_files.Executing.{exec_answer_in};
 ghost use Rattle.kern_mounts.specs.Mounts.{steps_of};
-ghost use Rattle.kern_files.specs.Looking.{flags_at};
+ghost use Rattle.kernel_model.specs.kern_files.Looking.{flags_at};
 ghost use Rattle.kernel_model.specs.Effects.{creds_effect, with_groups};
 ghost use Rattle.kernel_model.specs.Replies.{Changes};
 
+use crate::kern_files::program_at;
 use crate::reply::Reply;
 use crate::told::Told;
-use abs_path::AbsPath;
 use kern_creds::{CredError, Creds};
-use kern_files::program_at;
 use kern_mounts::MountTable;
-use linux_numbers::errnos::EPERM;
+use kern_mounts::linux_numbers::errnos::EPERM;
+use site_table::abs_path::AbsPath;
 use std::alloc::AllocError;
 
 impl<'a> Told<'a> {

@@ -8,6 +8,8 @@
 mod calls;
 mod clones;
 mod identity;
+pub mod kern_files;
+pub mod kernel_calls;
 pub mod laws;
 mod looks;
 mod makers;
@@ -23,6 +25,11 @@ mod steps;
 mod told;
 mod world;
 
+pub use call_table;
+pub use call_table::text_forms;
+pub use kern_mounts;
 pub use process::Process;
 pub use reply::Reply;
+pub use site_table;
+pub use site_table::{abs_path, cap_sets};
 pub use world::World;

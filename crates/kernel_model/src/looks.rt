@@ -6,18 +6,18 @@ ghost use Rattle.call_table.specs.Lookups.{numbered};
 ghost use Rattle.site_table.specs.Table.{row_at};
 ghost use Rattle.kern_mounts.specs.Finds.{finds};
 ghost use Rattle.kern_mounts.specs.Mounts.{steps_of};
-ghost use Rattle.kern_files.specs.Looking.{flags_at, valued, see_answer, write_answer, open_answer};
+ghost use Rattle.kernel_model.specs.kern_files.Looking.{flags_at, valued, see_answer, write_answer, open_answer};
 ghost use Rattle.kernel_model.specs.Effects.{Answer, schedule_answer, socket_effect, with_cap_of, first_alone, socketcall_effect};
 ghost use Rattle.kernel_model.specs.Replies.{Answers, value_reply};
 
+use crate::kern_files::{open_file, see, write_file};
 use crate::reply::{Reply, value_reply};
 use crate::told::Told;
-use abs_path::AbsPath;
 use call_table::{CallLine, CallTable};
 use kern_creds::Creds;
-use kern_files::{open_file, see, write_file};
 use kern_mounts::MountTable;
-use linux_numbers::errnos::{EAFNOSUPPORT, EINVAL, EPERM};
+use kern_mounts::linux_numbers::errnos::{EAFNOSUPPORT, EINVAL, EPERM};
+use site_table::abs_path::AbsPath;
 
 // The first descriptor behind the three standard ones.
 const DESCRIPTOR: u64 = 3;

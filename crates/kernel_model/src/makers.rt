@@ -15,7 +15,7 @@ use crate::reply::Reply;
 use crate::state::State;
 use crate::told::Told;
 use kern_mounts::MountTable;
-use linux_numbers::errnos::{EAGAIN, ENOSPC};
+use kern_mounts::linux_numbers::errnos::{EAGAIN, ENOSPC};
 use std::alloc::AllocError;
 
 /// The most processes that are made, those that ended among them.

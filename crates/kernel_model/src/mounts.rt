@@ -2,19 +2,19 @@
 
 ghost use Rattle.std.specs.Prelude.{◌≡◌, true, IfOk, IsOk, OnErr};
 ghost use Rattle.site_table.specs.Table.{row_at};
-ghost use Rattle.kern_files.specs.Bits.{has_all};
-ghost use Rattle.kern_files.specs.MountCall.{ms_remount_bind};
+ghost use Rattle.kernel_model.specs.kern_files.Bits.{has_all};
+ghost use Rattle.kernel_model.specs.kern_files.MountCall.{ms_remount_bind};
 ghost use Rattle.kernel_model.specs.Effects.{table_effect, with_admin, with_own};
-ghost use Rattle.kern_files.specs.MountsCall.{mounts_after_mount, mounts_umount_answer};
+ghost use Rattle.kernel_model.specs.kern_files.MountsCall.{mounts_after_mount, mounts_umount_answer};
 ghost use Rattle.kernel_model.specs.Replies.{Mounts};
 
 use crate::reply::{Reply, zero_reply};
 use crate::told::Told;
-use abs_path::AbsPath;
 use kern_creds::Creds;
+use kern_mounts::linux_numbers::capabilities::CAP_SYS_ADMIN;
+use kern_mounts::linux_numbers::errnos::EPERM;
 use kern_mounts::{MountError, MountTable};
-use linux_numbers::capabilities::CAP_SYS_ADMIN;
-use linux_numbers::errnos::EPERM;
+use site_table::abs_path::AbsPath;
 use std::alloc::{AllocError, Global};
 
 impl<'a> Told<'a> {
@@ -36,7 +36,7 @@ impl<'a> Told<'a> {
         if !owns || !creds.effective().contains(CAP_SYS_ADMIN) {
             return Ok(Reply::Refused(EPERM));
         }
-        match kern_files::mount(alloc, table, self.site, source, target, flags) {
+        match crate::kern_files::mount(alloc, table, self.site, source, target, flags) {
             Ok(()) => return Ok(Reply::Done(0)),
             Err(MountError::Errno(errno)) => return Ok(Reply::Refused(errno)),
             Err(MountError::Memory) => return Err(AllocError),
@@ -57,5 +57,5 @@ pub(crate) fn umount(
     if !owns || !creds.effective().contains(CAP_SYS_ADMIN) {
         return Reply::Refused(EPERM);
     }
-    zero_reply(kern_files::umount(table, path, flags))
+    zero_reply(crate::kern_files::umount(table, path, flags))
 }

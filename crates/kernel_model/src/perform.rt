@@ -1,7 +1,7 @@
 //! The rules of all calls, on the caller and its table alone.
 
 ghost use Rattle.std.specs.Prelude.{◌≡◌, true, false, IfOk, IsOk, OnErr};
-ghost use Rattle.kernel_calls.specs.Seen.{seen};
+ghost use Rattle.kernel_model.specs.kernel_calls.Seen.{seen};
 ghost use Rattle.kernel_model.specs.Effects.{effect_of, Answer, with_mapped_ids};
 ghost use Rattle.kernel_model.specs.Memory.{asks_for_room};
 ghost use Rattle.kernel_model.specs.Parts.{parts, caller_by, done_here};
@@ -13,6 +13,7 @@ ghost use Rattle.kernel_model.specs.declared.reply.Reply.TheVariants.{Done};
 
 use crate::clones::{clone, unshare};
 use crate::identity::setgroups;
+use crate::kernel_calls::Doing;
 use crate::looks::{schedule, with_cap_of};
 use crate::mounts::umount;
 use crate::outcome::Outcome;
@@ -23,8 +24,7 @@ use crate::reply::{Reply, zero_reply};
 use crate::seccomp::seccomp;
 use crate::told::Told;
 use kern_mounts::MountTable;
-use kernel_calls::Doing;
-use linux_numbers::errnos::{EBADF, EINVAL};
+use kern_mounts::linux_numbers::errnos::{EBADF, EINVAL};
 use std::alloc::{AllocError, Global};
 
 // The number of the first user namespace.

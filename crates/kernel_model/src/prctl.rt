@@ -5,8 +5,8 @@ ghost use Rattle.kernel_model.specs.Replies.{Answers, Changes};
 
 use crate::reply::{Reply, zero_reply};
 use kern_creds::Creds;
-use linux_numbers::capabilities::CAP_LAST_CAP;
-use linux_numbers::errnos::EINVAL;
+use kern_mounts::linux_numbers::capabilities::CAP_LAST_CAP;
+use kern_mounts::linux_numbers::errnos::EINVAL;
 
 // The options.
 const PR_SET_KEEPCAPS: u32 = 8;

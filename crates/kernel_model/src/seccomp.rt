@@ -8,8 +8,8 @@ ghost use Rattle.kernel_model.specs.Replies.{Pushes};
 use crate::reply::Reply;
 use bpf_code::{Program, ProgramError, PushError, Stack};
 use kern_creds::Creds;
-use linux_numbers::capabilities::CAP_SYS_ADMIN;
-use linux_numbers::errnos::{EACCES, EINVAL, ENOMEM};
+use kern_mounts::linux_numbers::capabilities::CAP_SYS_ADMIN;
+use kern_mounts::linux_numbers::errnos::{EACCES, EINVAL, ENOMEM};
 use std::alloc::{AllocError, Global};
 
 // The operation that installs a program.

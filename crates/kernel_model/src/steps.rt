@@ -2,8 +2,8 @@
 
 ghost use Rattle.std.specs.Prelude.{◌≡◌, ◌<◌, true, length, IsOk, OnOk, OnErr};
 ghost use Rattle.std.specs.List.{AllByRecursion};
-ghost use Rattle.abs_path.specs.Paths.{is_root};
-ghost use Rattle.linux_numbers.specs.Limits.{mount_max};
+ghost use Rattle.site_table.specs.abs_path.Paths.{is_root};
+ghost use Rattle.kern_mounts.specs.linux_numbers.Limits.{mount_max};
 ghost use Rattle.kernel_model.specs.MountStep.{with_step};
 ghost use Rattle.kernel_model.specs.State.{AtPlace};
 ghost use Rattle.kernel_model.specs.World.{of_number, put_number, table_or};

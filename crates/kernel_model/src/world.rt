@@ -1,22 +1,22 @@
 //! The world: a kernel and the processes that call it.
 
 ghost use Rattle.std.specs.Prelude.{◌≡◌, false, true, IfOk, IsOk, OnOk, OnErr, option_map};
-ghost use Rattle.abs_path.specs.Paths.{is_root};
+ghost use Rattle.site_table.specs.abs_path.Paths.{is_root};
 ghost use Rattle.kernel_model.specs.Memory.{takes_memory};
 ghost use Rattle.kernel_model.specs.MountStep.{CanStep, after_mount_step};
 ghost use Rattle.kernel_model.specs.Step.{step};
 ghost use Rattle.kernel_model.specs.World.{of_number, process_of, start_world};
 ghost use Rattle.kernel_model.specs.Worlds.{IsKernel};
 
+use crate::kernel_calls::{Asked, Call, Rules};
 use crate::process::Process;
 use crate::reply::Reply;
 use crate::state::State;
 use crate::told::Told;
 use bpf_code::{CallData, Decision};
 use call_table::CallTable;
+use kern_mounts::linux_numbers::errnos::{EFAULT, ENOSYS, ESRCH};
 use kern_mounts::{MountStep, MountTable};
-use kernel_calls::{Asked, Call, Rules};
-use linux_numbers::errnos::{EFAULT, ENOSYS, ESRCH};
 use site_table::SiteTable;
 use std::alloc::{AllocError, Global};
 use std::marker::Model;
@@ -34,7 +34,7 @@ pub struct World<'a> {
 
 impl<'a> Model for World<'a> {
     ghost use Rattle.std.specs.Prelude.{◌≡◌, length};
-    ghost use Rattle.kernel_calls.specs.Rules.{rules_of};
+    ghost use Rattle.kernel_model.specs.kernel_calls.Rules.{rules_of};
     ghost use Rattle.kernel_model.specs.State.{world_of};
     ghost use Rattle.kernel_model.specs.World.{World};
     ghost use Rattle.kernel_model.specs.Worlds.{IsKernel};

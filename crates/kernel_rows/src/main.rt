@@ -1,12 +1,14 @@
-//! Rows over the modelled kernel: its parts, and whole worlds.
+//! Rows over the modelled kernel: whole worlds, tables of many mounts, and what a service that is blind to a folder is told.
 //!
 //! A line `part NAME` of the standard input begins the rows of a part, and prints nothing; a line that begins with `#` says what
-//! the next rows show, and is printed. `rules` has credentials, tables of mounts, and what a service finds at paths; `worlds` has
-//! blocks of calls, each block on a world of its own, all over the tables that the lines hold.
+//! the next rows show, and is printed. `worlds` has blocks of calls, each block on a world of its own, all over the first tables that
+//! the lines hold; `mounts` tables of mounts; `alike` pairs of sites that differ below a folder alone.
 #![tactic(auto)]
 
+mod alike;
+mod mounts;
 mod parts;
-mod rules;
+mod replies;
 mod worlds;
 
 use parts::Parts;

@@ -1,6 +1,6 @@
 //! The parts of the rows.
 use crate::worlds::Tables;
-use crate::{rules, worlds};
+use crate::{alike, mounts, worlds};
 use row_tools::{Follow, Shown, part_of, said};
 use std::alloc::{AllocError, Global};
 use std::io;
@@ -9,8 +9,9 @@ use std::io;
 #[derive(Drop)]
 pub struct Parts<'a> {
     part: String,
-    rules: rules::Rows,
     worlds: worlds::Rows<'a>,
+    mounts: mounts::Rows,
+    alike: alike::Rows,
 }
 
 impl<'a> Parts<'a> {
@@ -18,8 +19,9 @@ impl<'a> Parts<'a> {
     pub fn new(alloc: Global, tables: &'a Tables) -> Result<Self, AllocError> {
         Ok(Parts {
             part: String::new(alloc),
-            rules: rules::Rows::new(alloc)?,
             worlds: worlds::Rows::new(alloc, tables)?,
+            mounts: mounts::Rows::new(alloc)?,
+            alike: alike::Rows::new(alloc),
         })
     }
 }
@@ -31,8 +33,9 @@ impl<'a> Follow for Parts<'a> {
             return Ok(Shown::Nothing);
         }
         match self.part.as_str() {
-            "rules" => self.rules.follow(alloc, line),
             "worlds" => self.worlds.follow(alloc, line),
+            "mounts" => self.mounts.follow(alloc, line),
+            "alike" => self.alike.follow(alloc, line),
             _ => Ok(Shown::Answer(said(alloc, "no part")?)),
         }
     }

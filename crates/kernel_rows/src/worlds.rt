@@ -1,23 +1,16 @@
 //! Rows over the whole kernel: blocks of calls, each block on a world of its own.
 //!
 //! Lines that begin with two spaces are texts, which the lines `calls` and `site` take as calls.txt and as site.toml. A line
-//! `world` and what it shows starts a fresh world; each later line is a call, which is printed with what came out.
+//! `world` and what it shows starts a fresh world; each later line is a call as a script has it, or `repeat N` before one, which is
+//! printed with what came out of the last.
 
-mod calls;
-mod steps;
 mod tables;
-mod words;
 
-ghost use Rattle.std.specs.Prelude.{IsTrue};
-ghost use Rattle.kernel_model.specs.MountStep.{CanStep};
-
-use crate::worlds::calls::call_of;
-use crate::worlds::steps::step_of;
+use crate::replies::reply_text;
 pub use crate::worlds::tables::{Tables, tables_of};
-use kern_mounts::MountStep;
-use kernel_calls::Call;
-use kernel_model::{Reply, World};
-use linux_numbers::limits::MOUNT_MAX;
+use asked_service::kernel_model::World;
+use asked_service::kernel_model::kernel_calls::Call;
+use asked_service::script_text::read_script;
 use row_tools::{Follow, Shown, number, said};
 use std::alloc::{AllocError, Global};
 use std::io;
@@ -38,28 +31,27 @@ impl<'a> Rows<'a> {
         })
     }
 
-    // Makes a call so many times, and says what came of the last.
-    fn call(&mut self, alloc: Global, count: u64, words: &[&str]) -> Result<String, AllocError> {
-        match &call_of(alloc, &self.tables.calls, words) {
-            Some(call) => self.repeated(alloc, count, call),
-            None => said(alloc, "no row"),
+    // Makes the call of a row, as often as it says.
+    fn call(&mut self, alloc: Global, row: &str) -> Result<String, AllocError> {
+        let (count, line) = match row.strip_prefix("repeat ") {
+            Some(rest) => rest.split_once(' ').unwrap_or(("1", rest)),
+            None => ("1", row),
+        };
+        match &read_script(alloc, &self.tables.calls, line.as_bytes()) {
+            Ok(script) => match script.list().first() {
+                Some(call) => self.repeated(alloc, number(count), call),
+                None => said(alloc, "no row"),
+            },
+            Err(error) => error.to_string(alloc),
         }
     }
 
+    // Makes a call so many times, and says what came of the last.
     fn repeated(&mut self, alloc: Global, count: u64, call: &Call) -> Result<String, AllocError> {
         for _ in 1..count {
             self.world.step(alloc, call)?;
         }
-        shown(alloc, self.world.step(alloc, call)?)
-    }
-
-    // Makes a mount step for process 1, where it lives and its table has room.
-    fn mount(&mut self, alloc: Global, step: &MountStep) -> Result<String, AllocError> {
-        if !has_room(&self.world) {
-            return said(alloc, "no room");
-        }
-        self.world.mount_step(alloc, 1, step)?;
-        said(alloc, "mounted")
+        reply_text(alloc, self.world.step(alloc, call)?)
     }
 }
 
@@ -72,37 +64,10 @@ impl<'a> Follow for Rows<'a> {
             self.world = World::start(alloc, &self.tables.calls, &self.tables.site)?;
             return Ok(Shown::Line);
         }
-        let words: Vec<&str> = row.split(' ').collect(alloc)?;
-        let answer = match words.as_slice() {
-            ["calls"] | ["site"] => said(alloc, "taken"),
-            ["mount_step", step @ ..] => match &step_of(alloc, step) {
-                Some(step) => self.mount(alloc, step),
-                None => said(alloc, "no row"),
-            },
-            ["repeat", count, call @ ..] => self.call(alloc, number(count), call),
-            call => self.call(alloc, 1, call),
+        let answer = match row {
+            "calls" | "site" => said(alloc, "taken"),
+            call => self.call(alloc, call),
         }?;
         Ok(Shown::Answer(answer))
-    }
-}
-
-// Process 1 lives, and its table has room for an entry.
-fn has_room(world: &World<'_>) -> bool
-    ensures { IsTrue result → CanStep world.now 1 }
-{
-    match world.process(1) {
-        Some(process) if process.alive => match world.table(process.namespace) {
-            Some(table) => table.len() < MOUNT_MAX,
-            None => false,
-        },
-        _ => false,
-    }
-}
-
-fn shown(alloc: Global, reply: Reply) -> Result<String, AllocError> {
-    match reply {
-        Reply::Done(value) => format!(in alloc; "ok {value}"),
-        Reply::Refused(errno) => format!(in alloc; "errno {errno}"),
-        Reply::Killed => said(alloc, "killed"),
     }
 }

@@ -2,26 +2,26 @@
 use Rattle.std.proofs.Common.{◌≡◌, ℕ, Bool, true, false, List, [], ◌∷◌, ◌++◌, Option, Some, None, refl, ap, ◌∙◌, sym, subst, cond, eqb, ◌⊎◌, inl, inr, arith, ◌<◌, suc}
 use Rattle.std.specs.Prelude.{slice_get, not, ◌&&◌, ◌||◌, ◌^◌, ◌==◌}
 use Rattle.std.proofs.lemmas.Bool.{and_parts, or_cases, or_parts, not-true, not-false, eqb-true}
-use Rattle.cap_sets.specs.Sets.{has, none, cut, within}
-use Rattle.cap_sets.proofs.Members.{has_cut, has_union, has_none}
-use Rattle.site_table.specs.declared.row.Row.{Row}
-use Rattle.kern_creds.specs.declared.creds.Creds.{Creds}
-use Rattle.kern_creds.specs.declared.ids.Ids.{Ids}
-use Rattle.kern_creds.specs.Exec.{exec_done, owner_or, is_set_id}
-use Rattle.kern_creds.specs.Capset.{with_sets}
-use Rattle.kern_creds.specs.Ids.{all_of}
-use Rattle.kern_creds.specs.RootChange.{with_uids, after_switch, after_leaving_root, has_root}
-use Rattle.kernel_laws.specs.Bound.{is_owner, is_barred, can_run, file_gain, gain_at, gathered, when, caps_before, caps_at, with_root, power_by, power_of}
-use Rattle.kernel_calls.specs.declared.call.Call.{Call}
-use Rattle.kern_files.specs.Executing.{marks_of}
-use Rattle.question_types.specs.declared.kind.CallKind.TheVariants.{SetsCaps, TakesUid, TakesGid, ChangesMounts, RemovesMounts}
-use Rattle.question_types.specs.declared.wish.Wish.TheVariants.{Exec as ToExec}
-use Rattle.question_types.specs.declared.power.Power.{Power}
-use Rattle.question_types.specs.declared.power.Power.TheVariants.{None as Nowise, Unmount as Unmounting, Mount as Mounting}
-use Rattle.kernel_laws.specs.Launched.{Launch, IsLaunched, lets}
-use Rattle.site_table.specs.Kinds.{is_exe}
-use Rattle.kern_mounts.specs.Split.{Table}
-use Rattle.kernel_laws.specs.Reach.{reaches}
+use Rattle.launcher.specs.cap_sets.Sets.{has, none, cut, within}
+use Rattle.launcher.proofs.Caps.Members.{has_cut, has_union, has_none}
+use Rattle.launcher.specs.site_table.declared.row.Row.{Row}
+use Rattle.launcher.specs.kern_creds.declared.creds.Creds.{Creds}
+use Rattle.launcher.specs.kern_creds.declared.ids.Ids.{Ids}
+use Rattle.launcher.specs.kern_creds.Exec.{exec_done, owner_or, is_set_id}
+use Rattle.launcher.specs.kern_creds.Capset.{with_sets}
+use Rattle.launcher.specs.kern_creds.Ids.{all_of}
+use Rattle.launcher.specs.kern_creds.RootChange.{with_uids, after_switch, after_leaving_root, has_root}
+use Rattle.launcher.specs.kernel_laws.Bound.{is_owner, is_barred, can_run, file_gain, gain_at, gathered, when, caps_before, caps_at, with_root, power_by, power_of}
+use Rattle.launcher.specs.kernel_model.declared.kernel_calls.call.Call.{Call}
+use Rattle.launcher.specs.kernel_model.kern_files.Executing.{marks_of}
+use Rattle.launcher.specs.kernel_laws.declared.question_types.kind.CallKind.TheVariants.{SetsCaps, TakesUid, TakesGid, ChangesMounts, RemovesMounts}
+use Rattle.launcher.specs.kernel_laws.declared.question_types.wish.Wish.TheVariants.{Exec as ToExec}
+use Rattle.launcher.specs.kernel_laws.declared.question_types.power.Power.{Power}
+use Rattle.launcher.specs.kernel_laws.declared.question_types.power.Power.TheVariants.{None as Nowise, Unmount as Unmounting, Mount as Mounting}
+use Rattle.launcher.specs.kernel_laws.Launched.{Launch, IsLaunched, lets}
+use Rattle.launcher.specs.site_table.Kinds.{is_exe}
+use Rattle.launcher.specs.kern_mounts.Split.{Table}
+use Rattle.launcher.specs.kernel_laws.Reach.{reaches}
 use Rattle.kernel_ways.specs.Offers.{Offers}
 use Rattle.kernel_ways.specs.Taking.{id_call, sets_call}
 use Rattle.kernel_ways.specs.Ways.{place_of, Way, here, by_creds}
@@ -327,12 +327,6 @@ module _ (launch : Launch) (l : IsLaunched launch) (o : Offers launch) where
         by : (has (caps_before launch Nowise) number ≡ true) ⊎ (has (when (has (caps_before launch Nowise) 7 && lets launch TakesUid) launch.creds.bounding) number ≡ true) → Gained false launch.creds launch.table launch.table number
         by (inl h) = nowise_before false number h
         by (inr h) = root_part launch.table number (caps_before launch Nowise) (nowise_before false 7) h
-
-    caps_free : (power : Power) → caps_at launch power ≡ with_root launch (lets launch TakesUid) (caps_before launch power)
-    caps_free power = ap (λ n. cond n launch.creds.effective (with_root launch (lets launch TakesUid) (caps_before launch power))) free
-
-    pub nowise_caps : (number : ℕ) → has (caps_at launch Nowise) number ≡ true → Gained false launch.creds launch.table launch.table number
-    nowise_caps number h = nowise number (ap (λ s. has s number) (sym (caps_free Nowise)) ∙ h)
 
     -- and with CAP_SYS_ADMIN at hand
     module _ (admin : Gained false launch.creds launch.table launch.table 21) (power : Power) (same : power_of launch ≡ power) where

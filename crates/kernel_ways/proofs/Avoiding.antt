@@ -1,14 +1,14 @@
 -- Lists in which no call asks for a kind of thing.
 use Rattle.std.proofs.Common.{◌≡◌, false, List, [], ◌∷◌, ◌++◌, ap, ◌∙◌}
 use Rattle.std.specs.List.{AllByRecursion}
-use Rattle.kern_creds.specs.declared.creds.Creds.{Creds}
-use Rattle.kernel_calls.specs.declared.call.Call.{Call}
-use Rattle.kernel_calls.specs.Doing.{Doing, Does, asked_of}
-use Rattle.kernel_model.specs.Effects.{Effect}
-use Rattle.question_types.specs.declared.kind.CallKind.{CallKind}
-use Rattle.kernel_laws.specs.Kinds.{asks}
-use Rattle.kernel_laws.specs.Launched.{Launch}
-use Rattle.kern_mounts.specs.Split.{Table}
+use Rattle.launcher.specs.kern_creds.declared.creds.Creds.{Creds}
+use Rattle.launcher.specs.kernel_model.declared.kernel_calls.call.Call.{Call}
+use Rattle.launcher.specs.kernel_model.kernel_calls.Doing.{Doing, Does, asked_of}
+use Rattle.launcher.specs.kernel_model.Effects.{Effect}
+use Rattle.launcher.specs.kernel_laws.declared.question_types.kind.CallKind.{CallKind}
+use Rattle.launcher.specs.kernel_laws.Kinds.{asks}
+use Rattle.launcher.specs.kernel_laws.Launched.{Launch}
+use Rattle.launcher.specs.kern_mounts.Split.{Table}
 use Rattle.kernel_ways.specs.Ways.{Makes}
 
 abbrev pub AvoidsOne : Launch → CallKind → Call → Type 0

@@ -4,44 +4,44 @@ use Rattle.std.specs.Prelude.{codes, slice_get, nat_lt, option_and_then, ◌+◌
 use Rattle.std.specs.List.{AllByRecursion}
 use Rattle.std.proofs.lemmas.Bool.{and_from, not-false}
 use Rattle.std.proofs.lemmas.List.Folds.{list_all-append}
-use Rattle.linux_numbers.specs.Errnos.{enospc, enotdir}
-use Rattle.linux_numbers.specs.Limits.{mount_max}
-use Rattle.abs_path.specs.Paths.{Path, tail_of, text_of, is_part, proc}
-use Rattle.abs_path.specs.Prefix.{is_prefix, is_below, rest_of}
-use Rattle.abs_path.proofs.ByteOrder.{tail-append}
-use Rattle.abs_path.proofs.Prefixes.{prefix-append}
-use Rattle.cap_sets.specs.Sets.{has}
-use Rattle.site_table.specs.declared.row.Row.{Row}
-use Rattle.site_table.specs.Table.{row_at}
-use Rattle.kern_creds.specs.declared.creds.Creds.{Creds}
-use Rattle.kern_mounts.specs.Bind.{bound, bound_entry, object_at, after_bind}
-use Rattle.kern_mounts.specs.Entry.{leads_to, entry_of}
-use Rattle.kern_mounts.specs.Finds.{finds, host_place, host_place_by}
-use Rattle.kern_mounts.specs.Launch.{BeginsAtRoot, HasShortPlace}
-use Rattle.kern_mounts.specs.Mounts.{steps_of}
-use Rattle.kern_mounts.proofs.Plain.{steps_plain}
-use Rattle.kern_mounts.specs.Split.{Table, Split, split_at}
-use Rattle.kern_mounts.specs.Unmounts.{IsOrdered, IsPart}
-use Rattle.kern_mounts.specs.declared.step.MountStep.{MountStep}
-use Rattle.kern_mounts.specs.declared.step.What.TheVariants.{Host}
-use Rattle.kern_mounts.proofs.Entries.{entry_push}
-use Rattle.kern_mounts.proofs.Leaving.{ascending_is_ordered}
-use Rattle.kern_mounts.proofs.Splits.{IsSplit, split_some}
-use Rattle.kern_mounts.proofs.Unmounting.{append_all, trimmed_part, unmounts_trim}
-use Rattle.kern_files.specs.MountCall.{ms_bind, ms_remount_bind, kind_found, is_same_kind, target_kind, bind_found, mount_onto, after_mount}
-use Rattle.kernel_calls.specs.Calls.{IsPath}
-use Rattle.kernel_calls.specs.declared.call.Call.{Call}
-use Rattle.kernel_model.specs.Runs.{run}
-use Rattle.kernel_model.specs.World.{World, table_of, table_or}
-use Rattle.kernel_laws.specs.Blind.{exposes, blind_at, is_blind, IsSmall, IsFolder}
-use Rattle.kernel_laws.specs.Bound.{caps_at, power_of}
-use Rattle.kernel_laws.specs.Denied.{Exposes, IsBlind}
-use Rattle.question_types.specs.declared.kind.CallKind.TheVariants.{ChangesMounts, RemovesMounts}
-use Rattle.question_types.specs.declared.power.Power.{Power}
-use Rattle.question_types.specs.declared.power.Power.TheVariants.{None as Nowise, Unmount as Unmounting, Mount as Mounting}
-use Rattle.kernel_laws.specs.Launched.{Launch, IsLaunched, launch_of, lets}
-use Rattle.kernel_laws.proofs.Blind.{blind_is_sound, seen_exposes}
-use Rattle.kernel_laws.proofs.Exposed.{below_by_part, exposed_at_once, exposes_by_unmounts, exposes_seen}
+use Rattle.launcher.specs.linux_numbers.Errnos.{enospc, enotdir}
+use Rattle.launcher.specs.linux_numbers.Limits.{mount_max}
+use Rattle.launcher.specs.abs_path.Paths.{Path, tail_of, text_of, is_part, proc}
+use Rattle.launcher.specs.abs_path.Prefix.{is_prefix, is_below, rest_of}
+use Rattle.launcher.proofs.AbsPath.ByteOrder.{tail-append}
+use Rattle.launcher.proofs.AbsPath.Prefixes.{prefix-append}
+use Rattle.launcher.specs.cap_sets.Sets.{has}
+use Rattle.launcher.specs.site_table.declared.row.Row.{Row}
+use Rattle.launcher.specs.site_table.Table.{row_at}
+use Rattle.launcher.specs.kern_creds.declared.creds.Creds.{Creds}
+use Rattle.launcher.specs.kern_mounts.Bind.{bound, bound_entry, object_at, after_bind}
+use Rattle.launcher.specs.kern_mounts.Entry.{leads_to, entry_of}
+use Rattle.launcher.specs.kern_mounts.Finds.{finds, host_place, host_place_by}
+use Rattle.launcher.specs.kern_mounts.Launch.{BeginsAtRoot, HasShortPlace}
+use Rattle.launcher.specs.kern_mounts.Mounts.{steps_of}
+use Rattle.launcher.proofs.KernMounts.Plain.{steps_plain}
+use Rattle.launcher.specs.kern_mounts.Split.{Table, Split, split_at}
+use Rattle.launcher.specs.kern_mounts.Unmounts.{IsOrdered, IsPart}
+use Rattle.launcher.specs.kern_mounts.declared.step.MountStep.{MountStep}
+use Rattle.launcher.specs.kern_mounts.declared.step.What.TheVariants.{Host}
+use Rattle.launcher.proofs.KernMounts.Entries.{entry_push}
+use Rattle.launcher.proofs.KernMounts.Leaving.{ascending_is_ordered}
+use Rattle.launcher.proofs.KernMounts.Splits.{IsSplit, split_some}
+use Rattle.launcher.proofs.KernMounts.Unmounting.{append_all, trimmed_part, unmounts_trim}
+use Rattle.launcher.specs.kernel_model.kern_files.MountCall.{ms_bind, ms_remount_bind, kind_found, is_same_kind, target_kind, bind_found, mount_onto, after_mount}
+use Rattle.launcher.specs.kernel_model.kernel_calls.Calls.{IsPath}
+use Rattle.launcher.specs.kernel_model.declared.kernel_calls.call.Call.{Call}
+use Rattle.launcher.specs.kernel_model.Runs.{run}
+use Rattle.launcher.specs.kernel_model.World.{World, table_of, table_or}
+use Rattle.launcher.specs.kernel_laws.Blind.{exposes, blind_at, is_blind, IsSmall, IsFolder}
+use Rattle.launcher.specs.kernel_laws.Bound.{caps_at, power_of}
+use Rattle.launcher.specs.kernel_laws.Denied.{Exposes, IsBlind}
+use Rattle.launcher.specs.kernel_laws.declared.question_types.kind.CallKind.TheVariants.{ChangesMounts, RemovesMounts}
+use Rattle.launcher.specs.kernel_laws.declared.question_types.power.Power.{Power}
+use Rattle.launcher.specs.kernel_laws.declared.question_types.power.Power.TheVariants.{None as Nowise, Unmount as Unmounting, Mount as Mounting}
+use Rattle.launcher.specs.kernel_laws.Launched.{Launch, IsLaunched, launch_of, lets}
+use Rattle.launcher.proofs.KernelLaws.Blind.{blind_is_sound, seen_exposes}
+use Rattle.launcher.proofs.KernelLaws.Exposed.{below_by_part, exposed_at_once, exposes_by_unmounts, exposes_seen}
 use Rattle.reach_paths.proofs.Mounted.{mounted_twice}
 use Rattle.reach_paths.proofs.Parts.{part_all}
 use Rattle.kernel_ways.specs.Blindness.{IsExposed, IsBlindExactly, BlindIsExact}

@@ -2,44 +2,44 @@
 use Rattle.std.proofs.Common.{◌≡◌, map, ℕ, true, List, [], ◌∷◌, ◌++◌, Some, None, Ok, refl, cond, ap, ◌∙◌, sym, subst, arith, ◌<◌}
 use Rattle.std.specs.Prelude.{◌^◌, ◌%◌, ◌-◌, slice_get}
 use Rattle.std.specs.List.{AllByRecursion}
-use Rattle.abs_path.specs.Paths.{Path, proc}
-use Rattle.abs_path.specs.Prefix.{rest_of}
-use Rattle.abs_path.proofs.Prefixes.{prefix-append, rest-append}
-use Rattle.linux_numbers.specs.Errnos.{eperm}
-use Rattle.call_names.specs.declared.rule.CallRule.TheVariants as known
-use Rattle.site_table.specs.declared.row.Row.{Row}
-use Rattle.site_table.specs.Table.{Site, row_at}
-use Rattle.kern_creds.specs.declared.creds.Creds.{Creds}
-use Rattle.kern_mounts.specs.Entry.{leads_to, entry_of}
-use Rattle.kern_mounts.specs.Finds.{found_at, found_by, row_or_nothing}
-use Rattle.kern_mounts.specs.Launch.{HasShortPlace}
-use Rattle.kern_mounts.specs.Answer.{plain_answer}
-use Rattle.kern_mounts.specs.Mounts.{plain, steps_of}
-use Rattle.kern_mounts.proofs.Plain.{steps_plain}
-use Rattle.kern_mounts.specs.Split.{Table, Split, split_at}
-use Rattle.kern_mounts.specs.Table.{StartsAtRoot}
-use Rattle.kern_mounts.specs.Umount.{after_umount}
-use Rattle.kern_mounts.specs.Unmounts.{IsOrdered}
-use Rattle.kern_mounts.specs.declared.step.MountStep.{MountStep}
-use Rattle.kern_mounts.proofs.Leaving.{ascending_is_ordered}
-use Rattle.kern_mounts.proofs.Splits.{split_some, split_is, of_split}
-use Rattle.kern_mounts.proofs.Unmounting.{Apart, trims, trimmed_part, trimmed_top, append_all}
-use Rattle.kern_files.specs.Looking.{flags_by}
-use Rattle.kern_files.specs.MountCall.{ms_bind, after_mount}
-use Rattle.kern_files.specs.UmountCall.{mnt_detach}
-use Rattle.kernel_calls.specs.Calls.{IsPath}
-use Rattle.kernel_calls.specs.Doing as d
-use Rattle.kernel_calls.specs.declared.payload.Payload.TheVariants.{OnePath, TwoPaths}
-use Rattle.kernel_calls.specs.declared.rule.Rule.TheVariants.{Known}
-use Rattle.kernel_model.specs.Effects.{Refuse, SetTable, table_effect}
-use Rattle.kernel_laws.specs.Kinds.{AreWords, no_words, one_word}
-use Rattle.kernel_calls.specs.declared.call.Call.{Call}
-use Rattle.kernel_model.specs.Runs.{run}
-use Rattle.kernel_model.specs.World.{World, living_of, table_of, table_or}
-use Rattle.kernel_model.specs.declared.process.Process.{Process}
-use Rattle.kernel_laws.specs.Launched.{Launch, passes, launch_of}
-use Rattle.question_types.specs.declared.wish.Wish.{Wish}
-use Rattle.kernel_laws.specs.Reach.{fits}
+use Rattle.launcher.specs.abs_path.Paths.{Path, proc}
+use Rattle.launcher.specs.abs_path.Prefix.{rest_of}
+use Rattle.launcher.proofs.AbsPath.Prefixes.{prefix-append, rest-append}
+use Rattle.launcher.specs.linux_numbers.Errnos.{eperm}
+use Rattle.launcher.specs.call_table.declared.call_names.rule.CallRule.TheVariants as known
+use Rattle.launcher.specs.site_table.declared.row.Row.{Row}
+use Rattle.launcher.specs.site_table.Table.{Site, row_at}
+use Rattle.launcher.specs.kern_creds.declared.creds.Creds.{Creds}
+use Rattle.launcher.specs.kern_mounts.Entry.{leads_to, entry_of}
+use Rattle.launcher.specs.kern_mounts.Finds.{found_at, found_by, row_or_nothing}
+use Rattle.launcher.specs.kern_mounts.Launch.{HasShortPlace}
+use Rattle.launcher.specs.kern_mounts.Answer.{plain_answer}
+use Rattle.launcher.specs.kern_mounts.Mounts.{plain, steps_of}
+use Rattle.launcher.proofs.KernMounts.Plain.{steps_plain}
+use Rattle.launcher.specs.kern_mounts.Split.{Table, Split, split_at}
+use Rattle.launcher.specs.kern_mounts.Table.{StartsAtRoot}
+use Rattle.launcher.specs.kern_mounts.Umount.{after_umount}
+use Rattle.launcher.specs.kern_mounts.Unmounts.{IsOrdered}
+use Rattle.launcher.specs.kern_mounts.declared.step.MountStep.{MountStep}
+use Rattle.launcher.proofs.KernMounts.Leaving.{ascending_is_ordered}
+use Rattle.launcher.proofs.KernMounts.Splits.{split_some, split_is, of_split}
+use Rattle.launcher.proofs.KernMounts.Unmounting.{Apart, trims, trimmed_part, trimmed_top, append_all}
+use Rattle.launcher.specs.kernel_model.kern_files.Looking.{flags_by}
+use Rattle.launcher.specs.kernel_model.kern_files.MountCall.{ms_bind, after_mount}
+use Rattle.launcher.specs.kernel_model.kern_files.UmountCall.{mnt_detach}
+use Rattle.launcher.specs.kernel_model.kernel_calls.Calls.{IsPath}
+use Rattle.launcher.specs.kernel_model.kernel_calls.Doing as d
+use Rattle.launcher.specs.kernel_model.declared.kernel_calls.payload.Payload.TheVariants.{OnePath, TwoPaths}
+use Rattle.launcher.specs.kernel_model.declared.kernel_calls.rule.Rule.TheVariants.{Known}
+use Rattle.launcher.specs.kernel_model.Effects.{Refuse, SetTable, table_effect}
+use Rattle.launcher.specs.kernel_laws.Kinds.{AreWords, no_words, one_word}
+use Rattle.launcher.specs.kernel_model.declared.kernel_calls.call.Call.{Call}
+use Rattle.launcher.specs.kernel_model.Runs.{run}
+use Rattle.launcher.specs.kernel_model.World.{World, living_of, table_of, table_or}
+use Rattle.launcher.specs.kernel_model.declared.process.Process.{Process}
+use Rattle.launcher.specs.kernel_laws.Launched.{Launch, passes, launch_of}
+use Rattle.launcher.specs.kernel_laws.declared.question_types.wish.Wish.{Wish}
+use Rattle.launcher.specs.kernel_laws.Reach.{fits}
 use Rattle.reach_paths.proofs.Mounted.{mounted_twice}
 use Rattle.reach_paths.proofs.Naming.{named_both, rest_short}
 use Rattle.reach_paths.proofs.Parts.{part_all}

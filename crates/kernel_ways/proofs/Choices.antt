@@ -1,16 +1,16 @@
 -- The rules that ask for each kind of call, with the words that ask first.
 use Rattle.std.proofs.Common.{◌≡◌, ℕ, List, Option, Some, subst}
-use Rattle.call_names.specs.Known.{place_of}
-use Rattle.call_names.specs.declared.rule.Argument.{Argument}
-use Rattle.call_names.specs.declared.rule.CallRule.TheVariants as known
-use Rattle.kernel_calls.specs.declared.rule.Rule.{Rule}
-use Rattle.kernel_calls.specs.declared.rule.Rule.TheVariants as rule
-use Rattle.filter_rules.specs.declared.namespace_types.NamespaceType.{NamespaceType}
-use Rattle.question_types.specs.declared.kind.CallKind.{CallKind}
-use Rattle.question_types.specs.declared.wish.Wish.TheVariants as wish_to
-use Rattle.question_types.specs.declared.kind.CallKind.TheVariants as k
-use Rattle.kernel_laws.specs.Questions.{flag_of}
-use Rattle.kernel_laws.specs.Kinds.{words, no_words, one_word}
+use Rattle.launcher.specs.call_table.call_names.Known.{place_of}
+use Rattle.launcher.specs.call_table.declared.call_names.rule.Argument.{Argument}
+use Rattle.launcher.specs.call_table.declared.call_names.rule.CallRule.TheVariants as known
+use Rattle.launcher.specs.kernel_model.declared.kernel_calls.rule.Rule.{Rule}
+use Rattle.launcher.specs.kernel_model.declared.kernel_calls.rule.Rule.TheVariants as rule
+use Rattle.launcher.specs.filter_settings.declared.filter_rules.namespace_types.NamespaceType.{NamespaceType}
+use Rattle.launcher.specs.kernel_laws.declared.question_types.kind.CallKind.{CallKind}
+use Rattle.launcher.specs.kernel_laws.declared.question_types.wish.Wish.TheVariants as wish_to
+use Rattle.launcher.specs.kernel_laws.declared.question_types.kind.CallKind.TheVariants as k
+use Rattle.launcher.specs.kernel_laws.Questions.{flag_of}
+use Rattle.launcher.specs.kernel_laws.Kinds.{words, no_words, one_word}
 
 pub data Choice : CallKind → Rule → List ℕ → Type 0 where
   sees : Choice (k.ForPath wish_to.See) (rule.Known known.See) no_words

@@ -2,55 +2,55 @@
 use Rattle.std.proofs.Common.{◌≡◌, ℕ, Bool, true, false, cond, codes, List, [], ◌∷◌, ◌++◌, Option, Some, None, Result, Ok, Err, refl, ap, ◌∙◌, sym, length, ◌≤◌, arith, eqb}
 use Rattle.std.specs.Prelude.{◌+◌, ◌-◌, ◌&&◌, ◌||◌, nat_le, nat_lt, map, filter, not}
 use Rattle.std.specs.List.{AllByRecursion}
-use Rattle.bpf_code.specs.declared.machine.Insn.{Insn}
-use Rattle.bpf_code.specs.ProgramOf.{program_of}
-use Rattle.bpf_code.specs.Stack.{room_of}
-use Rattle.call_names.specs.declared.rule.CallRule.TheVariants as known
-use Rattle.call_table.specs.declared.listed.CallLine.{CallLine}
-use Rattle.call_table.specs.Lookups.{numbered}
-use Rattle.call_table.specs.Table as calls
-use Rattle.cap_sets.specs.Sets.{has}
-use Rattle.kern_creds.specs.declared.creds.Creds.{Creds}
-use Rattle.kern_creds.specs.Capset.{after_capset}
-use Rattle.kern_creds.specs.Prctl.{after_drop_bounding, after_raise, after_lower, after_clear_ambient, after_set_keepcaps, after_set_no_new_privs}
-use Rattle.kern_creds.specs.Setgroups.{after_setgroups}
-use Rattle.kern_creds.specs.Setresuid.{after_setresuid, after_setresgid}
-use Rattle.kern_creds.specs.Setuid.{after_setuid, after_setgid}
-use Rattle.kern_files.specs.Executing.{exec_answer_in}
-use Rattle.kern_files.specs.Looking.{flags_at, see_answer, write_answer, open_answer}
-use Rattle.kern_files.specs.MountsCall.{mounts_after_mount, mounts_umount_answer}
-use Rattle.kern_mounts.specs.Mounts.{Mounts as Mounts', steps_of}
-use Rattle.kern_mounts.specs.Finds.{finds}
-use Rattle.kern_mounts.specs.Split.{Table}
-use Rattle.kernel_calls.specs.Doing as d
-use Rattle.kernel_calls.specs.Doing.{Doing, Does, doing_by, asked_by, asked_if, asked_of}
-use Rattle.kernel_calls.specs.Rules.{rule_at}
-use Rattle.kernel_calls.specs.declared.call.Call.{Call}
-use Rattle.kernel_calls.specs.declared.payload.Payload.{Payload}
-use Rattle.kernel_calls.specs.declared.payload.Payload.TheVariants.{Nothing, OnePath, Sets, Ids, Code}
-use Rattle.kernel_calls.specs.declared.rule.Rule.{Rule}
-use Rattle.kernel_calls.specs.declared.rule.Rule.TheVariants.{Known}
-use Rattle.kernel_model.specs.Effects as f
-use Rattle.kernel_model.specs.Effects.{Effect, Host, Caller, looks, creds_effect, table_effect, with_cap_of, with_admin, first_alone, schedule_answer, socket_effect, is_set_effect, ambient_effect, no_new_privs_effect, keepcaps_effect, prctl_effect, push_effect, seccomp_effect, effect_of, socketcall_effect}
-use Rattle.kernel_model.specs.MountStep.{with_step, stepped_by}
-use Rattle.kernel_model.specs.Step.{step}
-use Rattle.kernel_model.specs.StepCases as case
-use Rattle.kernel_model.specs.StepCases.{EffectCase, StepCase}
-use Rattle.kernel_model.specs.World.{World, living_of, mounts_of, host_of, caller_of, start_world, owner_of}
-use Rattle.kernel_model.specs.declared.process.Process.{Process}
-use Rattle.kernel_model.specs.declared.reply.Reply.{Reply}
-use Rattle.kernel_model.proofs.Cases.{steps_by_cases}
-use Rattle.kernel_model.proofs.Kernels.{told_stays}
-use Rattle.kernel_model.proofs.Lists.{each-append, length-set, length-push}
-use Rattle.kernel_laws.specs.Questions.{if_so, count_from}
+use Rattle.launcher.specs.bpf_code.declared.machine.Insn.{Insn}
+use Rattle.launcher.specs.bpf_code.ProgramOf.{program_of}
+use Rattle.launcher.specs.bpf_code.Stack.{room_of}
+use Rattle.launcher.specs.call_table.declared.call_names.rule.CallRule.TheVariants as known
+use Rattle.launcher.specs.call_table.declared.listed.CallLine.{CallLine}
+use Rattle.launcher.specs.call_table.Lookups.{numbered}
+use Rattle.launcher.specs.call_table.Table as calls
+use Rattle.launcher.specs.cap_sets.Sets.{has}
+use Rattle.launcher.specs.kern_creds.declared.creds.Creds.{Creds}
+use Rattle.launcher.specs.kern_creds.Capset.{after_capset}
+use Rattle.launcher.specs.kern_creds.Prctl.{after_drop_bounding, after_raise, after_lower, after_clear_ambient, after_set_keepcaps, after_set_no_new_privs}
+use Rattle.launcher.specs.kern_creds.Setgroups.{after_setgroups}
+use Rattle.launcher.specs.kern_creds.Setresuid.{after_setresuid, after_setresgid}
+use Rattle.launcher.specs.kern_creds.Setuid.{after_setuid, after_setgid}
+use Rattle.launcher.specs.kernel_model.kern_files.Executing.{exec_answer_in}
+use Rattle.launcher.specs.kernel_model.kern_files.Looking.{flags_at, see_answer, write_answer, open_answer}
+use Rattle.launcher.specs.kernel_model.kern_files.MountsCall.{mounts_after_mount, mounts_umount_answer}
+use Rattle.launcher.specs.kern_mounts.Mounts.{Mounts as Mounts', steps_of}
+use Rattle.launcher.specs.kern_mounts.Finds.{finds}
+use Rattle.launcher.specs.kern_mounts.Split.{Table}
+use Rattle.launcher.specs.kernel_model.kernel_calls.Doing as d
+use Rattle.launcher.specs.kernel_model.kernel_calls.Doing.{Doing, Does, doing_by, asked_by, asked_if, asked_of}
+use Rattle.launcher.specs.kernel_model.kernel_calls.Rules.{rule_at}
+use Rattle.launcher.specs.kernel_model.declared.kernel_calls.call.Call.{Call}
+use Rattle.launcher.specs.kernel_model.declared.kernel_calls.payload.Payload.{Payload}
+use Rattle.launcher.specs.kernel_model.declared.kernel_calls.payload.Payload.TheVariants.{Nothing, OnePath, Sets, Ids, Code}
+use Rattle.launcher.specs.kernel_model.declared.kernel_calls.rule.Rule.{Rule}
+use Rattle.launcher.specs.kernel_model.declared.kernel_calls.rule.Rule.TheVariants.{Known}
+use Rattle.launcher.specs.kernel_model.Effects as f
+use Rattle.launcher.specs.kernel_model.Effects.{Effect, Host, Caller, looks, creds_effect, table_effect, with_cap_of, with_admin, first_alone, schedule_answer, socket_effect, is_set_effect, ambient_effect, no_new_privs_effect, keepcaps_effect, prctl_effect, push_effect, seccomp_effect, effect_of, socketcall_effect}
+use Rattle.launcher.specs.kernel_model.MountStep.{with_step, stepped_by}
+use Rattle.launcher.specs.kernel_model.Step.{step}
+use Rattle.launcher.specs.kernel_model.StepCases as case
+use Rattle.launcher.specs.kernel_model.StepCases.{EffectCase, StepCase}
+use Rattle.launcher.specs.kernel_model.World.{World, living_of, mounts_of, host_of, caller_of, start_world, owner_of}
+use Rattle.launcher.specs.kernel_model.declared.process.Process.{Process}
+use Rattle.launcher.specs.kernel_model.declared.reply.Reply.{Reply}
+use Rattle.launcher.proofs.KernelModel.Cases.{steps_by_cases}
+use Rattle.launcher.proofs.KernelModel.Kernels.{told_stays}
+use Rattle.launcher.proofs.KernelModel.Lists.{each-append, length-set, length-push}
+use Rattle.launcher.specs.kernel_laws.Questions.{if_so, count_from}
 use Rattle.launcher.specs.Launch.{Wanted, LaunchStep, Makes, Mounts, number_of, first_call, makes, capset_step, prctl_step, launch_step, launch_steps, mount_steps, with_unshare, group_steps, drop_steps, inherit_steps, user_steps, raise_steps, left_steps, privilege_steps, identity_steps, filter_steps, program_steps, call_steps, set_keepcaps, capbset_drop, set_no_new_privs, cap_ambient, ambient_raise, set_mode_filter}
 use Rattle.launcher.specs.Launches.{HasLaunchCalls}
 use Rattle.launcher.proofs.Leading.{Leads, leads_parts}
-use Rattle.linux_numbers.specs.Capabilities.{cap_sys_admin, cap_last_cap}
-use Rattle.linux_numbers.specs.Errnos.{eperm, eacces, einval, enomem}
-use Rattle.linux_numbers.specs.Limits.{max_insns_per_path, no_id}
-use Rattle.kern_mounts.specs.Copying.{copied}
-use Rattle.site_table.specs.Table.{Site}
+use Rattle.launcher.specs.linux_numbers.Capabilities.{cap_sys_admin, cap_last_cap}
+use Rattle.launcher.specs.linux_numbers.Errnos.{eperm, eacces, einval, enomem}
+use Rattle.launcher.specs.linux_numbers.Limits.{max_insns_per_path, no_id}
+use Rattle.launcher.specs.kern_mounts.Copying.{copied}
+use Rattle.launcher.specs.site_table.Table.{Site}
 
 -- clone(2) and unshare(2), which alone make namespaces
 abbrev pub parts : Doing → Bool

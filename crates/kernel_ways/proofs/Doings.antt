@@ -1,36 +1,36 @@
 -- Calls that name a path, and what they come to.
 use Rattle.std.proofs.Common.{◌≡◌, ℕ, Bool, true, false, List, Option, Some, Result, Ok, Err, refl, ap, ◌∙◌, cond, arith, ◌<◌}
 use Rattle.std.specs.Prelude.{◌^◌, not}
-use Rattle.abs_path.specs.Paths.{Path}
-use Rattle.linux_numbers.specs.Errnos.{eacces, eisdir, erofs, eperm}
-use Rattle.call_names.specs.declared.rule.Argument.TheVariants as argument
-use Rattle.call_names.specs.declared.rule.CallRule.TheVariants as known
-use Rattle.site_table.specs.declared.row.Row.{Row}
-use Rattle.site_table.specs.Kinds.{is_dir, is_exe}
-use Rattle.site_table.specs.Table.{row_at}
-use Rattle.kern_creds.specs.declared.creds.Creds.{Creds}
-use Rattle.kern_creds.specs.Exec.{exec_done, is_refused}
-use Rattle.kern_mounts.specs.Finds.{row, finds}
-use Rattle.kern_mounts.specs.Split.{Table}
-use Rattle.kern_files.specs.Executing.{marks_of, executed, exec_answer}
-use Rattle.kern_files.specs.Looking.{flags_at, see_answer, write_answer}
-use Rattle.kernel_calls.specs.Calls.{IsPath}
-use Rattle.kernel_calls.specs.Doing as d
-use Rattle.kernel_calls.specs.Doing.{Doing}
-use Rattle.kernel_calls.specs.Rules.{rule_at}
-use Rattle.kernel_calls.specs.declared.call.Call.{Call}
-use Rattle.kernel_calls.specs.declared.payload.Payload.TheVariants as pay
-use Rattle.kernel_calls.specs.declared.rule.Rule.{Rule}
-use Rattle.kernel_calls.specs.declared.rule.Rule.TheVariants as rule
-use Rattle.kernel_model.specs.Effects as f
-use Rattle.kernel_model.specs.Effects.{Effect, SetCreds, looks, creds_effect, effect_of}
-use Rattle.kernel_laws.specs.Denied.{path_for}
-use Rattle.kernel_laws.specs.Kinds.{AreWords, no_words, one_word}
-use Rattle.kernel_laws.specs.Launched.{Launch, passes}
-use Rattle.question_types.specs.declared.wish.Wish.{Wish}
-use Rattle.question_types.specs.declared.wish.Wish.TheVariants.{See as ToSee, Read as ToRead, Write as ToWrite, Exec as ToExec}
-use Rattle.question_types.specs.declared.kind.CallKind.TheVariants as k
-use Rattle.kernel_laws.specs.Reach.{fits}
+use Rattle.launcher.specs.abs_path.Paths.{Path}
+use Rattle.launcher.specs.linux_numbers.Errnos.{eacces, eisdir, erofs, eperm}
+use Rattle.launcher.specs.call_table.declared.call_names.rule.Argument.TheVariants as argument
+use Rattle.launcher.specs.call_table.declared.call_names.rule.CallRule.TheVariants as known
+use Rattle.launcher.specs.site_table.declared.row.Row.{Row}
+use Rattle.launcher.specs.site_table.Kinds.{is_dir, is_exe}
+use Rattle.launcher.specs.site_table.Table.{row_at}
+use Rattle.launcher.specs.kern_creds.declared.creds.Creds.{Creds}
+use Rattle.launcher.specs.kern_creds.Exec.{exec_done, is_refused}
+use Rattle.launcher.specs.kern_mounts.Finds.{row, finds}
+use Rattle.launcher.specs.kern_mounts.Split.{Table}
+use Rattle.launcher.specs.kernel_model.kern_files.Executing.{marks_of, executed, exec_answer}
+use Rattle.launcher.specs.kernel_model.kern_files.Looking.{flags_at, see_answer, write_answer}
+use Rattle.launcher.specs.kernel_model.kernel_calls.Calls.{IsPath}
+use Rattle.launcher.specs.kernel_model.kernel_calls.Doing as d
+use Rattle.launcher.specs.kernel_model.kernel_calls.Doing.{Doing}
+use Rattle.launcher.specs.kernel_model.kernel_calls.Rules.{rule_at}
+use Rattle.launcher.specs.kernel_model.declared.kernel_calls.call.Call.{Call}
+use Rattle.launcher.specs.kernel_model.declared.kernel_calls.payload.Payload.TheVariants as pay
+use Rattle.launcher.specs.kernel_model.declared.kernel_calls.rule.Rule.{Rule}
+use Rattle.launcher.specs.kernel_model.declared.kernel_calls.rule.Rule.TheVariants as rule
+use Rattle.launcher.specs.kernel_model.Effects as f
+use Rattle.launcher.specs.kernel_model.Effects.{Effect, SetCreds, looks, creds_effect, effect_of}
+use Rattle.launcher.specs.kernel_laws.Denied.{path_for}
+use Rattle.launcher.specs.kernel_laws.Kinds.{AreWords, no_words, one_word}
+use Rattle.launcher.specs.kernel_laws.Launched.{Launch, passes}
+use Rattle.launcher.specs.kernel_laws.declared.question_types.wish.Wish.{Wish}
+use Rattle.launcher.specs.kernel_laws.declared.question_types.wish.Wish.TheVariants.{See as ToSee, Read as ToRead, Write as ToWrite, Exec as ToExec}
+use Rattle.launcher.specs.kernel_laws.declared.question_types.kind.CallKind.TheVariants as k
+use Rattle.launcher.specs.kernel_laws.Reach.{fits}
 use Rattle.kernel_ways.specs.Ways.{effect_on, Makes, host_at, caller_at, place_of, CallAt, IsCallAt, rule_there, passes_at}
 use Rattle.kernel_ways.proofs.Choices as choices
 use Rattle.kernel_ways.proofs.Lines.{Line, choice_of, make, six, zeros, first_by}

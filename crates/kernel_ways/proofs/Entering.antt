@@ -1,34 +1,34 @@
 -- What a process in a newer user namespace is done, and what it shows.
 use Rattle.std.proofs.Common.{◌≡◌, ℕ, Bool, true, false, List, [], ◌∷◌, ◌++◌, Option, Some, None, refl, ap, ◌∙◌, sym, subst, cond, inl, eqb, map}
 use Rattle.std.specs.Prelude.{nat_lt, slice_get, length, not, ◌+◌}
-use Rattle.abs_path.specs.Paths.{Path}
-use Rattle.bpf_code.specs.declared.decision.Decision.TheVariants as decision
-use Rattle.bpf_code.specs.declared.machine.Insn.{Insn}
-use Rattle.bpf_code.specs.Stack.{decision_on}
-use Rattle.call_table.specs.Table as calls
-use Rattle.call_table.specs.Lookups.{numbered}
-use Rattle.site_table.specs.Table.{Site, row_at}
-use Rattle.site_table.specs.declared.row.Row.{Row}
-use Rattle.kern_creds.specs.declared.creds.Creds.{Creds}
-use Rattle.kern_mounts.specs.Finds.{row, finds}
-use Rattle.kern_mounts.specs.Split.{Table}
-use Rattle.kern_mounts.specs.Mounts.{Mounts, plain, steps_of}
-use Rattle.kern_mounts.proofs.Plain.{steps_plain}
-use Rattle.kernel_calls.specs.declared.call.Call.{Call}
-use Rattle.kernel_calls.specs.Doing.{Doing, Does, asked_of}
-use Rattle.kernel_model.specs.Effects as f
-use Rattle.kernel_model.specs.Effects.{Effect, effect_of}
-use Rattle.kernel_model.specs.Runs.{moment_at, moments, run, IsDone}
-use Rattle.kernel_model.specs.Step.{step, step_by, decided, answered, applied, decision_by, decision_of}
-use Rattle.kernel_model.specs.World.{World, living_of, mounts_of, table_of, owner_of, host_of, caller_of, is_newer}
-use Rattle.kernel_model.specs.declared.process.Process.{Process}
-use Rattle.kernel_model.specs.declared.reply.Reply.{Reply}
-use Rattle.kernel_laws.specs.Denied.{path_for, ReachesRow, Performs, Reaches, asks_family, asks_space, asks_map, asks_protect, asks_attach, asks_realtime, asks_personality, asks_mode}
-use Rattle.kernel_laws.specs.Launched.{Launch, data_at}
-use Rattle.question_types.specs.declared.wish.Wish.{Wish}
-use Rattle.question_types.specs.declared.question.Question.{Question}
-use Rattle.question_types.specs.declared.question.Question.TheVariants as asking
-use Rattle.kernel_laws.proofs.Numbered.{lives}
+use Rattle.launcher.specs.abs_path.Paths.{Path}
+use Rattle.launcher.specs.bpf_code.declared.decision.Decision.TheVariants as decision
+use Rattle.launcher.specs.bpf_code.declared.machine.Insn.{Insn}
+use Rattle.launcher.specs.bpf_code.Stack.{decision_on}
+use Rattle.launcher.specs.call_table.Table as calls
+use Rattle.launcher.specs.call_table.Lookups.{numbered}
+use Rattle.launcher.specs.site_table.Table.{Site, row_at}
+use Rattle.launcher.specs.site_table.declared.row.Row.{Row}
+use Rattle.launcher.specs.kern_creds.declared.creds.Creds.{Creds}
+use Rattle.launcher.specs.kern_mounts.Finds.{row, finds}
+use Rattle.launcher.specs.kern_mounts.Split.{Table}
+use Rattle.launcher.specs.kern_mounts.Mounts.{Mounts, plain, steps_of}
+use Rattle.launcher.proofs.KernMounts.Plain.{steps_plain}
+use Rattle.launcher.specs.kernel_model.declared.kernel_calls.call.Call.{Call}
+use Rattle.launcher.specs.kernel_model.kernel_calls.Doing.{Doing, Does, asked_of}
+use Rattle.launcher.specs.kernel_model.Effects as f
+use Rattle.launcher.specs.kernel_model.Effects.{Effect, effect_of}
+use Rattle.launcher.specs.kernel_model.Runs.{moment_at, moments, run, IsDone}
+use Rattle.launcher.specs.kernel_model.Step.{step, step_by, decided, answered, applied, decision_by, decision_of}
+use Rattle.launcher.specs.kernel_model.World.{World, living_of, mounts_of, table_of, owner_of, host_of, caller_of, is_newer}
+use Rattle.launcher.specs.kernel_model.declared.process.Process.{Process}
+use Rattle.launcher.specs.kernel_model.declared.reply.Reply.{Reply}
+use Rattle.launcher.specs.kernel_laws.Denied.{path_for, ReachesRow, Performs, Reaches, asks_family, asks_space, asks_map, asks_protect, asks_attach, asks_realtime, asks_personality, asks_mode}
+use Rattle.launcher.specs.kernel_laws.Launched.{Launch, data_at}
+use Rattle.launcher.specs.kernel_laws.declared.question_types.wish.Wish.{Wish}
+use Rattle.launcher.specs.kernel_laws.declared.question_types.question.Question.{Question}
+use Rattle.launcher.specs.kernel_laws.declared.question_types.question.Question.TheVariants as asking
+use Rattle.launcher.proofs.KernelLaws.Numbered.{lives}
 use Rattle.kernel_ways.specs.Entering.{IsEntered, MakesIn, newer_at, CallsShowInside}
 use Rattle.kernel_ways.specs.Showing.{IsDoable, Answers}
 use Rattle.kernel_ways.specs.Ways.{host_at}

@@ -2,21 +2,21 @@
 use Rattle.std.proofs.Common.{◌≡◌, Bool, true, false, List, [], ◌∷◌, refl, ap, ◌∙◌, sym, inl, inr, suc, arith, length, ◌<◌}
 use Rattle.std.specs.Prelude.{Any}
 use Rattle.std.proofs.lemmas.Bool.{or_left}
-use Rattle.cap_sets.specs.Sets.{has}
+use Rattle.launcher.specs.cap_sets.Sets.{has}
 use Rattle.std.specs.List.{AllByRecursion}
-use Rattle.kernel_laws.specs.Bound.{any_uid, any_gid, caps_at, power_by, power_of, ceiling, is_open}
-use Rattle.kernel_laws.specs.Denied.{IsDenied, LastIs, Reaches}
-use Rattle.question_types.specs.declared.kind.CallKind.TheVariants.{ChangesMounts, RemovesMounts}
-use Rattle.question_types.specs.declared.question.Question.{Question}
-use Rattle.question_types.specs.declared.power.Power.{Power}
-use Rattle.question_types.specs.declared.power.Power.TheVariants.{None as Nowise}
-use Rattle.question_types.specs.declared.question.Question.TheVariants as asking
-use Rattle.kernel_laws.specs.Launched.{Launch, lets, launch_of}
-use Rattle.kernel_laws.specs.Questions.{IsAsked, questions}
-use Rattle.kernel_model.specs.Runs.{Moment, moments}
-use Rattle.kernel_model.specs.World.{World}
-use Rattle.kernel_laws.proofs.AskedQuestions.{all_asked}
-use Rattle.kernel_laws.proofs.Verdict.{denial_is_sound}
+use Rattle.launcher.specs.kernel_laws.Bound.{any_uid, any_gid, caps_at, power_by, power_of, ceiling, is_open}
+use Rattle.launcher.specs.kernel_laws.Denied.{IsDenied, LastIs, Reaches}
+use Rattle.launcher.specs.kernel_laws.declared.question_types.kind.CallKind.TheVariants.{ChangesMounts, RemovesMounts}
+use Rattle.launcher.specs.kernel_laws.declared.question_types.question.Question.{Question}
+use Rattle.launcher.specs.kernel_laws.declared.question_types.power.Power.{Power}
+use Rattle.launcher.specs.kernel_laws.declared.question_types.power.Power.TheVariants.{None as Nowise}
+use Rattle.launcher.specs.kernel_laws.declared.question_types.question.Question.TheVariants as asking
+use Rattle.launcher.specs.kernel_laws.Launched.{Launch, lets, launch_of}
+use Rattle.launcher.specs.kernel_laws.Questions.{IsAsked, questions}
+use Rattle.launcher.specs.kernel_model.Runs.{Moment, moments}
+use Rattle.launcher.specs.kernel_model.World.{World}
+use Rattle.launcher.proofs.KernelLaws.AskedQuestions.{all_asked}
+use Rattle.launcher.proofs.KernelLaws.Verdict.{denial_is_sound}
 use Rattle.kernel_ways.proofs.FitQuestions.{listed_are_fit}
 use Rattle.kernel_ways.specs.Laws.{IsFit, IsServedWorld, IsShown, IsExact, VerdictIsExact, QuestionsAreExact, BoundsAreExact, CeilingIsExact}
 use Rattle.kernel_ways.proofs.Attained.{at_nowise}

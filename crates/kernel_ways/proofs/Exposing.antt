@@ -2,32 +2,32 @@
 use Rattle.std.proofs.Common.{◌≡◌, ℕ, Bool, true, false, List, [], ◌∷◌, ◌++◌, Option, Some, None, refl, ap, ◌∙◌, sym, subst, arith, ◌<◌, ◌⊎◌, inl, inr}
 use Rattle.std.specs.Prelude.{◌^◌}
 use Rattle.std.specs.List.{AllByRecursion}
-use Rattle.abs_path.specs.Paths.{Path, proc}
-use Rattle.cap_sets.specs.Sets.{has}
-use Rattle.site_table.specs.declared.row.Row.{Row}
-use Rattle.site_table.specs.Table.{row_at}
-use Rattle.kern_creds.specs.declared.creds.Creds.{Creds}
-use Rattle.kern_mounts.specs.Entry.{leads_to, entry_of}
-use Rattle.kern_mounts.specs.Launch.{HasShortPlace, IsNotNoSuid}
-use Rattle.kern_mounts.specs.Split.{Table}
-use Rattle.kern_mounts.specs.Table.{StartsAtRoot}
-use Rattle.kern_mounts.specs.Unmounts.{Unmounts, still, then_one}
-use Rattle.kern_mounts.specs.declared.step.MountStep.{MountStep}
-use Rattle.kern_mounts.proofs.Splits.{split_of, split_some}
-use Rattle.kern_mounts.proofs.Unmounting.{removes, trims, trimmed_part, trimmed_top, unmounts_trim, append_all}
-use Rattle.kern_files.specs.Bits.{has_all}
-use Rattle.kern_files.specs.Looking.{flags_at, flags_by}
-use Rattle.kern_files.specs.MountCall.{ms_bind, ms_remount_bind, has_other_kind, flags_of}
-use Rattle.kernel_calls.specs.Calls.{IsPath}
-use Rattle.kernel_calls.specs.declared.call.Call.{Call}
-use Rattle.kernel_laws.specs.Bound.{power_by, power_of, caps_at}
-use Rattle.question_types.specs.declared.kind.CallKind.TheVariants.{ChangesMounts, RemovesMounts, TakesUid, TakesGid}
-use Rattle.question_types.specs.declared.wish.Wish.{Wish}
-use Rattle.question_types.specs.declared.wish.Wish.TheVariants.{See as ToSee, Read as ToRead, Write as ToWrite, Exec as ToExec}
-use Rattle.question_types.specs.declared.power.Power.{Power}
-use Rattle.question_types.specs.declared.power.Power.TheVariants.{None as Nowise, Unmount as Unmounting, Mount as Mounting}
-use Rattle.kernel_laws.specs.Launched.{Launch, IsLaunched, lets}
-use Rattle.kernel_laws.specs.Reach.{fits, reaches}
+use Rattle.launcher.specs.abs_path.Paths.{Path, proc}
+use Rattle.launcher.specs.cap_sets.Sets.{has}
+use Rattle.launcher.specs.site_table.declared.row.Row.{Row}
+use Rattle.launcher.specs.site_table.Table.{row_at}
+use Rattle.launcher.specs.kern_creds.declared.creds.Creds.{Creds}
+use Rattle.launcher.specs.kern_mounts.Entry.{leads_to, entry_of}
+use Rattle.launcher.specs.kern_mounts.Launch.{HasShortPlace, IsNotNoSuid}
+use Rattle.launcher.specs.kern_mounts.Split.{Table}
+use Rattle.launcher.specs.kern_mounts.Table.{StartsAtRoot}
+use Rattle.launcher.specs.kern_mounts.Unmounts.{Unmounts, still, then_one}
+use Rattle.launcher.specs.kern_mounts.declared.step.MountStep.{MountStep}
+use Rattle.launcher.proofs.KernMounts.Splits.{split_of, split_some}
+use Rattle.launcher.proofs.KernMounts.Unmounting.{removes, trims, trimmed_part, trimmed_top, unmounts_trim, append_all}
+use Rattle.launcher.specs.kernel_model.kern_files.Bits.{has_all}
+use Rattle.launcher.specs.kernel_model.kern_files.Looking.{flags_at, flags_by}
+use Rattle.launcher.specs.kernel_model.kern_files.MountCall.{ms_bind, ms_remount_bind, has_other_kind, flags_of}
+use Rattle.launcher.specs.kernel_model.kernel_calls.Calls.{IsPath}
+use Rattle.launcher.specs.kernel_model.declared.kernel_calls.call.Call.{Call}
+use Rattle.launcher.specs.kernel_laws.Bound.{power_by, power_of, caps_at}
+use Rattle.launcher.specs.kernel_laws.declared.question_types.kind.CallKind.TheVariants.{ChangesMounts, RemovesMounts, TakesUid, TakesGid}
+use Rattle.launcher.specs.kernel_laws.declared.question_types.wish.Wish.{Wish}
+use Rattle.launcher.specs.kernel_laws.declared.question_types.wish.Wish.TheVariants.{See as ToSee, Read as ToRead, Write as ToWrite, Exec as ToExec}
+use Rattle.launcher.specs.kernel_laws.declared.question_types.power.Power.{Power}
+use Rattle.launcher.specs.kernel_laws.declared.question_types.power.Power.TheVariants.{None as Nowise, Unmount as Unmounting, Mount as Mounting}
+use Rattle.launcher.specs.kernel_laws.Launched.{Launch, IsLaunched, lets}
+use Rattle.launcher.specs.kernel_laws.Reach.{fits, reaches}
 use Rattle.reach_paths.specs.Finding.{FindsRow}
 use Rattle.reach_paths.specs.Mounting.{IsBelowProc}
 use Rattle.reach_paths.proofs.Found.{exactly}

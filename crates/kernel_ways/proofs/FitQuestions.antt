@@ -3,20 +3,20 @@ use Rattle.std.proofs.Common.{◌≡◌, ℕ, Bool, true, false, List, [], ◌�
 use Rattle.std.specs.Prelude.{map, not, slice_get, nat_lt, ◌+◌, IfSome, ◌&&◌}
 use Rattle.std.specs.List.{AllByRecursion}
 use Rattle.std.proofs.lemmas.Bool.{not-true}
-use Rattle.call_table.specs.declared.listed.CallLine.{CallLine}
-use Rattle.call_table.specs.Table as calls
-use Rattle.call_table.specs.Members.{is_first}
-use Rattle.site_table.specs.declared.row.Row.{Row}
-use Rattle.site_table.specs.declared.accounts.User.{User}
-use Rattle.site_table.specs.declared.accounts.Group.{Group}
-use Rattle.site_table.specs.Table.{Site, IsSite, IsRowOf, IsUser, IsGroup}
-use Rattle.kernel_calls.specs.Rules.{rule_of}
-use Rattle.site_table.specs.Kinds.{is_dir, is_exe}
-use Rattle.kernel_model.proofs.Lists.{each-append}
-use Rattle.question_types.specs.declared.question.Question.{Question}
-use Rattle.question_types.specs.declared.question.Question.TheVariants.{Path as ByPath, Call, Cap, Uid, Gid}
-use Rattle.question_types.specs.declared.wish.Wish.TheVariants.{Write as ToWrite, Exec as ToExec}
-use Rattle.kernel_laws.specs.Questions.{is_plain, if_so, of_row, of_rows, of_calls, of_families, count_from, placed, ascending, some_ids, joined, uids_of, gids_of, other_questions, questions}
+use Rattle.launcher.specs.call_table.declared.listed.CallLine.{CallLine}
+use Rattle.launcher.specs.call_table.Table as calls
+use Rattle.launcher.specs.call_table.Members.{is_first}
+use Rattle.launcher.specs.site_table.declared.row.Row.{Row}
+use Rattle.launcher.specs.site_table.declared.accounts.User.{User}
+use Rattle.launcher.specs.site_table.declared.accounts.Group.{Group}
+use Rattle.launcher.specs.site_table.Table.{Site, IsSite, IsRowOf, IsUser, IsGroup}
+use Rattle.launcher.specs.kernel_model.kernel_calls.Rules.{rule_of}
+use Rattle.launcher.specs.site_table.Kinds.{is_dir, is_exe}
+use Rattle.launcher.proofs.KernelModel.Lists.{each-append}
+use Rattle.launcher.specs.kernel_laws.declared.question_types.question.Question.{Question}
+use Rattle.launcher.specs.kernel_laws.declared.question_types.question.Question.TheVariants.{Path as ByPath, Call, Cap, Uid, Gid}
+use Rattle.launcher.specs.kernel_laws.declared.question_types.wish.Wish.TheVariants.{Write as ToWrite, Exec as ToExec}
+use Rattle.launcher.specs.kernel_laws.Questions.{is_plain, if_so, of_row, of_rows, of_calls, of_families, count_from, placed, ascending, some_ids, joined, uids_of, gids_of, other_questions, questions}
 use Rattle.kernel_ways.specs.Laws.{IsFit, ListedAreFit}
 
 abbrev AreSmall : List ℕ → Type 0

@@ -3,30 +3,30 @@ use Rattle.std.proofs.Common.{◌≡◌, ℕ, Bool, true, false, ap, ◌∙◌, 
 use Rattle.std.specs.Prelude.{not, ◌&&◌, ◌||◌, ◌^◌}
 use Rattle.std.proofs.lemmas.Bool.{and_from, or_left, or_right}
 use Rattle.std.proofs.lemmas.Nat.{and_le_r}
-use Rattle.abs_path.specs.Paths.{Path}
-use Rattle.cap_sets.specs.Sets.{has, union, cut, within, IsWithin}
-use Rattle.cap_sets.proofs.Members.{within_self, within-from_IsWithin, cut_within_right, within_union_left, within_union_right}
-use Rattle.site_table.specs.declared.row.Row.{Row}
-use Rattle.site_table.specs.Table.{row_at}
-use Rattle.kern_creds.specs.declared.creds.Creds.{Creds}
-use Rattle.kern_creds.specs.declared.ids.Ids.{Ids}
-use Rattle.kern_creds.specs.declared.file.FileCreds.{FileCreds}
-use Rattle.kern_creds.specs.Exec.{is_refused, exec_done, exec_uids, exec_gains, exec_ambient, honours, owner_or, runs_as_root}
-use Rattle.kern_creds.specs.Capset.{may_capset}
-use Rattle.kernel_laws.specs.Bound.{is_barred}
-use Rattle.kernel_calls.specs.declared.call.Call.{Call}
-use Rattle.kernel_calls.specs.Doing as d
-use Rattle.kernel_calls.specs.declared.payload.Payload.TheVariants as pay
-use Rattle.kernel_model.specs.Effects.{SetCreds}
-use Rattle.kern_files.specs.Looking.{flags_at}
-use Rattle.kern_files.specs.Executing.{marks_of}
-use Rattle.question_types.specs.declared.kind.CallKind.TheVariants.{ForPath}
-use Rattle.question_types.specs.declared.wish.Wish.TheVariants.{Exec as ToExec}
-use Rattle.kernel_laws.specs.Launched.{Launch, IsLaunched}
-use Rattle.site_table.specs.Kinds.{is_exe}
-use Rattle.kern_mounts.specs.Split.{Table}
+use Rattle.launcher.specs.abs_path.Paths.{Path}
+use Rattle.launcher.specs.cap_sets.Sets.{has, union, cut, within, IsWithin}
+use Rattle.launcher.proofs.Caps.Members.{within_self, within-from_IsWithin, cut_within_right, within_union_left, within_union_right}
+use Rattle.launcher.specs.site_table.declared.row.Row.{Row}
+use Rattle.launcher.specs.site_table.Table.{row_at}
+use Rattle.launcher.specs.kern_creds.declared.creds.Creds.{Creds}
+use Rattle.launcher.specs.kern_creds.declared.ids.Ids.{Ids}
+use Rattle.launcher.specs.kern_creds.declared.file.FileCreds.{FileCreds}
+use Rattle.launcher.specs.kern_creds.Exec.{is_refused, exec_done, exec_uids, exec_gains, exec_ambient, honours, owner_or, runs_as_root}
+use Rattle.launcher.specs.kern_creds.Capset.{may_capset}
+use Rattle.launcher.specs.kernel_laws.Bound.{is_barred}
+use Rattle.launcher.specs.kernel_model.declared.kernel_calls.call.Call.{Call}
+use Rattle.launcher.specs.kernel_model.kernel_calls.Doing as d
+use Rattle.launcher.specs.kernel_model.declared.kernel_calls.payload.Payload.TheVariants as pay
+use Rattle.launcher.specs.kernel_model.Effects.{SetCreds}
+use Rattle.launcher.specs.kernel_model.kern_files.Looking.{flags_at}
+use Rattle.launcher.specs.kernel_model.kern_files.Executing.{marks_of}
+use Rattle.launcher.specs.kernel_laws.declared.question_types.kind.CallKind.TheVariants.{ForPath}
+use Rattle.launcher.specs.kernel_laws.declared.question_types.wish.Wish.TheVariants.{Exec as ToExec}
+use Rattle.launcher.specs.kernel_laws.Launched.{Launch, IsLaunched}
+use Rattle.launcher.specs.site_table.Kinds.{is_exe}
+use Rattle.launcher.specs.kern_mounts.Split.{Table}
 use Rattle.reach_paths.specs.Finding.{FindsRow}
-use Rattle.kernel_laws.proofs.KeptExec.{above_if}
+use Rattle.launcher.proofs.KernelLaws.KeptExec.{above_if}
 use Rattle.kernel_ways.specs.Offers.{Offers}
 use Rattle.kernel_ways.specs.Ways.{place_of, Makes}
 use Rattle.kernel_ways.proofs.Doings.{exec_path}

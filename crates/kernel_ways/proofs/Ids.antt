@@ -3,23 +3,23 @@ use Rattle.std.proofs.Common.{◌≡◌, ℕ, Bool, true, false, List, [], ◌�
 use Rattle.std.specs.Prelude.{slice_get, not, ◌&&◌, ◌||◌}
 use Rattle.std.specs.List.{list_any}
 use Rattle.std.proofs.lemmas.Bool.{and_parts, or_cases, or_left, or_right, not-true, eqb-true, eq-eqb}
-use Rattle.cap_sets.specs.Sets.{has}
-use Rattle.site_table.specs.declared.row.Row.{Row}
-use Rattle.kern_creds.specs.declared.creds.Creds.{Creds}
-use Rattle.kern_creds.specs.declared.ids.Ids.{Ids}
-use Rattle.kern_creds.specs.Exec.{exec_done, owner_or}
-use Rattle.kern_creds.specs.Ids.{all_of}
-use Rattle.kern_creds.specs.RootChange.{with_uids}
-use Rattle.kernel_laws.specs.Bound.{is_owner, can_run, owned_by, grouped_by, any_uid, any_gid, caps_at, power_of, ceiling}
-use Rattle.kernel_calls.specs.declared.call.Call.{Call}
-use Rattle.kernel_laws.specs.Denied.{HasGid}
-use Rattle.kern_files.specs.Executing.{marks_of}
-use Rattle.question_types.specs.declared.kind.CallKind.TheVariants.{TakesUid, TakesGid}
-use Rattle.question_types.specs.declared.power.Power.{Power}
-use Rattle.question_types.specs.declared.power.Power.TheVariants.{None as Nowise, Unmount as Unmounting, Mount as Mounting}
-use Rattle.kernel_laws.specs.Launched.{Launch, IsLaunched, lets}
-use Rattle.kern_mounts.specs.Split.{Table}
-use Rattle.kernel_laws.proofs.Bound.{any_listed}
+use Rattle.launcher.specs.cap_sets.Sets.{has}
+use Rattle.launcher.specs.site_table.declared.row.Row.{Row}
+use Rattle.launcher.specs.kern_creds.declared.creds.Creds.{Creds}
+use Rattle.launcher.specs.kern_creds.declared.ids.Ids.{Ids}
+use Rattle.launcher.specs.kern_creds.Exec.{exec_done, owner_or}
+use Rattle.launcher.specs.kern_creds.Ids.{all_of}
+use Rattle.launcher.specs.kern_creds.RootChange.{with_uids}
+use Rattle.launcher.specs.kernel_laws.Bound.{is_owner, can_run, owned_by, grouped_by, any_uid, any_gid, caps_at, power_of, ceiling}
+use Rattle.launcher.specs.kernel_model.declared.kernel_calls.call.Call.{Call}
+use Rattle.launcher.specs.kernel_laws.Denied.{HasGid}
+use Rattle.launcher.specs.kernel_model.kern_files.Executing.{marks_of}
+use Rattle.launcher.specs.kernel_laws.declared.question_types.kind.CallKind.TheVariants.{TakesUid, TakesGid}
+use Rattle.launcher.specs.kernel_laws.declared.question_types.power.Power.{Power}
+use Rattle.launcher.specs.kernel_laws.declared.question_types.power.Power.TheVariants.{None as Nowise, Unmount as Unmounting, Mount as Mounting}
+use Rattle.launcher.specs.kernel_laws.Launched.{Launch, IsLaunched, lets}
+use Rattle.launcher.specs.kern_mounts.Split.{Table}
+use Rattle.launcher.proofs.KernelLaws.Bound.{any_listed}
 use Rattle.kernel_ways.specs.Offers.{Offers}
 use Rattle.kernel_ways.specs.Taking.{id_call}
 use Rattle.kernel_ways.specs.Ways.{place_of, Way, here, by_creds}

@@ -1,49 +1,49 @@
 -- A process enters a user namespace of its own, and what it can do there.
 use Rattle.std.proofs.Common.{◌≡◌, ℕ, Bool, true, false, List, [], ◌∷◌, ◌++◌, Option, Some, Result, Ok, Err, refl, ap, ◌∙◌, sym, subst, cond, arith, ◌<◌, map}
 use Rattle.std.specs.Prelude.{◌^◌, ◌&&◌, not, nat_lt, slice_get, length}
-use Rattle.abs_path.specs.Paths.{Path}
-use Rattle.call_names.specs.declared.rule.CallRule.TheVariants as known
-use Rattle.cap_sets.specs.Sets.{has, all, within, IsWithin}
-use Rattle.cap_sets.proofs.Members.{has_all, within-from_IsWithin}
-use Rattle.linux_numbers.specs.Errnos.{eacces, eperm}
-use Rattle.site_table.specs.declared.row.Row.{Row}
-use Rattle.site_table.specs.Kinds.{is_exe}
-use Rattle.site_table.specs.Table.{row_at}
-use Rattle.kern_creds.specs.declared.creds.Creds.{Creds}
-use Rattle.kern_creds.specs.Enter.{entered}
-use Rattle.kern_creds.specs.Exec.{exec_done_in, is_refused}
-use Rattle.kern_mounts.specs.Finds.{row, finds}
-use Rattle.kern_mounts.specs.Split.{Table}
-use Rattle.kern_mounts.specs.Mounts.{plain, steps_of}
-use Rattle.kern_mounts.proofs.Plain.{steps_plain}
-use Rattle.kern_files.specs.Executing.{marks_of, executed_in, exec_answer_in}
-use Rattle.kern_files.specs.Looking.{flags_at}
-use Rattle.kernel_calls.specs.Calls.{IsCall, IsPath, FitsPayload}
-use Rattle.kernel_calls.specs.Doing as d
-use Rattle.kernel_calls.specs.Doing.{Doing, asked_by, asked_if, doing_by}
-use Rattle.kernel_calls.specs.declared.call.Call.{Call}
-use Rattle.kernel_calls.specs.declared.payload.Payload.{Payload}
-use Rattle.kernel_calls.specs.declared.payload.Payload.TheVariants as pay
-use Rattle.kernel_calls.specs.declared.rule.Rule.{Rule}
-use Rattle.kernel_calls.specs.declared.rule.Rule.TheVariants as rule
-use Rattle.kernel_model.specs.Effects as f
-use Rattle.kernel_model.specs.Effects.{Effect, SetCreds, creds_effect, effect_of}
-use Rattle.kernel_model.specs.Runs.{IsDone}
-use Rattle.kernel_model.specs.Step.{step, applied, moved_in, child_in, most_namespaces, most_processes}
-use Rattle.kernel_model.specs.World.{World, living_of, mounts_of, with_process, with_child, with_user, entered_by}
-use Rattle.kernel_model.specs.declared.process.Process.{Process}
-use Rattle.kernel_model.specs.declared.reply.Reply.{Reply}
-use Rattle.kernel_model.specs.declared.reply.Reply.TheVariants as reply
-use Rattle.kernel_laws.specs.Bound.{is_user}
-use Rattle.kernel_laws.specs.Denied.{asks_space}
-use Rattle.filter_rules.specs.declared.namespace_types.NamespaceType.{NamespaceType}
-use Rattle.question_types.specs.declared.wish.Wish.TheVariants.{Exec as ToExec}
-use Rattle.question_types.specs.declared.kind.CallKind.TheVariants as k
-use Rattle.filter_rules.specs.declared.namespace_types.NamespaceType.TheVariants as namespace
-use Rattle.kernel_laws.specs.Kinds.{AreWords, no_words, one_word}
-use Rattle.kernel_laws.specs.Launched.{Launch}
-use Rattle.kernel_laws.specs.Questions.{flag_of}
-use Rattle.kernel_laws.specs.Reach.{fits}
+use Rattle.launcher.specs.abs_path.Paths.{Path}
+use Rattle.launcher.specs.call_table.declared.call_names.rule.CallRule.TheVariants as known
+use Rattle.launcher.specs.cap_sets.Sets.{has, all, within, IsWithin}
+use Rattle.launcher.proofs.Caps.Members.{has_all, within-from_IsWithin}
+use Rattle.launcher.specs.linux_numbers.Errnos.{eacces, eperm}
+use Rattle.launcher.specs.site_table.declared.row.Row.{Row}
+use Rattle.launcher.specs.site_table.Kinds.{is_exe}
+use Rattle.launcher.specs.site_table.Table.{row_at}
+use Rattle.launcher.specs.kern_creds.declared.creds.Creds.{Creds}
+use Rattle.launcher.specs.kern_creds.Enter.{entered}
+use Rattle.launcher.specs.kern_creds.Exec.{exec_done_in, is_refused}
+use Rattle.launcher.specs.kern_mounts.Finds.{row, finds}
+use Rattle.launcher.specs.kern_mounts.Split.{Table}
+use Rattle.launcher.specs.kern_mounts.Mounts.{plain, steps_of}
+use Rattle.launcher.proofs.KernMounts.Plain.{steps_plain}
+use Rattle.launcher.specs.kernel_model.kern_files.Executing.{marks_of, executed_in, exec_answer_in}
+use Rattle.launcher.specs.kernel_model.kern_files.Looking.{flags_at}
+use Rattle.launcher.specs.kernel_model.kernel_calls.Calls.{IsCall, IsPath, FitsPayload}
+use Rattle.launcher.specs.kernel_model.kernel_calls.Doing as d
+use Rattle.launcher.specs.kernel_model.kernel_calls.Doing.{Doing, asked_by, asked_if, doing_by}
+use Rattle.launcher.specs.kernel_model.declared.kernel_calls.call.Call.{Call}
+use Rattle.launcher.specs.kernel_model.declared.kernel_calls.payload.Payload.{Payload}
+use Rattle.launcher.specs.kernel_model.declared.kernel_calls.payload.Payload.TheVariants as pay
+use Rattle.launcher.specs.kernel_model.declared.kernel_calls.rule.Rule.{Rule}
+use Rattle.launcher.specs.kernel_model.declared.kernel_calls.rule.Rule.TheVariants as rule
+use Rattle.launcher.specs.kernel_model.Effects as f
+use Rattle.launcher.specs.kernel_model.Effects.{Effect, SetCreds, creds_effect, effect_of}
+use Rattle.launcher.specs.kernel_model.Runs.{IsDone}
+use Rattle.launcher.specs.kernel_model.Step.{step, applied, moved_in, child_in, most_namespaces, most_processes}
+use Rattle.launcher.specs.kernel_model.World.{World, living_of, mounts_of, with_process, with_child, with_user, entered_by}
+use Rattle.launcher.specs.kernel_model.declared.process.Process.{Process}
+use Rattle.launcher.specs.kernel_model.declared.reply.Reply.{Reply}
+use Rattle.launcher.specs.kernel_model.declared.reply.Reply.TheVariants as reply
+use Rattle.launcher.specs.kernel_laws.Bound.{is_user}
+use Rattle.launcher.specs.kernel_laws.Denied.{asks_space}
+use Rattle.launcher.specs.filter_settings.declared.filter_rules.namespace_types.NamespaceType.{NamespaceType}
+use Rattle.launcher.specs.kernel_laws.declared.question_types.wish.Wish.TheVariants.{Exec as ToExec}
+use Rattle.launcher.specs.kernel_laws.declared.question_types.kind.CallKind.TheVariants as k
+use Rattle.launcher.specs.filter_settings.declared.filter_rules.namespace_types.NamespaceType.TheVariants as namespace
+use Rattle.launcher.specs.kernel_laws.Kinds.{AreWords, no_words, one_word}
+use Rattle.launcher.specs.kernel_laws.Launched.{Launch}
+use Rattle.launcher.specs.kernel_laws.Questions.{flag_of}
+use Rattle.launcher.specs.kernel_laws.Reach.{fits}
 use Rattle.kernel_ways.specs.Entering.{pid_in, IsEntered, MakesIn, newer_at}
 use Rattle.kernel_ways.specs.Showing.{IsDoable}
 use Rattle.kernel_ways.specs.Ways.{CallAt, IsCallAt, IsSolo, Makes, host_at, caller_at, passes_at, place_of, rule_there, solo_world, solo_process}

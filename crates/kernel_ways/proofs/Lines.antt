@@ -3,32 +3,32 @@ use Rattle.std.proofs.Common.{◌≡◌, ℕ, Bool, true, List, [], ◌∷◌, O
 use Rattle.std.specs.Prelude.{slice_get, get_or, option_and_then, ◌^◌, All}
 use Rattle.std.specs.List.{list_any}
 use Rattle.std.specs.Option.{option_map_or, option_to_list}
-use Rattle.call_table.specs.Table as calls
+use Rattle.launcher.specs.call_table.Table as calls
 use Rattle.std.proofs.lemmas.Bool.{or_cases}
 use Rattle.std.proofs.lemmas.List.Elements.{All-from_recursion, All-get_or}
 use Rattle.std.proofs.lemmas.Option.{slice_get-get_or, slice_get_within}
-use Rattle.bpf_code.specs.declared.decision.Decision.{Decision}
-use Rattle.bpf_code.specs.declared.decision.Decision.TheVariants as decision
-use Rattle.bpf_code.specs.Stack.{decision_on}
-use Rattle.call_table.specs.declared.listed.CallLine.{CallLine}
-use Rattle.call_table.specs.Lookups.{numbered, IsInRange}
-use Rattle.kern_creds.specs.declared.creds.Creds.{Creds}
-use Rattle.kernel_calls.specs.declared.call.Call.{Call}
-use Rattle.kernel_calls.specs.declared.payload.Payload.{Payload}
-use Rattle.kernel_calls.specs.Calls.{FitsPayload}
-use Rattle.kernel_calls.specs.declared.rule.Rule.{Rule}
-use Rattle.call_names.specs.Known.{known_call}
-use Rattle.kernel_calls.specs.Rules.{rule_of, rule_at, rule_by}
-use Rattle.kernel_calls.specs.Doing.{Doing, doing_by, asked_by, asked_if}
-use Rattle.kernel_model.specs.Effects.{Effect, effect_of}
-use Rattle.question_types.specs.declared.kind.CallKind.{CallKind}
-use Rattle.kernel_laws.specs.Kinds.{words, no_words, AreWords}
-use Rattle.filter_rules.specs.declared.namespace_types.NamespaceType.{NamespaceType}
-use Rattle.filter_rules.specs.declared.namespace_types.NamespaceType.TheVariants as namespace
-use Rattle.kernel_laws.specs.Questions.{flag_of}
-use Rattle.kernel_laws.specs.Launched.{Launch, IsLaunched, data_at, passes, is_pass, lets_words, lets_rule, lets_line, lets}
-use Rattle.kern_mounts.specs.Split.{Table}
-use Rattle.kernel_laws.proofs.Filters.{at_position, slice_all}
+use Rattle.launcher.specs.bpf_code.declared.decision.Decision.{Decision}
+use Rattle.launcher.specs.bpf_code.declared.decision.Decision.TheVariants as decision
+use Rattle.launcher.specs.bpf_code.Stack.{decision_on}
+use Rattle.launcher.specs.call_table.declared.listed.CallLine.{CallLine}
+use Rattle.launcher.specs.call_table.Lookups.{numbered, IsInRange}
+use Rattle.launcher.specs.kern_creds.declared.creds.Creds.{Creds}
+use Rattle.launcher.specs.kernel_model.declared.kernel_calls.call.Call.{Call}
+use Rattle.launcher.specs.kernel_model.declared.kernel_calls.payload.Payload.{Payload}
+use Rattle.launcher.specs.kernel_model.kernel_calls.Calls.{FitsPayload}
+use Rattle.launcher.specs.kernel_model.declared.kernel_calls.rule.Rule.{Rule}
+use Rattle.launcher.specs.call_table.call_names.Known.{known_call}
+use Rattle.launcher.specs.kernel_model.kernel_calls.Rules.{rule_of, rule_at, rule_by}
+use Rattle.launcher.specs.kernel_model.kernel_calls.Doing.{Doing, doing_by, asked_by, asked_if}
+use Rattle.launcher.specs.kernel_model.Effects.{Effect, effect_of}
+use Rattle.launcher.specs.kernel_laws.declared.question_types.kind.CallKind.{CallKind}
+use Rattle.launcher.specs.kernel_laws.Kinds.{words, no_words, AreWords}
+use Rattle.launcher.specs.filter_settings.declared.filter_rules.namespace_types.NamespaceType.{NamespaceType}
+use Rattle.launcher.specs.filter_settings.declared.filter_rules.namespace_types.NamespaceType.TheVariants as namespace
+use Rattle.launcher.specs.kernel_laws.Questions.{flag_of}
+use Rattle.launcher.specs.kernel_laws.Launched.{Launch, IsLaunched, data_at, passes, is_pass, lets_words, lets_rule, lets_line, lets}
+use Rattle.launcher.specs.kern_mounts.Split.{Table}
+use Rattle.launcher.proofs.KernelLaws.Filters.{at_position, slice_all}
 use Rattle.kernel_ways.specs.Ways.{effect_on, Makes, host_at, caller_at, CallAt, IsCallAt, rule_there, passes_at, place_of}
 use Rattle.kernel_ways.proofs.Choices.{Choice, of_words}
 

@@ -1,32 +1,32 @@
 -- Calls that ask for a thing and name no path.
 use Rattle.std.proofs.Common.{◌≡◌, ℕ, Bool, true, false, List, [], ◌∷◌, Option, Some, None, refl, ap, ◌∙◌, subst, cond, arith, ◌<◌}
 use Rattle.std.specs.Prelude.{◌^◌, ◌%◌}
-use Rattle.cap_sets.specs.Sets.{has}
-use Rattle.linux_numbers.specs.Errnos.{eperm}
-use Rattle.call_names.specs.declared.rule.Argument.TheVariants as argument
-use Rattle.call_names.specs.declared.rule.CallRule.TheVariants as known
-use Rattle.call_table.specs.declared.listed.CallLine.{CallLine}
-use Rattle.call_table.specs.Lookups.{numbered}
-use Rattle.kern_creds.specs.declared.creds.Creds.{Creds}
-use Rattle.kern_mounts.specs.Split.{Table}
-use Rattle.kernel_calls.specs.Doing as d
-use Rattle.kernel_calls.specs.Doing.{Doing}
-use Rattle.kernel_calls.specs.Rules.{rule_of, rule_at}
-use Rattle.kernel_calls.specs.declared.payload.Payload.TheVariants as pay
-use Rattle.kernel_calls.specs.declared.rule.Rule.{Rule}
-use Rattle.kernel_calls.specs.declared.rule.Rule.TheVariants as rule
-use Rattle.kernel_model.specs.Effects as f
-use Rattle.kernel_model.specs.Effects.{Effect, effect_of, with_cap_of, socket_effect}
-use Rattle.kernel_laws.specs.Bound.{is_user}
-use Rattle.kernel_laws.specs.Denied.{asks_space}
-use Rattle.question_types.specs.declared.kind.CallKind.{CallKind}
-use Rattle.filter_rules.specs.declared.namespace_types.NamespaceType.{NamespaceType}
-use Rattle.question_types.specs.declared.kind.CallKind.TheVariants as kinds
-use Rattle.filter_rules.specs.declared.namespace_types.NamespaceType.TheVariants as namespace
-use Rattle.kernel_laws.specs.Kinds as k
-use Rattle.kernel_laws.specs.Kinds.{AreWords, asks_plain, family_payload, no_words, one_word}
-use Rattle.kernel_laws.specs.Launched.{Launch, passes}
-use Rattle.kernel_laws.specs.Questions.{flag_of}
+use Rattle.launcher.specs.cap_sets.Sets.{has}
+use Rattle.launcher.specs.linux_numbers.Errnos.{eperm}
+use Rattle.launcher.specs.call_table.declared.call_names.rule.Argument.TheVariants as argument
+use Rattle.launcher.specs.call_table.declared.call_names.rule.CallRule.TheVariants as known
+use Rattle.launcher.specs.call_table.declared.listed.CallLine.{CallLine}
+use Rattle.launcher.specs.call_table.Lookups.{numbered}
+use Rattle.launcher.specs.kern_creds.declared.creds.Creds.{Creds}
+use Rattle.launcher.specs.kern_mounts.Split.{Table}
+use Rattle.launcher.specs.kernel_model.kernel_calls.Doing as d
+use Rattle.launcher.specs.kernel_model.kernel_calls.Doing.{Doing}
+use Rattle.launcher.specs.kernel_model.kernel_calls.Rules.{rule_of, rule_at}
+use Rattle.launcher.specs.kernel_model.declared.kernel_calls.payload.Payload.TheVariants as pay
+use Rattle.launcher.specs.kernel_model.declared.kernel_calls.rule.Rule.{Rule}
+use Rattle.launcher.specs.kernel_model.declared.kernel_calls.rule.Rule.TheVariants as rule
+use Rattle.launcher.specs.kernel_model.Effects as f
+use Rattle.launcher.specs.kernel_model.Effects.{Effect, effect_of, with_cap_of, socket_effect}
+use Rattle.launcher.specs.kernel_laws.Bound.{is_user}
+use Rattle.launcher.specs.kernel_laws.Denied.{asks_space}
+use Rattle.launcher.specs.kernel_laws.declared.question_types.kind.CallKind.{CallKind}
+use Rattle.launcher.specs.filter_settings.declared.filter_rules.namespace_types.NamespaceType.{NamespaceType}
+use Rattle.launcher.specs.kernel_laws.declared.question_types.kind.CallKind.TheVariants as kinds
+use Rattle.launcher.specs.filter_settings.declared.filter_rules.namespace_types.NamespaceType.TheVariants as namespace
+use Rattle.launcher.specs.kernel_laws.Kinds as k
+use Rattle.launcher.specs.kernel_laws.Kinds.{AreWords, asks_plain, family_payload, no_words, one_word}
+use Rattle.launcher.specs.kernel_laws.Launched.{Launch, passes}
+use Rattle.launcher.specs.kernel_laws.Questions.{flag_of}
 use Rattle.kernel_ways.specs.Ways.{effect_on, host_at, caller_at, CallAt, IsCallAt, rule_there, passes_at, place_of}
 use Rattle.kernel_ways.proofs.Choices as choices
 use Rattle.kernel_ways.proofs.Doings.{Performed}

@@ -3,33 +3,32 @@ use Rattle.std.proofs.Common.{◌≡◌, map, ℕ, Bool, true, false, List, [], 
 use Rattle.std.specs.Prelude.{◌^◌, ◌%◌}
 use Rattle.std.proofs.lemmas.Bool.{eq-eqb, or_left}
 use Rattle.std.proofs.lemmas.Bool.Decides.{nat_tests}
-use Rattle.abs_path.specs.Paths.{Path}
-use Rattle.cap_sets.specs.Sets.{has}
-use Rattle.site_table.specs.Table.{row_at}
-use Rattle.kern_creds.specs.declared.creds.Creds.{Creds}
-use Rattle.kern_creds.specs.Ids.{all_of}
-use Rattle.kern_creds.specs.RootChange.{with_uids}
-use Rattle.kern_creds.specs.Capset.{may_capset, with_sets}
-use Rattle.kernel_calls.specs.declared.payload.Payload.TheVariants as pay
-use Rattle.kernel_calls.specs.declared.call.Call.{Call}
-use Rattle.kernel_calls.specs.Calls.{IsPath}
-use Rattle.kernel_laws.specs.Denied.{HasGid}
-use Rattle.kernel_calls.specs.Doing as d
-use Rattle.kernel_calls.specs.Doing.{Doing}
-use Rattle.kernel_model.specs.Effects as f
-use Rattle.kernel_model.specs.Effects.{Effect, SetCreds, SetTable, effect_of, creds_effect, table_effect}
-use Rattle.question_types.specs.declared.kind.CallKind.TheVariants as k
-use Rattle.kernel_laws.specs.Kinds.{AreWords, no_words, asks}
-use Rattle.kernel_laws.specs.Launched.{Launch, passes}
-use Rattle.kern_files.specs.MountCall.{after_mount}
-use Rattle.kern_mounts.specs.Answer.{plain_answer}
-use Rattle.kern_mounts.specs.Mounts.{plain}
-use Rattle.kern_mounts.specs.Split.{Table}
-use Rattle.kern_mounts.specs.Umount.{after_umount}
-use Rattle.kernel_calls.specs.declared.rule.Rule.TheVariants as rule
-use Rattle.call_names.specs.declared.rule.CallRule.TheVariants as known
-use Rattle.kernel_calls.specs.declared.rule.Rule.{Rule}
-use Rattle.kernel_calls.specs.Rules.{rule_at}
+use Rattle.launcher.specs.abs_path.Paths.{Path}
+use Rattle.launcher.specs.cap_sets.Sets.{has}
+use Rattle.launcher.specs.site_table.Table.{row_at}
+use Rattle.launcher.specs.kern_creds.declared.creds.Creds.{Creds}
+use Rattle.launcher.specs.kern_creds.Ids.{all_of}
+use Rattle.launcher.specs.kern_creds.RootChange.{with_uids}
+use Rattle.launcher.specs.kern_creds.Capset.{may_capset, with_sets}
+use Rattle.launcher.specs.kernel_model.declared.kernel_calls.payload.Payload.TheVariants as pay
+use Rattle.launcher.specs.kernel_model.declared.kernel_calls.call.Call.{Call}
+use Rattle.launcher.specs.kernel_model.kernel_calls.Calls.{IsPath}
+use Rattle.launcher.specs.kernel_laws.Denied.{HasGid}
+use Rattle.launcher.specs.kernel_model.kernel_calls.Doing as d
+use Rattle.launcher.specs.kernel_model.kernel_calls.Doing.{Doing}
+use Rattle.launcher.specs.kernel_model.Effects as f
+use Rattle.launcher.specs.kernel_model.Effects.{SetCreds, SetTable, creds_effect, table_effect}
+use Rattle.launcher.specs.kernel_laws.declared.question_types.kind.CallKind.TheVariants as k
+use Rattle.launcher.specs.kernel_laws.Kinds.{AreWords, no_words, asks}
+use Rattle.launcher.specs.kernel_laws.Launched.{Launch}
+use Rattle.launcher.specs.kernel_model.kern_files.MountCall.{after_mount}
+use Rattle.launcher.specs.kern_mounts.Answer.{plain_answer}
+use Rattle.launcher.specs.kern_mounts.Mounts.{plain}
+use Rattle.launcher.specs.kern_mounts.Split.{Table}
+use Rattle.launcher.specs.kern_mounts.Umount.{after_umount}
+use Rattle.launcher.specs.kernel_model.declared.kernel_calls.rule.Rule.TheVariants as rule
+use Rattle.launcher.specs.call_table.declared.call_names.rule.CallRule.TheVariants as known
+use Rattle.launcher.specs.kernel_model.declared.kernel_calls.rule.Rule.{Rule}
 use Rattle.kernel_ways.specs.Offers.{Offers, is_unlooked}
 use Rattle.kernel_ways.specs.Taking.{id_call, sets_call}
 use Rattle.kernel_ways.specs.Ways.{place_of, Makes, CallAt, IsCallAt, rule_there, passes_at}
@@ -65,10 +64,6 @@ module _ (launch : Launch) (o : Offers launch) (creds : Creds) (table : Table) w
   other nr own args n w at u t = o.alike nr own no_words args n zeros w at u t
 
   module _ (admin : has creds.effective 21 ≡ true) where
-    abbrev flag_of : Bool → ℕ
-    flag_of true = 2
-    flag_of false = 0
-
     umount_by : {own : Rule} {args : List ℕ} → (nr : CallAt) → IsCallAt nr → rule_there launch nr ≡ Some own → passes_at launch nr args → choices.Choice k.RemovesMounts own args
         → (path : Path) → IsPath path → (detach : Bool) (now : Table) → after_umount table path detach ≡ Ok now → TableCall now
     umount_by nr n at t choices.unmounts path fit true now e =

@@ -2,17 +2,17 @@
 use Rattle.std.proofs.Common.{◌≡◌, ℕ, zero, suc, Bool, true, false, List, [], ◌∷◌, Option, Some, refl, cond, ap, ◌∙◌, sym, subst}
 use Rattle.std.specs.Prelude.{slice_get, map, IsSome}
 use Rattle.std.specs.List.{AllByRecursion}
-use Rattle.abs_path.specs.Paths.{Path}
-use Rattle.abs_path.specs.Prefix.{is_same}
-use Rattle.abs_path.specs.ByteOrder.{is_before, AreAscending}
-use Rattle.abs_path.proofs.ByteOrder.{not_before_itself}
-use Rattle.abs_path.proofs.Prefixes.{same_path, same_itself}
-use Rattle.cap_sets.specs.Sets.{none}
-use Rattle.site_table.specs.declared.row.Row.{Row}
-use Rattle.site_table.specs.Table.{Site, IsSite, row_at}
-use Rattle.kern_mounts.specs.Finds.{row, finds}
-use Rattle.kern_mounts.specs.Split.{Table}
-use Rattle.kernel_laws.proofs.Reach.{shows}
+use Rattle.launcher.specs.abs_path.Paths.{Path}
+use Rattle.launcher.specs.abs_path.Prefix.{is_same}
+use Rattle.launcher.specs.abs_path.ByteOrder.{is_before, AreAscending}
+use Rattle.launcher.proofs.AbsPath.ByteOrder.{not_before_itself}
+use Rattle.launcher.proofs.AbsPath.Prefixes.{same_path, same_itself}
+use Rattle.launcher.specs.cap_sets.Sets.{none}
+use Rattle.launcher.specs.site_table.declared.row.Row.{Row}
+use Rattle.launcher.specs.site_table.Table.{Site, IsSite, row_at}
+use Rattle.launcher.specs.kern_mounts.Finds.{row, finds}
+use Rattle.launcher.specs.kern_mounts.Split.{Table}
+use Rattle.launcher.proofs.KernelLaws.Reach.{shows}
 use Rattle.reach_paths.proofs.RowsOfSites.{found_path, found_row}
 
 later_at : (path : Path) (rows : List Row) → AllByRecursion (λ later. is_before path later ≡ true) (map (λ row. row.path) rows) → (at : ℕ) (own : Row) → slice_get rows at ≡ Some own → is_before path own.path ≡ true

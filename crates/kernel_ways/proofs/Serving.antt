@@ -5,59 +5,59 @@ use Rattle.std.specs.List.{AllByRecursion}
 use Rattle.std.proofs.lemmas.List.Elements.{recursion_from_All}
 use Rattle.std.specs.Int.RustNames.{bit_and}
 use Rattle.std.proofs.lemmas.Bool.{eqb-true}
-use Rattle.abs_path.specs.Paths.{Path}
-use Rattle.bpf_code.specs.declared.machine.Insn.{Insn}
-use Rattle.bpf_code.specs.declared.decision.Decision.{Decision}
-use Rattle.bpf_code.specs.declared.decision.Decision.TheVariants as decision
-use Rattle.bpf_code.specs.Stack.{decision_on}
-use Rattle.call_names.specs.declared.rule.CallRule.TheVariants as known
-use Rattle.call_table.specs.declared.listed.CallLine.{CallLine}
-use Rattle.call_table.specs.Facts.{IsWhole}
-use Rattle.call_table.specs.Lookups.{IsInRange, numbered}
-use Rattle.call_table.specs.Table as calls
-use Rattle.cap_sets.specs.Sets.{all, within, IsWithin}
-use Rattle.cap_sets.proofs.Words.{and_below}
-use Rattle.cap_sets.proofs.Members.{within-from_IsWithin, within_through}
-use Rattle.filter_rules.specs.Refusing.{AreRefusing}
-use Rattle.filter_rules.specs.declared.settings.FilterSettings.{FilterSettings}
-use Rattle.linux_numbers.specs.Errnos.{eacces, eperm}
-use Rattle.linux_numbers.specs.Limits.{no_id}
-use Rattle.site_table.specs.declared.row.Row.{Row}
-use Rattle.site_table.specs.Kinds.{is_exe}
-use Rattle.site_table.specs.Table.{Site, IsSite, row_at}
-use Rattle.kern_creds.specs.declared.creds.Creds.{Creds}
-use Rattle.kern_creds.specs.Exec.{is_privileged, is_refused, exec_done}
-use Rattle.kern_mounts.specs.Finds.{Found, row, empty_directory, nothing, finds}
-use Rattle.kern_mounts.specs.Launch.{CanBeMounted}
-use Rattle.kern_mounts.specs.Mounts.{Mounts as MountList, plain}
-use Rattle.kern_mounts.specs.Split.{Table}
-use Rattle.kern_mounts.specs.declared.step.Flags.{Flags}
-use Rattle.kern_files.specs.Executing.{marks_of, executed, exec_answer}
-use Rattle.kern_files.specs.Looking.{flags_at}
-use Rattle.kernel_calls.specs.Calls.{IsCall}
-use Rattle.kernel_calls.specs.Doing as d
-use Rattle.kernel_calls.specs.Doing.{Does, asked_by, asked_of}
-use Rattle.kernel_calls.specs.Rules.{rule_at}
-use Rattle.kernel_calls.specs.declared.call.Call.{Call}
-use Rattle.kernel_calls.specs.declared.payload.Payload.TheVariants.{OnePath}
-use Rattle.kernel_calls.specs.declared.rule.Rule.{Rule}
-use Rattle.kernel_calls.specs.declared.rule.Rule.TheVariants.{Known}
-use Rattle.kernel_model.specs.Effects.{Effect, SetCreds, creds_effect}
-use Rattle.kernel_model.specs.Runs.{IsDone}
-use Rattle.kernel_model.specs.Step.{most_namespaces, step, applied, decided}
-use Rattle.kernel_model.specs.World.{World, start_world, of_number}
-use Rattle.kernel_model.specs.declared.process.Process.{Process}
-use Rattle.kernel_model.specs.declared.reply.Reply.{Reply}
-use Rattle.kernel_laws.specs.FirstChoice.{Means}
-use Rattle.kernel_laws.specs.Kinds.{no_words}
-use Rattle.kernel_laws.specs.Launched.{Launch, IsLaunched, IsLaunchedWorld, launch_of, data_at, lets, passes}
-use Rattle.question_types.specs.declared.kind.CallKind.TheVariants.{ForPath}
-use Rattle.question_types.specs.declared.wish.Wish.TheVariants.{Exec as ToExec}
-use Rattle.question_types.specs.declared.power.Power.TheVariants.{None as Nowise}
-use Rattle.kernel_laws.specs.Reach.{fits}
-use Rattle.kernel_laws.proofs.Filters.{has_rule, found_number, lets_through}
-use Rattle.kernel_laws.proofs.Reach.{leads}
-use Rattle.kernel_laws.proofs.ReachLaws.{reach_of_the_table}
+use Rattle.launcher.specs.abs_path.Paths.{Path}
+use Rattle.launcher.specs.bpf_code.declared.machine.Insn.{Insn}
+use Rattle.launcher.specs.bpf_code.declared.decision.Decision.{Decision}
+use Rattle.launcher.specs.bpf_code.declared.decision.Decision.TheVariants as decision
+use Rattle.launcher.specs.bpf_code.Stack.{decision_on}
+use Rattle.launcher.specs.call_table.declared.call_names.rule.CallRule.TheVariants as known
+use Rattle.launcher.specs.call_table.declared.listed.CallLine.{CallLine}
+use Rattle.launcher.specs.call_table.Facts.{IsWhole}
+use Rattle.launcher.specs.call_table.Lookups.{IsInRange, numbered}
+use Rattle.launcher.specs.call_table.Table as calls
+use Rattle.launcher.specs.cap_sets.Sets.{all, within, IsWithin}
+use Rattle.launcher.proofs.Caps.Words.{and_below}
+use Rattle.launcher.proofs.Caps.Members.{within-from_IsWithin, within_through}
+use Rattle.launcher.specs.filter_settings.filter_rules.Refusing.{AreRefusing}
+use Rattle.launcher.specs.filter_settings.declared.filter_rules.settings.FilterSettings.{FilterSettings}
+use Rattle.launcher.specs.linux_numbers.Errnos.{eacces, eperm}
+use Rattle.launcher.specs.linux_numbers.Limits.{no_id}
+use Rattle.launcher.specs.site_table.declared.row.Row.{Row}
+use Rattle.launcher.specs.site_table.Kinds.{is_exe}
+use Rattle.launcher.specs.site_table.Table.{Site, IsSite, row_at}
+use Rattle.launcher.specs.kern_creds.declared.creds.Creds.{Creds}
+use Rattle.launcher.specs.kern_creds.Exec.{is_privileged, is_refused, exec_done}
+use Rattle.launcher.specs.kern_mounts.Finds.{Found, row, empty_directory, nothing, finds}
+use Rattle.launcher.specs.kern_mounts.Launch.{CanBeMounted}
+use Rattle.launcher.specs.kern_mounts.Mounts.{Mounts as MountList, plain}
+use Rattle.launcher.specs.kern_mounts.Split.{Table}
+use Rattle.launcher.specs.kern_mounts.declared.step.Flags.{Flags}
+use Rattle.launcher.specs.kernel_model.kern_files.Executing.{marks_of, executed, exec_answer}
+use Rattle.launcher.specs.kernel_model.kern_files.Looking.{flags_at}
+use Rattle.launcher.specs.kernel_model.kernel_calls.Calls.{IsCall}
+use Rattle.launcher.specs.kernel_model.kernel_calls.Doing as d
+use Rattle.launcher.specs.kernel_model.kernel_calls.Doing.{Does, asked_by, asked_of}
+use Rattle.launcher.specs.kernel_model.kernel_calls.Rules.{rule_at}
+use Rattle.launcher.specs.kernel_model.declared.kernel_calls.call.Call.{Call}
+use Rattle.launcher.specs.kernel_model.declared.kernel_calls.payload.Payload.TheVariants.{OnePath}
+use Rattle.launcher.specs.kernel_model.declared.kernel_calls.rule.Rule.{Rule}
+use Rattle.launcher.specs.kernel_model.declared.kernel_calls.rule.Rule.TheVariants.{Known}
+use Rattle.launcher.specs.kernel_model.Effects.{Effect, SetCreds, creds_effect}
+use Rattle.launcher.specs.kernel_model.Runs.{IsDone}
+use Rattle.launcher.specs.kernel_model.Step.{most_namespaces, step, applied, decided}
+use Rattle.launcher.specs.kernel_model.World.{World, start_world, of_number}
+use Rattle.launcher.specs.kernel_model.declared.process.Process.{Process}
+use Rattle.launcher.specs.kernel_model.declared.reply.Reply.{Reply}
+use Rattle.launcher.specs.kernel_laws.FirstChoice.{Means}
+use Rattle.launcher.specs.kernel_laws.Kinds.{no_words}
+use Rattle.launcher.specs.kernel_laws.Launched.{Launch, IsLaunched, IsLaunchedWorld, launch_of, data_at, lets, passes}
+use Rattle.launcher.specs.kernel_laws.declared.question_types.kind.CallKind.TheVariants.{ForPath}
+use Rattle.launcher.specs.kernel_laws.declared.question_types.wish.Wish.TheVariants.{Exec as ToExec}
+use Rattle.launcher.specs.kernel_laws.declared.question_types.power.Power.TheVariants.{None as Nowise}
+use Rattle.launcher.specs.kernel_laws.Reach.{fits}
+use Rattle.launcher.proofs.KernelLaws.Filters.{has_rule, found_number, lets_through}
+use Rattle.launcher.proofs.KernelLaws.Reach.{leads}
+use Rattle.launcher.proofs.KernelLaws.ReachLaws.{reach_of_the_table}
 use Rattle.launcher.specs.Launch.{Wanted, Launched, launch, PrivilegedProgram, number_of, first_call, launch_from, launch_steps, program_steps, is_privileged_row}
 use Rattle.launcher.specs.LaunchedWorlds.{IsMeant}
 use Rattle.launcher.specs.Launches.{HasLaunchCalls, AreRead}
@@ -68,7 +68,7 @@ use Rattle.launcher.proofs.LaunchWorld.{before_program}
 use Rattle.launcher.proofs.LaunchedWorlds.{launched_is_world}
 use Rattle.launcher.proofs.Leading.{Leads, launched_leads}
 use Rattle.launcher.proofs.Solo.{At, solo, only, does, own_table}
-use Rattle.mount_plan.specs.Host.{host_of as site_host}
+use Rattle.launcher.specs.mount_plan.Host.{host_of as site_host}
 use Rattle.reach_paths.specs.Finding.{FindsRow}
 use Rattle.reach_paths.proofs.Found.{exactly}
 use Rattle.kernel_ways.specs.Laws.{IsServedWorld}

@@ -1,19 +1,19 @@
 -- A way shows what its last call answers, or what its credentials have.
 use Rattle.std.proofs.Common.{◌≡◌, ℕ, true, refl, ap, sym, subst}
-use Rattle.cap_sets.specs.Sets.{has}
-use Rattle.call_table.specs.Table as calls
-use Rattle.kern_creds.specs.declared.creds.Creds.{Creds}
-use Rattle.kern_mounts.specs.Split.{Table}
-use Rattle.kernel_calls.specs.declared.call.Call.{Call}
-use Rattle.kernel_calls.specs.Doing.{Doing}
-use Rattle.kernel_model.specs.Effects.{Effect}
-use Rattle.kernel_model.specs.Runs.{moment_at, IsDone}
-use Rattle.kernel_model.specs.Step.{step}
-use Rattle.kernel_model.specs.World.{World}
-use Rattle.kernel_laws.specs.Denied.{Performs, Reaches, Holds, HasGid, asks_family, asks_space, asks_map, asks_protect, asks_attach, asks_realtime, asks_personality, asks_mode}
-use Rattle.kernel_laws.specs.Launched.{Launch}
-use Rattle.question_types.specs.declared.question.Question.{Question}
-use Rattle.question_types.specs.declared.question.Question.TheVariants as asking
+use Rattle.launcher.specs.cap_sets.Sets.{has}
+use Rattle.launcher.specs.call_table.Table as calls
+use Rattle.launcher.specs.kern_creds.declared.creds.Creds.{Creds}
+use Rattle.launcher.specs.kern_mounts.Split.{Table}
+use Rattle.launcher.specs.kernel_model.declared.kernel_calls.call.Call.{Call}
+use Rattle.launcher.specs.kernel_model.kernel_calls.Doing.{Doing}
+use Rattle.launcher.specs.kernel_model.Effects.{Effect}
+use Rattle.launcher.specs.kernel_model.Runs.{moment_at, IsDone}
+use Rattle.launcher.specs.kernel_model.Step.{step}
+use Rattle.launcher.specs.kernel_model.World.{World}
+use Rattle.launcher.specs.kernel_laws.Denied.{Performs, Reaches, Holds, HasGid, asks_family, asks_space, asks_map, asks_protect, asks_attach, asks_realtime, asks_personality, asks_mode}
+use Rattle.launcher.specs.kernel_laws.Launched.{Launch}
+use Rattle.launcher.specs.kernel_laws.declared.question_types.question.Question.{Question}
+use Rattle.launcher.specs.kernel_laws.declared.question_types.question.Question.TheVariants as asking
 use Rattle.kernel_ways.specs.Showing.{Answers, HaveAsked, CallsShow, CredsShow, WaysAreDone, ServedIsSolo}
 use Rattle.kernel_ways.specs.Ways.{IsSolo, Makes}
 use Rattle.kernel_ways.proofs.Starts.{starts_solo, holds, reaches_row, performs, reaches_call}

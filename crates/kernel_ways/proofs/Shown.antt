@@ -3,45 +3,45 @@ use Rattle.std.proofs.Common.{◌≡◌, ℕ, Bool, true, false, List, [], ◌�
 use Rattle.std.specs.Prelude.{slice_get, not, nat_lt, ◌&&◌, ◌||◌}
 use Rattle.std.proofs.lemmas.Slice.Eq.{bytes_eq-Decides}
 use Rattle.std.proofs.lemmas.Bool.{and_parts, or_cases, not-true, eq-eqb}
-use Rattle.abs_path.specs.Paths.{Path, proc}
-use Rattle.cap_sets.specs.Sets.{has, within}
-use Rattle.call_table.specs.declared.listed.CallLine.{CallLine}
-use Rattle.call_table.specs.Lookups.{numbered}
-use Rattle.site_table.specs.declared.row.Row.{Row}
+use Rattle.launcher.specs.abs_path.Paths.{Path, proc}
+use Rattle.launcher.specs.cap_sets.Sets.{has, within}
+use Rattle.launcher.specs.call_table.declared.listed.CallLine.{CallLine}
+use Rattle.launcher.specs.call_table.Lookups.{numbered}
+use Rattle.launcher.specs.site_table.declared.row.Row.{Row}
 use Rattle.std.specs.List.{AllByRecursion}
-use Rattle.site_table.specs.Table.{IsRowOf, row_at}
-use Rattle.kern_creds.specs.declared.creds.Creds.{Creds}
-use Rattle.kern_creds.specs.Exec.{exec_done, is_refused}
-use Rattle.kern_mounts.specs.Finds.{row, finds}
-use Rattle.kernel_laws.specs.Bound.{is_barred, is_to_exec, is_mounting, is_user, can_reach, can_have_cap, can_have_for, if_listed, caps_at, power_of, ceiling, is_open, is_call_open}
-use Rattle.kernel_calls.specs.declared.call.Call.{Call}
-use Rattle.kernel_calls.specs.Calls.{IsPath}
-use Rattle.kernel_laws.specs.Denied.{asks_space, asks_family, is_family}
-use Rattle.kernel_calls.specs.Doing as d
-use Rattle.kernel_calls.specs.declared.payload.Payload.TheVariants as pay
-use Rattle.kernel_calls.specs.Doing.{Doing}
-use Rattle.kernel_model.specs.Effects.{SetCreds}
-use Rattle.kern_files.specs.Looking.{flags_at}
-use Rattle.kern_files.specs.Executing.{marks_of}
-use Rattle.kernel_laws.specs.Kinds as k
-use Rattle.question_types.specs.declared.kind.CallKind.{CallKind}
-use Rattle.question_types.specs.declared.wish.Wish.{Wish}
-use Rattle.question_types.specs.declared.wish.Wish.TheVariants.{See as ToSee, Read as ToRead, Write as ToWrite, Exec as ToExec}
-use Rattle.filter_rules.specs.declared.namespace_types.NamespaceType.{NamespaceType}
-use Rattle.question_types.specs.declared.question.Question.{Question}
-use Rattle.question_types.specs.declared.power.Power.{Power}
-use Rattle.question_types.specs.declared.power.Power.TheVariants.{None as Nowise, Unmount as Unmounting, Mount as Mounting}
-use Rattle.question_types.specs.declared.kind.CallKind.TheVariants as kinds
-use Rattle.filter_rules.specs.declared.namespace_types.NamespaceType.TheVariants as namespace
-use Rattle.question_types.specs.declared.question.Question.TheVariants as asking
-use Rattle.kernel_laws.specs.Launched.{Launch, IsLaunched, launch_of, lets, lets_line, can_make_user}
-use Rattle.site_table.specs.Kinds.{is_dir, is_exe}
-use Rattle.kern_mounts.specs.Split.{Table}
+use Rattle.launcher.specs.site_table.Table.{IsRowOf, row_at}
+use Rattle.launcher.specs.kern_creds.declared.creds.Creds.{Creds}
+use Rattle.launcher.specs.kern_creds.Exec.{exec_done, is_refused}
+use Rattle.launcher.specs.kern_mounts.Finds.{row, finds}
+use Rattle.launcher.specs.kernel_laws.Bound.{is_barred, is_to_exec, is_mounting, is_user, can_reach, can_have_cap, can_have_for, if_listed, caps_at, power_of, ceiling, is_open, is_call_open}
+use Rattle.launcher.specs.kernel_model.declared.kernel_calls.call.Call.{Call}
+use Rattle.launcher.specs.kernel_model.kernel_calls.Calls.{IsPath}
+use Rattle.launcher.specs.kernel_laws.Denied.{asks_space, asks_family, is_family}
+use Rattle.launcher.specs.kernel_model.kernel_calls.Doing as d
+use Rattle.launcher.specs.kernel_model.declared.kernel_calls.payload.Payload.TheVariants as pay
+use Rattle.launcher.specs.kernel_model.kernel_calls.Doing.{Doing}
+use Rattle.launcher.specs.kernel_model.Effects.{SetCreds}
+use Rattle.launcher.specs.kernel_model.kern_files.Looking.{flags_at}
+use Rattle.launcher.specs.kernel_model.kern_files.Executing.{marks_of}
+use Rattle.launcher.specs.kernel_laws.Kinds as k
+use Rattle.launcher.specs.kernel_laws.declared.question_types.kind.CallKind.{CallKind}
+use Rattle.launcher.specs.kernel_laws.declared.question_types.wish.Wish.{Wish}
+use Rattle.launcher.specs.kernel_laws.declared.question_types.wish.Wish.TheVariants.{See as ToSee, Read as ToRead, Write as ToWrite, Exec as ToExec}
+use Rattle.launcher.specs.filter_settings.declared.filter_rules.namespace_types.NamespaceType.{NamespaceType}
+use Rattle.launcher.specs.kernel_laws.declared.question_types.question.Question.{Question}
+use Rattle.launcher.specs.kernel_laws.declared.question_types.power.Power.{Power}
+use Rattle.launcher.specs.kernel_laws.declared.question_types.power.Power.TheVariants.{None as Nowise, Unmount as Unmounting, Mount as Mounting}
+use Rattle.launcher.specs.kernel_laws.declared.question_types.kind.CallKind.TheVariants as kinds
+use Rattle.launcher.specs.filter_settings.declared.filter_rules.namespace_types.NamespaceType.TheVariants as namespace
+use Rattle.launcher.specs.kernel_laws.declared.question_types.question.Question.TheVariants as asking
+use Rattle.launcher.specs.kernel_laws.Launched.{Launch, IsLaunched, launch_of, lets, lets_line, can_make_user}
+use Rattle.launcher.specs.site_table.Kinds.{is_dir, is_exe}
+use Rattle.launcher.specs.kern_mounts.Split.{Table}
 use Rattle.reach_paths.specs.Finding.{FindsRow}
-use Rattle.kernel_laws.specs.Reach.{fits, reaches}
-use Rattle.kernel_calls.specs.Rules.{rule_of}
-use Rattle.kernel_model.specs.World.{World}
-use Rattle.kernel_laws.proofs.Filters.{at_position}
+use Rattle.launcher.specs.kernel_laws.Reach.{fits, reaches}
+use Rattle.launcher.specs.kernel_model.kernel_calls.Rules.{rule_of}
+use Rattle.launcher.specs.kernel_model.World.{World}
+use Rattle.launcher.proofs.KernelLaws.Filters.{at_position}
 use Rattle.kernel_ways.specs.Laws.{IsFit, IsServedWorld, IsShown, OpenIsShown}
 use Rattle.kernel_ways.specs.Offers.{Offers}
 use Rattle.kernel_ways.specs.Showing.{Answers}
@@ -58,12 +58,12 @@ use Rattle.kernel_ways.proofs.Ids.{powered, uid_taken, gid_taken}
 use Rattle.kernel_ways.proofs.Gains.{Basis}
 use Rattle.kernel_ways.proofs.Showing.{calls_show, creds_show}
 use Rattle.kernel_ways.proofs.Starts.{starts_solo, performs}
-use Rattle.call_table.specs.Table.{every_call, calls_in}
+use Rattle.launcher.specs.call_table.Table.{every_call, calls_in}
 use Rattle.std.specs.List.{list_any}
 use Rattle.std.specs.Str.{bytes_eq}
 use Rattle.kernel_ways.proofs.Entering.{calls_show_inside}
 use Rattle.kernel_ways.proofs.InUser.{enters, own_space, exec_inside}
-use Rattle.cap_sets.specs.Sets.{all, IsWithin}
+use Rattle.launcher.specs.cap_sets.Sets.{all, IsWithin}
 
 -- a remount without set-id bits, mount(2)
 abbrev unmarked : ℕ

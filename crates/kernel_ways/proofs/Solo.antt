@@ -1,34 +1,34 @@
 -- What a way gives is shown by its calls.
 use Rattle.std.proofs.Common.{◌≡◌, ℕ, true, false, List, [], ◌∷◌, ◌++◌, Some, None, refl, ap, ◌∙◌, sym, subst, cond, length, eqb, zero, suc, inl, inr, map, Option}
 use Rattle.std.specs.Prelude.{slice_get, slice_set, nat_lt, ◌-◌}
-use Rattle.kern_creds.specs.declared.creds.Creds.{Creds}
-use Rattle.kernel_calls.specs.declared.call.Call.{Call}
-use Rattle.kernel_calls.specs.Calls.{IsCall, AreCalls}
-use Rattle.kernel_laws.specs.Denied.{LastIs, Shows, Reaches, Holds}
-use Rattle.kernel_calls.specs.Doing.{Doing, Does, asked_by, asked_of}
-use Rattle.kernel_calls.specs.Rules.{rule_at}
-use Rattle.call_table.specs.Table.{Abi, abi_at}
-use Rattle.bpf_code.specs.Stack.{decision_on}
-use Rattle.bpf_code.specs.declared.decision.Decision.TheVariants.{Pass}
+use Rattle.launcher.specs.kern_creds.declared.creds.Creds.{Creds}
+use Rattle.launcher.specs.kernel_model.declared.kernel_calls.call.Call.{Call}
+use Rattle.launcher.specs.kernel_model.kernel_calls.Calls.{IsCall, AreCalls}
+use Rattle.launcher.specs.kernel_laws.Denied.{LastIs, Shows, Reaches, Holds}
+use Rattle.launcher.specs.kernel_model.kernel_calls.Doing.{Doing, Does, asked_by, asked_of}
+use Rattle.launcher.specs.kernel_model.kernel_calls.Rules.{rule_at}
+use Rattle.launcher.specs.call_table.Table.{Abi, abi_at}
+use Rattle.launcher.specs.bpf_code.Stack.{decision_on}
+use Rattle.launcher.specs.bpf_code.declared.decision.Decision.TheVariants.{Pass}
 use Rattle.std.specs.Option.{option_map_or}
-use Rattle.kernel_calls.specs.Doing as d
-use Rattle.kernel_model.specs.Effects as f
-use Rattle.kernel_model.specs.Effects.{Effect, Host, SetCreds, SetTable, effect_of, looks, creds_effect, table_effect, with_admin, Caller}
-use Rattle.kernel_laws.specs.Launched.{Launch, data_at}
-use Rattle.bpf_code.specs.declared.machine.Insn.{Insn}
-use Rattle.kern_mounts.specs.Mounts.{Mounts, plain, steps_of}
-use Rattle.kern_mounts.specs.Finds.{finds}
-use Rattle.kern_mounts.proofs.Plain.{steps_plain}
-use Rattle.kern_files.proofs.MountsCall.{mount_entries, umount_answer_entries}
-use Rattle.kern_files.specs.Executing.{exec_answer}
-use Rattle.kern_files.specs.Looking.{flags_at, see_answer, write_answer, open_answer}
-use Rattle.kern_mounts.specs.Split.{Table}
-use Rattle.question_types.specs.declared.question.Question.{Question}
-use Rattle.kernel_model.specs.Runs.{Moment, moment_at, moments, run, IsDone, AllDone}
-use Rattle.kernel_model.specs.World.{World, of_number, if_alive, table_or, mounts_of, owner_or, owner_of}
-use Rattle.kernel_model.specs.declared.process.Process.{Process}
-use Rattle.kernel_model.specs.declared.reply.Reply.{Reply}
-use Rattle.kernel_model.specs.Step.{most_namespaces, step, step_by, decision_by, decided, answered, applied}
+use Rattle.launcher.specs.kernel_model.kernel_calls.Doing as d
+use Rattle.launcher.specs.kernel_model.Effects as f
+use Rattle.launcher.specs.kernel_model.Effects.{Effect, Host, SetCreds, SetTable, effect_of, looks, creds_effect, table_effect, with_admin, Caller}
+use Rattle.launcher.specs.kernel_laws.Launched.{Launch, data_at}
+use Rattle.launcher.specs.bpf_code.declared.machine.Insn.{Insn}
+use Rattle.launcher.specs.kern_mounts.Mounts.{Mounts, plain, steps_of}
+use Rattle.launcher.specs.kern_mounts.Finds.{finds}
+use Rattle.launcher.proofs.KernMounts.Plain.{steps_plain}
+use Rattle.launcher.proofs.KernelModel.MountsCall.{mount_entries, umount_answer_entries}
+use Rattle.launcher.specs.kernel_model.kern_files.Executing.{exec_answer}
+use Rattle.launcher.specs.kernel_model.kern_files.Looking.{flags_at, see_answer, write_answer, open_answer}
+use Rattle.launcher.specs.kern_mounts.Split.{Table}
+use Rattle.launcher.specs.kernel_laws.declared.question_types.question.Question.{Question}
+use Rattle.launcher.specs.kernel_model.Runs.{Moment, moment_at, moments, run, IsDone, AllDone}
+use Rattle.launcher.specs.kernel_model.World.{World, of_number, if_alive, table_or, mounts_of, owner_or, owner_of}
+use Rattle.launcher.specs.kernel_model.declared.process.Process.{Process}
+use Rattle.launcher.specs.kernel_model.declared.reply.Reply.{Reply}
+use Rattle.launcher.specs.kernel_model.Step.{most_namespaces, step, step_by, decision_by, decided, answered, applied}
 use Rattle.reach_paths.proofs.Processes.{put_own}
 use Rattle.kernel_ways.specs.Showing.{IsDoable}
 use Rattle.kernel_ways.specs.Ways.{effect_on, IsSolo, Way, here, by_creds, by_table, Makes, solo_world, solo_process, host_at}

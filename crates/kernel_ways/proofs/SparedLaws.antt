@@ -1,22 +1,22 @@
 -- Ids beyond the bounds are reached by no list that spares the capability that takes any.
 use Rattle.std.proofs.Common.{◌≡◌, ℕ, Bool, true, false, List}
 use Rattle.std.specs.Prelude.{◌&&◌, ◌||◌}
-use Rattle.cap_sets.specs.Sets.{has}
-use Rattle.kernel_calls.specs.declared.call.Call.{Call}
-use Rattle.kernel_calls.specs.Calls.{AreCalls}
-use Rattle.kernel_laws.specs.Bound.{caps_by, any_by, power_using, bounds_by}
-use Rattle.kernel_laws.specs.Ceiling.{AreHeld, IsStable}
-use Rattle.question_types.specs.declared.power.Power.{Power}
-use Rattle.question_types.specs.declared.kind.CallKind.TheVariants.{TakesUid, TakesGid}
-use Rattle.kern_mounts.specs.Mounts.{Mounts}
-use Rattle.kernel_laws.specs.Launched.{Launch, lets, launch_of, IsLaunchedWorld}
-use Rattle.kernel_laws.specs.Spared.{AllSpare}
-use Rattle.kernel_model.specs.Runs.{run}
-use Rattle.kernel_model.specs.World.{World}
-use Rattle.kernel_laws.proofs.Bound.{is_closed}
-use Rattle.kernel_laws.proofs.Filters.{lets_through}
-use Rattle.kernel_laws.proofs.Held.{start_held, uid_within, gid_within}
-use Rattle.kernel_laws.proofs.Runs.{spared_run}
+use Rattle.launcher.specs.cap_sets.Sets.{has}
+use Rattle.launcher.specs.kernel_model.declared.kernel_calls.call.Call.{Call}
+use Rattle.launcher.specs.kernel_model.kernel_calls.Calls.{AreCalls}
+use Rattle.launcher.specs.kernel_laws.Bound.{caps_by, any_by, power_using, bounds_by}
+use Rattle.launcher.specs.kernel_laws.Ceiling.{AreHeld, IsStable}
+use Rattle.launcher.specs.kernel_laws.declared.question_types.power.Power.{Power}
+use Rattle.launcher.specs.kernel_laws.declared.question_types.kind.CallKind.TheVariants.{TakesUid, TakesGid}
+use Rattle.launcher.specs.kern_mounts.Mounts.{Mounts}
+use Rattle.launcher.specs.kernel_laws.Launched.{Launch, lets, launch_of, IsLaunchedWorld}
+use Rattle.launcher.specs.kernel_laws.Spared.{AllSpare}
+use Rattle.launcher.specs.kernel_model.Runs.{run}
+use Rattle.launcher.specs.kernel_model.World.{World}
+use Rattle.launcher.proofs.KernelLaws.Bound.{is_closed}
+use Rattle.launcher.proofs.KernelLaws.Filters.{lets_through}
+use Rattle.launcher.proofs.KernelLaws.Held.{start_held, uid_within, gid_within}
+use Rattle.launcher.proofs.KernelLaws.Runs.{spared_run}
 use Rattle.kernel_ways.specs.Spared.{uids_of, gids_of, SparedIdsAreBounded}
 
 -- what tables newer user namespaces have does not matter

@@ -2,27 +2,27 @@
 use Rattle.std.proofs.Common.{◌≡◌, ℕ, Bool, true, false, List, [], ◌∷◌, ◌++◌, ◌⊎◌, inl, inr, refl, ap, ◌∙◌, sym, cond, append-nil}
 use Rattle.std.specs.Prelude.{◌&&◌}
 use Rattle.std.proofs.lemmas.Bool.{or_cases}
-use Rattle.bpf_code.specs.declared.machine.Insn.{Insn}
-use Rattle.bpf_code.specs.declared.decision.Decision.TheVariants as decision
-use Rattle.bpf_code.specs.Stack.{decision_on}
-use Rattle.cap_sets.specs.Sets.{has, union}
-use Rattle.cap_sets.proofs.Members.{has_union, has_none, within_union_left, within_self}
-use Rattle.kern_creds.specs.declared.creds.Creds.{Creds}
-use Rattle.kernel_laws.specs.Bound.{caps_at, caps_by, caps_before, with_root, when, power_by, power_using, power_of}
-use Rattle.kernel_calls.specs.declared.call.Call.{Call}
-use Rattle.kernel_calls.specs.Doing.{Doing, Does, asked_of}
-use Rattle.kernel_model.specs.Effects.{Effect}
-use Rattle.kernel_laws.specs.Kinds.{asks}
-use Rattle.kernel_laws.specs.Launched.{Launch, IsLaunched, lets, data_at, launch_of}
-use Rattle.kern_mounts.specs.Split.{Table}
-use Rattle.question_types.specs.declared.kind.CallKind.TheVariants.{TakesUid, TakesGid, ChangesMounts, RemovesMounts}
-use Rattle.question_types.specs.declared.power.Power.{Power}
-use Rattle.question_types.specs.declared.power.Power.TheVariants.{None as Nowise, Unmount as Unmounting, Mount as Mounting}
-use Rattle.question_types.specs.declared.question.Question.TheVariants as asking
-use Rattle.kernel_model.specs.World.{World}
-use Rattle.kernel_laws.proofs.Filters.{lets_through}
+use Rattle.launcher.specs.bpf_code.declared.machine.Insn.{Insn}
+use Rattle.launcher.specs.bpf_code.declared.decision.Decision.TheVariants as decision
+use Rattle.launcher.specs.bpf_code.Stack.{decision_on}
+use Rattle.launcher.specs.cap_sets.Sets.{has, union}
+use Rattle.launcher.proofs.Caps.Members.{has_union, has_none, within_union_left, within_self}
+use Rattle.launcher.specs.kern_creds.declared.creds.Creds.{Creds}
+use Rattle.launcher.specs.kernel_laws.Bound.{caps_at, caps_by, caps_before, with_root, when, power_by, power_using, power_of}
+use Rattle.launcher.specs.kernel_model.declared.kernel_calls.call.Call.{Call}
+use Rattle.launcher.specs.kernel_model.kernel_calls.Doing.{Doing, Does, asked_of}
+use Rattle.launcher.specs.kernel_model.Effects.{Effect}
+use Rattle.launcher.specs.kernel_laws.Kinds.{asks}
+use Rattle.launcher.specs.kernel_laws.Launched.{Launch, IsLaunched, lets, data_at, launch_of}
+use Rattle.launcher.specs.kern_mounts.Split.{Table}
+use Rattle.launcher.specs.kernel_laws.declared.question_types.kind.CallKind.TheVariants.{TakesUid, TakesGid, ChangesMounts, RemovesMounts}
+use Rattle.launcher.specs.kernel_laws.declared.question_types.power.Power.{Power}
+use Rattle.launcher.specs.kernel_laws.declared.question_types.power.Power.TheVariants.{None as Nowise, Unmount as Unmounting, Mount as Mounting}
+use Rattle.launcher.specs.kernel_laws.declared.question_types.question.Question.TheVariants as asking
+use Rattle.launcher.specs.kernel_model.World.{World}
+use Rattle.launcher.proofs.KernelLaws.Filters.{lets_through}
 use Rattle.kernel_ways.specs.Offers.{Offers}
-use Rattle.kernel_laws.specs.Spared.{Spares, AllSpare}
+use Rattle.launcher.specs.kernel_laws.Spared.{Spares, AllSpare}
 use Rattle.kernel_ways.specs.Spared.{SparedIdsAreReached}
 use Rattle.kernel_ways.specs.Ways.{Way, here, by_creds, by_table, IsSolo, Makes}
 use Rattle.kernel_ways.proofs.Attained.{Gained, nowise_before, at_launch}

@@ -2,27 +2,27 @@
 use Rattle.std.proofs.Common.{◌≡◌, map, ℕ, Bool, true, false, List, [], ◌∷◌, Some, None, refl, ap, ◌∙◌, sym, subst, cond, length, eqb, arith}
 use Rattle.std.specs.Prelude.{slice_get, ◌<◌, ◌-◌}
 use Rattle.std.proofs.lemmas.Bool.Decides.{nat_tests}
-use Rattle.abs_path.specs.Paths.{Path}
-use Rattle.call_table.specs.Lookups.{numbered}
-use Rattle.call_table.specs.Table.{calls_in, every_call}
-use Rattle.call_table.specs.declared.listed.CallLine.{CallLine}
-use Rattle.site_table.specs.declared.row.Row.{Row}
-use Rattle.site_table.specs.Table.{row_at}
-use Rattle.kern_creds.specs.declared.creds.Creds.{Creds}
-use Rattle.kern_mounts.specs.Finds.{row, finds}
-use Rattle.kernel_calls.specs.declared.call.Call.{Call}
-use Rattle.kernel_laws.specs.Denied.{path_for, ReachesRow, ReachesCall, Performs, SomeLiving}
-use Rattle.kernel_calls.specs.Doing.{Doing}
-use Rattle.kernel_model.specs.Effects.{Effect}
-use Rattle.kernel_laws.specs.Launched.{Launch, IsLaunchedWorld, launch_of, first_of}
-use Rattle.kern_mounts.specs.Mounts.{Mounts, plain, steps_of}
-use Rattle.kern_mounts.proofs.Plain.{steps_plain, plain_again}
-use Rattle.kern_mounts.specs.Split.{Table}
-use Rattle.question_types.specs.declared.wish.Wish.{Wish}
-use Rattle.kernel_model.specs.Runs.{moment_at, IsDone}
-use Rattle.kernel_model.specs.World.{World, process_of, mounts_of, table_of, table_or}
-use Rattle.kernel_model.specs.declared.process.Process.{Process}
-use Rattle.kernel_model.specs.Step.{most_namespaces, step}
+use Rattle.launcher.specs.abs_path.Paths.{Path}
+use Rattle.launcher.specs.call_table.Lookups.{numbered}
+use Rattle.launcher.specs.call_table.Table.{calls_in, every_call}
+use Rattle.launcher.specs.call_table.declared.listed.CallLine.{CallLine}
+use Rattle.launcher.specs.site_table.declared.row.Row.{Row}
+use Rattle.launcher.specs.site_table.Table.{row_at}
+use Rattle.launcher.specs.kern_creds.declared.creds.Creds.{Creds}
+use Rattle.launcher.specs.kern_mounts.Finds.{row, finds}
+use Rattle.launcher.specs.kernel_model.declared.kernel_calls.call.Call.{Call}
+use Rattle.launcher.specs.kernel_laws.Denied.{path_for, ReachesRow, ReachesCall, Performs, SomeLiving}
+use Rattle.launcher.specs.kernel_model.kernel_calls.Doing.{Doing}
+use Rattle.launcher.specs.kernel_model.Effects.{Effect}
+use Rattle.launcher.specs.kernel_laws.Launched.{Launch, IsLaunchedWorld, launch_of, first_of}
+use Rattle.launcher.specs.kern_mounts.Mounts.{Mounts, plain, steps_of}
+use Rattle.launcher.proofs.KernMounts.Plain.{steps_plain, plain_again}
+use Rattle.launcher.specs.kern_mounts.Split.{Table}
+use Rattle.launcher.specs.kernel_laws.declared.question_types.wish.Wish.{Wish}
+use Rattle.launcher.specs.kernel_model.Runs.{moment_at, IsDone}
+use Rattle.launcher.specs.kernel_model.World.{World, process_of, mounts_of, table_of, table_or}
+use Rattle.launcher.specs.kernel_model.declared.process.Process.{Process}
+use Rattle.launcher.specs.kernel_model.Step.{most_namespaces, step}
 use Rattle.kernel_ways.specs.Ways.{IsSolo, Makes, solo_world, solo_process}
 
 some_of : {X : Type 0} (tables : List X) (namespace : ℕ) (table : X) (b : Bool) → eqb namespace 0 ≡ b → cond b None (slice_get tables (namespace - 1)) ≡ Some table → (eqb namespace 0 ≡ false) × (slice_get tables (namespace - 1) ≡ Some table)

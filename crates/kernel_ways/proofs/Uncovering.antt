@@ -1,19 +1,19 @@
 -- What covers a path is unmounted entry by entry, the last first, and then the path belongs to the entry behind which they stood.
 use Rattle.std.proofs.Common.{◌≡◌, ℕ, zero, suc, Bool, true, false, List, [], ◌∷◌, ◌++◌, Option, Some, None, Result, Ok, refl, ap, ◌∙◌, sym, subst, cond, arith, ◌≤◌, ◌<◌, length, length-append, append_assoc, append-nil}
 use Rattle.std.specs.Prelude.{not, filter}
-use Rattle.abs_path.specs.Paths.{Path, is_root}
-use Rattle.abs_path.specs.Prefix.{is_prefix, rest_of}
-use Rattle.abs_path.proofs.Prefixes.{prefix_itself, same_itself}
-use Rattle.kern_mounts.specs.Entry.{leads_to}
-use Rattle.kern_mounts.specs.Split.{Table, Split, split_last, split_at, is_at, is_below}
-use Rattle.kern_mounts.specs.Umount.{after_umount}
-use Rattle.kern_mounts.specs.Unmounts.{IsPart, nothing, keeps, leaves}
-use Rattle.kern_mounts.specs.declared.step.MountStep.{MountStep}
-use Rattle.kern_mounts.proofs.Paths.{behind}
-use Rattle.kern_mounts.proofs.Splits.{None_have, IsSplit, split_some, split_none, split_is}
-use Rattle.kern_mounts.proofs.Unmounting.{Apart, append_all, part_append, part_filter}
-use Rattle.kernel_laws.proofs.Blind.{none_not}
-use Rattle.kernel_laws.specs.Questions.{if_so}
+use Rattle.launcher.specs.abs_path.Paths.{Path, is_root}
+use Rattle.launcher.specs.abs_path.Prefix.{is_prefix, rest_of}
+use Rattle.launcher.proofs.AbsPath.Prefixes.{prefix_itself, same_itself}
+use Rattle.launcher.specs.kern_mounts.Entry.{leads_to}
+use Rattle.launcher.specs.kern_mounts.Split.{Table, Split, split_last, split_at, is_at, is_below}
+use Rattle.launcher.specs.kern_mounts.Umount.{after_umount}
+use Rattle.launcher.specs.kern_mounts.Unmounts.{IsPart, nothing, keeps, leaves}
+use Rattle.launcher.specs.kern_mounts.declared.step.MountStep.{MountStep}
+use Rattle.launcher.proofs.KernMounts.Paths.{behind}
+use Rattle.launcher.proofs.KernMounts.Splits.{None_have, IsSplit, split_some, split_none, split_is}
+use Rattle.launcher.proofs.KernMounts.Unmounting.{Apart, append_all, part_append, part_filter}
+use Rattle.launcher.proofs.KernelLaws.Blind.{none_not}
+use Rattle.launcher.specs.kernel_laws.Questions.{if_so}
 use Rattle.reach_paths.proofs.Parts.{part_all}
 use Rattle.kernel_ways.specs.Uncovering.{covering, Detaches, still, then_one}
 

@@ -4,44 +4,44 @@ use Rattle.std.specs.List.{AllByRecursion}
 use Rattle.std.specs.Option.{option_map_or}
 use Rattle.std.specs.Str.{bytes_eq}
 use Rattle.std.proofs.lemmas.Bool.{eqb-true, eq-eqb}
-use Rattle.bpf_code.specs.declared.machine.Insn.{Insn}
-use Rattle.bpf_code.specs.declared.machine.CallData.{CallData}
-use Rattle.bpf_code.specs.declared.decision.Decision.TheVariants as decision
-use Rattle.bpf_code.specs.Meaning.{IsCallData}
-use Rattle.bpf_code.specs.Stack.{answer_of, decision_of}
-use Rattle.call_names.specs.Known.{known_call}
-use Rattle.call_names.specs.declared.rule.Argument.TheVariants.{Second, Third}
-use Rattle.call_names.specs.declared.rule.CallRule.TheVariants as known
-use Rattle.call_rules.specs.Action.{word_of}
-use Rattle.call_rules.specs.declared.actions.Action.TheVariants.{KillProcess}
-use Rattle.call_table.specs.declared.listed.CallLine.{CallLine}
-use Rattle.call_table.specs.Table as calls
-use Rattle.call_table.specs.Lookups.{numbered}
-use Rattle.filter_rules.specs.declared.mentions.FamilyList.{FamilyList}
-use Rattle.filter_rules.specs.declared.names.FilterName.{FilterName}
-use Rattle.filter_rules.specs.declared.names.FilterName.TheVariants as filter
-use Rattle.filter_rules.specs.declared.namespace_types.NamespaceTypes.{NamespaceTypes}
-use Rattle.filter_rules.specs.declared.settings.FilterSettings.{FilterSettings}
-use Rattle.filter_rules.specs.Actions.{unless_refused}
-use Rattle.filter_rules.specs.Families.{refuses_family}
-use Rattle.filter_rules.specs.Mapping.{refuses_mapping}
-use Rattle.filter_rules.specs.Namespaces.{refuses_namespace}
-use Rattle.filter_rules.specs.Personality.{refuses_personality}
-use Rattle.filter_rules.specs.Realtime.{refuses_policy}
-use Rattle.filter_rules.specs.Suid.{refuses_mode}
-use Rattle.filter_rules.specs.Wanted.{named_action, unnamed_action, wanted_action}
-use Rattle.kernel_calls.specs.Rules.{rule_of}
-use Rattle.kernel_calls.specs.declared.rule.Rule.{Rule}
-use Rattle.kernel_calls.specs.declared.rule.Rule.TheVariants.{Known}
-use Rattle.kernel_laws.specs.FirstChoice.{Means}
-use Rattle.kernel_laws.specs.Launched.{Launch, data_at}
-use Rattle.kernel_laws.proofs.FilterChoices.{with_name, rule_named}
-use Rattle.kernel_laws.proofs.Filters.{HasRule, has_rule}
-use Rattle.kernel_laws.proofs.Programs.{stack_passes}
+use Rattle.launcher.specs.bpf_code.declared.machine.Insn.{Insn}
+use Rattle.launcher.specs.bpf_code.declared.machine.CallData.{CallData}
+use Rattle.launcher.specs.bpf_code.declared.decision.Decision.TheVariants as decision
+use Rattle.launcher.specs.bpf_code.Meaning.{IsCallData}
+use Rattle.launcher.specs.bpf_code.Stack.{answer_of, decision_of}
+use Rattle.launcher.specs.call_table.call_names.Known.{known_call}
+use Rattle.launcher.specs.call_table.declared.call_names.rule.Argument.TheVariants.{Second, Third}
+use Rattle.launcher.specs.call_table.declared.call_names.rule.CallRule.TheVariants as known
+use Rattle.launcher.specs.call_rules.Action.{word_of}
+use Rattle.launcher.specs.call_rules.declared.actions.Action.TheVariants.{KillProcess}
+use Rattle.launcher.specs.call_table.declared.listed.CallLine.{CallLine}
+use Rattle.launcher.specs.call_table.Table as calls
+use Rattle.launcher.specs.call_table.Lookups.{numbered}
+use Rattle.launcher.specs.filter_settings.declared.filter_rules.mentions.FamilyList.{FamilyList}
+use Rattle.launcher.specs.filter_settings.declared.filter_rules.names.FilterName.{FilterName}
+use Rattle.launcher.specs.filter_settings.declared.filter_rules.names.FilterName.TheVariants as filter
+use Rattle.launcher.specs.filter_settings.declared.filter_rules.namespace_types.NamespaceTypes.{NamespaceTypes}
+use Rattle.launcher.specs.filter_settings.declared.filter_rules.settings.FilterSettings.{FilterSettings}
+use Rattle.launcher.specs.filter_settings.filter_rules.Actions.{unless_refused}
+use Rattle.launcher.specs.filter_settings.filter_rules.Families.{refuses_family}
+use Rattle.launcher.specs.filter_settings.filter_rules.Mapping.{refuses_mapping}
+use Rattle.launcher.specs.filter_settings.filter_rules.Namespaces.{refuses_namespace}
+use Rattle.launcher.specs.filter_settings.filter_rules.Personality.{refuses_personality}
+use Rattle.launcher.specs.filter_settings.filter_rules.Realtime.{refuses_policy}
+use Rattle.launcher.specs.filter_settings.filter_rules.Suid.{refuses_mode}
+use Rattle.launcher.specs.filter_settings.filter_rules.Wanted.{named_action, unnamed_action, wanted_action}
+use Rattle.launcher.specs.kernel_model.kernel_calls.Rules.{rule_of}
+use Rattle.launcher.specs.kernel_model.declared.kernel_calls.rule.Rule.{Rule}
+use Rattle.launcher.specs.kernel_model.declared.kernel_calls.rule.Rule.TheVariants.{Known}
+use Rattle.launcher.specs.kernel_laws.FirstChoice.{Means}
+use Rattle.launcher.specs.kernel_laws.Launched.{Launch, data_at}
+use Rattle.launcher.proofs.KernelLaws.FilterChoices.{with_name, rule_named}
+use Rattle.launcher.proofs.KernelLaws.Filters.{HasRule, has_rule}
+use Rattle.launcher.proofs.KernelLaws.Programs.{stack_passes}
 use Rattle.kernel_ways.specs.Launching.{SettingsPassAlike}
 use Rattle.kernel_ways.specs.Offers.{is_unlooked}
 use Rattle.kernel_ways.specs.Ways.{CallAt}
-use Rattle.kernel_laws.proofs.SettingsChoose.{at_line, at_other, is_there, same_abi}
+use Rattle.launcher.proofs.KernelLaws.SettingsChoose.{at_line, at_other, is_there, same_abi}
 
 module _ (line : CallLine) (rule : Rule) (is : rule_of line ≡ Some rule) (unlooked : is_unlooked rule ≡ true) where
   -- such a line has no name of another rule

@@ -1,13 +1,13 @@
 -- A folder is blind by the launched mount table exactly where no list of calls exposes it.
 use Rattle.std.specs.Prelude.{◌≡◌, true, false, List}
-use Rattle.abs_path.specs.Paths.{Path}
-use Rattle.kernel_calls.specs.Calls.{AreCalls}
-use Rattle.kernel_calls.specs.declared.call.Call.{Call}
-use Rattle.kernel_model.specs.Runs.{moments, run, AllDone}
-use Rattle.kernel_model.specs.World.{World}
-use Rattle.kernel_laws.specs.Blind.{IsFolder, is_blind}
-use Rattle.kernel_laws.specs.Denied.{Exposes, IsBlind}
-use Rattle.kernel_laws.specs.Launched.{launch_of}
+use Rattle.launcher.specs.abs_path.Paths.{Path}
+use Rattle.launcher.specs.kernel_model.kernel_calls.Calls.{AreCalls}
+use Rattle.launcher.specs.kernel_model.declared.kernel_calls.call.Call.{Call}
+use Rattle.launcher.specs.kernel_model.Runs.{moments, run, AllDone}
+use Rattle.launcher.specs.kernel_model.World.{World}
+use Rattle.launcher.specs.kernel_laws.Blind.{IsFolder, is_blind}
+use Rattle.launcher.specs.kernel_laws.Denied.{Exposes, IsBlind}
+use Rattle.launcher.specs.kernel_laws.Launched.{launch_of}
 use Rattle.kernel_ways.specs.Laws.{IsServedWorld}
 
 -- every call of the list is done, and then a path of a living process has its host place strictly below the folder

@@ -1,23 +1,23 @@
 -- A call in a user namespace of its own, user_namespaces(7): process 1 enters one by unshare(2), or its child is made in one by clone(2).
 use Rattle.std.specs.Prelude.{◌≡◌, ℕ, ◌<◌, nat_lt, Bool, true, length, List, [], ◌∷◌, ◌++◌, Some, map}
-use Rattle.kern_creds.specs.declared.creds.Creds.{Creds}
-use Rattle.kern_creds.specs.Enter.{entered}
-use Rattle.kern_mounts.specs.Split.{Table}
-use Rattle.kern_mounts.specs.Mounts.{plain}
-use Rattle.kernel_calls.specs.declared.call.Call.{Call}
-use Rattle.kernel_calls.specs.declared.rule.Rule.{Rule}
-use Rattle.kernel_calls.specs.declared.rule.Rule.TheVariants.{Known}
-use Rattle.call_names.specs.declared.rule.CallRule.TheVariants.{Unshare}
-use Rattle.kernel_calls.specs.Calls.{IsCall}
-use Rattle.kernel_calls.specs.Doing.{Doing, Does, asked_of}
-use Rattle.kernel_model.specs.Effects.{Effect, Caller, effect_of}
-use Rattle.kernel_model.specs.Runs.{IsDone}
-use Rattle.kernel_model.specs.Step.{most_processes, most_namespaces, step}
-use Rattle.kernel_model.specs.World.{World, living_of, mounts_of, is_newer}
-use Rattle.kernel_model.specs.declared.process.Process.{Process}
-use Rattle.kernel_laws.specs.Denied.{Shows}
-use Rattle.kernel_laws.specs.Launched.{Launch, passes}
-use Rattle.question_types.specs.declared.question.Question.{Question}
+use Rattle.launcher.specs.kern_creds.declared.creds.Creds.{Creds}
+use Rattle.launcher.specs.kern_creds.Enter.{entered}
+use Rattle.launcher.specs.kern_mounts.Split.{Table}
+use Rattle.launcher.specs.kern_mounts.Mounts.{plain}
+use Rattle.launcher.specs.kernel_model.declared.kernel_calls.call.Call.{Call}
+use Rattle.launcher.specs.kernel_model.declared.kernel_calls.rule.Rule.{Rule}
+use Rattle.launcher.specs.kernel_model.declared.kernel_calls.rule.Rule.TheVariants.{Known}
+use Rattle.launcher.specs.call_table.declared.call_names.rule.CallRule.TheVariants.{Unshare}
+use Rattle.launcher.specs.kernel_model.kernel_calls.Calls.{IsCall}
+use Rattle.launcher.specs.kernel_model.kernel_calls.Doing.{Doing, Does, asked_of}
+use Rattle.launcher.specs.kernel_model.Effects.{Effect, Caller, effect_of}
+use Rattle.launcher.specs.kernel_model.Runs.{IsDone}
+use Rattle.launcher.specs.kernel_model.Step.{most_processes, most_namespaces, step}
+use Rattle.launcher.specs.kernel_model.World.{World, living_of, mounts_of, is_newer}
+use Rattle.launcher.specs.kernel_model.declared.process.Process.{Process}
+use Rattle.launcher.specs.kernel_laws.Denied.{Shows}
+use Rattle.launcher.specs.kernel_laws.Launched.{Launch, passes}
+use Rattle.launcher.specs.kernel_laws.declared.question_types.question.Question.{Question}
 use Rattle.kernel_ways.specs.Showing.{IsDoable, Answers}
 use Rattle.kernel_ways.specs.Ways.{Way, IsSolo, host_at}
 

@@ -1,29 +1,29 @@
 -- What a process that has CAP_SYS_ADMIN exposes, call by call: rows that mounts cover, and with mount(2) every row.
 use Rattle.std.specs.Prelude.{◌≡◌, ℕ, ◌<◌, ◌^◌, true, false, List, ◌++◌, Option, Some}
-use Rattle.abs_path.specs.Paths.{Path, proc}
-use Rattle.call_names.specs.declared.rule.CallRule.{CallRule}
-use Rattle.call_names.specs.declared.rule.CallRule.TheVariants.{Mount, Umount}
-use Rattle.cap_sets.specs.Sets.{has}
-use Rattle.linux_numbers.specs.Capabilities.{cap_sys_admin}
-use Rattle.site_table.specs.declared.row.Row.{Row}
-use Rattle.site_table.specs.Table.{row_at}
-use Rattle.kern_creds.specs.declared.creds.Creds.{Creds}
-use Rattle.kern_mounts.specs.Finds.{row, finds}
-use Rattle.kern_mounts.specs.Split.{Table}
-use Rattle.kern_files.specs.Bits.{has_all}
-use Rattle.kern_files.specs.Looking.{flags_at}
-use Rattle.kern_files.specs.MountCall.{ms_remount_bind, has_other_kind, flags_of}
-use Rattle.kernel_calls.specs.Calls.{IsPath, AreCalls}
-use Rattle.kernel_calls.specs.Rules.{rule_at}
-use Rattle.kernel_calls.specs.declared.call.Call.{Call}
-use Rattle.kernel_calls.specs.declared.rule.Rule.TheVariants.{Known}
-use Rattle.kernel_model.specs.Runs.{moments, run, AllDone}
-use Rattle.kernel_model.specs.World.{World, living_of, table_of}
-use Rattle.kernel_model.specs.declared.process.Process.{Process}
-use Rattle.kernel_laws.specs.Kinds.{no_words}
-use Rattle.kernel_laws.specs.Launched.{Launch, passes, launch_of, IsLaunched}
-use Rattle.question_types.specs.declared.wish.Wish.{Wish}
-use Rattle.kernel_laws.specs.Reach.{fits}
+use Rattle.launcher.specs.abs_path.Paths.{Path, proc}
+use Rattle.launcher.specs.call_table.declared.call_names.rule.CallRule.{CallRule}
+use Rattle.launcher.specs.call_table.declared.call_names.rule.CallRule.TheVariants.{Mount, Umount}
+use Rattle.launcher.specs.cap_sets.Sets.{has}
+use Rattle.launcher.specs.linux_numbers.Capabilities.{cap_sys_admin}
+use Rattle.launcher.specs.site_table.declared.row.Row.{Row}
+use Rattle.launcher.specs.site_table.Table.{row_at}
+use Rattle.launcher.specs.kern_creds.declared.creds.Creds.{Creds}
+use Rattle.launcher.specs.kern_mounts.Finds.{row, finds}
+use Rattle.launcher.specs.kern_mounts.Split.{Table}
+use Rattle.launcher.specs.kernel_model.kern_files.Bits.{has_all}
+use Rattle.launcher.specs.kernel_model.kern_files.Looking.{flags_at}
+use Rattle.launcher.specs.kernel_model.kern_files.MountCall.{ms_remount_bind, has_other_kind, flags_of}
+use Rattle.launcher.specs.kernel_model.kernel_calls.Calls.{IsPath, AreCalls}
+use Rattle.launcher.specs.kernel_model.kernel_calls.Rules.{rule_at}
+use Rattle.launcher.specs.kernel_model.declared.kernel_calls.call.Call.{Call}
+use Rattle.launcher.specs.kernel_model.declared.kernel_calls.rule.Rule.TheVariants.{Known}
+use Rattle.launcher.specs.kernel_model.Runs.{moments, run, AllDone}
+use Rattle.launcher.specs.kernel_model.World.{World, living_of, table_of}
+use Rattle.launcher.specs.kernel_model.declared.process.Process.{Process}
+use Rattle.launcher.specs.kernel_laws.Kinds.{no_words}
+use Rattle.launcher.specs.kernel_laws.Launched.{Launch, passes, launch_of, IsLaunched}
+use Rattle.launcher.specs.kernel_laws.declared.question_types.wish.Wish.{Wish}
+use Rattle.launcher.specs.kernel_laws.Reach.{fits}
 use Rattle.reach_paths.specs.First.{Shows}
 use Rattle.reach_paths.specs.Mounting.{IsBelowProc}
 use Rattle.kernel_ways.specs.Laws.{IsServedWorld}

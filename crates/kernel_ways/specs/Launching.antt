@@ -1,25 +1,25 @@
 -- A launch by the programs of settings leaves a world in which what is open can be shown.
 use Rattle.std.specs.Prelude.{◌≡◌, ℕ, ◌<◌, ◌^◌, ◌==◌, false, IfSome}
 use Rattle.std.specs.List.{AllByRecursion}
-use Rattle.bpf_code.specs.declared.machine.CallData.{CallData}
-use Rattle.bpf_code.specs.Meaning.{IsCallData}
-use Rattle.bpf_code.specs.Refusing.{ArePlain}
-use Rattle.bpf_code.specs.Stack.{answers_of}
-use Rattle.call_table.specs.Facts.{IsWhole}
-use Rattle.call_table.specs.Table as calls
-use Rattle.filter_rules.specs.Refusing.{AreRefusing}
-use Rattle.filter_rules.specs.declared.settings.FilterSettings.{FilterSettings}
-use Rattle.kern_mounts.specs.Launch.{CanBeMounted}
-use Rattle.kern_mounts.specs.Split.{Table}
-use Rattle.kernel_laws.specs.FirstChoice.{Means}
-use Rattle.kernel_calls.specs.Calls.{IsPath}
-use Rattle.kernel_laws.specs.Launched.{Launch, launch_of}
-use Rattle.kernel_model.specs.World.{World}
+use Rattle.launcher.specs.bpf_code.declared.machine.CallData.{CallData}
+use Rattle.launcher.specs.bpf_code.Meaning.{IsCallData}
+use Rattle.launcher.specs.bpf_code.Refusing.{ArePlain}
+use Rattle.launcher.specs.bpf_code.Stack.{answers_of}
+use Rattle.launcher.specs.call_table.Facts.{IsWhole}
+use Rattle.launcher.specs.call_table.Table as calls
+use Rattle.launcher.specs.filter_settings.filter_rules.Refusing.{AreRefusing}
+use Rattle.launcher.specs.filter_settings.declared.filter_rules.settings.FilterSettings.{FilterSettings}
+use Rattle.launcher.specs.kern_mounts.Launch.{CanBeMounted}
+use Rattle.launcher.specs.kern_mounts.Split.{Table}
+use Rattle.launcher.specs.kernel_laws.FirstChoice.{Means}
+use Rattle.launcher.specs.kernel_model.kernel_calls.Calls.{IsPath}
+use Rattle.launcher.specs.kernel_laws.Launched.{Launch, launch_of}
+use Rattle.launcher.specs.kernel_model.World.{World}
 use Rattle.launcher.specs.Launch.{Wanted, Launched, launch}
 use Rattle.launcher.specs.LaunchedWorlds.{IsMeant}
-use Rattle.linux_numbers.specs.Limits.{no_id}
-use Rattle.mount_plan.specs.Host.{host_of}
-use Rattle.site_table.specs.Table.{Site, IsSite}
+use Rattle.launcher.specs.linux_numbers.Limits.{no_id}
+use Rattle.launcher.specs.mount_plan.Host.{host_of}
+use Rattle.launcher.specs.site_table.Table.{Site, IsSite}
 use Rattle.kernel_ways.specs.Laws.{IsServedWorld}
 use Rattle.kernel_ways.specs.Offers.{PassesAlike, RunsProgram}
 use Rattle.launcher.specs.Alike.{HasWordArchs}

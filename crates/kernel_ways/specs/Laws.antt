@@ -1,24 +1,24 @@
 -- What is open is shown by a list of calls, and what is not is denied; and the bounds of the ceiling are exact.
 use Rattle.std.specs.Prelude.{◌≡◌, ℕ, ◌<◌, ◌≤◌, true, false, List, length, slice_get, Some}
 use Rattle.std.specs.List.{AllByRecursion}
-use Rattle.cap_sets.specs.Sets.{has}
-use Rattle.linux_numbers.specs.Capabilities.{cap_sys_admin}
-use Rattle.call_table.specs.Table as calls
-use Rattle.site_table.specs.declared.row.Row.{Row}
-use Rattle.site_table.specs.Ids.{greatest_id}
-use Rattle.site_table.specs.Kinds.{is_dir, is_exe}
-use Rattle.site_table.specs.Table.{Site, IsSite}
-use Rattle.kernel_calls.specs.declared.call.Call.{Call}
-use Rattle.kernel_model.specs.Step.{most_namespaces}
-use Rattle.kernel_model.specs.World.{World}
-use Rattle.kernel_laws.specs.Bound.{is_open, any_uid, any_gid, ceiling, power_by, power_of}
-use Rattle.kernel_laws.specs.Denied.{IsDenied, Shows}
-use Rattle.question_types.specs.declared.kind.CallKind.TheVariants.{ChangesMounts, RemovesMounts}
-use Rattle.question_types.specs.declared.question.Question.{Question}
-use Rattle.question_types.specs.declared.question.Question.TheVariants.{Path as ByPath, Cap, Uid, Gid}
-use Rattle.question_types.specs.declared.wish.Wish.TheVariants.{Write as ToWrite, Exec as ToExec}
-use Rattle.kernel_laws.specs.Launched.{lets, launch_of, IsLaunchedWorld}
-use Rattle.kernel_laws.specs.Questions.{IsAsked, questions}
+use Rattle.launcher.specs.cap_sets.Sets.{has}
+use Rattle.launcher.specs.linux_numbers.Capabilities.{cap_sys_admin}
+use Rattle.launcher.specs.call_table.Table as calls
+use Rattle.launcher.specs.site_table.declared.row.Row.{Row}
+use Rattle.launcher.specs.site_table.Ids.{greatest_id}
+use Rattle.launcher.specs.site_table.Kinds.{is_dir, is_exe}
+use Rattle.launcher.specs.site_table.Table.{Site, IsSite}
+use Rattle.launcher.specs.kernel_model.declared.kernel_calls.call.Call.{Call}
+use Rattle.launcher.specs.kernel_model.Step.{most_namespaces}
+use Rattle.launcher.specs.kernel_model.World.{World}
+use Rattle.launcher.specs.kernel_laws.Bound.{is_open, any_uid, any_gid, ceiling, power_by, power_of}
+use Rattle.launcher.specs.kernel_laws.Denied.{IsDenied, Shows}
+use Rattle.launcher.specs.kernel_laws.declared.question_types.kind.CallKind.TheVariants.{ChangesMounts, RemovesMounts}
+use Rattle.launcher.specs.kernel_laws.declared.question_types.question.Question.{Question}
+use Rattle.launcher.specs.kernel_laws.declared.question_types.question.Question.TheVariants.{Path as ByPath, Cap, Uid, Gid}
+use Rattle.launcher.specs.kernel_laws.declared.question_types.wish.Wish.TheVariants.{Write as ToWrite, Exec as ToExec}
+use Rattle.launcher.specs.kernel_laws.Launched.{lets, launch_of, IsLaunchedWorld}
+use Rattle.launcher.specs.kernel_laws.Questions.{IsAsked, questions}
 use Rattle.kernel_ways.specs.Offers.{Offers}
 
 -- the question is put to what it is about: no directory is written, what is executed is an executable file, and the id -1, which

@@ -1,22 +1,22 @@
 -- What a launched service has beside the facts that bound it: tables that were read, a plan that was mounted, a program that runs,
 -- and filters that do not look at the words of some calls. With these, what is open can be shown.
 use Rattle.std.specs.Prelude.{◌≡◌, ℕ, ◌<◌, ◌^◌, Bool, true, false, List, Some}
-use Rattle.abs_path.specs.Paths.{Path}
-use Rattle.call_names.specs.declared.rule.CallRule.TheVariants.{Execve, Mount, Umount, Setuid, Setgid, Setresuid, Setresgid, Setgroups, Capset}
-use Rattle.call_table.specs.Facts.{IsTable}
-use Rattle.site_table.specs.declared.row.Row.{Row}
-use Rattle.site_table.specs.Kinds.{is_exe}
-use Rattle.site_table.specs.Table.{IsSite, row_at}
-use Rattle.kern_creds.specs.Exec.{is_privileged}
-use Rattle.kern_mounts.specs.Launch.{CanBeMounted}
-use Rattle.kern_files.specs.Executing.{marks_of}
-use Rattle.kernel_calls.specs.declared.rule.Rule.{Rule}
-use Rattle.kernel_calls.specs.declared.rule.Rule.TheVariants.{Known}
-use Rattle.kernel_calls.specs.Rules.{rule_at}
-use Rattle.kernel_laws.specs.Kinds.{AreWords}
-use Rattle.kernel_laws.specs.Launched.{Launch, passes, lets}
-use Rattle.question_types.specs.declared.kind.CallKind.TheVariants.{ForPath}
-use Rattle.question_types.specs.declared.wish.Wish.TheVariants.{Exec as ToExec}
+use Rattle.launcher.specs.abs_path.Paths.{Path}
+use Rattle.launcher.specs.call_table.declared.call_names.rule.CallRule.TheVariants.{Execve, Mount, Umount, Setuid, Setgid, Setresuid, Setresgid, Setgroups, Capset}
+use Rattle.launcher.specs.call_table.Facts.{IsTable}
+use Rattle.launcher.specs.site_table.declared.row.Row.{Row}
+use Rattle.launcher.specs.site_table.Kinds.{is_exe}
+use Rattle.launcher.specs.site_table.Table.{IsSite, row_at}
+use Rattle.launcher.specs.kern_creds.Exec.{is_privileged}
+use Rattle.launcher.specs.kern_mounts.Launch.{CanBeMounted}
+use Rattle.launcher.specs.kernel_model.kern_files.Executing.{marks_of}
+use Rattle.launcher.specs.kernel_model.declared.kernel_calls.rule.Rule.{Rule}
+use Rattle.launcher.specs.kernel_model.declared.kernel_calls.rule.Rule.TheVariants.{Known}
+use Rattle.launcher.specs.kernel_model.kernel_calls.Rules.{rule_at}
+use Rattle.launcher.specs.kernel_laws.Kinds.{AreWords}
+use Rattle.launcher.specs.kernel_laws.Launched.{Launch, passes, lets}
+use Rattle.launcher.specs.kernel_laws.declared.question_types.kind.CallKind.TheVariants.{ForPath}
+use Rattle.launcher.specs.kernel_laws.declared.question_types.wish.Wish.TheVariants.{Exec as ToExec}
 use Rattle.reach_paths.specs.Finding.{dirs_of, FindsRow}
 use Rattle.kernel_ways.specs.Ways.{CallAt, IsCallAt, rule_there, passes_at}
 

@@ -1,26 +1,26 @@
 -- What a way of process 1 is and shows: each call is done; and it shows a question by one more call behind it, or by the credentials
 -- that it leads to.
 use Rattle.std.specs.Prelude.{◌≡◌, true, List, [], ◌∷◌, ◌++◌, slice_get, Some}
-use Rattle.abs_path.specs.Paths.{Path}
-use Rattle.cap_sets.specs.Sets.{has}
-use Rattle.call_table.specs.Lookups.{numbered}
-use Rattle.call_table.specs.Table.{calls_in, every_call}
-use Rattle.call_table.specs.declared.listed.CallLine.{CallLine}
-use Rattle.site_table.specs.declared.row.Row.{Row}
-use Rattle.site_table.specs.Table.{row_at}
-use Rattle.kern_creds.specs.declared.creds.Creds.{Creds}
-use Rattle.kern_mounts.specs.Finds.{row, finds}
-use Rattle.kern_mounts.specs.Split.{Table}
-use Rattle.kernel_calls.specs.declared.call.Call as call
-use Rattle.kernel_calls.specs.Doing.{Doing}
-use Rattle.kernel_model.specs.Effects.{Effect, Refuse, Answer, SetCreds, SetTable, Push, Child, OwnTable, UserChild, OwnUser, End}
-use Rattle.kernel_calls.specs.Calls.{AreCalls}
-use Rattle.kernel_model.specs.Runs.{moments, run, AllDone}
-use Rattle.kernel_model.specs.World.{World}
-use Rattle.kernel_laws.specs.Denied.{path_for, asks_family, asks_space, asks_map, asks_protect, asks_attach, asks_realtime, asks_personality, asks_mode, HasGid, Shows}
-use Rattle.kernel_laws.specs.Launched.{Launch, launch_of}
-use Rattle.question_types.specs.declared.question.Question.{Question}
-use Rattle.question_types.specs.declared.question.Question.TheVariants.{Path as ByPath, Call, Socket, Namespace as Ns, MapWx, ProtectX, ShmX, Realtime, Personality, SuidBit, Cap, Uid, Gid}
+use Rattle.launcher.specs.abs_path.Paths.{Path}
+use Rattle.launcher.specs.cap_sets.Sets.{has}
+use Rattle.launcher.specs.call_table.Lookups.{numbered}
+use Rattle.launcher.specs.call_table.Table.{calls_in, every_call}
+use Rattle.launcher.specs.call_table.declared.listed.CallLine.{CallLine}
+use Rattle.launcher.specs.site_table.declared.row.Row.{Row}
+use Rattle.launcher.specs.site_table.Table.{row_at}
+use Rattle.launcher.specs.kern_creds.declared.creds.Creds.{Creds}
+use Rattle.launcher.specs.kern_mounts.Finds.{row, finds}
+use Rattle.launcher.specs.kern_mounts.Split.{Table}
+use Rattle.launcher.specs.kernel_model.declared.kernel_calls.call.Call as call
+use Rattle.launcher.specs.kernel_model.kernel_calls.Doing.{Doing}
+use Rattle.launcher.specs.kernel_model.Effects.{Effect, Refuse, Answer, SetCreds, SetTable, Push, Child, OwnTable, UserChild, OwnUser, End}
+use Rattle.launcher.specs.kernel_model.kernel_calls.Calls.{AreCalls}
+use Rattle.launcher.specs.kernel_model.Runs.{moments, run, AllDone}
+use Rattle.launcher.specs.kernel_model.World.{World}
+use Rattle.launcher.specs.kernel_laws.Denied.{path_for, asks_family, asks_space, asks_map, asks_protect, asks_attach, asks_realtime, asks_personality, asks_mode, HasGid, Shows}
+use Rattle.launcher.specs.kernel_laws.Launched.{Launch, launch_of}
+use Rattle.launcher.specs.kernel_laws.declared.question_types.question.Question.{Question}
+use Rattle.launcher.specs.kernel_laws.declared.question_types.question.Question.TheVariants.{Path as ByPath, Call, Socket, Namespace as Ns, MapWx, ProtectX, ShmX, Realtime, Personality, SuidBit, Cap, Uid, Gid}
 use Rattle.kernel_ways.specs.Laws.{IsServedWorld}
 use Rattle.kernel_ways.specs.Ways.{Way, IsSolo, Makes}
 

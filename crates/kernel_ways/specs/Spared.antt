@@ -1,17 +1,17 @@
 -- Which uids and gids are had without the use of CAP_SETUID and of CAP_SETGID, credentials(7).
 use Rattle.std.specs.Prelude.{◌≡◌, ℕ, ◌==◌, Bool, true, false, List, not, ◌&&◌, ◌||◌}
 use Rattle.std.specs.List.{list_any}
-use Rattle.kernel_calls.specs.declared.call.Call.{Call}
-use Rattle.kernel_calls.specs.Calls.{AreCalls}
-use Rattle.kernel_model.specs.Runs.{run}
-use Rattle.kernel_model.specs.World.{World}
-pub use Rattle.kernel_laws.specs.Bound.{caps_by, power_using}
-use Rattle.kernel_laws.specs.Bound.{owned_by, grouped_by}
-use Rattle.kernel_laws.specs.Denied.{Holds, Shows}
-use Rattle.question_types.specs.declared.kind.CallKind.TheVariants.{TakesUid, TakesGid}
-use Rattle.question_types.specs.declared.question.Question.TheVariants.{Uid, Gid}
-use Rattle.kernel_laws.specs.Launched.{Launch, lets, launch_of}
-use Rattle.kernel_laws.specs.Spared.{AllSpare}
+use Rattle.launcher.specs.kernel_model.declared.kernel_calls.call.Call.{Call}
+use Rattle.launcher.specs.kernel_model.kernel_calls.Calls.{AreCalls}
+use Rattle.launcher.specs.kernel_model.Runs.{run}
+use Rattle.launcher.specs.kernel_model.World.{World}
+pub use Rattle.launcher.specs.kernel_laws.Bound.{caps_by, power_using}
+use Rattle.launcher.specs.kernel_laws.Bound.{owned_by, grouped_by}
+use Rattle.launcher.specs.kernel_laws.Denied.{Holds, Shows}
+use Rattle.launcher.specs.kernel_laws.declared.question_types.kind.CallKind.TheVariants.{TakesUid, TakesGid}
+use Rattle.launcher.specs.kernel_laws.declared.question_types.question.Question.TheVariants.{Uid, Gid}
+use Rattle.launcher.specs.kernel_laws.Launched.{Launch, lets, launch_of}
+use Rattle.launcher.specs.kernel_laws.Spared.{AllSpare}
 use Rattle.kernel_ways.specs.Laws.{IsServedWorld}
 
 -- the uid of the launch, and the owner of each set-user-id program that can be run without the use of CAP_SETUID

@@ -1,12 +1,12 @@
 -- The calls of process 1 that take an id or sets of capabilities, by their numbers in the table.
 use Rattle.std.specs.Prelude.{ℕ, List, [], ◌∷◌}
-use Rattle.call_names.specs.declared.rule.CallRule.TheVariants.{Setresuid, Setresgid, Setgroups}
-use Rattle.kernel_calls.specs.declared.call.Call.{Call}
-use Rattle.kernel_calls.specs.declared.payload.Payload.{Payload}
-use Rattle.kernel_calls.specs.declared.payload.Payload.TheVariants.{Nothing, Ids, Sets}
-use Rattle.kernel_calls.specs.declared.rule.Rule.{Rule}
-use Rattle.kernel_calls.specs.declared.rule.Rule.TheVariants.{Known}
-use Rattle.kernel_laws.specs.Kinds.{no_words}
+use Rattle.launcher.specs.call_table.declared.call_names.rule.CallRule.TheVariants.{Setresuid, Setresgid, Setgroups}
+use Rattle.launcher.specs.kernel_model.declared.kernel_calls.call.Call.{Call}
+use Rattle.launcher.specs.kernel_model.declared.kernel_calls.payload.Payload.{Payload}
+use Rattle.launcher.specs.kernel_model.declared.kernel_calls.payload.Payload.TheVariants.{Nothing, Ids, Sets}
+use Rattle.launcher.specs.kernel_model.declared.kernel_calls.rule.Rule.{Rule}
+use Rattle.launcher.specs.kernel_model.declared.kernel_calls.rule.Rule.TheVariants.{Known}
+use Rattle.launcher.specs.kernel_laws.Kinds.{no_words}
 use Rattle.kernel_ways.specs.Ways.{CallAt}
 
 -- setresuid(2) and setresgid(2) take three ids, setgroups(2) a list of them, setuid(2) and setgid(2) one

@@ -1,16 +1,16 @@
 -- The calls that expose a row of the host by name: umount2(2) of each mount that covers a path to it, or two calls of mount(2).
 use Rattle.std.specs.Prelude.{◌≡◌, ℕ, true, List, [], ◌∷◌, ◌++◌, map, Some, Ok}
-use Rattle.abs_path.specs.Paths.{Path, proc}
-use Rattle.kern_mounts.specs.Entry.{leads_to}
-use Rattle.kern_mounts.specs.Split.{Table, Split, split_at}
-use Rattle.kern_mounts.specs.Umount.{after_umount}
-use Rattle.kern_files.specs.MountCall.{ms_bind}
-use Rattle.kern_files.specs.UmountCall.{mnt_detach}
-use Rattle.kernel_calls.specs.declared.call.Call.{Call}
-use Rattle.kernel_calls.specs.declared.payload.Payload.TheVariants.{OnePath, TwoPaths}
-use Rattle.kernel_laws.specs.Kinds.{one_word}
+use Rattle.launcher.specs.abs_path.Paths.{Path, proc}
+use Rattle.launcher.specs.kern_mounts.Entry.{leads_to}
+use Rattle.launcher.specs.kern_mounts.Split.{Table, Split, split_at}
+use Rattle.launcher.specs.kern_mounts.Umount.{after_umount}
+use Rattle.launcher.specs.kernel_model.kern_files.MountCall.{ms_bind}
+use Rattle.launcher.specs.kernel_model.kern_files.UmountCall.{mnt_detach}
+use Rattle.launcher.specs.kernel_model.declared.kernel_calls.call.Call.{Call}
+use Rattle.launcher.specs.kernel_model.declared.kernel_calls.payload.Payload.TheVariants.{OnePath, TwoPaths}
+use Rattle.launcher.specs.kernel_laws.Kinds.{one_word}
 use Rattle.kernel_ways.specs.Ways.{CallAt}
-use Rattle.kernel_laws.specs.Questions.{if_so}
+use Rattle.launcher.specs.kernel_laws.Questions.{if_so}
 
 -- the places of the entries whose places lead to the path, the last entry's first: of what stands behind an entry to whose place the
 -- path leads, these cover the path (mount_namespaces(7))

@@ -1,27 +1,27 @@
 -- Ways: lists of calls of process 1 alone, each of which is done, that change its credentials or its mount table.
 use Rattle.std.specs.Prelude.{◌≡◌, ℕ, ◌-◌, ◌==◌, nat_lt, true, false, List, [], ◌∷◌, length, Some, slice_get, map, ◌<◌, ◌^◌, Option}
-use Rattle.site_table.specs.Table.{row_at}
-use Rattle.kern_creds.specs.declared.creds.Creds.{Creds}
-use Rattle.kern_mounts.specs.Answer.{plain_answer}
-use Rattle.kern_mounts.specs.Finds.{finds}
-use Rattle.kern_mounts.specs.Mounts.{Mounts, plain}
-use Rattle.kern_mounts.specs.Split.{Table}
-use Rattle.kern_files.specs.Executing.{exec_answer}
-use Rattle.kern_files.specs.Looking.{flags_at, see_answer, write_answer, open_answer}
-use Rattle.kern_files.specs.MountCall.{after_mount}
-use Rattle.kern_files.specs.UmountCall.{umount_answer}
-use Rattle.kernel_calls.specs.declared.call.Call.{Call}
-use Rattle.call_table.specs.Table.{calls_in}
-use Rattle.call_table.specs.declared.listed.CallLine.{CallLine}
-use Rattle.kernel_calls.specs.Calls.{IsCall}
-use Rattle.kernel_calls.specs.Rules.{rule_at}
-use Rattle.kernel_calls.specs.declared.rule.Rule.{Rule}
-use Rattle.kernel_calls.specs.Doing.{Doing, See, Open, Create, Truncate, Execve, Mount, Umount, Does, asked_of}
-use Rattle.kernel_model.specs.Effects.{Effect, SetCreds, SetTable, Host, Caller, effect_of, looks, creds_effect, table_effect, with_admin}
-use Rattle.kernel_model.specs.Step.{most_namespaces}
-use Rattle.kernel_model.specs.World.{World}
-use Rattle.kernel_model.specs.declared.process.Process.{Process}
-use Rattle.kernel_laws.specs.Launched.{Launch, passes}
+use Rattle.launcher.specs.site_table.Table.{row_at}
+use Rattle.launcher.specs.kern_creds.declared.creds.Creds.{Creds}
+use Rattle.launcher.specs.kern_mounts.Answer.{plain_answer}
+use Rattle.launcher.specs.kern_mounts.Finds.{finds}
+use Rattle.launcher.specs.kern_mounts.Mounts.{Mounts, plain}
+use Rattle.launcher.specs.kern_mounts.Split.{Table}
+use Rattle.launcher.specs.kernel_model.kern_files.Executing.{exec_answer}
+use Rattle.launcher.specs.kernel_model.kern_files.Looking.{flags_at, see_answer, write_answer, open_answer}
+use Rattle.launcher.specs.kernel_model.kern_files.MountCall.{after_mount}
+use Rattle.launcher.specs.kernel_model.kern_files.UmountCall.{umount_answer}
+use Rattle.launcher.specs.kernel_model.declared.kernel_calls.call.Call.{Call}
+use Rattle.launcher.specs.call_table.Table.{calls_in}
+use Rattle.launcher.specs.call_table.declared.listed.CallLine.{CallLine}
+use Rattle.launcher.specs.kernel_model.kernel_calls.Calls.{IsCall}
+use Rattle.launcher.specs.kernel_model.kernel_calls.Rules.{rule_at}
+use Rattle.launcher.specs.kernel_model.declared.kernel_calls.rule.Rule.{Rule}
+use Rattle.launcher.specs.kernel_model.kernel_calls.Doing.{Doing, See, Open, Create, Truncate, Execve, Mount, Umount, Does, asked_of}
+use Rattle.launcher.specs.kernel_model.Effects.{Effect, SetCreds, SetTable, Host, Caller, effect_of, looks, creds_effect, table_effect, with_admin}
+use Rattle.launcher.specs.kernel_model.Step.{most_namespaces}
+use Rattle.launcher.specs.kernel_model.World.{World}
+use Rattle.launcher.specs.kernel_model.declared.process.Process.{Process}
+use Rattle.launcher.specs.kernel_laws.Launched.{Launch, passes}
 
 -- process 1, with the filters of the launch, in the first user namespace
 abbrev pub solo_process : Launch → Creds → ℕ → Process

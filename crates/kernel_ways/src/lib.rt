@@ -59,3 +59,10 @@ pub fn exposures()
 pub fn blindness()
     ensures exact { BlindIsExact }
 {}
+
+pub use launcher;
+pub use launcher::{
+    abs_path, bpf_code, call_table, cap_sets, dropin_merge, exec_settings, kern_mounts,
+    kernel_laws, kernel_model, linux_numbers, mount_plan, path_settings, site_table, text_forms,
+};
+pub use reach_paths;

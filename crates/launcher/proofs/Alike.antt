@@ -1,34 +1,34 @@
 -- Worlds that differ in the programs of the launch alone go on alike.
 use Rattle.std.proofs.Common.{◌≡◌, ℕ, zero, suc, Bool, true, false, cond, List, [], ◌∷◌, ◌++◌, Option, Some, None, ◌⊎◌, inl, inr, refl, ap, ◌∙◌, sym, subst, length, arith, eqb}
-use Rattle.std.specs.Prelude.{slice_get, slice_set, map, nat_lt, nat_le, ◌-◌, ◌+◌, ◌<◌, ◌^◌, ◌||◌, ◌&&◌, not}
+use Rattle.std.specs.Prelude.{slice_get, slice_set, map, nat_lt, nat_le, ◌-◌, ◌+◌, ◌||◌, ◌&&◌, not}
 use Rattle.std.specs.Option.{option_map, option_map_or}
-use Rattle.call_table.specs.Table.{Abi, abi_at}
-use Rattle.kernel_model.specs.Step as kernel
+use Rattle.kernel_laws.specs.call_table.Table.{Abi, abi_at}
+use Rattle.kernel_laws.specs.kernel_model.Step as kernel
 use Rattle.std.proofs.lemmas.Bool.Decides.{nat_tests}
 use Rattle.std.proofs.lemmas.List.Sums.{sum_by-append}
-use Rattle.bpf_code.specs.declared.machine.Insn.{Insn}
-use Rattle.bpf_code.specs.declared.machine.CallData.{CallData}
-use Rattle.bpf_code.specs.declared.decision.Decision.{Decision}
-use Rattle.bpf_code.specs.declared.decision.Decision.TheVariants as decision
-use Rattle.bpf_code.specs.Meaning.{IsCallData}
-use Rattle.bpf_code.specs.ProgramOf.{program_of}
-use Rattle.bpf_code.specs.Stack.{answer_of, answers_of, decision_by, deciding, decision_on, room_of}
-use Rattle.cap_sets.specs.Sets.{has}
-use Rattle.kernel_calls.specs.declared.call.Call.{Call}
-use Rattle.kernel_calls.specs.Calls.{IsCall}
-use Rattle.kernel_calls.specs.Doing as d
-use Rattle.kernel_calls.specs.Doing.{Doing, Asked, Lacking, Misformed, Does, asked_of}
-use Rattle.kernel_model.specs.Effects as f
-use Rattle.kernel_model.specs.Effects.{Effect, Caller, effect_of, seccomp_effect, push_effect}
-use Rattle.kernel_model.specs.declared.reply.Reply.TheVariants as w
-use Rattle.kernel_model.specs.World.{World, living_of, process_of, if_alive, with_process, with_copy, with_child, moved_to, ended, mounts_of, table_of, host_of, with_user, entered_by, owner_of, is_newer}
-use Rattle.kernel_model.specs.declared.process.Process.{Process}
-use Rattle.kernel_model.specs.declared.reply.Reply.{Reply}
-use Rattle.kernel_model.specs.Step.{step, step_by, decided, answered, applied, child_of, data_of, child_in, moved_in, has_user_left, decision_of}
+use Rattle.kernel_laws.specs.bpf_code.declared.machine.Insn.{Insn}
+use Rattle.kernel_laws.specs.bpf_code.declared.machine.CallData.{CallData}
+use Rattle.kernel_laws.specs.bpf_code.declared.decision.Decision.{Decision}
+use Rattle.kernel_laws.specs.bpf_code.declared.decision.Decision.TheVariants as decision
+use Rattle.kernel_laws.specs.bpf_code.Meaning.{IsCallData}
+use Rattle.kernel_laws.specs.bpf_code.ProgramOf.{program_of}
+use Rattle.kernel_laws.specs.bpf_code.Stack.{answer_of, answers_of, decision_by, deciding, decision_on, room_of}
+use Rattle.exec_settings.specs.cap_sets.Sets.{has}
+use Rattle.kernel_laws.specs.kernel_model.declared.kernel_calls.call.Call.{Call}
+use Rattle.kernel_laws.specs.kernel_model.kernel_calls.Calls.{IsCall}
+use Rattle.kernel_laws.specs.kernel_model.kernel_calls.Doing as d
+use Rattle.kernel_laws.specs.kernel_model.kernel_calls.Doing.{Doing, Asked, Lacking, Misformed, Does, asked_of}
+use Rattle.kernel_laws.specs.kernel_model.Effects as f
+use Rattle.kernel_laws.specs.kernel_model.Effects.{Effect, Caller, effect_of, push_effect}
+use Rattle.kernel_laws.specs.kernel_model.declared.reply.Reply.TheVariants as w
+use Rattle.kernel_laws.specs.kernel_model.World.{World, living_of, process_of, if_alive, with_process, with_copy, with_child, moved_to, ended, mounts_of, host_of, with_user, entered_by, owner_of, is_newer}
+use Rattle.kernel_laws.specs.kernel_model.declared.process.Process.{Process}
+use Rattle.kernel_laws.specs.kernel_model.declared.reply.Reply.{Reply}
+use Rattle.kernel_laws.specs.kernel_model.Step.{step, step_by, decided, answered, applied, child_of, data_of, child_in, moved_in, has_user_left, decision_of}
 use Rattle.launcher.specs.Alike.{AnswerAlike, over, above, IsFullInOne, SameReplies, AlikeReplies, AlikeRun, AlikeRuns, Pushes, FullByOwn, RoomByBounds, HasWordArchs}
-use Rattle.linux_numbers.specs.Errnos.{eacces, eagain, efault, einval, enomem, enospc, enosys, esrch}
-use Rattle.linux_numbers.specs.Limits.{max_insns_per_path}
-use Rattle.linux_numbers.specs.Capabilities.{cap_sys_admin}
+use Rattle.kernel_laws.specs.linux_numbers.Errnos.{eacces, eagain, efault, einval, enomem, enospc, enosys, esrch}
+use Rattle.kernel_laws.specs.linux_numbers.Limits.{max_insns_per_path}
+use Rattle.kernel_laws.specs.linux_numbers.Capabilities.{cap_sys_admin}
 
 -- ---- lists
 get_map : {X Y : Type 0} (f : X → Y) (xs : List X) (i : ℕ) → slice_get (map f xs) i ≡ option_map f (slice_get xs i)
@@ -91,9 +91,6 @@ module _ (programs : List (List Insn)) where
 
   counted : (world : World) → length (map (over programs) world.processes) ≡ length world.processes
   counted world = length_map (over programs) world.processes
-
-  abbrev W : Type 0
-  W = Reply × World
 
   born_in : (old world : World) (child : Process) (own : Bool) → child_in (above programs old) (above programs world) (over programs child) own ≡ lifted (child_in old world child own)
   born_in old world child false = ap (λ n. (w.Done (n + 1), with_child (above programs world) (over programs child))) (counted world) ∙ ap (λ (v : World). (w.Done (length world.processes + 1), v)) (child_above world child)
@@ -227,9 +224,6 @@ module _ (one other : List (List Insn)) (world : World) (call : Call) where
   Outcome x y = (x ≡ y) ⊎ FullInOne world.calls call x.0 y.0
 
   module _ (process : Process) where
-    at : Effect → Reply × World
-    at effect = applied world call.pid process effect
-
     pushed_alike : (operation flags : ℕ) (bytes : List ℕ) → asked_of world.calls call ≡ Does (d.Seccomp operation flags bytes) → (code : List Insn) (b c : Bool)
         → Outcome (applied world call.pid process (cond b (f.Push code) (f.Refuse enomem))) (applied world call.pid process (cond c (f.Push code) (f.Refuse enomem)))
     pushed_alike operation flags bytes asks code true true = inl refl

@@ -1,16 +1,16 @@
 -- What the steps of a launch come to is what the launch answers.
-use Rattle.std.proofs.Common.{◌≡◌, ℕ, true, false, cond, List, ◌++◌, Result, Ok, Err, ap, ◌∙◌, sym, subst, ◌<◌, arith}
-use Rattle.std.specs.Prelude.{◌^◌, IsErrAnd}
-use Rattle.bpf_code.specs.declared.machine.Insn.{Insn}
-use Rattle.call_table.specs.Facts.{IsWhole}
-use Rattle.call_table.specs.Table as calls
+use Rattle.std.proofs.Common.{◌≡◌, ℕ, false, cond, List, ◌++◌, Result, Ok, Err, ap, ◌∙◌, sym, subst, arith}
+use Rattle.std.specs.Prelude.{IsErrAnd}
+use Rattle.kernel_laws.specs.bpf_code.declared.machine.Insn.{Insn}
+use Rattle.kernel_laws.specs.call_table.Facts.{IsWhole}
+use Rattle.kernel_laws.specs.call_table.Table as calls
 use Rattle.exec_settings.specs.declared.service.Settings.{Settings}
-use Rattle.kern_mounts.specs.Finds.{finds}
-use Rattle.kern_mounts.specs.Launch.{CanBeMounted}
-use Rattle.kern_mounts.specs.Split.{Table}
-use Rattle.kernel_model.specs.World.{World, start_world}
+use Rattle.kernel_laws.specs.kern_mounts.Finds.{finds}
+use Rattle.kernel_laws.specs.kern_mounts.Launch.{CanBeMounted}
+use Rattle.kernel_laws.specs.kern_mounts.Split.{Table}
+use Rattle.kernel_laws.specs.kernel_model.World.{World, start_world}
 use Rattle.mount_plan.specs.Host.{host_of}
-use Rattle.site_table.specs.Table.{Site, row_at}
+use Rattle.exec_settings.specs.site_table.Table.{Site, row_at}
 use Rattle.launcher.specs.Alike.{HasWordArchs}
 use Rattle.launcher.specs.declared.error.LaunchError.{LaunchError}
 use Rattle.launcher.specs.declared.error.LaunchError.TheVariants as error
@@ -57,10 +57,6 @@ module _ (table : calls.Table) (site : Site) (settings : Settings) (plan : Table
   by_steps : (programs : List (List ℕ)) → is_privileged_row (finds (row_at site.rows) plan settings.program) ≡ false
       → launch_with table site settings plan programs ≡ launch_from (start_world table site) (launch_steps table.calls (wanted_of settings programs) plan) 0
   by_steps programs plain = ap (λ b. cond b (PrivilegedProgram settings.program) (launch_from (start_world table site) (launch_steps table.calls (wanted_of settings programs) plan) 0)) plain
-
-  -- one that has them is not, whatever the programs are
-  pub privileged : (programs : List (List ℕ)) → is_privileged_row (finds (row_at site.rows) plan settings.program) ≡ true → launch_with table site settings plan programs ≡ PrivilegedProgram settings.program
-  privileged programs marked = ap (λ b. cond b (PrivilegedProgram settings.program) (launch_from (start_world table site) (launch_steps table.calls (wanted_of settings programs) plan) 0)) marked
 
   module _ (made : List FilterProgram) (are : AreProgramsOf settings.filters.items made) (plain : is_privileged_row (finds (row_at site.rows) plan settings.program) ≡ false) where
     installed : (programs : List (List ℕ)) (stack : List (List Insn)) → AreRead programs stack → AreMatching settings.filters.items stack → AreInstalled programs stack

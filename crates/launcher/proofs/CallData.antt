@@ -3,12 +3,12 @@ use Rattle.std.proofs.Common.{◌≡◌, ℕ, List, [], ◌∷◌, Option, Some,
 use Rattle.std.specs.Prelude.{◌<◌, ◌^◌, All}
 use Rattle.std.specs.Option.{option_map_or}
 use Rattle.std.proofs.lemmas.List.Elements.{All-from_recursion}
-use Rattle.bpf_code.specs.Meaning.{IsCallData}
-use Rattle.call_table.specs.declared.listed.CallLine.{CallLine}
-use Rattle.call_table.specs.Facts.{IsWhole}
-use Rattle.call_table.specs.Lookups.{IsInRange, has_name, named}
-use Rattle.call_table.specs.Table as calls
-use Rattle.call_table.proofs.Places.{found_holds}
+use Rattle.kernel_laws.specs.bpf_code.Meaning.{IsCallData}
+use Rattle.kernel_laws.specs.call_table.declared.listed.CallLine.{CallLine}
+use Rattle.kernel_laws.specs.call_table.Facts.{IsWhole}
+use Rattle.kernel_laws.specs.call_table.Lookups.{IsInRange, has_name, named}
+use Rattle.kernel_laws.specs.call_table.Table as calls
+use Rattle.kernel_laws.proofs.CallTable.Places.{found_holds}
 use Rattle.launcher.specs.Alike.{HasWordArchs}
 use Rattle.launcher.specs.Launch.{number_of}
 

@@ -3,15 +3,15 @@ use Rattle.std.proofs.Common.{◌≡◌, ℕ, zero, suc, Bool, true, false, cond
 use Rattle.std.specs.Prelude.{map, filter, ◌+◌, not}
 use Rattle.std.proofs.lemmas.List.{length-append, length-map}
 use Rattle.std.proofs.lemmas.List.Sums.{sum_by-cons}
-use Rattle.bpf_code.specs.Reading.{bytes_of}
-use Rattle.call_rules.specs.Sizes.{most_insns}
-use Rattle.call_table.specs.declared.listed.CallLine.{CallLine}
-use Rattle.cap_sets.specs.Sets.{has}
-use Rattle.filter_rules.specs.Costs.{most_room}
-use Rattle.filter_rules.specs.declared.installed.Filter.{Filter}
-use Rattle.kernel_calls.specs.declared.payload.Payload.TheVariants.{Code}
+use Rattle.kernel_laws.specs.bpf_code.Reading.{bytes_of}
+use Rattle.exec_settings.specs.call_rules.Sizes.{most_insns}
+use Rattle.kernel_laws.specs.call_table.declared.listed.CallLine.{CallLine}
+use Rattle.exec_settings.specs.cap_sets.Sets.{has}
+use Rattle.exec_settings.specs.filter_settings.filter_rules.Costs.{most_room}
+use Rattle.exec_settings.specs.filter_settings.declared.filter_rules.installed.Filter.{Filter}
+use Rattle.kernel_laws.specs.kernel_model.declared.kernel_calls.payload.Payload.TheVariants.{Code}
 use Rattle.kernel_laws.specs.Questions.{count_from, if_so}
-use Rattle.linux_numbers.specs.Limits.{max_insns_per_path}
+use Rattle.kernel_laws.specs.linux_numbers.Limits.{max_insns_per_path}
 use Rattle.launcher.specs.declared.filters.FilterProgram.{FilterProgram}
 use Rattle.launcher.specs.Answers.{AreProgramsOf, codes_of, given_bytes}
 use Rattle.launcher.specs.Launch.{Wanted, LaunchStep, makes, prctl_step, group_steps, drop_steps, inherit_steps, user_steps, raise_steps, left_steps, privilege_steps, identity_steps, filter_steps, program_steps, call_steps, set_mode_filter, capbset_drop, cap_ambient, ambient_raise}

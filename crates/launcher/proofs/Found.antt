@@ -2,10 +2,10 @@
 use Rattle.std.proofs.Common.{◌≡◌, ◌∙◌, ℕ, cond, List, [], ◌∷◌, ◌++◌, Option, Some, sym, ap, length, take, get_or, ◌<◌}
 use Rattle.std.specs.Prelude.{◌+◌}
 use Rattle.std.proofs.lemmas.List.{take_more}
-use Rattle.abs_path.specs.Paths.{Path}
-use Rattle.kern_mounts.specs.declared.step.MountStep.{MountStep}
-use Rattle.kern_mounts.specs.Entry.{entry_of, leads_to}
-use Rattle.kern_mounts.proofs.Entries.{entry_push}
+use Rattle.exec_settings.specs.abs_path.Paths.{Path}
+use Rattle.kernel_laws.specs.kern_mounts.declared.step.MountStep.{MountStep}
+use Rattle.kernel_laws.specs.kern_mounts.Entry.{entry_of, leads_to}
+use Rattle.kernel_laws.proofs.KernMounts.Entries.{entry_push}
 
 pub found_more : (plan : List MountStep) (path : Path) (i : ℕ) (entry : MountStep) (before after : Option MountStep) → i < length plan → entry ≡ get_or plan i entry
     → before ≡ entry_of (take i plan) path → after ≡ cond (leads_to path entry) (Some entry) before → after ≡ entry_of (take (i + 1) plan) path

@@ -2,13 +2,13 @@
 use Rattle.std.proofs.Common.{◌≡◌, ◌∙◌, Bool, true, false, [], ◌∷◌, Option, refl, sym, subst}
 use Rattle.std.specs.Prelude.{map}
 use Rattle.std.specs.List.{AllByRecursion}
-use Rattle.abs_path.specs.Paths.{Path, is_root}
-use Rattle.kern_mounts.specs.declared.step.What.TheVariants.{Host}
-use Rattle.kern_mounts.specs.declared.step.MountStep.{MountStep}
-use Rattle.kern_mounts.specs.Launch.{BeginsAtRoot, CanBeMounted}
-use Rattle.kern_mounts.specs.Split.{Table}
-use Rattle.abs_path.specs.ByteOrder.{AreAscending, is_before}
-use Rattle.abs_path.proofs.ByteOrder.{not_before_itself}
+use Rattle.exec_settings.specs.abs_path.Paths.{Path, is_root}
+use Rattle.kernel_laws.specs.kern_mounts.declared.step.What.TheVariants.{Host}
+use Rattle.kernel_laws.specs.kern_mounts.declared.step.MountStep.{MountStep}
+use Rattle.kernel_laws.specs.kern_mounts.Launch.{BeginsAtRoot, CanBeMounted}
+use Rattle.kernel_laws.specs.kern_mounts.Split.{Table}
+use Rattle.exec_settings.specs.abs_path.ByteOrder.{AreAscending, is_before}
+use Rattle.exec_settings.proofs.AbsPath.ByteOrder.{not_before_itself}
 use Rattle.std.proofs.lemmas.Bool.{false≢true}
 
 abbrev pub AreBelowRoot : Table → Type 0

@@ -5,18 +5,18 @@ use Rattle.std.specs.Option.{option_map_or}
 use Rattle.std.specs.List.{list_any}
 use Rattle.std.proofs.lemmas.Bool.{not-false}
 use Rattle.std.proofs.lemmas.Slice.Eq.{bytes_eq-Decides}
-use Rattle.call_table.specs.declared.listed.CallLine.{CallLine}
-use Rattle.call_table.specs.Facts.{IsWhole}
-use Rattle.call_table.specs.Lookups.{has_name, has_number, numbered, place_numbered}
-use Rattle.call_names.specs.Known.{known_call}
-use Rattle.call_table.specs.Reading.{lacks, missing_call}
-use Rattle.call_table.specs.Table as calls
+use Rattle.kernel_laws.specs.call_table.declared.listed.CallLine.{CallLine}
+use Rattle.kernel_laws.specs.call_table.Facts.{IsWhole}
+use Rattle.kernel_laws.specs.call_table.Lookups.{has_name, has_number, numbered, place_numbered}
+use Rattle.kernel_laws.specs.call_table.call_names.Known.{known_call}
+use Rattle.kernel_laws.specs.call_table.Reading.{lacks, missing_call}
+use Rattle.kernel_laws.specs.call_table.Table as calls
 use Rattle.launcher.specs.Launch.{number_of}
-use Rattle.kernel_calls.specs.declared.rule.Rule.TheVariants as rule
-use Rattle.call_names.specs.declared.rule.CallRule.TheVariants as known
-use Rattle.kernel_calls.specs.declared.rule.Rule.{Rule}
-use Rattle.kernel_calls.specs.Rules.{rule_of, rule_at}
-use Rattle.call_table.proofs.Places.{place_is}
+use Rattle.kernel_laws.specs.kernel_model.declared.kernel_calls.rule.Rule.TheVariants as rule
+use Rattle.kernel_laws.specs.call_table.declared.call_names.rule.CallRule.TheVariants as known
+use Rattle.kernel_laws.specs.kernel_model.declared.kernel_calls.rule.Rule.{Rule}
+use Rattle.kernel_laws.specs.kernel_model.kernel_calls.Rules.{rule_of, rule_at}
+use Rattle.kernel_laws.proofs.CallTable.Places.{place_is}
 use Rattle.std.proofs.lemmas.List.Folds.{find_at}
 use Rattle.launcher.specs.Launches.{HasLaunchCalls}
 

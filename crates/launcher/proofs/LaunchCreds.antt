@@ -3,21 +3,21 @@ use Rattle.std.proofs.Common.{◌≡◌, ℕ, Bool, true, false, cond, List, Opt
 use Rattle.std.specs.Prelude.{◌&&◌, ◌||◌, not, nat_lt}
 use Rattle.std.proofs.lemmas.Bool.{and_parts, not-false, eqb-true}
 use Rattle.std.proofs.lemmas.Bool.Decides.{nat_tests}
-use Rattle.cap_sets.specs.Sets.{has, none, all, single, union, cut, minus, within, IsWithin}
-use Rattle.cap_sets.proofs.Members.{has_single, within_self, within_both, none_within, within_through, cut_within_left, cut_within_right, within_cut, union_within, within_union_left, within_union_right, minus_within, single_within, IsWithin-from_within}
-use Rattle.kern_creds.specs.declared.creds.Creds.{Creds}
-use Rattle.kern_creds.specs.declared.ids.Ids.{Ids}
-use Rattle.kern_creds.specs.declared.file.FileCreds.{FileCreds}
-use Rattle.linux_numbers.specs.Limits.{no_id}
-use Rattle.kern_creds.specs.Ids.{all_of, kept_id, kept_ids, may_take_all}
-use Rattle.kern_creds.specs.Start as creds
-use Rattle.kern_creds.specs.RootChange.{has_root, with_uids, after_switch, after_leaving_root}
-use Rattle.kern_creds.specs.Setresuid.{after_setresuid, after_setresgid}
-use Rattle.kern_creds.specs.Setgroups.{after_setgroups}
-use Rattle.kern_creds.specs.Capset.{after_capset, may_capset, with_sets}
-use Rattle.kern_creds.specs.Prctl.{after_drop_bounding, after_raise, after_set_keepcaps, after_set_no_new_privs}
+use Rattle.exec_settings.specs.cap_sets.Sets.{has, none, all, single, union, cut, minus, within, IsWithin}
+use Rattle.exec_settings.proofs.Caps.Members.{has_single, within_self, within_both, none_within, within_through, cut_within_left, cut_within_right, within_cut, union_within, within_union_left, within_union_right, minus_within, single_within, IsWithin-from_within}
+use Rattle.kernel_laws.specs.kern_creds.declared.creds.Creds.{Creds}
+use Rattle.kernel_laws.specs.kern_creds.declared.ids.Ids.{Ids}
+use Rattle.kernel_laws.specs.kern_creds.declared.file.FileCreds.{FileCreds}
+use Rattle.kernel_laws.specs.linux_numbers.Limits.{no_id}
+use Rattle.kernel_laws.specs.kern_creds.Ids.{all_of, kept_id, kept_ids, may_take_all}
+use Rattle.kernel_laws.specs.kern_creds.Start as creds
+use Rattle.kernel_laws.specs.kern_creds.RootChange.{has_root, with_uids, after_switch, after_leaving_root}
+use Rattle.kernel_laws.specs.kern_creds.Setresuid.{after_setresuid, after_setresgid}
+use Rattle.kernel_laws.specs.kern_creds.Setgroups.{after_setgroups}
+use Rattle.kernel_laws.specs.kern_creds.Capset.{after_capset, may_capset, with_sets}
+use Rattle.kernel_laws.specs.kern_creds.Prctl.{after_drop_bounding, after_raise, after_set_keepcaps, after_set_no_new_privs}
 use Rattle.launcher.specs.Launches.{IsLaunchedCreds}
-use Rattle.kern_creds.specs.Exec.{is_privileged, is_set_id, owner_or, exec_ids, exec_uids, exec_ambient, exec_gains, exec_permitted, exec_effective, exec_done, honours, runs_as_root, is_refused, after_exec}
+use Rattle.kernel_laws.specs.kern_creds.Exec.{is_privileged, is_set_id, owner_or, exec_ids, exec_uids, exec_ambient, exec_gains, exec_permitted, exec_effective, exec_done, honours, runs_as_root, is_refused, after_exec}
 
 -- the three gids are one
 pub record AreOne (ids : Ids) : Type 0 where

@@ -4,42 +4,42 @@ use Rattle.std.specs.Prelude.{not, map, filter, ◌<◌, ◌^◌, ◌%◌, ◌&&
 use Rattle.std.specs.List.{AllByRecursion}
 use Rattle.std.proofs.lemmas.Bool.{eqb-true}
 use Rattle.std.proofs.lemmas.Bool.Decides.{nat_tests}
-use Rattle.abs_path.specs.Paths.{Path}
-use Rattle.bpf_code.specs.declared.machine.Insn.{Insn}
-use Rattle.cap_sets.specs.Sets.{has, none, all, single, union, IsWithin}
-use Rattle.cap_sets.proofs.Members.{within_self, within_through, none_within, union_within, single_within, within_union_left, within_union_right, has_single}
-use Rattle.call_table.specs.Table as calls
-use Rattle.site_table.specs.Table.{Site, row_at}
-use Rattle.site_table.specs.declared.row.Row.{Row}
-use Rattle.kern_creds.specs.declared.creds.Creds.{Creds}
-use Rattle.linux_numbers.specs.Limits.{no_id}
-use Rattle.kern_creds.specs.Start as creds
-use Rattle.kern_creds.specs.Setresuid.{after_setresuid, after_setresgid}
-use Rattle.kern_creds.specs.Setgroups.{after_setgroups}
-use Rattle.kern_creds.specs.Capset.{after_capset}
-use Rattle.kern_creds.specs.Prctl.{after_drop_bounding, after_raise, after_set_keepcaps, after_set_no_new_privs}
-use Rattle.kern_creds.specs.Exec.{is_privileged, after_exec}
-use Rattle.kern_mounts.specs.Finds.{Found, row, empty_directory, nothing, finds}
-use Rattle.kern_mounts.specs.Table as mounts
-use Rattle.kern_mounts.specs.declared.step.Flags.{Flags}
-use Rattle.kernel_calls.specs.declared.call.Call.{Call}
-use Rattle.kernel_calls.specs.declared.payload.Payload.TheVariants.{Nothing, OnePath, Sets, Ids, Code}
-use Rattle.kernel_calls.specs.declared.rule.Rule.TheVariants as rule
-use Rattle.call_names.specs.declared.rule.CallRule.TheVariants as known
-use Rattle.kernel_calls.specs.Doing as d
-use Rattle.kernel_model.specs.Effects.{Effect, creds_effect}
-use Rattle.kern_files.specs.Looking.{flags_at}
-use Rattle.kern_files.specs.Executing.{marks_of, executed as executed_by, exec_answer}
+use Rattle.exec_settings.specs.abs_path.Paths.{Path}
+use Rattle.kernel_laws.specs.bpf_code.declared.machine.Insn.{Insn}
+use Rattle.exec_settings.specs.cap_sets.Sets.{has, none, all, single, union, IsWithin}
+use Rattle.exec_settings.proofs.Caps.Members.{within_self, within_through, none_within, union_within, single_within, within_union_left, within_union_right, has_single}
+use Rattle.kernel_laws.specs.call_table.Table as calls
+use Rattle.exec_settings.specs.site_table.Table.{Site, row_at}
+use Rattle.exec_settings.specs.site_table.declared.row.Row.{Row}
+use Rattle.kernel_laws.specs.kern_creds.declared.creds.Creds.{Creds}
+use Rattle.kernel_laws.specs.linux_numbers.Limits.{no_id}
+use Rattle.kernel_laws.specs.kern_creds.Start as creds
+use Rattle.kernel_laws.specs.kern_creds.Setresuid.{after_setresuid, after_setresgid}
+use Rattle.kernel_laws.specs.kern_creds.Setgroups.{after_setgroups}
+use Rattle.kernel_laws.specs.kern_creds.Capset.{after_capset}
+use Rattle.kernel_laws.specs.kern_creds.Prctl.{after_drop_bounding, after_raise, after_set_keepcaps, after_set_no_new_privs}
+use Rattle.kernel_laws.specs.kern_creds.Exec.{is_privileged, after_exec}
+use Rattle.kernel_laws.specs.kern_mounts.Finds.{Found, row, empty_directory, nothing, finds}
+use Rattle.kernel_laws.specs.kern_mounts.Table as mounts
+use Rattle.kernel_laws.specs.kern_mounts.declared.step.Flags.{Flags}
+use Rattle.kernel_laws.specs.kernel_model.declared.kernel_calls.call.Call.{Call}
+use Rattle.kernel_laws.specs.kernel_model.declared.kernel_calls.payload.Payload.TheVariants.{Nothing, OnePath, Sets, Ids, Code}
+use Rattle.kernel_laws.specs.kernel_model.declared.kernel_calls.rule.Rule.TheVariants as rule
+use Rattle.kernel_laws.specs.call_table.declared.call_names.rule.CallRule.TheVariants as known
+use Rattle.kernel_laws.specs.kernel_model.kernel_calls.Doing as d
+use Rattle.kernel_laws.specs.kernel_model.Effects.{Effect, creds_effect}
+use Rattle.kernel_laws.specs.kernel_model.kern_files.Looking.{flags_at}
+use Rattle.kernel_laws.specs.kernel_model.kern_files.Executing.{marks_of, executed as executed_by, exec_answer}
 use Rattle.launcher.specs.Launch.{Wanted, LaunchStep, Launched, PrivilegedProgram, makes, first_call, prctl_step, capset_step, launch_step, launch_steps, launch_from, mount_steps, with_unshare, is_privileged_row, group_steps, drop_steps, inherit_steps, user_steps, raise_steps, left_steps, privilege_steps, identity_steps, filter_steps, program_steps, set_keepcaps, capbset_drop, set_no_new_privs, cap_ambient, ambient_raise, set_mode_filter}
 use Rattle.kernel_laws.specs.Launched.{launch_of}
-use Rattle.site_table.specs.Kinds.{is_exe}
-use Rattle.kern_mounts.specs.Mounts.{Mounts as MountList, first_mounts, plain as plain_mount}
-use Rattle.kern_mounts.specs.Split.{Table}
+use Rattle.exec_settings.specs.site_table.Kinds.{is_exe}
+use Rattle.kernel_laws.specs.kern_mounts.Mounts.{Mounts as MountList, first_mounts, plain as plain_mount}
+use Rattle.kernel_laws.specs.kern_mounts.Split.{Table}
 use Rattle.kernel_laws.specs.Questions.{if_so, count_from}
-use Rattle.kernel_model.specs.Runs.{IsDone}
-use Rattle.kernel_model.specs.World.{World, start_world, of_number}
-use Rattle.kernel_model.specs.declared.reply.Reply.{Reply}
-use Rattle.kernel_model.specs.Step.{step, applied}
+use Rattle.kernel_laws.specs.kernel_model.Runs.{IsDone}
+use Rattle.kernel_laws.specs.kernel_model.World.{World, start_world, of_number}
+use Rattle.kernel_laws.specs.kernel_model.declared.reply.Reply.{Reply}
+use Rattle.kernel_laws.specs.kernel_model.Step.{step, applied}
 use Rattle.launcher.specs.Launches.{HasLaunchCalls, AreRead, IsLaunchedCreds, Leaves, LaunchLeaves}
 use Rattle.mount_plan.specs.Host.{host_of as site_host}
 use Rattle.launcher.proofs.HostRoot.{BeginsAtHostRoot, begins_at_host}
@@ -49,7 +49,7 @@ use Rattle.launcher.proofs.RaisedAll.{counted_small, filter_keeps, all_raised}
 use Rattle.launcher.proofs.Solo.{ones_number, ones_length, At, solo, only, weaker, makes_creds, makes_push, does, creds_done, own_table}
 use Rattle.launcher.proofs.LaunchCreds.{Has, starts, set_groups, set_gids, drops, set_all, keeps_caps, set_uid, Raised, raises, set_ambient, IsReady, no_new_privs, ready_root, ready_user, executed}
 use Rattle.launcher.proofs.LaunchCalls.{launch_calls}
-use Rattle.linux_numbers.specs.Errnos.{eacces}
+use Rattle.kernel_laws.specs.linux_numbers.Errnos.{eacces}
 
 module _ (table : calls.Table) (site : Site) (calls' : HasLaunchCalls table.calls) where
   abbrev Here : (Creds → Type 0) → List (List Insn) → Table → World → Type 0
@@ -168,9 +168,6 @@ module _ (table : calls.Table) (site : Site) (calls' : HasLaunchCalls table.call
 
   -- ---- from the first capset to the last
   module _ (plan : Table) (uid amb : ℕ) (small : uid < no_id) where
-    stack0 : List (List Insn)
-    stack0 = []
-
     low : uid % 2 ^ 32 ≡ uid
     low = omega arith
 

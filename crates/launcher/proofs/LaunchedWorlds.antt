@@ -5,48 +5,48 @@ use mathlib.Core.List.{reverse_aux}
 use Rattle.std.specs.List.{AllByRecursion}
 use Rattle.std.specs.Option.{option_map_or}
 use Rattle.std.proofs.lemmas.Int.{ints}
-use Rattle.bpf_code.specs.declared.machine.Insn.{Insn}
-use Rattle.bpf_code.specs.declared.machine.CallData.{CallData}
-use Rattle.bpf_code.specs.Meaning.{IsCallData}
-use Rattle.bpf_code.specs.Refusing.{IsPlain, ArePlain}
-use Rattle.bpf_code.specs.Stack.{answers_of}
-use Rattle.call_table.specs.declared.listed.CallLine.{CallLine}
-use Rattle.call_table.specs.Lookups.{numbered}
-use Rattle.call_table.specs.Table as calls
-use Rattle.call_rules.specs.Action.{word_of}
-use Rattle.call_rules.specs.declared.actions.Action.{Action}
-use Rattle.call_rules.specs.declared.actions.Action.TheVariants as action
-use Rattle.linux_numbers.specs.Limits.{max_errno}
-use Rattle.filter_rules.specs.Actions.{unless_refused}
-use Rattle.filter_rules.specs.Refusing.{IsRefusing, HasRefusal, HasRefusals, AreRefusing}
+use Rattle.kernel_laws.specs.bpf_code.declared.machine.Insn.{Insn}
+use Rattle.kernel_laws.specs.bpf_code.declared.machine.CallData.{CallData}
+use Rattle.kernel_laws.specs.bpf_code.Meaning.{IsCallData}
+use Rattle.kernel_laws.specs.bpf_code.Refusing.{IsPlain, ArePlain}
+use Rattle.kernel_laws.specs.bpf_code.Stack.{answers_of}
+use Rattle.kernel_laws.specs.call_table.declared.listed.CallLine.{CallLine}
+use Rattle.kernel_laws.specs.call_table.Lookups.{numbered}
+use Rattle.kernel_laws.specs.call_table.Table as calls
+use Rattle.exec_settings.specs.call_rules.Action.{word_of}
+use Rattle.exec_settings.specs.call_rules.declared.actions.Action.{Action}
+use Rattle.exec_settings.specs.call_rules.declared.actions.Action.TheVariants as action
+use Rattle.kernel_laws.specs.linux_numbers.Limits.{max_errno}
+use Rattle.exec_settings.specs.filter_settings.filter_rules.Actions.{unless_refused}
+use Rattle.exec_settings.specs.filter_settings.filter_rules.Refusing.{IsRefusing, HasRefusal, HasRefusals, AreRefusing}
 use Rattle.std.proofs.lemmas.List.Elements.{recursion_from_All}
-use Rattle.filter_rules.specs.Calls.{call_action, rest_action, listed_by, last_mention, if_adds, listed_action, unlisted_action}
-use Rattle.filter_rules.specs.Covers.{covers}
-use Rattle.filter_rules.specs.declared.mentions.CallList.{CallList}
-use Rattle.filter_rules.specs.declared.mentions.Mention.{Mention}
-use Rattle.filter_rules.specs.declared.mentions.Mode.{Mode}
-use Rattle.filter_rules.specs.declared.mentions.Mode.TheVariants.{Allow, Deny}
-use Rattle.filter_rules.specs.declared.names.FilterName.{FilterName}
-use Rattle.filter_rules.specs.declared.names.FilterName.TheVariants.{Families, MemoryDenyWriteExecute, Realtime, Suid, Namespaces, Hostname, Modules, Logs, Clock, Devices, Personality, Calls, Archs}
-use Rattle.filter_rules.specs.declared.settings.FilterSettings.{FilterSettings}
-use Rattle.filter_rules.specs.Wanted.{named_action, unnamed_action, other_action, wanted_action}
+use Rattle.exec_settings.specs.filter_settings.filter_rules.Calls.{call_action, rest_action, listed_by, last_mention, if_adds, listed_action, unlisted_action}
+use Rattle.exec_settings.specs.filter_settings.filter_rules.Covers.{covers}
+use Rattle.exec_settings.specs.filter_settings.declared.filter_rules.mentions.CallList.{CallList}
+use Rattle.exec_settings.specs.filter_settings.declared.filter_rules.mentions.Mention.{Mention}
+use Rattle.exec_settings.specs.filter_settings.declared.filter_rules.mentions.Mode.{Mode}
+use Rattle.exec_settings.specs.filter_settings.declared.filter_rules.mentions.Mode.TheVariants.{Allow, Deny}
+use Rattle.exec_settings.specs.filter_settings.declared.filter_rules.names.FilterName.{FilterName}
+use Rattle.exec_settings.specs.filter_settings.declared.filter_rules.names.FilterName.TheVariants.{Families, MemoryDenyWriteExecute, Realtime, Suid, Namespaces, Hostname, Modules, Logs, Clock, Devices, Personality, Calls, Archs}
+use Rattle.exec_settings.specs.filter_settings.declared.filter_rules.settings.FilterSettings.{FilterSettings}
+use Rattle.exec_settings.specs.filter_settings.filter_rules.Wanted.{named_action, unnamed_action, other_action, wanted_action}
 use Rattle.kernel_laws.specs.FirstChoice.{Means}
 use Rattle.launcher.proofs.TwoAbis.{once_in, of_abi_in, one_cap_in, range_in, archs_differ}
 use Rattle.launcher.specs.Launch.{Wanted}
 use Rattle.kernel_laws.specs.Launched.{Launch, IsLaunched, first_of, process_or}
-use Rattle.kern_mounts.specs.Mounts.{Mounts as MountList, plain as plain_mount, ArePlain as ArePlainMounts}
-use Rattle.kern_mounts.proofs.Leaving.{ascending_is_ordered}
-use Rattle.kern_mounts.proofs.Plain.{are_plain}
-use Rattle.kern_mounts.specs.Split.{Table}
-use Rattle.kernel_model.specs.World.{World, of_number, mounts_of, table_or}
-use Rattle.kernel_model.specs.declared.process.Process.{Process}
+use Rattle.kernel_laws.specs.kern_mounts.Mounts.{Mounts as MountList, plain as plain_mount, ArePlain as ArePlainMounts}
+use Rattle.kernel_laws.proofs.KernMounts.Leaving.{ascending_is_ordered}
+use Rattle.kernel_laws.proofs.KernMounts.Plain.{are_plain}
+use Rattle.kernel_laws.specs.kern_mounts.Split.{Table}
+use Rattle.kernel_laws.specs.kernel_model.World.{World, of_number, mounts_of, table_or}
+use Rattle.kernel_laws.specs.kernel_model.declared.process.Process.{Process}
 use Rattle.kernel_laws.proofs.SettingsChoose.{settings_choose}
 use Rattle.launcher.specs.Launches.{AreRead, Leaves}
 use Rattle.launcher.specs.LaunchedWorlds.{IsMeant, LaunchedIsWorld}
-use Rattle.kern_mounts.specs.Launch.{BeginsAtRoot}
+use Rattle.kernel_laws.specs.kern_mounts.Launch.{BeginsAtRoot}
 use Rattle.launcher.proofs.LaunchWorld.{launch_leaves}
-use Rattle.site_table.specs.Table.{Site}
-use Rattle.kern_mounts.specs.Table.{StartsAtRoot}
+use Rattle.exec_settings.specs.site_table.Table.{Site}
+use Rattle.kernel_laws.specs.kern_mounts.Table.{StartsAtRoot}
 
 allow_plain : IsPlain (word_of action.Allow)
 allow_plain = inl refl

@@ -3,35 +3,35 @@ use Rattle.std.proofs.Common.{◌≡◌, ℕ, suc, Bool, true, false, cond, code
 use Rattle.std.specs.Prelude.{nat_le, ◌+◌, ◌<◌, ◌≤◌, ◌^◌, ◌||◌, not}
 use Rattle.std.proofs.lemmas.Bool.Decides.{nat_tests}
 use Rattle.std.proofs.lemmas.List.Sums.{sum_by-append, sum_by-cons}
-use Rattle.abs_path.specs.Paths.{Path}
-use Rattle.bpf_code.specs.declared.machine.Insn.{Insn}
-use Rattle.bpf_code.specs.declared.machine.CallData.{CallData}
-use Rattle.bpf_code.specs.declared.decision.Decision.{Decision}
-use Rattle.bpf_code.specs.declared.decision.Decision.TheVariants as decision
-use Rattle.bpf_code.specs.Meaning.{IsCallData}
-use Rattle.bpf_code.specs.ProgramOf.{program_of}
-use Rattle.bpf_code.specs.Stack.{answer_of, decision_by, deciding, decision_on, room_of}
-use Rattle.cap_sets.specs.Sets.{has}
-use Rattle.call_table.specs.Facts.{IsWhole}
-use Rattle.call_table.specs.Table as calls
-use Rattle.site_table.specs.Table.{Site, row_at}
-use Rattle.kern_creds.specs.declared.creds.Creds.{Creds}
-use Rattle.kern_mounts.specs.Finds.{finds}
-use Rattle.kernel_calls.specs.declared.call.Call.{Call}
-use Rattle.kernel_calls.specs.declared.payload.Payload.TheVariants.{OnePath, Code}
-use Rattle.kernel_calls.specs.declared.rule.Rule.{Rule}
-use Rattle.kernel_calls.specs.Doing as d
-use Rattle.kernel_calls.specs.Doing.{Asked, Does, asked_of, asked_by}
-use Rattle.kernel_model.specs.Effects as f
-use Rattle.kernel_model.specs.Effects.{Effect, push_effect}
+use Rattle.exec_settings.specs.abs_path.Paths.{Path}
+use Rattle.kernel_laws.specs.bpf_code.declared.machine.Insn.{Insn}
+use Rattle.kernel_laws.specs.bpf_code.declared.machine.CallData.{CallData}
+use Rattle.kernel_laws.specs.bpf_code.declared.decision.Decision.{Decision}
+use Rattle.kernel_laws.specs.bpf_code.declared.decision.Decision.TheVariants as decision
+use Rattle.kernel_laws.specs.bpf_code.Meaning.{IsCallData}
+use Rattle.kernel_laws.specs.bpf_code.ProgramOf.{program_of}
+use Rattle.kernel_laws.specs.bpf_code.Stack.{answer_of, decision_by, deciding, decision_on, room_of}
+use Rattle.exec_settings.specs.cap_sets.Sets.{has}
+use Rattle.kernel_laws.specs.call_table.Facts.{IsWhole}
+use Rattle.kernel_laws.specs.call_table.Table as calls
+use Rattle.exec_settings.specs.site_table.Table.{Site, row_at}
+use Rattle.kernel_laws.specs.kern_creds.declared.creds.Creds.{Creds}
+use Rattle.kernel_laws.specs.kern_mounts.Finds.{finds}
+use Rattle.kernel_laws.specs.kernel_model.declared.kernel_calls.call.Call.{Call}
+use Rattle.kernel_laws.specs.kernel_model.declared.kernel_calls.payload.Payload.TheVariants.{OnePath, Code}
+use Rattle.kernel_laws.specs.kernel_model.declared.kernel_calls.rule.Rule.{Rule}
+use Rattle.kernel_laws.specs.kernel_model.kernel_calls.Doing as d
+use Rattle.kernel_laws.specs.kernel_model.kernel_calls.Doing.{Asked, Does, asked_of, asked_by}
+use Rattle.kernel_laws.specs.kernel_model.Effects as f
+use Rattle.kernel_laws.specs.kernel_model.Effects.{Effect, push_effect}
 use Rattle.launcher.specs.Launch.{LaunchStep, Ending, Launched, StepRefused, StepKilled, PrivilegedProgram, first_call, number_of, launch_step, launch_steps, launch_on, launch_from, is_privileged_row, mount_steps, with_unshare, identity_steps, filter_steps, program_steps}
-use Rattle.kern_mounts.specs.Mounts.{Mounts as MountList}
-use Rattle.kern_mounts.specs.Split.{Table}
-use Rattle.kernel_model.specs.Runs.{IsDone}
-use Rattle.kernel_model.specs.declared.reply.Reply.TheVariants as w
-use Rattle.kernel_model.specs.World.{World, start_world}
-use Rattle.kernel_model.specs.declared.reply.Reply.{Reply}
-use Rattle.kernel_model.specs.Step.{step, applied, answered, decided}
+use Rattle.kernel_laws.specs.kern_mounts.Mounts.{Mounts as MountList}
+use Rattle.kernel_laws.specs.kern_mounts.Split.{Table}
+use Rattle.kernel_laws.specs.kernel_model.Runs.{IsDone}
+use Rattle.kernel_laws.specs.kernel_model.declared.reply.Reply.TheVariants as w
+use Rattle.kernel_laws.specs.kernel_model.World.{World, start_world}
+use Rattle.kernel_laws.specs.kernel_model.declared.reply.Reply.{Reply}
+use Rattle.kernel_laws.specs.kernel_model.Step.{step, applied, answered, decided}
 use Rattle.launcher.specs.Alike.{HasWordArchs, AnswerAlike, above}
 use Rattle.launcher.specs.Launches.{HasLaunchCalls, AreRead}
 use Rattle.launcher.specs.LaunchesAlike.{EndAlike, LaunchesAlike}
@@ -43,9 +43,9 @@ use Rattle.launcher.proofs.LaunchWorld.{ready_at}
 use Rattle.launcher.proofs.HostRoot.{begins_at_host}
 use Rattle.mount_plan.specs.Host.{host_of as site_host}
 use Rattle.launcher.proofs.Alike.{own_alike, own_step, lifted, step_above, same_answers, FullInOne}
-use Rattle.linux_numbers.specs.Errnos.{eacces, enomem}
-use Rattle.linux_numbers.specs.Limits.{max_insns_per_path}
-use Rattle.linux_numbers.specs.Capabilities.{cap_sys_admin}
+use Rattle.kernel_laws.specs.linux_numbers.Errnos.{eacces, enomem}
+use Rattle.kernel_laws.specs.linux_numbers.Limits.{max_insns_per_path}
+use Rattle.kernel_laws.specs.linux_numbers.Capabilities.{cap_sys_admin}
 
 -- a list of steps either stops, whatever follows it, or is done
 data Begun (world : World) (first : List LaunchStep) (count : ℕ) : Type 0 where

@@ -1,10 +1,10 @@
 -- Steps that are all done.
 use Rattle.std.proofs.Common.{◌≡◌, ℕ, suc, Bool, true, false, List, [], ◌∷◌, ◌++◌, refl, ap, ◌∙◌, sym, subst, length, arith}
 use Rattle.std.specs.Prelude.{map, ◌+◌}
-use Rattle.kernel_model.specs.declared.reply.Reply.{Reply}
-use Rattle.kernel_model.specs.declared.reply.Reply.TheVariants as w
-use Rattle.kernel_model.specs.Runs.{IsDone}
-use Rattle.kernel_model.specs.World.{World}
+use Rattle.kernel_laws.specs.kernel_model.declared.reply.Reply.{Reply}
+use Rattle.kernel_laws.specs.kernel_model.declared.reply.Reply.TheVariants as w
+use Rattle.kernel_laws.specs.kernel_model.Runs.{IsDone}
+use Rattle.kernel_laws.specs.kernel_model.World.{World}
 use Rattle.launcher.specs.Launch.{LaunchStep, Launched, launch_step, launch_on, launch_from}
 
 -- steps that are all done

@@ -21,3 +21,16 @@ pub mod Found
 pub mod Counted
 pub mod Answered
 pub mod UnitLaunched
+pub use Rattle.exec_settings.proofs.AbsPath as AbsPath
+pub use Rattle.kernel_laws.proofs.BpfCode as BpfCode
+pub use Rattle.kernel_laws.proofs.CallTable as CallTable
+pub use Rattle.exec_settings.proofs.Caps as Caps
+pub use Rattle.exec_settings.proofs.DropinMerge as DropinMerge
+pub use Rattle.exec_settings.proofs as ExecSettings
+pub use Rattle.exec_settings.proofs.FilterSettings as FilterSettings
+pub use Rattle.kernel_laws.proofs.KernMounts as KernMounts
+pub use Rattle.kernel_laws.proofs as KernelLaws
+pub use Rattle.kernel_laws.proofs.KernelModel as KernelModel
+pub use Rattle.mount_plan.proofs as MountPlan
+pub use Rattle.exec_settings.proofs.PathSettings as PathSettings
+pub use Rattle.exec_settings.proofs.SiteTable as SiteTable

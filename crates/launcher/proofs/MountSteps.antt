@@ -1,18 +1,18 @@
 -- The mount steps of a launch make the plan.
 use Rattle.std.proofs.Common.{◌≡◌, Bool, true, false, cond, codes, List, [], ◌∷◌, ◌++◌, refl, ap, ◌∙◌, sym, subst}
 use Rattle.std.specs.Prelude.{map, ◌||◌}
-use Rattle.abs_path.specs.Paths.{Path, is_root}
-use Rattle.bpf_code.specs.declared.machine.Insn.{Insn}
-use Rattle.call_table.specs.Table as calls
-use Rattle.site_table.specs.Table.{Site}
-use Rattle.kern_creds.specs.declared.creds.Creds.{Creds}
-use Rattle.kern_mounts.specs.Table as mounts
-use Rattle.kern_mounts.specs.Split.{Table}
-use Rattle.kern_mounts.specs.declared.step.Flags.{Flags}
-use Rattle.kern_mounts.specs.declared.step.What.TheVariants.{Host}
-use Rattle.kern_mounts.specs.declared.step.MountStep.{MountStep}
-use Rattle.kernel_calls.specs.declared.payload.Payload.TheVariants.{Nothing}
-use Rattle.kernel_model.specs.World.{World}
+use Rattle.exec_settings.specs.abs_path.Paths.{Path, is_root}
+use Rattle.kernel_laws.specs.bpf_code.declared.machine.Insn.{Insn}
+use Rattle.kernel_laws.specs.call_table.Table as calls
+use Rattle.exec_settings.specs.site_table.Table.{Site}
+use Rattle.kernel_laws.specs.kern_creds.declared.creds.Creds.{Creds}
+use Rattle.kernel_laws.specs.kern_mounts.Table as mounts
+use Rattle.kernel_laws.specs.kern_mounts.Split.{Table}
+use Rattle.kernel_laws.specs.kern_mounts.declared.step.Flags.{Flags}
+use Rattle.kernel_laws.specs.kern_mounts.declared.step.What.TheVariants.{Host}
+use Rattle.kernel_laws.specs.kern_mounts.declared.step.MountStep.{MountStep}
+use Rattle.kernel_laws.specs.kernel_model.declared.kernel_calls.payload.Payload.TheVariants.{Nothing}
+use Rattle.kernel_laws.specs.kernel_model.World.{World}
 use Rattle.kernel_laws.specs.Questions.{if_so}
 use Rattle.launcher.specs.Launch.{Mounts, makes, launch_step, mount_steps, with_unshare, has_flags, new_mounts}
 use Rattle.launcher.specs.Launches.{HasLaunchCalls}

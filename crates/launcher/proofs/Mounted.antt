@@ -1,28 +1,26 @@
 -- The mounts of a launch, one after another.
-use Rattle.std.proofs.Common.{◌≡◌, ℕ, zero, suc, Bool, true, false, cond, codes, List, [], ◌∷◌, ◌++◌, Option, Some, None, Ok, Err, refl, ap, ◌∙◌, sym, subst, length, drop, get_or, drop-cons, add-one, ◌<◌, ◌≤◌, arith, eqb}
+use Rattle.std.proofs.Common.{◌≡◌, ℕ, zero, suc, Bool, true, false, cond, codes, List, [], ◌∷◌, ◌++◌, Option, Some, None, Ok, refl, ap, ◌∙◌, sym, subst, length, drop, get_or, drop-cons, add-one, ◌<◌, ◌≤◌, arith, eqb}
 use Rattle.std.specs.Prelude.{map, slice_get, slice_set, ◌+◌, ◌-◌}
-use Rattle.std.proofs.lemmas.List.{drop_all, length-append}
-use Rattle.abs_path.specs.Paths.{is_root}
-use Rattle.call_table.specs.declared.listed.CallLine.{CallLine}
-use Rattle.call_table.specs.Facts.{IsWhole}
-use Rattle.kern_creds.specs.declared.creds.Creds.{Creds}
-use Rattle.kern_creds.specs.Start as creds
-use Rattle.kern_mounts.specs.Table as mounts
-use Rattle.kern_mounts.specs.Mounts.{Mounts as MountList, plain, first_mounts}
-use Rattle.kern_mounts.specs.MountsRemount.{with_root_flags}
-use Rattle.kern_mounts.specs.Split.{Table}
-use Rattle.kern_mounts.specs.declared.step.Flags.{Flags}
-use Rattle.kern_mounts.specs.declared.step.MountStep.{MountStep}
-use Rattle.kernel_calls.specs.declared.payload.Payload.TheVariants.{Nothing}
-use Rattle.kernel_model.specs.declared.process.Process.{Process}
-use Rattle.kernel_model.specs.MountStep.{CanStep, HasRoom, after_mount_step, stepped_by, with_step}
-use Rattle.kernel_model.specs.World.{World, living_of, of_number, put_number, mounts_of, table_or}
-use Rattle.launcher.specs.declared.error.LaunchError.{LaunchError}
-use Rattle.launcher.specs.declared.error.LaunchError.TheVariants as error
+use Rattle.std.proofs.lemmas.List.{length-append}
+use Rattle.exec_settings.specs.abs_path.Paths.{is_root}
+use Rattle.kernel_laws.specs.call_table.declared.listed.CallLine.{CallLine}
+use Rattle.kernel_laws.specs.call_table.Facts.{IsWhole}
+use Rattle.kernel_laws.specs.kern_creds.declared.creds.Creds.{Creds}
+use Rattle.kernel_laws.specs.kern_creds.Start as creds
+use Rattle.kernel_laws.specs.kern_mounts.Table as mounts
+use Rattle.kernel_laws.specs.kern_mounts.Mounts.{Mounts as MountList, plain, first_mounts}
+use Rattle.kernel_laws.specs.kern_mounts.MountsRemount.{with_root_flags}
+use Rattle.kernel_laws.specs.kern_mounts.Split.{Table}
+use Rattle.kernel_laws.specs.kern_mounts.declared.step.Flags.{Flags}
+use Rattle.kernel_laws.specs.kern_mounts.declared.step.MountStep.{MountStep}
+use Rattle.kernel_laws.specs.kernel_model.declared.kernel_calls.payload.Payload.TheVariants.{Nothing}
+use Rattle.kernel_laws.specs.kernel_model.declared.process.Process.{Process}
+use Rattle.kernel_laws.specs.kernel_model.MountStep.{after_mount_step, stepped_by, with_step}
+use Rattle.kernel_laws.specs.kernel_model.World.{World, living_of, of_number, put_number, mounts_of, table_or}
 use Rattle.launcher.specs.Ends.{Begins, StepsTo, IsStart, HasRoomBy, HasRoomFor, with_mounts}
 use Rattle.launcher.specs.Launch.{LaunchStep, Mounts, launch_from, makes, mount_steps, with_unshare, new_mounts}
 use Rattle.launcher.proofs.LaunchCalls.{launch_calls}
-use Rattle.launcher.proofs.CallsMade.{step_done, step_ends}
+use Rattle.launcher.proofs.CallsMade.{step_done}
 use Rattle.launcher.proofs.Solo.{At, solo, makes_unshare, own_mounts}
 
 -- ---- there is room for each
@@ -62,13 +60,6 @@ room_less count world entry room = by (living_of world 1) refl room
         let fits : length (mounts_of next process.namespace) + count ≤ 4096 = omega (arith, put, one, h) in
         subst (λ (o : Option Process). HasRoomBy next count o) (sym is) fits
 
-pub room_steps : (count : ℕ) (world : World) → HasRoomFor (suc count) world → CanStep world 1
-room_steps count world room = by (living_of world 1) room
-  where
-    by : (o : Option Process) → HasRoomBy world (suc count) o → HasRoom world o
-    by None h = absurd h
-    by (Some process) h = omega (arith, h)
-
 front : (entries : List MountStep) (i : ℕ) (entry : MountStep) → i < length entries → entry ≡ get_or entries i entry → drop i entries ≡ entry ∷ drop (i + 1) entries
 front entries i entry lt is = drop-cons entries i entry lt ∙ ap (λ (e : MountStep). e ∷ drop (suc i) entries) (sym is) ∙ ap (λ n. entry ∷ drop n entries) (sym (add-one i))
 
@@ -76,11 +67,6 @@ front entries i entry lt is = drop-cons entries i entry lt ∙ ap (λ (e : Mount
 pub record Mounting (start now : World) (entries : List MountStep) (i : ℕ) : Type 0 where
   pub room : HasRoomFor (length (drop i entries)) now
   pub rest : with_mounts now (drop i entries) ≡ with_mounts start entries
-
-pub can_mount : (start now : World) (entries : List MountStep) (i : ℕ) (entry : MountStep) → i < length entries → entry ≡ get_or entries i entry → Mounting start now entries i → CanStep now 1
-can_mount start now entries i entry lt is m =
-    let own : HasRoomFor (suc (length (drop (i + 1) entries))) now = subst (λ (es : List MountStep). HasRoomFor (length es) now) (front entries i entry lt is) m.room in
-    room_steps (length (drop (i + 1) entries)) now own
 
 pub mounted_more : (start now after : World) (entries : List MountStep) (i : ℕ) (entry : MountStep) → i < length entries → entry ≡ get_or entries i entry → Mounting start now entries i
     → after ≡ after_mount_step now 1 entry → Mounting start after entries (i + 1)
@@ -91,9 +77,6 @@ mounted_more start now after entries i entry lt is m stepped =
       rest = ap (λ (w : World). with_mounts w (drop (i + 1) entries)) stepped ∙ ap (with_mounts now) (sym (front entries i entry lt is)) ∙ m.rest;
     }
 
-pub mounted_all : (start now : World) (entries : List MountStep) (i : ℕ) → length entries ≤ i → Mounting start now entries i → now ≡ with_mounts start entries
-mounted_all start now entries i le m = ap (with_mounts now) (sym (drop_all i entries le)) ∙ m.rest
-
 -- ---- the launch goes on behind them
 mounts_go : (world : World) (entries : List MountStep) (rest : List LaunchStep) (count : ℕ) → launch_from world (map Mounts entries ++ rest) count ≡ launch_from (with_mounts world entries) rest (count + length entries)
 mounts_go world [] rest count = let same : count ≡ count + 0 = omega arith in ap (launch_from world rest) same
@@ -103,12 +86,6 @@ mounts_go world (entry ∷ entries) rest count =
 
 abbrev unshare_of : List CallLine → LaunchStep
 unshare_of lines = makes lines (codes "unshare") new_mounts 0 0 Nothing
-
--- nothing is mounted
-pub begins_without : (world : World) (lines : List CallLine) (plan entries : Table) → map Mounts entries ≡ mount_steps plan → entries ≡ [] → Begins world (with_unshare lines (mount_steps plan)) (Ok 0) world
-begins_without world lines plan entries are none rest =
-    ap (λ (steps : List LaunchStep). launch_from world (with_unshare lines steps ++ rest) 0) (sym are)
-    ∙ ap (λ (es : Table). launch_from world (with_unshare lines (map Mounts es) ++ rest) 0) none
 
 -- all entries are mounted behind unshare(2)
 begins_behind : (world own after : World) (lines : List CallLine) (entry : MountStep) (entries : Table) → StepsTo world (unshare_of lines) 1 (Ok tt) own → after ≡ with_mounts own (entry ∷ entries)
@@ -124,19 +101,6 @@ begins_mounted world own after lines plan [] count are some counted done mounted
 begins_mounted world own after lines plan (entry ∷ entries) count are some counted done mounted =
     subst (λ (steps : List LaunchStep). Begins world (with_unshare lines steps) (Ok count) after) are
     (subst (λ n. Begins world (with_unshare lines (map Mounts (entry ∷ entries))) (Ok n) after) (sym counted) (begins_behind world own after lines entry entries done mounted))
-
--- or unshare(2) ends the launch
-stops_behind : (world own left : World) (lines : List CallLine) (steps : List LaunchStep) (e : LaunchError) → StepsTo world (unshare_of lines) 1 (Err e) own → Begins world (unshare_of lines ∷ steps) (Err e) left
-stops_behind world own left lines steps (error.Refused at errno) stops = λ rest. step_ends world own left (unshare_of lines) (steps ++ rest) 0 1 (error.Refused at errno) refl stops
-stops_behind world own left lines steps (error.Killed at) stops = λ rest. step_ends world own left (unshare_of lines) (steps ++ rest) 0 1 (error.Killed at) refl stops
-stops_behind world own left lines steps (error.PrivilegedProgram path) stops = stops
-stops_behind world own left lines steps error.Memory stops = tt
-
-pub begins_stopped : (world own left : World) (lines : List CallLine) (plan entries : Table) (e : LaunchError) → map Mounts entries ≡ mount_steps plan → 0 < length entries
-    → StepsTo world (unshare_of lines) 1 (Err e) own → Begins world (with_unshare lines (mount_steps plan)) (Err e) left
-begins_stopped world own left lines plan [] e are some stops = absurd (omega (arith, some))
-begins_stopped world own left lines plan (entry ∷ entries) e are some stops =
-    subst (λ (steps : List LaunchStep). Begins world (with_unshare lines steps) (Err e) left) are (stops_behind world own left lines (map Mounts (entry ∷ entries)) e stops)
 
 -- ---- the own namespace has room
 abbrev Any : Creds → Type 0

@@ -2,11 +2,11 @@
 use Rattle.std.proofs.Common.{◌≡◌, ℕ, List, [], ◌∷◌, ◌++◌, Option, Some, refl, ap, ◌∙◌, sym, subst, length, take, get_or, ◌<◌}
 use Rattle.std.specs.Prelude.{◌+◌}
 use Rattle.std.proofs.lemmas.List.{take_more}
-use Rattle.bpf_code.specs.declared.machine.Insn.{Insn}
-use Rattle.bpf_code.specs.ProgramOf.{program_of}
-use Rattle.bpf_code.specs.Reading.{IsProgram, bytes_of}
-use Rattle.bpf_code.proofs.Tied.{accepted_by_function}
-use Rattle.filter_rules.specs.declared.installed.Filter.{Filter}
+use Rattle.kernel_laws.specs.bpf_code.declared.machine.Insn.{Insn}
+use Rattle.kernel_laws.specs.bpf_code.ProgramOf.{program_of}
+use Rattle.kernel_laws.specs.bpf_code.Reading.{IsProgram, bytes_of}
+use Rattle.kernel_laws.proofs.BpfCode.Tied.{accepted_by_function}
+use Rattle.exec_settings.specs.filter_settings.declared.filter_rules.installed.Filter.{Filter}
 use Rattle.launcher.specs.declared.filters.FilterProgram.{FilterProgram}
 use Rattle.launcher.specs.Answers.{IsProgramOf, AreProgramsOf, codes_of, given_bytes}
 use Rattle.launcher.specs.Launches.{AreRead}

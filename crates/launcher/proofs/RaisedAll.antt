@@ -4,9 +4,9 @@ use Rattle.std.specs.Prelude.{filter, nat_le, ◌+◌, ◌<◌, ◌≤◌, ◌^�
 use Rattle.std.specs.List.{AllByRecursion, list_any}
 use Rattle.std.proofs.lemmas.Bool.{eqb-true}
 use Rattle.std.proofs.lemmas.Bool.Decides.{nat_tests}
-use Rattle.cap_sets.specs.Sets.{has, all, IsWithin}
-use Rattle.cap_sets.proofs.Members.{has_all}
-use Rattle.kern_creds.specs.declared.creds.Creds.{Creds}
+use Rattle.exec_settings.specs.cap_sets.Sets.{has, all, IsWithin}
+use Rattle.exec_settings.proofs.Caps.Members.{has_all}
+use Rattle.kernel_laws.specs.kern_creds.declared.creds.Creds.{Creds}
 use Rattle.kernel_laws.specs.Questions.{count_from}
 use Rattle.launcher.proofs.Leading.{clash}
 

@@ -1,47 +1,47 @@
 -- A world with one process, and what a call of it that is done leaves.
 use Rattle.std.proofs.Common.{◌≡◌, ℕ, zero, suc, Bool, true, false, cond, codes, List, [], ◌∷◌, ◌++◌, Option, Some, None, Result, Ok, Err, refl, ap, ◌∙◌, subst, length, sym, map, eqb}
 use Rattle.std.specs.Prelude.{slice_get, slice_set, nat_lt, nat_le, ◌-◌, ◌+◌, ◌||◌, not}
-use Rattle.bpf_code.specs.declared.machine.Insn.{Insn}
-use Rattle.bpf_code.specs.declared.decision.Decision.{Decision}
-use Rattle.bpf_code.specs.declared.decision.Decision.TheVariants as decision
-use Rattle.bpf_code.specs.Stack.{decision_on, room_of}
-use Rattle.bpf_code.specs.ProgramOf.{program_of}
-use Rattle.cap_sets.specs.Sets.{has}
-use Rattle.call_table.specs.Table as calls
-use Rattle.site_table.specs.Table.{Site}
-use Rattle.kern_creds.specs.declared.creds.Creds.{Creds}
-use Rattle.kern_mounts.specs.declared.step.MountStep.{MountStep}
-use Rattle.kernel_calls.specs.declared.call.Call.{Call}
-use Rattle.kernel_calls.specs.declared.payload.Payload.{Payload}
-use Rattle.kernel_calls.specs.declared.payload.Payload.TheVariants.{Nothing, Code}
-use Rattle.kernel_calls.specs.declared.rule.Rule.{Rule}
-use Rattle.kernel_calls.specs.Rules.{rule_at}
-use Rattle.kernel_calls.specs.declared.rule.Rule.TheVariants as rule
-use Rattle.call_names.specs.declared.rule.CallRule.TheVariants as known
-use Rattle.kernel_calls.specs.Doing as d
-use Rattle.kernel_calls.specs.Doing.{Doing, Asked, doing_by, asked_by, asked_if, asked_of}
-use Rattle.kernel_model.specs.Effects as f
-use Rattle.kernel_model.specs.Effects.{Effect, Host, Caller, effect_of, creds_effect, push_effect, seccomp_effect}
+use Rattle.kernel_laws.specs.bpf_code.declared.machine.Insn.{Insn}
+use Rattle.kernel_laws.specs.bpf_code.declared.decision.Decision.{Decision}
+use Rattle.kernel_laws.specs.bpf_code.declared.decision.Decision.TheVariants as decision
+use Rattle.kernel_laws.specs.bpf_code.Stack.{decision_on, room_of}
+use Rattle.kernel_laws.specs.bpf_code.ProgramOf.{program_of}
+use Rattle.exec_settings.specs.cap_sets.Sets.{has}
+use Rattle.kernel_laws.specs.call_table.Table as calls
+use Rattle.exec_settings.specs.site_table.Table.{Site}
+use Rattle.kernel_laws.specs.kern_creds.declared.creds.Creds.{Creds}
+use Rattle.kernel_laws.specs.kern_mounts.declared.step.MountStep.{MountStep}
+use Rattle.kernel_laws.specs.kernel_model.declared.kernel_calls.call.Call.{Call}
+use Rattle.kernel_laws.specs.kernel_model.declared.kernel_calls.payload.Payload.{Payload}
+use Rattle.kernel_laws.specs.kernel_model.declared.kernel_calls.payload.Payload.TheVariants.{Nothing, Code}
+use Rattle.kernel_laws.specs.kernel_model.declared.kernel_calls.rule.Rule.{Rule}
+use Rattle.kernel_laws.specs.kernel_model.kernel_calls.Rules.{rule_at}
+use Rattle.kernel_laws.specs.kernel_model.declared.kernel_calls.rule.Rule.TheVariants as rule
+use Rattle.kernel_laws.specs.call_table.declared.call_names.rule.CallRule.TheVariants as known
+use Rattle.kernel_laws.specs.kernel_model.kernel_calls.Doing as d
+use Rattle.kernel_laws.specs.kernel_model.kernel_calls.Doing.{Doing, doing_by, asked_by, asked_if, asked_of}
+use Rattle.kernel_laws.specs.kernel_model.Effects as f
+use Rattle.kernel_laws.specs.kernel_model.Effects.{Effect, Host, effect_of, creds_effect, push_effect, seccomp_effect}
 use Rattle.launcher.specs.Launch.{LaunchStep, Mounts, number_of, first_call, makes, launch_step, new_mounts}
-use Rattle.kernel_model.specs.MountStep.{with_step}
-use Rattle.kern_mounts.specs.Mounts.{Mounts as MountList, plain, steps_of}
-use Rattle.kern_mounts.specs.Split.{Table}
-use Rattle.kern_mounts.specs.declared.step.Flags.{Flags}
-use Rattle.kern_mounts.specs.MountsRemount.{with_root_flags}
-use Rattle.kern_mounts.proofs.Plain.{steps_plain}
+use Rattle.kernel_laws.specs.kernel_model.MountStep.{with_step}
+use Rattle.kernel_laws.specs.kern_mounts.Mounts.{Mounts as MountList, plain, steps_of}
+use Rattle.kernel_laws.specs.kern_mounts.Split.{Table}
+use Rattle.kernel_laws.specs.kern_mounts.declared.step.Flags.{Flags}
+use Rattle.kernel_laws.specs.kern_mounts.MountsRemount.{with_root_flags}
+use Rattle.kernel_laws.proofs.KernMounts.Plain.{steps_plain}
 use Rattle.std.proofs.lemmas.List.{map-append}
-use Rattle.abs_path.specs.Paths.{is_root}
-use Rattle.kernel_model.specs.Runs.{IsDone}
-use Rattle.kernel_model.specs.declared.reply.Reply.TheVariants as w
-use Rattle.kernel_model.specs.World.{World, of_number, mounts_of, table_of, table_or, host_of, caller_of, owner_of, owner_or}
-use Rattle.kern_mounts.specs.Copying.{copied}
-use Rattle.kernel_model.specs.declared.process.Process.{Process}
-use Rattle.kernel_model.specs.declared.reply.Reply.{Reply}
-use Rattle.kernel_model.specs.Step.{step, applied, answered, decided, data_of}
+use Rattle.exec_settings.specs.abs_path.Paths.{is_root}
+use Rattle.kernel_laws.specs.kernel_model.Runs.{IsDone}
+use Rattle.kernel_laws.specs.kernel_model.declared.reply.Reply.TheVariants as w
+use Rattle.kernel_laws.specs.kernel_model.World.{World, of_number, mounts_of, table_of, table_or, host_of, caller_of, owner_of, owner_or}
+use Rattle.kernel_laws.specs.kern_mounts.Copying.{copied}
+use Rattle.kernel_laws.specs.kernel_model.declared.process.Process.{Process}
+use Rattle.kernel_laws.specs.kernel_model.declared.reply.Reply.{Reply}
+use Rattle.kernel_laws.specs.kernel_model.Step.{step, applied, answered, decided, data_of}
 use Rattle.kernel_laws.proofs.Numbered.{number_get, get_number, push_last, not_first}
-use Rattle.linux_numbers.specs.Errnos.{eacces, enomem, enospc, eperm}
-use Rattle.linux_numbers.specs.Limits.{max_insns_per_path}
-use Rattle.linux_numbers.specs.Capabilities.{cap_sys_admin}
+use Rattle.kernel_laws.specs.linux_numbers.Errnos.{eacces, enomem, enospc, eperm}
+use Rattle.kernel_laws.specs.linux_numbers.Limits.{max_insns_per_path}
+use Rattle.kernel_laws.specs.linux_numbers.Capabilities.{cap_sys_admin}
 
 -- an entry that a launcher mounts on a table: at `/` its flags are given to the first entry, everywhere else it is the last
 abbrev pub with_first_flags : Flags → Table → Table
@@ -111,9 +111,6 @@ module _ (table : calls.Table) (site : Site) where
   let_through world call process decision.Pass done = refl
   let_through world call process (decision.Errno errno) done = absurd done
   let_through world call process decision.Kill done = absurd done
-
-  abbrev W : Creds → List (List Insn) → ℕ → List MountList → World
-  W = solo
 
   module _ (creds : Creds) (stack : List (List Insn)) (namespace : ℕ) (tables : List MountList) where
     abbrev world : World

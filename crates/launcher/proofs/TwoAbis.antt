@@ -7,16 +7,16 @@ use Rattle.std.proofs.lemmas.List.Elements.{All-append}
 use Rattle.std.proofs.lemmas.List.{get_or_default}
 use Rattle.std.proofs.lemmas.List.Folds.{find_at}
 use Rattle.std.proofs.lemmas.Option.{slice_get-get_or}
-use Rattle.call_table.proofs.Places.{place_is}
-use Rattle.filter_rules.specs.Names.{Place, all_programs}
-use Rattle.filter_rules.specs.Installed.{place_of, is_installed, installed}
-use Rattle.filter_rules.specs.declared.installed.Filter.{Filter}
-use Rattle.filter_rules.specs.declared.settings.FilterSettings.{FilterSettings}
+use Rattle.kernel_laws.proofs.CallTable.Places.{place_is}
+use Rattle.exec_settings.specs.filter_settings.filter_rules.Names.{Place, all_programs}
+use Rattle.exec_settings.specs.filter_settings.filter_rules.Installed.{place_of, is_installed, installed}
+use Rattle.exec_settings.specs.filter_settings.declared.filter_rules.installed.Filter.{Filter}
+use Rattle.exec_settings.specs.filter_settings.declared.filter_rules.settings.FilterSettings.{FilterSettings}
 use Rattle.launcher.specs.Alike.{HasWordArchs}
-use Rattle.call_table.specs.declared.listed.CallLine.{CallLine}
-use Rattle.call_table.specs.Table.{Abi, Table, native, second_calls, every_call, abis, abi_at, arch_of, calls_in}
-use Rattle.call_table.specs.Lookups.{IsInRange, named, place_named, place_numbered, has_name}
-use Rattle.call_table.specs.Facts.{AreLines, AreOf, HasCapAmong, IsSecond, IsTable}
+use Rattle.kernel_laws.specs.call_table.declared.listed.CallLine.{CallLine}
+use Rattle.kernel_laws.specs.call_table.Table.{Abi, Table, native, second_calls, every_call, abis, abi_at, arch_of, calls_in}
+use Rattle.kernel_laws.specs.call_table.Lookups.{IsInRange, named, place_named, place_numbered, has_name}
+use Rattle.kernel_laws.specs.call_table.Facts.{AreLines, AreOf, HasCapAmong, IsSecond, IsTable}
 
 -- what holds of the calls of each ABI
 in_each : (P : ℕ → List CallLine → Type 0) (table : Table) → P 0 table.calls → ((second : Abi) → table.second ≡ Some second → P 1 second.calls) → ((abi : ℕ) → P abi []) → (abi : ℕ) → P abi (calls_in table abi)

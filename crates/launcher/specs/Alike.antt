@@ -1,24 +1,24 @@
 -- Worlds that differ in the programs of the launch alone.
 use Rattle.std.specs.Prelude.{◌≡◌, ℕ, ◌+◌, ◌<◌, ◌≤◌, ◌^◌, ◌⊎◌, ◌||◌, true, List, [], ◌∷◌, ◌++◌, map, length, Some}
-use Rattle.bpf_code.specs.declared.machine.Insn.{Insn}
-use Rattle.bpf_code.specs.declared.machine.CallData.{CallData}
-use Rattle.bpf_code.specs.declared.decision.Decision.TheVariants as decision
-use Rattle.bpf_code.specs.Meaning.{IsCallData}
-use Rattle.bpf_code.specs.ProgramOf.{program_of}
-use Rattle.bpf_code.specs.Stack.{answer_of, room_of}
-use Rattle.call_table.specs.Table.{Table, arch_of}
-use Rattle.cap_sets.specs.Sets.{has}
-use Rattle.linux_numbers.specs.Capabilities.{cap_sys_admin}
-use Rattle.linux_numbers.specs.Errnos.{enomem}
-use Rattle.linux_numbers.specs.Limits.{max_insns_per_path}
-use Rattle.kernel_calls.specs.declared.call.Call.{Call}
-use Rattle.kernel_calls.specs.Calls.{AreCalls}
-use Rattle.kernel_calls.specs.Doing.{Does, Seccomp, asked_of}
-use Rattle.kernel_model.specs.World.{World, living_of}
-use Rattle.kernel_model.specs.declared.process.Process.{Process}
-use Rattle.kernel_model.specs.declared.reply.Reply.{Reply}
-use Rattle.kernel_model.specs.declared.reply.Reply.TheVariants.{Done, Refused}
-use Rattle.kernel_model.specs.Step.{step, decision_of}
+use Rattle.kernel_laws.specs.bpf_code.declared.machine.Insn.{Insn}
+use Rattle.kernel_laws.specs.bpf_code.declared.machine.CallData.{CallData}
+use Rattle.kernel_laws.specs.bpf_code.declared.decision.Decision.TheVariants as decision
+use Rattle.kernel_laws.specs.bpf_code.Meaning.{IsCallData}
+use Rattle.kernel_laws.specs.bpf_code.ProgramOf.{program_of}
+use Rattle.kernel_laws.specs.bpf_code.Stack.{answer_of, room_of}
+use Rattle.kernel_laws.specs.call_table.Table.{Table, arch_of}
+use Rattle.exec_settings.specs.cap_sets.Sets.{has}
+use Rattle.kernel_laws.specs.linux_numbers.Capabilities.{cap_sys_admin}
+use Rattle.kernel_laws.specs.linux_numbers.Errnos.{enomem}
+use Rattle.kernel_laws.specs.linux_numbers.Limits.{max_insns_per_path}
+use Rattle.kernel_laws.specs.kernel_model.declared.kernel_calls.call.Call.{Call}
+use Rattle.kernel_laws.specs.kernel_model.kernel_calls.Calls.{AreCalls}
+use Rattle.kernel_laws.specs.kernel_model.kernel_calls.Doing.{Does, Seccomp, asked_of}
+use Rattle.kernel_laws.specs.kernel_model.World.{World, living_of}
+use Rattle.kernel_laws.specs.kernel_model.declared.process.Process.{Process}
+use Rattle.kernel_laws.specs.kernel_model.declared.reply.Reply.{Reply}
+use Rattle.kernel_laws.specs.kernel_model.declared.reply.Reply.TheVariants.{Done, Refused}
+use Rattle.kernel_laws.specs.kernel_model.Step.{step, decision_of}
 
 -- the architecture of each ABI is a word of 32 bits
 abbrev pub HasWordArchs : Table → Type 0

@@ -1,14 +1,14 @@
 -- What the answer of a launch says.
 use Rattle.std.specs.Prelude.{◌≡◌, ⊤, ℕ, List, [], ◌∷◌, map, length, Result, Ok, Err}
-use Rattle.bpf_code.specs.declared.machine.Insn.{Insn}
-use Rattle.bpf_code.specs.Reading.{IsProgram, bytes_of}
-use Rattle.call_table.specs.Table as calls
-use Rattle.filter_rules.specs.declared.installed.Filter.{Filter}
+use Rattle.kernel_laws.specs.bpf_code.declared.machine.Insn.{Insn}
+use Rattle.kernel_laws.specs.bpf_code.Reading.{IsProgram, bytes_of}
+use Rattle.kernel_laws.specs.call_table.Table as calls
+use Rattle.exec_settings.specs.filter_settings.declared.filter_rules.installed.Filter.{Filter}
 use Rattle.exec_settings.specs.declared.service.Settings.{Settings}
-use Rattle.kern_mounts.specs.Split.{Table}
+use Rattle.kernel_laws.specs.kern_mounts.Split.{Table}
 use Rattle.seccomp_compile.specs.Compiled.{DecidesWithin, longest_path}
 use Rattle.seccomp_compile.specs.ShortCases.{HaveShortCases}
-use Rattle.site_table.specs.Table.{Site}
+use Rattle.exec_settings.specs.site_table.Table.{Site}
 use Rattle.launcher.specs.declared.error.LaunchError.{LaunchError}
 use Rattle.launcher.specs.declared.error.LaunchError.TheVariants as error
 use Rattle.launcher.specs.declared.filters.FilterProgram.{FilterProgram}

@@ -2,14 +2,14 @@
 -- the ids are none that stands for no id (setresuid(2)).
 use Rattle.std.specs.Prelude.{◌<◌, ◌≤◌}
 use Rattle.std.specs.List.{All}
-use Rattle.call_rules.specs.Sizes.{CanCompile}
-use Rattle.call_table.specs.Table.{Table}
-use Rattle.dropin_merge.specs.declared.resolved.Resolved.{Resolved}
+use Rattle.exec_settings.specs.call_rules.Sizes.{CanCompile}
+use Rattle.kernel_laws.specs.call_table.Table.{Table}
+use Rattle.exec_settings.specs.dropin_merge.declared.resolved.Resolved.{Resolved}
 use Rattle.exec_settings.specs.AreSettings.{AreSettings}
 use Rattle.exec_settings.specs.declared.service.Settings.{Settings}
-use Rattle.filter_rules.specs.Costs.{most_room}
-use Rattle.linux_numbers.specs.Limits.{max_insns_per_path, no_id}
-use Rattle.site_table.specs.Table.{Site, IsSite}
+use Rattle.exec_settings.specs.filter_settings.filter_rules.Costs.{most_room}
+use Rattle.kernel_laws.specs.linux_numbers.Limits.{max_insns_per_path, no_id}
+use Rattle.exec_settings.specs.site_table.Table.{Site, IsSite}
 
 pub record CanBeLaunched (settings : Settings) : Type 0 where
   pub can_be_compiled : All (λ one. CanCompile one.rules) settings.filters.items

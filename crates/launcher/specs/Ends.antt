@@ -1,13 +1,13 @@
 -- What the steps of a launch come to, as its parts say it.
 use Rattle.std.specs.Prelude.{◌≡◌, ⊤, ℕ, ◌+◌, ◌≤◌, List, [], ◌∷◌, ◌++◌, length, Option, Some, None, Result, Ok, Err}
-use Rattle.kern_mounts.specs.declared.step.MountStep.{MountStep}
-use Rattle.kernel_model.specs.declared.process.Process.{Process}
-use Rattle.kernel_model.specs.declared.reply.Reply.{Reply}
-use Rattle.kernel_model.specs.declared.reply.Reply.TheVariants.{Refused, Killed}
-use Rattle.kernel_model.specs.MountStep.{after_mount_step}
-use Rattle.kernel_model.specs.Runs.{IsDone}
-use Rattle.kernel_model.specs.World.{World, living_of, mounts_of, start_world}
-use Rattle.linux_numbers.specs.Limits.{mount_max}
+use Rattle.kernel_laws.specs.kern_mounts.declared.step.MountStep.{MountStep}
+use Rattle.kernel_laws.specs.kernel_model.declared.process.Process.{Process}
+use Rattle.kernel_laws.specs.kernel_model.declared.reply.Reply.{Reply}
+use Rattle.kernel_laws.specs.kernel_model.declared.reply.Reply.TheVariants.{Refused, Killed}
+use Rattle.kernel_laws.specs.kernel_model.MountStep.{after_mount_step}
+use Rattle.kernel_laws.specs.kernel_model.Runs.{IsDone}
+use Rattle.kernel_laws.specs.kernel_model.World.{World, living_of, mounts_of, start_world}
+use Rattle.kernel_laws.specs.linux_numbers.Limits.{mount_max}
 use Rattle.launcher.specs.declared.error.LaunchError.{LaunchError}
 use Rattle.launcher.specs.declared.error.LaunchError.TheVariants as error
 use Rattle.launcher.specs.Launch.{LaunchStep, Ending, Launched, StepRefused, StepKilled, launch_step, launch_from}

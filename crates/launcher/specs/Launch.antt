@@ -2,29 +2,29 @@
 -- mount table. The first that is not done ends it.
 use Rattle.std.specs.Prelude.{ℕ, ◌+◌, ◌==◌, ◌&&◌, ◌||◌, not, Bool, false, codes, List, [], ◌∷◌, ◌++◌, map, filter, if◌then◌else◌}
 use Rattle.std.specs.Option.{option_map_or}
-use Rattle.abs_path.specs.Paths.{Path}
-use Rattle.cap_sets.specs.Sets.{has, all}
-use Rattle.linux_numbers.specs.Capabilities.{cap_last_cap}
-use Rattle.call_table.specs.declared.listed.CallLine.{CallLine}
-use Rattle.call_table.specs.Table as calls
-use Rattle.call_table.specs.Lookups.{named}
-use Rattle.site_table.specs.declared.row.Row.{Row}
-use Rattle.site_table.specs.Kinds.{is_exe}
-use Rattle.site_table.specs.Table.{Site, row_at}
-use Rattle.kern_creds.specs.Exec.{is_privileged}
-use Rattle.kern_mounts.specs.Finds.{Found, row, empty_directory, nothing, finds}
-use Rattle.kern_mounts.specs.declared.step.Flags.{Flags}
-use Rattle.kern_mounts.specs.declared.step.MountStep.{MountStep}
-use Rattle.kern_mounts.specs.Split.{Table}
-use Rattle.kern_files.specs.Executing.{marks_of}
-use Rattle.kernel_calls.specs.declared.call.Call.{Call}
-use Rattle.kernel_calls.specs.declared.payload.Payload.{Payload}
-use Rattle.kernel_calls.specs.declared.payload.Payload.TheVariants.{Nothing, OnePath, Sets, Ids, Code}
-use Rattle.kernel_model.specs.declared.reply.Reply.{Reply}
-use Rattle.kernel_model.specs.declared.reply.Reply.TheVariants.{Done, Refused, Killed}
-use Rattle.kernel_model.specs.MountStep.{after_mount_step}
-use Rattle.kernel_model.specs.Step.{step}
-use Rattle.kernel_model.specs.World.{World, start_world}
+use Rattle.exec_settings.specs.abs_path.Paths.{Path}
+use Rattle.exec_settings.specs.cap_sets.Sets.{has, all}
+use Rattle.kernel_laws.specs.linux_numbers.Capabilities.{cap_last_cap}
+use Rattle.kernel_laws.specs.call_table.declared.listed.CallLine.{CallLine}
+use Rattle.kernel_laws.specs.call_table.Table as calls
+use Rattle.kernel_laws.specs.call_table.Lookups.{named}
+use Rattle.exec_settings.specs.site_table.declared.row.Row.{Row}
+use Rattle.exec_settings.specs.site_table.Kinds.{is_exe}
+use Rattle.exec_settings.specs.site_table.Table.{Site, row_at}
+use Rattle.kernel_laws.specs.kern_creds.Exec.{is_privileged}
+use Rattle.kernel_laws.specs.kern_mounts.Finds.{Found, row, empty_directory, nothing, finds}
+use Rattle.kernel_laws.specs.kern_mounts.declared.step.Flags.{Flags}
+use Rattle.kernel_laws.specs.kern_mounts.declared.step.MountStep.{MountStep}
+use Rattle.kernel_laws.specs.kern_mounts.Split.{Table}
+use Rattle.kernel_laws.specs.kernel_model.kern_files.Executing.{marks_of}
+use Rattle.kernel_laws.specs.kernel_model.declared.kernel_calls.call.Call.{Call}
+use Rattle.kernel_laws.specs.kernel_model.declared.kernel_calls.payload.Payload.{Payload}
+use Rattle.kernel_laws.specs.kernel_model.declared.kernel_calls.payload.Payload.TheVariants.{Nothing, OnePath, Sets, Ids, Code}
+use Rattle.kernel_laws.specs.kernel_model.declared.reply.Reply.{Reply}
+use Rattle.kernel_laws.specs.kernel_model.declared.reply.Reply.TheVariants.{Done, Refused, Killed}
+use Rattle.kernel_laws.specs.kernel_model.MountStep.{after_mount_step}
+use Rattle.kernel_laws.specs.kernel_model.Step.{step}
+use Rattle.kernel_laws.specs.kernel_model.World.{World, start_world}
 use Rattle.kernel_laws.specs.Questions.{if_so, count_from}
 
 -- what is asked of a launch, with the bytes of the program of each filter in the order of the filters

@@ -1,20 +1,20 @@
 -- A launch by the programs of settings leaves what a judgement of the service stands on.
 use Rattle.std.specs.Prelude.{◌≡◌, ℕ, ◌<◌, ◌^◌, List, Some}
 use Rattle.std.specs.List.{AllByRecursion}
-use Rattle.bpf_code.specs.ProgramOf.{program_of}
-use Rattle.bpf_code.specs.declared.machine.Insn.{Insn}
-use Rattle.call_table.specs.Facts.{IsWhole}
-use Rattle.call_table.specs.Table as calls
-use Rattle.filter_rules.specs.Refusing.{AreRefusing}
-use Rattle.filter_rules.specs.declared.settings.FilterSettings.{FilterSettings}
-use Rattle.kern_mounts.specs.Launch.{CanBeMounted}
-use Rattle.kern_mounts.specs.Split.{Table}
+use Rattle.kernel_laws.specs.bpf_code.ProgramOf.{program_of}
+use Rattle.kernel_laws.specs.bpf_code.declared.machine.Insn.{Insn}
+use Rattle.kernel_laws.specs.call_table.Facts.{IsWhole}
+use Rattle.kernel_laws.specs.call_table.Table as calls
+use Rattle.exec_settings.specs.filter_settings.filter_rules.Refusing.{AreRefusing}
+use Rattle.exec_settings.specs.filter_settings.declared.filter_rules.settings.FilterSettings.{FilterSettings}
+use Rattle.kernel_laws.specs.kern_mounts.Launch.{CanBeMounted}
+use Rattle.kernel_laws.specs.kern_mounts.Split.{Table}
 use Rattle.kernel_laws.specs.FirstChoice.{Means}
 use Rattle.kernel_laws.specs.Launched.{IsLaunchedWorld}
-use Rattle.kernel_model.specs.World.{World}
-use Rattle.linux_numbers.specs.Limits.{no_id}
+use Rattle.kernel_laws.specs.kernel_model.World.{World}
+use Rattle.kernel_laws.specs.linux_numbers.Limits.{no_id}
 use Rattle.mount_plan.specs.Host.{host_of}
-use Rattle.site_table.specs.Table.{Site}
+use Rattle.exec_settings.specs.site_table.Table.{Site}
 use Rattle.launcher.specs.Alike.{HasWordArchs}
 use Rattle.launcher.specs.Launch.{Wanted, Launched, launch}
 

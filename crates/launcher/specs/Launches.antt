@@ -1,23 +1,23 @@
 -- What a launch that ends well leaves.
 use Rattle.std.specs.Prelude.{◌≡◌, ℕ, ◌<◌, codes, true, List, [], ◌∷◌, length, Some, map}
-use Rattle.bpf_code.specs.declared.machine.Insn.{Insn}
-use Rattle.bpf_code.specs.ProgramOf.{program_of}
-use Rattle.call_names.specs.declared.rule.CallRule.TheVariants.{Unshare, Setgroups, Setresgid, Prctl, Capset, Setresuid, Seccomp, Execve}
-use Rattle.call_table.specs.declared.listed.CallLine.{CallLine}
-use Rattle.call_table.specs.Facts.{IsWhole}
-use Rattle.call_table.specs.Table as calls
-use Rattle.cap_sets.specs.Sets.{IsWithin}
-use Rattle.kern_creds.specs.declared.creds.Creds.{Creds}
-use Rattle.kern_mounts.specs.Mounts.{plain}
-use Rattle.kern_mounts.specs.Launch.{CanBeMounted}
-use Rattle.kern_mounts.specs.Split.{Table}
-use Rattle.kernel_calls.specs.declared.rule.Rule.TheVariants.{Known}
-use Rattle.kernel_calls.specs.Rules.{rule_at}
+use Rattle.kernel_laws.specs.bpf_code.declared.machine.Insn.{Insn}
+use Rattle.kernel_laws.specs.bpf_code.ProgramOf.{program_of}
+use Rattle.kernel_laws.specs.call_table.declared.call_names.rule.CallRule.TheVariants.{Unshare, Setgroups, Setresgid, Prctl, Capset, Setresuid, Seccomp, Execve}
+use Rattle.kernel_laws.specs.call_table.declared.listed.CallLine.{CallLine}
+use Rattle.kernel_laws.specs.call_table.Facts.{IsWhole}
+use Rattle.kernel_laws.specs.call_table.Table as calls
+use Rattle.exec_settings.specs.cap_sets.Sets.{IsWithin}
+use Rattle.kernel_laws.specs.kern_creds.declared.creds.Creds.{Creds}
+use Rattle.kernel_laws.specs.kern_mounts.Mounts.{plain}
+use Rattle.kernel_laws.specs.kern_mounts.Launch.{CanBeMounted}
+use Rattle.kernel_laws.specs.kern_mounts.Split.{Table}
+use Rattle.kernel_laws.specs.kernel_model.declared.kernel_calls.rule.Rule.TheVariants.{Known}
+use Rattle.kernel_laws.specs.kernel_model.kernel_calls.Rules.{rule_at}
 use Rattle.kernel_laws.specs.Launched.{launch_of}
-use Rattle.kernel_model.specs.World.{World, of_number}
-use Rattle.linux_numbers.specs.Limits.{no_id}
+use Rattle.kernel_laws.specs.kernel_model.World.{World, of_number}
+use Rattle.kernel_laws.specs.linux_numbers.Limits.{no_id}
 use Rattle.mount_plan.specs.Host.{host_of}
-use Rattle.site_table.specs.Table.{Site}
+use Rattle.exec_settings.specs.site_table.Table.{Site}
 use Rattle.launcher.specs.Launch.{Wanted, Launched, number_of, launch, launch_steps}
 
 -- the number of the name follows the rule of the name

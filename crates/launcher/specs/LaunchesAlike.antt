@@ -1,15 +1,15 @@
 -- How a launch ends does not rest on which programs the filters are.
 use Rattle.std.specs.Prelude.{◌≡◌, ℕ, ◌<◌, ◌≤◌, ◌^◌, List}
-use Rattle.bpf_code.specs.declared.machine.Insn.{Insn}
-use Rattle.bpf_code.specs.Stack.{room_of}
-use Rattle.call_table.specs.Facts.{IsWhole}
-use Rattle.call_table.specs.Table as calls
-use Rattle.kern_mounts.specs.Launch.{CanBeMounted}
-use Rattle.kern_mounts.specs.Split.{Table}
-use Rattle.kernel_model.specs.World.{World}
-use Rattle.linux_numbers.specs.Limits.{max_insns_per_path, no_id}
+use Rattle.kernel_laws.specs.bpf_code.declared.machine.Insn.{Insn}
+use Rattle.kernel_laws.specs.bpf_code.Stack.{room_of}
+use Rattle.kernel_laws.specs.call_table.Facts.{IsWhole}
+use Rattle.kernel_laws.specs.call_table.Table as calls
+use Rattle.kernel_laws.specs.kern_mounts.Launch.{CanBeMounted}
+use Rattle.kernel_laws.specs.kern_mounts.Split.{Table}
+use Rattle.kernel_laws.specs.kernel_model.World.{World}
+use Rattle.kernel_laws.specs.linux_numbers.Limits.{max_insns_per_path, no_id}
 use Rattle.mount_plan.specs.Host.{host_of}
-use Rattle.site_table.specs.Table.{Site}
+use Rattle.exec_settings.specs.site_table.Table.{Site}
 use Rattle.launcher.specs.Alike.{HasWordArchs, AnswerAlike, above}
 use Rattle.launcher.specs.Launch.{Wanted, Ending, Launched, StepRefused, StepKilled, PrivilegedProgram, launch}
 use Rattle.launcher.specs.Launches.{AreRead}

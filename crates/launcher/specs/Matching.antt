@@ -1,17 +1,17 @@
 -- Programs that match the filters of settings, one for each.
 use Rattle.std.specs.Prelude.{◌≡◌, ◌≤◌, Some, List, [], ◌∷◌, length}
 use Rattle.std.specs.List.{AllByRecursion}
-use Rattle.bpf_code.specs.declared.machine.Insn.{Insn}
-use Rattle.bpf_code.specs.declared.machine.CallData.{CallData}
-use Rattle.bpf_code.specs.Meaning.{Answers, IsCallData}
-use Rattle.bpf_code.specs.Stack.{room_of}
-use Rattle.call_rules.specs.Action.{case_action, word_of}
-use Rattle.call_rules.specs.Sizes.{most_insns}
-use Rattle.call_table.specs.Table as calls
+use Rattle.kernel_laws.specs.bpf_code.declared.machine.Insn.{Insn}
+use Rattle.kernel_laws.specs.bpf_code.declared.machine.CallData.{CallData}
+use Rattle.kernel_laws.specs.bpf_code.Meaning.{Answers, IsCallData}
+use Rattle.kernel_laws.specs.bpf_code.Stack.{room_of}
+use Rattle.exec_settings.specs.call_rules.Action.{case_action, word_of}
+use Rattle.exec_settings.specs.call_rules.Sizes.{most_insns}
+use Rattle.kernel_laws.specs.call_table.Table as calls
 use Rattle.exec_settings.specs.AreSettings.{HasWantedRules}
-use Rattle.filter_rules.specs.Costs.{most_room}
-use Rattle.filter_rules.specs.declared.installed.Filter.{Filter}
-use Rattle.filter_rules.specs.declared.settings.FilterSettings.{FilterSettings}
+use Rattle.exec_settings.specs.filter_settings.filter_rules.Costs.{most_room}
+use Rattle.exec_settings.specs.filter_settings.declared.filter_rules.installed.Filter.{Filter}
+use Rattle.exec_settings.specs.filter_settings.declared.filter_rules.settings.FilterSettings.{FilterSettings}
 use Rattle.kernel_laws.specs.FirstChoice.{Means}
 use Rattle.launcher.specs.Alike.{AnswerAlike}
 

@@ -2,12 +2,12 @@
 
 ghost use Rattle.std.specs.Prelude.{IfOk};
 ghost use Rattle.std.specs.List.{All};
-ghost use Rattle.call_rules.specs.Sizes.{CanCompile};
+ghost use Rattle.exec_settings.specs.call_rules.Sizes.{CanCompile};
 ghost use Rattle.launcher.specs.Answers.{AreProgramsOf, IsProgramOf};
 
-use bpf_code::Program;
-use filter_rules::{Filter, FilterName};
-use item_list::ItemList;
+use exec_settings::filter_settings::filter_rules::{Filter, FilterName};
+use exec_settings::text_forms::item_list::ItemList;
+use kernel_laws::bpf_code::Program;
 use seccomp_compile::compile;
 use std::alloc::{AllocError, Global};
 

@@ -5,11 +5,11 @@ ghost use Rattle.launcher.specs.Answers.{wanted_of};
 ghost use Rattle.launcher.specs.Launch.{group_steps, drop_steps, inherit_steps, user_steps, raise_steps, left_steps, privilege_steps, identity_steps};
 
 use crate::calls::{CallSteps, capset, first_call, prctl};
-use call_table::CallTable;
-use cap_sets::CapSet;
 use exec_settings::Settings;
-use kernel_calls::{IdList, Payload};
-use linux_numbers::capabilities::CAP_LAST_CAP;
+use exec_settings::cap_sets::CapSet;
+use kernel_laws::call_table::CallTable;
+use kernel_laws::kernel_model::kernel_calls::{IdList, Payload};
+use kernel_laws::linux_numbers::capabilities::CAP_LAST_CAP;
 use std::alloc::{AllocError, Global};
 
 /// PR_SET_KEEPCAPS, prctl(2).

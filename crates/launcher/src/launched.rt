@@ -1,8 +1,8 @@
 //! A launched service.
 
 use crate::filters::FilterPrograms;
-use abs_path::AbsPath;
-use kernel_model::World;
+use exec_settings::abs_path::AbsPath;
+use kernel_laws::kernel_model::World;
 
 /// A service whose launch has made every step.
 #[derive(Drop)]

@@ -1,10 +1,10 @@
 //! The launch of a service.
 
 ghost use Rattle.std.specs.Prelude.{◌+◌, ◌≤◌, ◌++◌, length, IfOk};
-ghost use Rattle.call_table.specs.Facts.{IsWhole};
-ghost use Rattle.kern_mounts.specs.Launch.{CanBeMounted};
+ghost use Rattle.kernel_laws.specs.call_table.Facts.{IsWhole};
+ghost use Rattle.kernel_laws.specs.kern_mounts.Launch.{CanBeMounted};
 ghost use Rattle.mount_plan.specs.Host.{host_of};
-ghost use Rattle.dropin_merge.specs.declared.resolved.Resolved.{Resolved};
+ghost use Rattle.exec_settings.specs.dropin_merge.declared.resolved.Resolved.{Resolved};
 ghost use Rattle.exec_settings.specs.AreSettings.{AreSettings};
 ghost use Rattle.kernel_laws.specs.Launched.{IsLaunchedWorld};
 ghost use Rattle.launcher.specs.Answers.{EndsAs, LeavesService};
@@ -20,11 +20,11 @@ use crate::mounting::mount_plan;
 use crate::privileged::is_privileged;
 use crate::running::make_calls;
 use crate::steps::call_steps;
-use call_table::CallTable;
 use exec_settings::Settings;
-use kern_mounts::MountStep;
-use kernel_model::World;
-use site_table::SiteTable;
+use exec_settings::site_table::SiteTable;
+use kernel_laws::call_table::CallTable;
+use kernel_laws::kern_mounts::MountStep;
+use kernel_laws::kernel_model::World;
 use std::alloc::Global;
 
 // Makes the steps of a launch in the world that a kernel starts with, and counts them.

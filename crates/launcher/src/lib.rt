@@ -19,6 +19,14 @@ mod running;
 mod steps;
 
 pub use error::LaunchError;
+pub use exec_settings;
+pub use exec_settings::{
+    abs_path, cap_sets, dropin_merge, filter_settings, path_settings, site_table, text_forms,
+    unit_grammar, unit_names,
+};
 pub use filters::{FilterProgram, FilterPrograms, compile_all};
+pub use kernel_laws;
+pub use kernel_laws::{bpf_code, call_table, kern_mounts, kernel_model, linux_numbers};
 pub use launched::Launched;
 pub use launching::launch;
+pub use mount_plan;

@@ -1,17 +1,17 @@
 //! The mounts of a plan, in a namespace of their own (mount_namespaces(7)).
 
 ghost use Rattle.std.specs.Prelude.{◌≡◌, ◌≤◌, codes, length, map, IfOk, OnOk};
-ghost use Rattle.call_table.specs.Facts.{IsWhole};
-ghost use Rattle.kernel_calls.specs.declared.payload.Payload.TheVariants.{Nothing};
+ghost use Rattle.kernel_laws.specs.call_table.Facts.{IsWhole};
+ghost use Rattle.kernel_laws.specs.kernel_model.declared.kernel_calls.payload.Payload.TheVariants.{Nothing};
 ghost use Rattle.launcher.specs.Ends.{Begins, HasRoomFor, IsStart, StepsTo, with_mounts};
 ghost use Rattle.launcher.specs.Launch.{Mounts, has_flags, makes, mount_steps, new_mounts, with_unshare};
 
 use crate::calls::first_call;
 use crate::error::LaunchError;
 use crate::running::make_call;
-use kern_mounts::{Flags, MountStep};
-use kernel_calls::Payload;
-use kernel_model::World;
+use kernel_laws::kern_mounts::{Flags, MountStep};
+use kernel_laws::kernel_model::World;
+use kernel_laws::kernel_model::kernel_calls::Payload;
 use std::alloc::{AllocError, Global};
 
 /// CLONE_NEWNS, unshare(2).

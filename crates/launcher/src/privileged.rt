@@ -1,17 +1,17 @@
 //! Whether a program has a set-id bit or capabilities, by what its path finds on a plan (execve(2), capabilities(7)).
 
 ghost use Rattle.std.specs.Prelude.{◌≡◌, option_map, option_copied, true, if◌then◌else◌};
-ghost use Rattle.abs_path.specs.Prefix.{is_prefix};
-ghost use Rattle.site_table.specs.Table.{row_at};
-ghost use Rattle.kern_creds.specs.Exec.{is_privileged};
-ghost use Rattle.kern_mounts.specs.Entry.{entry_of, leads_to};
-ghost use Rattle.kern_mounts.specs.Finds.{row, found_by, finds, row_or_nothing};
+ghost use Rattle.exec_settings.specs.abs_path.Prefix.{is_prefix};
+ghost use Rattle.exec_settings.specs.site_table.Table.{row_at};
+ghost use Rattle.kernel_laws.specs.kern_creds.Exec.{is_privileged};
+ghost use Rattle.kernel_laws.specs.kern_mounts.Entry.{entry_of, leads_to};
+ghost use Rattle.kernel_laws.specs.kern_mounts.Finds.{row, found_by, finds, row_or_nothing};
 ghost use Rattle.launcher.specs.Launch.{is_privileged_row};
 
-use abs_path::AbsPath;
-use cap_sets::CapSet;
-use kern_mounts::{MountStep, What};
-use site_table::{Row, RowKind, SiteTable};
+use exec_settings::abs_path::AbsPath;
+use exec_settings::cap_sets::CapSet;
+use exec_settings::site_table::{Row, RowKind, SiteTable};
+use kernel_laws::kern_mounts::{MountStep, What};
 
 // Whether the row is an executable file with a set-id bit or capabilities.
 fn is_marked(file: &Row) -> bool

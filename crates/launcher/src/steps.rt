@@ -7,9 +7,9 @@ ghost use Rattle.launcher.specs.Launch.{call_steps, filter_steps};
 use crate::calls::{CallSteps, first_call};
 use crate::filters::{FilterProgram, FilterPrograms};
 use crate::identity::identity_steps;
-use call_table::CallTable;
 use exec_settings::Settings;
-use kernel_calls::{Bytes, Payload};
+use kernel_laws::call_table::CallTable;
+use kernel_laws::kernel_model::kernel_calls::{Bytes, Payload};
 use std::alloc::{AllocError, Global};
 
 /// SECCOMP_SET_MODE_FILTER, seccomp(2).

@@ -2,14 +2,14 @@
 use Rattle.std.proofs.Common.{◌≡◌, ◌⊎◌, inl, inr, ◌+◌, ◌≤◌, Bool, true, false, cond, List, [], ◌∷◌, map, length, Ok, refl, sym, ◌∙◌, subst, arith}
 use Rattle.std.specs.List.{AllByRecursion}
 use Rattle.std.proofs.lemmas.Bool.{false≢true}
-use Rattle.abs_path.specs.Paths.{Path, is_normal}
-use Rattle.abs_path.specs.ByteOrder.{is_before, placed, with_placed, in_byte_order, AreAscending}
-use Rattle.abs_path.proofs.ByteOrder.{not_before_itself, before_trans}
-use Rattle.abs_path.proofs.Placed.{in_byte_order_is, in_byte_order_was, in_byte_order_ascending}
+use Rattle.path_settings.specs.abs_path.Paths.{Path, is_normal}
+use Rattle.path_settings.specs.abs_path.ByteOrder.{is_before, placed, with_placed, in_byte_order, AreAscending}
+use Rattle.path_settings.proofs.AbsPath.ByteOrder.{not_before_itself, before_trans}
+use Rattle.path_settings.proofs.AbsPath.Placed.{in_byte_order_is, in_byte_order_was, in_byte_order_ascending}
 use Rattle.path_settings.specs.declared.mentions.Mention.{Mention}
-use Rattle.view_map.specs.Kept.{Host, kept_of}
-use Rattle.view_map.proofs.Lists.{all_weaker, all_mapped, mapped_all}
-use Rattle.view_map.proofs.KeptLaws.{kept_is}
+use Rattle.path_settings.specs.view_map.Kept.{Host, kept_of}
+use Rattle.path_settings.proofs.ViewMapLists.{all_weaker, all_mapped, mapped_all}
+use Rattle.path_settings.proofs.KeptLaws.{kept_is}
 use Rattle.mount_plan.specs.Plan.{step_at, hides_dir_at, places_of, table_of}
 use Rattle.mount_plan.proofs.PlanLaws.{AreNormal, paths_of}
 

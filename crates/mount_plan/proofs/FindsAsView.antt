@@ -2,15 +2,15 @@
 use Rattle.std.proofs.Common.{◌≡◌, Bool, true, List, [], ◌∷◌, Some, map, refl, sym, ap, ◌∙◌, subst}
 use Rattle.std.specs.List.{AllByRecursion, Contains}
 use Rattle.std.proofs.lemmas.List.Elements.{All-contains, All-from_recursion}
-use Rattle.abs_path.specs.Paths.{Path}
-use Rattle.abs_path.specs.Prefix.{is_prefix, rest_of}
-use Rattle.abs_path.specs.ByteOrder.{AreAscending}
+use Rattle.path_settings.specs.abs_path.Paths.{Path}
+use Rattle.path_settings.specs.abs_path.Prefix.{is_prefix, rest_of}
+use Rattle.path_settings.specs.abs_path.ByteOrder.{AreAscending}
 use Rattle.path_settings.specs.declared.mentions.Mention.{Mention}
-use Rattle.view_map.specs.View.{is_read_only, is_no_exec}
-use Rattle.view_map.specs.Object.{Object, on_host, empty, hidden, object_at, object_behind}
-use Rattle.view_map.specs.OnTheWay.{HasNoneBetween}
-use Rattle.view_map.proofs.Carries.{same_object, same_read_only, same_no_exec}
-use Rattle.view_map.proofs.Lists.{all_weaker, mapped_all}
+use Rattle.path_settings.specs.view_map.View.{is_read_only, is_no_exec}
+use Rattle.path_settings.specs.view_map.Object.{Object, on_host, empty, hidden, object_at, object_behind}
+use Rattle.path_settings.specs.view_map.OnTheWay.{HasNoneBetween}
+use Rattle.path_settings.proofs.Carries.{same_object, same_read_only, same_no_exec}
+use Rattle.path_settings.proofs.ViewMapLists.{all_weaker, mapped_all}
 use Rattle.kern_mounts.specs.declared.step.MountStep.{MountStep}
 use Rattle.kern_mounts.specs.Table.{StartsAtRoot}
 use Rattle.kern_mounts.specs.Entry.{leads_to, entry_of}

@@ -3,23 +3,23 @@ use Rattle.std.proofs.Common.{◌≡◌, ◌⊎◌, inl, inr, ℕ, Bool, true, f
 use Rattle.std.specs.Prelude.{not, codes}
 use Rattle.std.specs.List.{AllByRecursion, enumerate_from}
 use Rattle.std.proofs.lemmas.Bool.{false≢true, and_parts}
-use Rattle.abs_path.specs.Paths.{Path, is_normal, proc}
-use Rattle.abs_path.specs.Prefix.{is_prefix, is_same, rest_of, is_below}
-use Rattle.abs_path.proofs.Prefixes.{same_part, same_itself}
+use Rattle.path_settings.specs.abs_path.Paths.{Path, is_normal, proc}
+use Rattle.path_settings.specs.abs_path.Prefix.{is_prefix, is_same, rest_of, is_below}
+use Rattle.path_settings.proofs.AbsPath.Prefixes.{same_part, same_itself}
 use Rattle.path_settings.specs.declared.mentions.Kind.{Kind}
 use Rattle.path_settings.specs.declared.mentions.Kind.TheVariants.{Hide, Tmp, Bind}
 use Rattle.path_settings.specs.declared.mentions.Mention.{Mention}
 use Rattle.path_settings.specs.Mentions.{is_origin}
-use Rattle.view_map.specs.View.{above, origin_of}
-use Rattle.view_map.specs.Object.{Object, object_by, object_from}
-use Rattle.view_map.specs.declared.rules.Beneath.{Beneath}
-use Rattle.view_map.specs.declared.rules.Beneath.TheVariants as beneath
-use Rattle.view_map.specs.Rules.{fate_of, bind_fate}
-use Rattle.view_map.specs.Kept.{Host, at_path, unbeaten, beneath_row, beneath_by, beneath_at, source_row, is_kept, fate_among, kept_of}
-use Rattle.view_map.proofs.Lists.{filter_is, all_weaker, all_enumerated}
-use Rattle.view_map.proofs.Deciding.{origin_is, longest_none}
-use Rattle.view_map.proofs.KeptLaws.{kept_is, keeps_by_rules, each_kept}
-use Rattle.linux_numbers.specs.Errnos.{enoent}
+use Rattle.path_settings.specs.view_map.View.{above, origin_of}
+use Rattle.path_settings.specs.view_map.Object.{Object, object_by, object_from}
+use Rattle.path_settings.specs.declared.view_map.rules.Beneath.{Beneath}
+use Rattle.path_settings.specs.declared.view_map.rules.Beneath.TheVariants as beneath
+use Rattle.path_settings.specs.view_map.Rules.{fate_of, bind_fate}
+use Rattle.path_settings.specs.view_map.Kept.{Host, at_path, unbeaten, beneath_row, beneath_by, beneath_at, source_row, is_kept, fate_among, kept_of}
+use Rattle.path_settings.proofs.ViewMapLists.{filter_is, all_weaker, all_enumerated}
+use Rattle.path_settings.proofs.Deciding.{origin_is, longest_none}
+use Rattle.path_settings.proofs.KeptLaws.{kept_is, keeps_by_rules, each_kept}
+use Rattle.kern_mounts.specs.linux_numbers.Errnos.{enoent}
 use Rattle.kern_mounts.specs.declared.step.MountStep.{MountStep}
 use Rattle.kern_mounts.specs.declared.step.What.{What}
 use Rattle.kern_mounts.specs.declared.step.What.TheVariants as what

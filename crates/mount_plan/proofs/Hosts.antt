@@ -1,18 +1,14 @@
 -- What holds of the paths at which a site has a row.
 use Rattle.std.proofs.Common.{◌≡◌, ◌≤◌, Bool, true, [], ◌∷◌, length, Option, Some, None, option_map, refl, ap, subst, arith}
-use Rattle.abs_path.specs.Paths.{Path, tail_of, text_of, proc}
-use Rattle.abs_path.specs.Prefix.{is_same, IsRest}
-use Rattle.abs_path.proofs.Prefixes.{same_path}
+use Rattle.path_settings.specs.abs_path.Paths.{Path, tail_of, text_of, proc}
+use Rattle.path_settings.specs.abs_path.Prefix.{is_same}
+use Rattle.path_settings.proofs.AbsPath.Prefixes.{same_path}
 use Rattle.site_table.specs.declared.row.Row.{Row}
 use Rattle.site_table.specs.Kinds.{is_dir}
 use Rattle.site_table.specs.Table.{Site, IsSite, IsRowOf, row_at}
-use Rattle.view_map.specs.Kept.{Host}
-use Rattle.view_map.proofs.Lists.{find_is, find_passes}
+use Rattle.path_settings.specs.view_map.Kept.{Host}
+use Rattle.path_settings.proofs.ViewMapLists.{find_is, find_passes}
 use Rattle.mount_plan.specs.Host.{host_of}
-
--- the empty text is a rest
-pub none_behind : IsRest []
-none_behind = record { parts = refl; whole = refl }
 
 -- the paths at which the host has anything are short
 abbrev pub AreShortRows : Host → Type 0

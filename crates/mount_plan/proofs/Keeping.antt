@@ -4,15 +4,15 @@ use Rattle.std.specs.Prelude.{◌||◌, not}
 use Rattle.std.specs.List.{list_any, filter_map, enumerate_from}
 use Rattle.std.proofs.lemmas.Bool.{and_parts}
 use Rattle.std.proofs.lemmas.List.Elements.{filter_map-append}
-use Rattle.abs_path.specs.Paths.{Path}
-use Rattle.abs_path.specs.Prefix.{is_prefix, is_same, is_below}
+use Rattle.path_settings.specs.abs_path.Paths.{Path}
+use Rattle.path_settings.specs.abs_path.Prefix.{is_prefix, is_same, is_below}
 use Rattle.path_settings.specs.declared.mentions.Mention.{Mention}
 use Rattle.path_settings.specs.Mentions.{is_origin}
-use Rattle.view_map.specs.View.{above, longest}
-use Rattle.view_map.specs.declared.rules.Beneath.{Beneath}
-use Rattle.view_map.specs.Kept.{Host, Refusal, missing, wrong_kind, is_kept, puts, refusal_of, refusals, unless_refused, kept_among, kept_at, goes_on, kept_from}
-use Rattle.view_map.proofs.Lists.{filter_is, all_weaker, all_trivial}
-use Rattle.view_map.proofs.Deciding.{longest_is}
+use Rattle.path_settings.specs.view_map.View.{above, longest}
+use Rattle.path_settings.specs.declared.view_map.rules.Beneath.{Beneath}
+use Rattle.path_settings.specs.view_map.Kept.{Host, Refusal, missing, wrong_kind, is_kept, puts, refusal_of, refusals, unless_refused, kept_among, kept_at, goes_on, kept_from}
+use Rattle.path_settings.proofs.ViewMapLists.{filter_is, all_weaker, all_trivial}
+use Rattle.path_settings.proofs.Deciding.{longest_is}
 use Rattle.mount_plan.specs.declared.error.PlanError.{PlanError}
 use Rattle.mount_plan.specs.declared.error.PlanError.TheVariants.{Missing, Kind, Memory}
 use Rattle.mount_plan.specs.declared.here.Part.{Part}

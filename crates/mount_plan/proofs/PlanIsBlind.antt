@@ -3,22 +3,22 @@ use Rattle.std.proofs.Common.{◌≡◌, ◌∙◌, ℕ, Bool, true, false, List
 use Rattle.std.specs.Prelude.{◌&&◌, not, map, option_and_then}
 use Rattle.std.specs.Str.{bytes_eq}
 use Rattle.std.specs.List.{AllByRecursion, enumerate_from}
-use Rattle.abs_path.specs.Paths.{Path, is_normal}
-use Rattle.abs_path.specs.Prefix.{is_prefix, is_same, is_below, rest_of}
-use Rattle.abs_path.specs.ByteOrder.{in_byte_order}
-use Rattle.abs_path.proofs.Prefixes.{prefix-append}
+use Rattle.path_settings.specs.abs_path.Paths.{Path, is_normal}
+use Rattle.path_settings.specs.abs_path.Prefix.{is_prefix, is_same, is_below, rest_of}
+use Rattle.path_settings.specs.abs_path.ByteOrder.{in_byte_order}
+use Rattle.path_settings.proofs.AbsPath.Prefixes.{prefix-append}
 use Rattle.path_settings.specs.declared.mentions.Mention.{Mention}
 use Rattle.path_settings.specs.Mentions.{is_origin}
-use Rattle.view_map.specs.Asked.{place_of, beneath_place, beneath_places, asked_of}
-use Rattle.view_map.specs.Kept.{Host}
-use Rattle.view_map.specs.Object.{Object, on_host, empty, hidden, object_from, object_at, object_behind}
-use Rattle.view_map.specs.Resting.{AreSame}
-use Rattle.view_map.specs.View.{above, leading_to, longest, origin_of}
-use Rattle.view_map.proofs.Carries.{object_carries}
-use Rattle.view_map.proofs.Deciding.{origin_is}
-use Rattle.view_map.proofs.KeptLaws.{kept_is, asks_beneath}
-use Rattle.view_map.proofs.Resting.{kept_rests}
-use Rattle.view_map.proofs.Lists.{filter_agree_on, filter_none, all_enumerated, all_trivial, all_appended}
+use Rattle.path_settings.specs.view_map.Asked.{place_of, beneath_place, beneath_places, asked_of}
+use Rattle.path_settings.specs.view_map.Kept.{Host}
+use Rattle.path_settings.specs.view_map.Object.{Object, on_host, empty, hidden, object_from, object_at, object_behind}
+use Rattle.path_settings.specs.view_map.Resting.{AreSame}
+use Rattle.path_settings.specs.view_map.View.{above, leading_to, longest, origin_of}
+use Rattle.path_settings.proofs.Carries.{object_carries}
+use Rattle.path_settings.proofs.Deciding.{origin_is}
+use Rattle.path_settings.proofs.KeptLaws.{kept_is, asks_beneath}
+use Rattle.path_settings.proofs.Resting.{kept_rests}
+use Rattle.path_settings.proofs.ViewMapLists.{filter_agree_on, filter_none, all_enumerated, all_trivial, all_appended}
 use Rattle.kern_mounts.specs.Entry.{entry_of}
 use Rattle.kern_mounts.specs.Finds.{host_place_by}
 use Rattle.kern_mounts.specs.declared.step.What.{What}

@@ -4,18 +4,18 @@ use Rattle.std.specs.Prelude.{◌&&◌, not}
 use Rattle.std.specs.List.{AllByRecursion, Contains, enumerate_from}
 use Rattle.std.proofs.lemmas.Bool.{false≢true, and_parts}
 use Rattle.std.proofs.lemmas.List.Elements.{recursion_from_All, All-contains_itself}
-use Rattle.abs_path.specs.Paths.{is_root, Path, text_of, is_normal}
-use Rattle.abs_path.specs.Prefix.{is_prefix}
-use Rattle.abs_path.specs.ByteOrder.{AreAscending}
-use Rattle.abs_path.proofs.Placed.{in_byte_order_is, in_byte_order_was, in_byte_order_ascending, root_first}
+use Rattle.path_settings.specs.abs_path.Paths.{is_root, Path, text_of, is_normal}
+use Rattle.path_settings.specs.abs_path.Prefix.{is_prefix}
+use Rattle.path_settings.specs.abs_path.ByteOrder.{AreAscending}
+use Rattle.path_settings.proofs.AbsPath.Placed.{in_byte_order_is, in_byte_order_was, in_byte_order_ascending, root_first}
 use Rattle.path_settings.specs.declared.mentions.Mention.{Mention}
 use Rattle.path_settings.specs.Mentions.{leaves_the_root, is_origin}
-use Rattle.view_map.specs.View.{leading_to}
-use Rattle.view_map.specs.Object.{Object, on_host, empty, hidden, object_from, object_at}
-use Rattle.view_map.specs.Kept.{Host, kept_of}
-use Rattle.view_map.proofs.Lists.{filter_is, all_weaker, all_mapped, mapped_all, all_enumerated}
-use Rattle.view_map.proofs.Deciding.{longest_none}
-use Rattle.view_map.proofs.KeptLaws.{kept_is}
+use Rattle.path_settings.specs.view_map.View.{leading_to}
+use Rattle.path_settings.specs.view_map.Object.{Object, on_host, empty, hidden, object_from, object_at}
+use Rattle.path_settings.specs.view_map.Kept.{Host, kept_of}
+use Rattle.path_settings.proofs.ViewMapLists.{filter_is, all_weaker, all_mapped, mapped_all, all_enumerated}
+use Rattle.path_settings.proofs.Deciding.{longest_none}
+use Rattle.path_settings.proofs.KeptLaws.{kept_is}
 use Rattle.kern_mounts.specs.Table.{StartsAtRoot}
 use Rattle.kern_mounts.specs.Launch.{BeginsAtRoot, HasShortPlace, IsNotNoSuid, IsPlainIfHidden}
 use Rattle.mount_plan.specs.Plan.{what_of, flags_of, step_at, hides_dir_at, places_of, table_of}

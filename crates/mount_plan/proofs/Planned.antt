@@ -4,15 +4,15 @@ use Rattle.std.specs.Prelude.{IfOk, nat_le}
 use Rattle.std.specs.List.{AllByRecursion, list_all}
 use Rattle.std.proofs.lemmas.Bool.{and_parts}
 use Rattle.std.proofs.lemmas.Bool.Decides.{nat_tests}
-use Rattle.abs_path.specs.Paths.{is_normal, text_of, proc}
-use Rattle.abs_path.specs.ByteOrder.{AreAscending}
+use Rattle.path_settings.specs.abs_path.Paths.{is_normal, text_of, proc}
+use Rattle.path_settings.specs.abs_path.ByteOrder.{AreAscending}
 use Rattle.std.specs.Prelude.{Some}
 use Rattle.path_settings.specs.declared.mentions.Mention.{Mention}
 use Rattle.path_settings.specs.Short.{is_short_path, has_short_source, is_short, AreShort}
 use Rattle.path_settings.specs.Mentions.{is_path, has_whole_source, is_whole, is_origin}
-use Rattle.view_map.specs.Kept.{Host, Refusal, kept_of, KeepsByRules}
-use Rattle.view_map.proofs.Lists.{all_weaker, all_from_test}
-use Rattle.view_map.proofs.KeptLaws.{kept_is, keeps_by_rules}
+use Rattle.path_settings.specs.view_map.Kept.{Host, Refusal, kept_of, KeepsByRules}
+use Rattle.path_settings.proofs.ViewMapLists.{all_weaker, all_from_test}
+use Rattle.path_settings.proofs.KeptLaws.{kept_is, keeps_by_rules}
 use Rattle.kern_mounts.specs.declared.step.MountStep.{MountStep}
 use Rattle.kern_mounts.specs.Launch.{CanBeMounted, BeginsAtRoot, IsNotNoSuid, IsPlainIfHidden, FindsProc}
 use Rattle.mount_plan.specs.declared.error.PlanError.{PlanError}

@@ -1,15 +1,15 @@
 -- A plan asks the host nowhere else.
 use Rattle.std.proofs.Common.{◌≡◌, ◌∙◌, List, [], ◌∷◌, refl, ap}
 use Rattle.std.specs.Prelude.{map}
-use Rattle.abs_path.specs.Paths.{Path}
+use Rattle.path_settings.specs.abs_path.Paths.{Path}
 use Rattle.path_settings.specs.declared.mentions.Mention.{Mention}
-use Rattle.view_map.specs.Asked.{beneath_place, beneath_places}
-use Rattle.view_map.specs.Kept.{Host}
-use Rattle.view_map.specs.Object.{object_at}
-use Rattle.view_map.specs.Resting.{AreSame}
-use Rattle.view_map.specs.View.{is_read_only, is_no_exec}
-use Rattle.view_map.specs.declared.rules.Beneath.{Beneath}
-use Rattle.view_map.proofs.Resting.{all_parts, beneath_at_same}
+use Rattle.path_settings.specs.view_map.Asked.{beneath_place, beneath_places}
+use Rattle.path_settings.specs.view_map.Kept.{Host}
+use Rattle.path_settings.specs.view_map.Object.{object_at}
+use Rattle.path_settings.specs.view_map.Resting.{AreSame}
+use Rattle.path_settings.specs.view_map.View.{is_read_only, is_no_exec}
+use Rattle.path_settings.specs.declared.view_map.rules.Beneath.{Beneath}
+use Rattle.path_settings.proofs.Resting.{all_parts, beneath_at_same}
 use Rattle.kern_mounts.specs.declared.step.MountStep.{MountStep}
 use Rattle.mount_plan.specs.Plan.{places_of, step_at, what_of, flags_of, hides_dir, hides_dir_at}
 use Rattle.mount_plan.specs.Resting.{PlanRestsOnItsPlaces}

@@ -6,24 +6,24 @@ use Rattle.std.specs.List.{AllByRecursion, Contains, list_any, enumerate_from}
 use Rattle.std.proofs.lemmas.Bool.{false≢true, false_from_ne_true, and_parts, and_from}
 use Rattle.std.proofs.lemmas.Bool.Decides.{nat_tests}
 use Rattle.std.proofs.lemmas.List.Elements.{recursion_from_All, All-from_recursion, All-contains, All-contains_itself}
-use Rattle.abs_path.specs.Paths.{Path, tail_of, text_of, is_normal}
-use Rattle.abs_path.specs.Prefix.{is_prefix, is_same, rest_of, is_below}
-use Rattle.abs_path.proofs.Prefixes.{same_path, same_itself, prefix_and_rest, prefix_itself}
-use Rattle.abs_path.proofs.ByteOrder.{text_then_rest}
-use Rattle.abs_path.proofs.Placed.{in_byte_order_is}
+use Rattle.path_settings.specs.abs_path.Paths.{Path, tail_of, text_of, is_normal}
+use Rattle.path_settings.specs.abs_path.Prefix.{is_prefix, is_same, rest_of, is_below}
+use Rattle.path_settings.proofs.AbsPath.Prefixes.{same_path, same_itself, prefix_and_rest, prefix_itself}
+use Rattle.path_settings.proofs.AbsPath.ByteOrder.{text_then_rest}
+use Rattle.path_settings.proofs.AbsPath.Placed.{in_byte_order_is}
 use Rattle.path_settings.specs.declared.mentions.Kind.{Kind}
 use Rattle.path_settings.specs.declared.mentions.Kind.TheVariants.{Hide, Tmp, Bind}
 use Rattle.path_settings.specs.declared.mentions.Mention.{Mention}
 use Rattle.path_settings.specs.Mentions.{is_tmp, is_bind, is_origin, is_path, has_whole_source, is_whole}
-use Rattle.view_map.specs.View.{leading_to, above, length_of, is_as_long_as_each, longest, origin_of}
-use Rattle.view_map.specs.Object.{object_by, object_from, object_at}
-use Rattle.view_map.specs.declared.rules.Beneath.{Beneath}
-use Rattle.view_map.specs.declared.rules.Beneath.TheVariants as beneath
-use Rattle.view_map.specs.Rules.{fate_of, seen_fate}
-use Rattle.view_map.specs.Kept.{Host, at_path, unbeaten, beneath_row, beneath_by, beneath_at, source_row, puts, is_kept, fate_among, kept_among, kept_at, kept_of, KeepsByRules}
-use Rattle.view_map.proofs.Lists.{filter_was, all_weaker, all_mapped, all_enumerated, enumerated_all}
-use Rattle.view_map.proofs.Deciding.{origin_is, longest_covers}
-use Rattle.view_map.proofs.KeptLaws.{kept_among_Ok, kept_is, keeps_by_rules, each_kept}
+use Rattle.path_settings.specs.view_map.View.{leading_to, above, length_of, is_as_long_as_each, longest, origin_of}
+use Rattle.path_settings.specs.view_map.Object.{object_by, object_from, object_at}
+use Rattle.path_settings.specs.declared.view_map.rules.Beneath.{Beneath}
+use Rattle.path_settings.specs.declared.view_map.rules.Beneath.TheVariants as beneath
+use Rattle.path_settings.specs.view_map.Rules.{fate_of, seen_fate}
+use Rattle.path_settings.specs.view_map.Kept.{Host, at_path, unbeaten, beneath_row, beneath_by, beneath_at, source_row, puts, is_kept, fate_among, kept_among, kept_at, kept_of, KeepsByRules}
+use Rattle.path_settings.proofs.ViewMapLists.{filter_was, all_weaker, all_mapped, all_enumerated, enumerated_all}
+use Rattle.path_settings.proofs.Deciding.{origin_is, longest_covers}
+use Rattle.path_settings.proofs.KeptLaws.{kept_among_Ok, kept_is, keeps_by_rules, each_kept}
 use Rattle.mount_plan.specs.Plan.{places_of}
 use Rattle.mount_plan.specs.Short.{HasShortHost, HaveShortHosts}
 use Rattle.mount_plan.proofs.Hosts.{AreShortRows}

@@ -2,12 +2,12 @@
 use Rattle.std.proofs.Common.{◌≡◌, true, false, cond, List, [], ◌∷◌, Some, None, Result, Ok, Err, refl}
 use Rattle.std.specs.Prelude.{codes}
 use Rattle.std.specs.List.{list_any}
-use Rattle.abs_path.specs.Paths.{Path}
-use Rattle.abs_path.specs.Prefix.{is_same}
+use Rattle.path_settings.specs.abs_path.Paths.{Path}
+use Rattle.path_settings.specs.abs_path.Prefix.{is_same}
 use Rattle.path_settings.specs.declared.mentions.Kind.{Kind}
 use Rattle.path_settings.specs.declared.mentions.Kind.TheVariants.{Ro, Rw, NoExec, Hide, Tmp, Bind}
 use Rattle.path_settings.specs.declared.mentions.Mention.{Mention}
-use Rattle.view_map.specs.Kept.{Host, Refusal, missing, wrong_kind, kept_of}
+use Rattle.path_settings.specs.view_map.Kept.{Host, Refusal, missing, wrong_kind, kept_of}
 use Rattle.kern_mounts.specs.declared.step.Flags.{Flags}
 use Rattle.kern_mounts.specs.declared.step.What.{What}
 use Rattle.kern_mounts.specs.declared.step.What.TheVariants as what

@@ -1,10 +1,10 @@
 -- On a plan each path belongs to an entry that has what the view has there.
 use Rattle.std.specs.Prelude.{◌≡◌, ◌++◌, List, Some}
-use Rattle.abs_path.specs.Paths.{Path}
-use Rattle.abs_path.specs.Prefix.{rest_of}
+use Rattle.path_settings.specs.abs_path.Paths.{Path}
+use Rattle.path_settings.specs.abs_path.Prefix.{rest_of}
 use Rattle.path_settings.specs.declared.mentions.Mention.{Mention}
-use Rattle.view_map.specs.View.{is_read_only, is_no_exec}
-use Rattle.view_map.specs.Object.{Object, on_host, empty, hidden, object_at}
+use Rattle.path_settings.specs.view_map.View.{is_read_only, is_no_exec}
+use Rattle.path_settings.specs.view_map.Object.{Object, on_host, empty, hidden, object_at}
 use Rattle.kern_mounts.specs.declared.step.What.{What}
 use Rattle.kern_mounts.specs.declared.step.What.TheVariants as what
 use Rattle.kern_mounts.specs.declared.step.MountStep.{MountStep}

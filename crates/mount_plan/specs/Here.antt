@@ -3,10 +3,10 @@ use Rattle.std.specs.Prelude.{Bool, not}
 use Rattle.path_settings.specs.declared.mentions.Kind.{Kind}
 use Rattle.path_settings.specs.declared.mentions.Mention.{Mention}
 use Rattle.path_settings.specs.Mentions.{is_origin}
-use Rattle.view_map.specs.declared.rules.Beneath.{Beneath}
-use Rattle.view_map.specs.declared.rules.Fate.{Fate}
-use Rattle.view_map.specs.Rules.{fate_of}
-use Rattle.view_map.specs.Kept.{Host, source_row}
+use Rattle.path_settings.specs.declared.view_map.rules.Beneath.{Beneath}
+use Rattle.path_settings.specs.declared.view_map.rules.Fate.{Fate}
+use Rattle.path_settings.specs.view_map.Rules.{fate_of}
+use Rattle.path_settings.specs.view_map.Kept.{Host, source_row}
 use Rattle.mount_plan.specs.declared.here.Part.{Part}
 use Rattle.mount_plan.specs.declared.here.Part.TheVariants.{Origins, Flags}
 

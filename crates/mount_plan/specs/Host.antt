@@ -2,7 +2,7 @@
 use Rattle.std.specs.Prelude.{option_map}
 use Rattle.site_table.specs.Kinds.{is_dir}
 use Rattle.site_table.specs.Table.{Site, kind_at}
-use Rattle.view_map.specs.Kept.{Host}
+use Rattle.path_settings.specs.view_map.Kept.{Host}
 
 -- whether the site has a row at a path, and then whether it is a directory
 abbrev pub host_of : Site → Host

@@ -1,14 +1,14 @@
 -- The plan: one entry for `/` and one for each kept path, in byte order, each by the view of its own place
 -- (systemd.exec(5), Sandboxing; mount_namespaces(7)).
 use Rattle.std.specs.Prelude.{Bool, true, false, List, [], ◌∷◌, map}
-use Rattle.abs_path.specs.Paths.{Path}
-use Rattle.abs_path.specs.ByteOrder.{in_byte_order}
+use Rattle.path_settings.specs.abs_path.Paths.{Path}
+use Rattle.path_settings.specs.abs_path.ByteOrder.{in_byte_order}
 use Rattle.path_settings.specs.declared.mentions.Mention.{Mention}
-use Rattle.view_map.specs.View.{is_read_only, is_no_exec}
-use Rattle.view_map.specs.Object.{Object, on_host, empty, hidden, object_at}
-use Rattle.view_map.specs.declared.rules.Beneath.{Beneath}
-use Rattle.view_map.specs.declared.rules.Beneath.TheVariants.{Row}
-use Rattle.view_map.specs.Kept.{Host, beneath_at}
+use Rattle.path_settings.specs.view_map.View.{is_read_only, is_no_exec}
+use Rattle.path_settings.specs.view_map.Object.{Object, on_host, empty, hidden, object_at}
+use Rattle.path_settings.specs.declared.view_map.rules.Beneath.{Beneath}
+use Rattle.path_settings.specs.declared.view_map.rules.Beneath.TheVariants.{Row}
+use Rattle.path_settings.specs.view_map.Kept.{Host, beneath_at}
 use Rattle.kern_mounts.specs.declared.step.What.{What}
 use Rattle.kern_mounts.specs.declared.step.What.TheVariants as what
 use Rattle.kern_mounts.specs.declared.step.Flags.{Flags}

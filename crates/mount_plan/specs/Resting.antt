@@ -1,12 +1,12 @@
 -- What a plan rests on, and hosts that agree but below a folder.
 use Rattle.std.specs.Prelude.{◌≡◌, true, false, List, Ok, Some}
 use Rattle.std.specs.List.{AllByRecursion}
-use Rattle.abs_path.specs.Paths.{Path, is_normal}
-use Rattle.abs_path.specs.Prefix.{is_prefix, is_below}
+use Rattle.path_settings.specs.abs_path.Paths.{Path, is_normal}
+use Rattle.path_settings.specs.abs_path.Prefix.{is_prefix, is_below}
 use Rattle.path_settings.specs.declared.mentions.Mention.{Mention}
-use Rattle.view_map.specs.Asked.{beneath_places}
-use Rattle.view_map.specs.Kept.{Host, kept_of}
-use Rattle.view_map.specs.Resting.{AreSame, AreSameSources}
+use Rattle.path_settings.specs.view_map.Asked.{beneath_places}
+use Rattle.path_settings.specs.view_map.Kept.{Host, kept_of}
+use Rattle.path_settings.specs.view_map.Resting.{AreSame, AreSameSources}
 use Rattle.kern_mounts.specs.Finds.{host_place}
 use Rattle.kern_mounts.specs.declared.step.MountStep.{MountStep}
 use Rattle.mount_plan.specs.Plan.{table_of, places_of}

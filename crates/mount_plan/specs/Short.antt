@@ -1,9 +1,9 @@
 -- Host paths that are short enough to be kept.
 use Rattle.std.specs.Prelude.{◌≤◌, ⊤, List, length}
 use Rattle.std.specs.List.{All}
-use Rattle.abs_path.specs.Paths.{Path, tail_of}
+use Rattle.path_settings.specs.abs_path.Paths.{Path, tail_of}
 use Rattle.path_settings.specs.declared.mentions.Mention.{Mention}
-use Rattle.view_map.specs.Object.{Object, on_host, empty, hidden, object_at}
+use Rattle.path_settings.specs.view_map.Object.{Object, on_host, empty, hidden, object_at}
 
 -- what is seen has at most 512 bytes on the host
 abbrev pub HasShortHost : Object → Type 0

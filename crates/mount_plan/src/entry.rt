@@ -1,19 +1,19 @@
 //! The entry of a plan at one place, by the view of that place.
 
 ghost use Rattle.std.specs.Prelude.{◌≡◌, true, map, IfOk};
-ghost use Rattle.abs_path.specs.Prefix.{is_prefix};
-ghost use Rattle.view_map.specs.Object.{object_at, object_by};
+ghost use Rattle.path_settings.specs.abs_path.Prefix.{is_prefix};
+ghost use Rattle.path_settings.specs.view_map.Object.{object_at, object_by};
 ghost use Rattle.mount_plan.specs.Host.{host_of};
 ghost use Rattle.mount_plan.specs.Plan.{what_of, flags_by, hides_dir, hides_dir_at, step_at};
 ghost use Rattle.mount_plan.specs.Short.{HasShortHost, HaveShortHosts};
 
 use crate::kept::beneath_at;
-use abs_path::AbsPath;
 use kern_mounts::{Flags, MountStep, What};
+use path_settings::abs_path::AbsPath;
+use path_settings::view_map::{Beneath, Seen, origin_at, view_of};
 use path_settings::{Kind, Mention};
 use site_table::SiteTable;
 use std::alloc::{AllocError, Global};
-use view_map::{Beneath, Seen, origin_at, view_of};
 
 fn hides_dir(beneath: Beneath) -> bool
     ensures { result ≡ hides_dir beneath }

@@ -3,16 +3,16 @@
 ghost use Rattle.std.specs.Prelude.{◌≡◌, map, IfOk};
 ghost use Rattle.std.specs.List.{list_any};
 ghost use Rattle.path_settings.specs.Mentions.{hides, is_tmp, is_bind};
-ghost use Rattle.view_map.specs.Kept.{at_path, is_beaten, unbeaten, is_kept, source_row, puts};
+ghost use Rattle.path_settings.specs.view_map.Kept.{at_path, is_beaten, unbeaten, is_kept, source_row, puts};
 ghost use Rattle.mount_plan.specs.Host.{host_of};
 ghost use Rattle.mount_plan.specs.Here.{is_asked, fate_beside};
 
 use crate::host::row_at;
-use abs_path::AbsPath;
+use path_settings::abs_path::AbsPath;
+use path_settings::view_map::{Beneath, Fate, fate_of};
 use path_settings::{Kind, Mention};
 use site_table::SiteTable;
 use std::alloc::{AllocError, Global};
-use view_map::{Beneath, Fate, fate_of};
 
 /// The two parts of the mentions at a path, in the order in which the rules ask them.
 #[derive(Clone, Copy)]

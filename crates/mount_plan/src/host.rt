@@ -1,11 +1,11 @@
 //! What the site has at a path.
 
 ghost use Rattle.std.specs.Prelude.{◌≡◌, ◌++◌, option_map, true};
-ghost use Rattle.abs_path.specs.Prefix.{is_prefix, rest_of};
+ghost use Rattle.path_settings.specs.abs_path.Prefix.{is_prefix, rest_of};
 ghost use Rattle.site_table.specs.Kinds.{is_dir};
 ghost use Rattle.mount_plan.specs.Host.{host_of};
 
-use abs_path::AbsPath;
+use path_settings::abs_path::AbsPath;
 use site_table::{Row, RowKind, SiteTable};
 
 // whether a row, if there is one, is a directory

@@ -2,9 +2,9 @@
 
 ghost use Rattle.std.specs.Prelude.{◌≡◌, ◌++◌, [], true, map, filter, OnOk};
 ghost use Rattle.std.specs.List.{filter_map};
-ghost use Rattle.abs_path.specs.Prefix.{is_prefix};
-ghost use Rattle.view_map.specs.Object.{object_by};
-ghost use Rattle.view_map.specs.Kept.{beneath_row, beneath_by, beneath_at, refusal_of, is_kept, kept_among, kept_at, kept_from};
+ghost use Rattle.path_settings.specs.abs_path.Prefix.{is_prefix};
+ghost use Rattle.path_settings.specs.view_map.Object.{object_by};
+ghost use Rattle.path_settings.specs.view_map.Kept.{beneath_row, beneath_by, beneath_at, refusal_of, is_kept, kept_among, kept_at, kept_from};
 ghost use Rattle.mount_plan.specs.Host.{host_of};
 ghost use Rattle.mount_plan.specs.Here.{is_asked, fate_beside};
 ghost use Rattle.mount_plan.specs.Answers.{first_of, Refuses, AddsKept, Keeps};
@@ -12,11 +12,11 @@ ghost use Rattle.mount_plan.specs.Answers.{first_of, Refuses, AddsKept, Keeps};
 use crate::error::PlanError;
 use crate::here::{Part, at_path, fate_beside, is_asked, is_kept, is_put, unbeaten};
 use crate::host::{row_at, row_through};
-use abs_path::AbsPath;
+use path_settings::abs_path::AbsPath;
+use path_settings::view_map::{Beneath, Fate, origin_above};
 use path_settings::{Kind, Mention};
 use site_table::SiteTable;
 use std::alloc::{AllocError, Global};
-use view_map::{Beneath, Fate, origin_above};
 
 fn beneath_row(row: Option<bool>) -> Beneath
     ensures { result ≡ beneath_row row }

@@ -15,9 +15,12 @@ mod places;
 mod planning;
 
 pub use error::PlanError;
-use item_list::ItemList;
 use kern_mounts::MountStep;
+use path_settings::text_forms::item_list::ItemList;
 pub use planning::plan;
 
 /// The mounts of a plan in their order, the first at `/`, which contracts see as a list.
 pub type MountSteps = ItemList<MountStep>;
+
+pub use kern_mounts;
+pub use path_settings;

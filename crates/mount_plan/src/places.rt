@@ -1,10 +1,10 @@
 //! The paths of mentions, in byte order.
 
 ghost use Rattle.std.specs.Prelude.{◌≡◌, OnOk, map};
-ghost use Rattle.abs_path.specs.ByteOrder.{with_placed};
+ghost use Rattle.path_settings.specs.abs_path.ByteOrder.{with_placed};
 
-use abs_path::{AbsPath, put};
 use path_settings::Mention;
+use path_settings::abs_path::{AbsPath, put};
 use std::alloc::{AllocError, Global};
 
 /// Puts the paths of the mentions in their places in a list in byte order.

@@ -2,10 +2,10 @@
 
 ghost use Rattle.std.specs.Prelude.{◌≡◌, ◌≤◌, ◌+◌, true, length, map, IfOk, IsTrue};
 ghost use Rattle.std.specs.List.{list_all, AllByRecursion};
-ghost use Rattle.abs_path.specs.ByteOrder.{AreAscending};
+ghost use Rattle.path_settings.specs.abs_path.ByteOrder.{AreAscending};
 ghost use Rattle.path_settings.specs.Short.{AreShort};
 ghost use Rattle.path_settings.specs.Mentions.{leaves_the_root, is_whole};
-ghost use Rattle.view_map.specs.Kept.{kept_of, KeepsByRules};
+ghost use Rattle.path_settings.specs.view_map.Kept.{kept_of, KeepsByRules};
 ghost use Rattle.kern_mounts.specs.Launch.{CanBeMounted, BeginsAtRoot, IsNotNoSuid, IsPlainIfHidden, FindsProc};
 ghost use Rattle.mount_plan.specs.Host.{host_of};
 ghost use Rattle.mount_plan.specs.Plan.{places_of, table_of};
@@ -19,8 +19,8 @@ use crate::entry::steps_at;
 use crate::error::PlanError;
 use crate::kept::kept_at_all;
 use crate::places::put_paths;
-use abs_path::AbsPath;
 use kern_mounts::MountStep;
+use path_settings::abs_path::AbsPath;
 use path_settings::{Mention, Mentions};
 use site_table::SiteTable;
 use std::alloc::{AllocError, Global};

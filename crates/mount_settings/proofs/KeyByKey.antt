@@ -9,12 +9,12 @@ use Rattle.path_settings.specs.declared.keys.PathKey.{PathKey}
 use Rattle.path_settings.specs.declared.mentions.Mention.{Mention}
 use Rattle.path_settings.specs.Keys.{name_of, mention_of}
 use Rattle.dropin_merge.specs.declared.resolved.Resolved.{Resolved}
-use Rattle.unit_values.specs.declared.value.Value.{Value}
-use Rattle.unit_values.specs.Values.{in_force, values_of}
-use Rattle.unit_values.proofs.OneMore.{after_last-push}
+use Rattle.dropin_merge.specs.declared.unit_values.value.Value.{Value}
+use Rattle.dropin_merge.specs.unit_values.Values.{in_force, values_of}
+use Rattle.dropin_merge.proofs.OneMore.{after_last-push}
 use Rattle.mount_settings.specs.declared.written.WrittenPath.{WrittenPath}
 use Rattle.mount_settings.specs.Assigned.{Assigned, is_key, assigned_of}
-use Rattle.unit_values.specs.Words.{split}
+use Rattle.dropin_merge.specs.unit_values.Words.{split}
 use Rattle.mount_settings.specs.Written.{paths_in, gives, unit_written, of_key}
 use Rattle.mount_settings.specs.OneKey.{values_to, listed_by}
 use Rattle.mount_settings.specs.Steps.{without_key, with_value, after}

@@ -11,3 +11,5 @@ pub mod Protecting
 pub mod Worked
 pub mod Optional
 pub mod WorkedUnits
+pub use Rattle.path_settings.proofs.AbsPath as AbsPath
+pub use Rattle.path_settings.proofs as PathSettings

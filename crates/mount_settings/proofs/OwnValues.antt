@@ -9,13 +9,13 @@ use Rattle.std.proofs.lemmas.List.Elements.{filter-append}
 use Rattle.std.proofs.lemmas.Slice.Eq.{bytes_eq-Decides}
 use Rattle.path_settings.specs.declared.keys.PathKey.{PathKey}
 use Rattle.path_settings.specs.Keys.{path_keys, name_of}
-use Rattle.unit_grammar.specs.declared.unit.Assignment.{Assignment}
-use Rattle.unit_names.specs.Names.{Name}
+use Rattle.dropin_merge.specs.unit_grammar.declared.unit.Assignment.{Assignment}
+use Rattle.dropin_merge.specs.unit_names.Names.{Name}
 use Rattle.dropin_merge.specs.declared.resolved.Resolved.{Resolved}
-use Rattle.unit_values.specs.declared.value.Value.{Value}
-use Rattle.unit_values.specs.declared.value.Place.{Place}
-use Rattle.unit_values.specs.Assignments.{service_assignments}
-use Rattle.unit_values.specs.Values.{expanded_at, given_by, values_of}
+use Rattle.dropin_merge.specs.declared.unit_values.value.Value.{Value}
+use Rattle.dropin_merge.specs.declared.unit_values.value.Place.{Place}
+use Rattle.dropin_merge.specs.unit_values.Assignments.{service_assignments}
+use Rattle.dropin_merge.specs.unit_values.Values.{expanded_at, given_by, values_of}
 use Rattle.mount_settings.specs.Assigned.{Assigned, is_key, given_to, assigned_by, assigned_of}
 use Rattle.mount_settings.specs.OneKey.{values_to}
 use Rattle.mount_settings.proofs.SameKeys.{found_by_name, same_name, is_itself, found_passes}

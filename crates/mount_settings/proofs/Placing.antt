@@ -2,7 +2,7 @@
 use Rattle.std.proofs.Common.{◌≡◌, Bool, true, false, cond, Option, Some, None, List, [], ◌∷◌, refl, ap, ◌∙◌}
 use Rattle.std.specs.Prelude.{◌&&◌, ◌||◌, not, find}
 use Rattle.std.specs.List.{list_all}
-use Rattle.abs_path.specs.Paths.{is_root}
+use Rattle.path_settings.specs.abs_path.Paths.{is_root}
 use Rattle.path_settings.specs.declared.keys.PathKey.TheVariants.{InaccessiblePaths, BindPaths, BindReadOnlyPaths, TemporaryFileSystem}
 use Rattle.path_settings.specs.declared.mentions.Mention.{Mention}
 use Rattle.path_settings.specs.Mentions.{is_origin, leaves_the_root}

@@ -5,7 +5,7 @@ use Rattle.std.specs.declared.alloc.AllocError.{AllocError}
 use Rattle.std.specs.List.{filter_map, cons_option}
 use Rattle.std.proofs.lemmas.List.{map-append, get_or_default}
 use Rattle.std.proofs.lemmas.List.Elements.{filter-append, filter_map-append}
-use Rattle.unit_values.proofs.OneMore.{take_item}
+use Rattle.dropin_merge.proofs.OneMore.{take_item}
 use Rattle.path_settings.specs.declared.keys.PathKey.{PathKey}
 use Rattle.path_settings.specs.declared.mentions.Mention.{Mention}
 use Rattle.mount_settings.specs.declared.written.WrittenPath.{WrittenPath}

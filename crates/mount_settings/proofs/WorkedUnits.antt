@@ -2,9 +2,9 @@
 use Rattle.std.proofs.Common.{◌≡◌, ℕ, true, List, [], ◌∷◌, Some, None, refl, map, codes}
 use Rattle.std.specs.Str.{is_utf8, chars}
 use lib.Utf8.{encode}
-use Rattle.text_forms.specs.Booleans.{bool_value, is_one_of}
-use Rattle.text_forms.specs.Words.{words_of, words_in, text_only, closed_only, mark_of, open_after, escape_of, symbols_of}
-use Rattle.abs_path.specs.Paths.{Path}
+use Rattle.dropin_merge.specs.text_forms.Booleans.{bool_value, is_one_of}
+use Rattle.dropin_merge.specs.text_forms.Words.{words_of, words_in, text_only, closed_only, mark_of, open_after, escape_of, symbols_of}
+use Rattle.path_settings.specs.abs_path.Paths.{Path}
 use Rattle.path_settings.specs.declared.keys.PathKey.{PathKey}
 use Rattle.path_settings.specs.declared.keys.PathKey.TheVariants.{ReadWritePaths, ReadOnlyPaths}
 use Rattle.mount_settings.specs.declared.protections.SystemProtection.TheVariants.{Yes, Strict}

@@ -5,13 +5,13 @@ use Rattle.std.specs.Option.{option_map}
 use Rattle.std.specs.Str.{bytes_eq}
 use Rattle.path_settings.specs.declared.keys.PathKey.{PathKey}
 use Rattle.path_settings.specs.Keys.{path_keys, name_of}
-use Rattle.unit_grammar.specs.declared.unit.Assignment.{Assignment}
-use Rattle.unit_names.specs.Names.{Name}
+use Rattle.dropin_merge.specs.unit_grammar.declared.unit.Assignment.{Assignment}
+use Rattle.dropin_merge.specs.unit_names.Names.{Name}
 use Rattle.dropin_merge.specs.declared.resolved.Resolved.{Resolved}
-use Rattle.unit_values.specs.declared.value.Place.{Place}
-use Rattle.unit_values.specs.declared.value.Value.{Value}
-use Rattle.unit_values.specs.Assignments.{service_assignments}
-use Rattle.unit_values.specs.Values.{expanded_at}
+use Rattle.dropin_merge.specs.declared.unit_values.value.Place.{Place}
+use Rattle.dropin_merge.specs.declared.unit_values.value.Value.{Value}
+use Rattle.dropin_merge.specs.unit_values.Assignments.{service_assignments}
+use Rattle.dropin_merge.specs.unit_values.Values.{expanded_at}
 
 -- a value of a key that speaks of paths
 pub record Assigned : Type 0 where

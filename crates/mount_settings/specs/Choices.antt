@@ -1,7 +1,7 @@
 -- A value that is a boolean or a word of a short list (systemd.exec(5)).
 use Rattle.std.specs.Prelude.{ℕ, Bool, true, false, if◌then◌else◌, List, [], ◌∷◌, Option, Some, None}
 use Rattle.std.specs.Str.{bytes_eq}
-use Rattle.text_forms.specs.Booleans.{bool_value}
+use Rattle.dropin_merge.specs.text_forms.Booleans.{bool_value}
 
 -- what stands beside the first row of this word
 abbrev pub beside : {T : Type 0} → List (List ℕ × T) → List ℕ → Option T

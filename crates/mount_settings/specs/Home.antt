@@ -1,8 +1,8 @@
 -- systemd.exec(5), ProtectHome=: what is seen of the homes of users.
 use Rattle.std.specs.Prelude.{ℕ, codes, List, [], ◌∷◌, Option}
 use Rattle.dropin_merge.specs.declared.resolved.Resolved.{Resolved}
-use Rattle.unit_values.specs.declared.value.FileNote.{FileNote}
-use Rattle.unit_values.specs.Lasting.{unit_last, unit_last_notes}
+use Rattle.dropin_merge.specs.declared.unit_values.value.FileNote.{FileNote}
+use Rattle.dropin_merge.specs.unit_values.Lasting.{unit_last, unit_last_notes}
 use Rattle.mount_settings.specs.declared.protections.HomeProtection.{HomeProtection}
 use Rattle.mount_settings.specs.declared.protections.HomeProtection.TheVariants.{No, Yes, ReadOnly, Tmpfs}
 use Rattle.mount_settings.specs.Choices.{choice}

@@ -4,18 +4,18 @@ use Rattle.std.specs.List.{cons_option}
 use Rattle.std.specs.Option.{option_map_or}
 use Rattle.path_settings.specs.declared.keys.PathKey.{PathKey}
 use Rattle.path_settings.specs.Keys.{mention_of}
-use Rattle.unit_grammar.specs.declared.unit.Assignment.{Assignment}
-use Rattle.unit_grammar.specs.declared.notes.NoteCause.TheVariants.{Value as ValueCause}
-use Rattle.unit_names.specs.Names.{Name}
+use Rattle.dropin_merge.specs.unit_grammar.declared.unit.Assignment.{Assignment}
+use Rattle.dropin_merge.specs.unit_grammar.declared.notes.NoteCause.TheVariants.{Value as ValueCause}
+use Rattle.dropin_merge.specs.unit_names.Names.{Name}
 use Rattle.dropin_merge.specs.declared.resolved.Resolved.{Resolved}
-use Rattle.unit_values.specs.declared.value.FileNote.{FileNote}
-use Rattle.unit_values.specs.declared.value.Place.{Place}
-use Rattle.unit_values.specs.declared.value.Value.{Value}
-use Rattle.unit_values.specs.Assignments.{service_assignments}
-use Rattle.unit_values.specs.Values.{expanded_at, unexpanded_at}
-use Rattle.unit_values.specs.Notes.{notes_at}
-use Rattle.unit_values.specs.Lasting.{unless_read}
-use Rattle.unit_values.specs.Words.{split}
+use Rattle.dropin_merge.specs.declared.unit_values.value.FileNote.{FileNote}
+use Rattle.dropin_merge.specs.declared.unit_values.value.Place.{Place}
+use Rattle.dropin_merge.specs.declared.unit_values.value.Value.{Value}
+use Rattle.dropin_merge.specs.unit_values.Assignments.{service_assignments}
+use Rattle.dropin_merge.specs.unit_values.Values.{expanded_at, unexpanded_at}
+use Rattle.dropin_merge.specs.unit_values.Notes.{notes_at}
+use Rattle.dropin_merge.specs.unit_values.Lasting.{unless_read}
+use Rattle.dropin_merge.specs.unit_values.Words.{split}
 use Rattle.mount_settings.specs.Assigned.{key_of}
 
 -- a word that cannot be read is noted, at the place of its value

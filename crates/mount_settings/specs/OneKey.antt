@@ -4,9 +4,9 @@ use Rattle.std.specs.List.{filter_map}
 use Rattle.path_settings.specs.declared.keys.PathKey.{PathKey}
 use Rattle.path_settings.specs.declared.mentions.Mention.{Mention}
 use Rattle.path_settings.specs.Keys.{mention_of}
-use Rattle.unit_values.specs.declared.value.Value.{Value}
-use Rattle.unit_values.specs.Values.{in_force}
-use Rattle.unit_values.specs.Words.{split}
+use Rattle.dropin_merge.specs.declared.unit_values.value.Value.{Value}
+use Rattle.dropin_merge.specs.unit_values.Values.{in_force}
+use Rattle.dropin_merge.specs.unit_values.Words.{split}
 use Rattle.mount_settings.specs.Assigned.{Assigned, is_key}
 
 -- the values of one key, of all that are assigned

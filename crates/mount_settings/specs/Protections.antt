@@ -1,8 +1,8 @@
 -- The keys that protect the file system, read together, and what a dynamic user adds (systemd.exec(5), DynamicUser=).
 use Rattle.std.specs.Prelude.{Bool, true, false, codes, List, ◌++◌}
 use Rattle.dropin_merge.specs.declared.resolved.Resolved.{Resolved}
-use Rattle.unit_values.specs.declared.value.FileNote.{FileNote}
-use Rattle.unit_values.specs.Flags.{unit_flag, unit_flag_notes}
+use Rattle.dropin_merge.specs.declared.unit_values.value.FileNote.{FileNote}
+use Rattle.dropin_merge.specs.unit_values.Flags.{unit_flag, unit_flag_notes}
 use Rattle.mount_settings.specs.declared.protections.SystemProtection.TheVariants.{Strict}
 use Rattle.mount_settings.specs.declared.protections.HomeProtection.{HomeProtection}
 use Rattle.mount_settings.specs.declared.protections.HomeProtection.TheVariants.{No, Yes, ReadOnly, Tmpfs}

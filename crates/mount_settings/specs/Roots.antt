@@ -1,7 +1,7 @@
 -- Mentions that would put something in the place of the root, which is the host's (systemd.exec(5), BindPaths= and its kin).
 use Rattle.std.specs.Prelude.{◌≡◌, ◌&&◌, ◌||◌, not, Bool, true, List, [], ◌∷◌, Option, find}
 use Rattle.std.specs.List.{list_any, list_all}
-use Rattle.abs_path.specs.Paths.{is_root}
+use Rattle.path_settings.specs.abs_path.Paths.{is_root}
 use Rattle.path_settings.specs.declared.keys.PathKey.{PathKey}
 use Rattle.path_settings.specs.declared.keys.PathKey.TheVariants.{InaccessiblePaths, BindPaths, BindReadOnlyPaths, TemporaryFileSystem}
 use Rattle.path_settings.specs.Mentions.{is_origin}

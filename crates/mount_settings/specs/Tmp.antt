@@ -2,8 +2,8 @@
 use Rattle.std.specs.Prelude.{ℕ, Bool, true, false, codes, List, [], ◌∷◌, Option}
 use Rattle.std.specs.Option.{option_map}
 use Rattle.dropin_merge.specs.declared.resolved.Resolved.{Resolved}
-use Rattle.unit_values.specs.declared.value.FileNote.{FileNote}
-use Rattle.unit_values.specs.Lasting.{unit_last, unit_last_notes}
+use Rattle.dropin_merge.specs.declared.unit_values.value.FileNote.{FileNote}
+use Rattle.dropin_merge.specs.unit_values.Lasting.{unit_last, unit_last_notes}
 use Rattle.mount_settings.specs.declared.tmp.PrivateTmp.{PrivateTmp}
 use Rattle.mount_settings.specs.Choices.{choice}
 

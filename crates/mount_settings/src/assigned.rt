@@ -8,11 +8,11 @@ ghost use Rattle.mount_settings.specs.Steps.{after};
 
 use crate::written::{WrittenPath, WrittenPaths, add_value};
 use dropin_merge::Resolved;
+use dropin_merge::unit_grammar::Assignment;
+use dropin_merge::unit_names::UnitName;
+use dropin_merge::unit_values::{FileNote, Place, Said, service_assignments, value_at};
 use path_settings::PathKey;
 use std::alloc::{AllocError, Global};
-use unit_grammar::Assignment;
-use unit_names::UnitName;
-use unit_values::{FileNote, Place, Said, service_assignments, value_at};
 
 // What an assignment does to the paths so far.
 fn add_assigned(

@@ -6,7 +6,7 @@ ghost use Rattle.path_settings.specs.declared.keys.PathKey.{PathKey};
 ghost use Rattle.path_settings.specs.Keys.{name_of};
 ghost use Rattle.dropin_merge.specs.declared.resolved.Resolved.{Resolved};
 ghost use Rattle.site_table.specs.Table.{Site};
-ghost use Rattle.unit_values.specs.Values.{values_of};
+ghost use Rattle.dropin_merge.specs.unit_values.Values.{values_of};
 ghost use Rattle.mount_settings.specs.declared.protections.Protections.{Protections};
 ghost use Rattle.mount_settings.specs.declared.protections.Switches.{Switches};
 ghost use Rattle.mount_settings.specs.declared.written.WrittenPath.{WrittenPath};

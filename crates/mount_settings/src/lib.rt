@@ -21,7 +21,10 @@ mod tmp;
 mod written;
 
 pub use assigned::written_paths;
+pub use dropin_merge::unit_names;
 pub use error::MountSettingsError;
+pub use path_settings;
+pub use path_settings::abs_path;
 pub use protections::{HomeProtection, Protections, Switches, SystemProtection};
 pub use roots::mentions_root;
 pub use settings::{MountSettings, mount_settings};

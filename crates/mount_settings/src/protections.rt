@@ -4,8 +4,8 @@ ghost use Rattle.mount_settings.specs.Protections.{unit_protections, protection_
 
 use crate::tmp::PrivateTmp;
 use dropin_merge::Resolved;
+use dropin_merge::unit_values::{Said, flag_of_key, last_of_key};
 use std::alloc::{AllocError, Global};
-use unit_values::{Said, flag_of_key, last_of_key};
 
 /// How much of the system is read-only for a service.
 #[derive(Clone, Copy)]

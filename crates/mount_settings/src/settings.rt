@@ -11,10 +11,10 @@ use crate::implied::bring_implied;
 use crate::protections::{Protections, Switches, in_effect, read_protections};
 use crate::written::{WrittenPath, WrittenPaths};
 use dropin_merge::Resolved;
+use dropin_merge::unit_values::Said;
 use path_settings::{Mention, MentionError, Mentions};
 use site_table::SiteTable;
 use std::alloc::{AllocError, Global};
-use unit_values::Said;
 
 /// How many written paths there are at most.
 const MOST_WRITTEN: usize = 128;

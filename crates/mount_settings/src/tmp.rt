@@ -2,7 +2,7 @@
 ghost use Rattle.mount_settings.specs.Tmp.{tmp_value};
 
 use crate::choices::read_choice;
-use unit_values::KeyValue;
+use dropin_merge::unit_values::KeyValue;
 
 /// Whether the service has such folders.
 #[derive(Clone, Copy)]

@@ -2,15 +2,15 @@
 use Rattle.std.proofs.Common.{◌≡◌, true, false, refl, ap, ◌∙◌, sym, cond}
 use Rattle.std.specs.Prelude.{◌&&◌, ◌||◌, nat_lt}
 use Rattle.std.proofs.lemmas.Bool.{and_parts}
-use Rattle.cap_sets.specs.Sets.{has}
-use Rattle.linux_numbers.specs.Capabilities.{cap_sys_admin}
-use Rattle.filter_rules.specs.declared.namespace_types.NamespaceType.{NamespaceType}
-use Rattle.filter_rules.specs.declared.namespace_types.NamespaceType.TheVariants as own
-use Rattle.kernel_laws.specs.Bound.{ceiling, is_open, is_user}
-use Rattle.question_types.specs.declared.kind.CallKind.TheVariants.{ForNamespace}
-use Rattle.filter_rules.specs.declared.namespace_types.NamespaceType.TheVariants.{User}
-use Rattle.question_types.specs.declared.question.Question.TheVariants.{Namespace as Ns}
-use Rattle.kernel_laws.specs.Launched.{Launch, can_make_user, lets}
+use Rattle.ceilings.specs.cap_sets.Sets.{has}
+use Rattle.ceilings.specs.linux_numbers.Capabilities.{cap_sys_admin}
+use Rattle.questions.specs.filter_settings.declared.filter_rules.namespace_types.NamespaceType.{NamespaceType}
+use Rattle.questions.specs.filter_settings.declared.filter_rules.namespace_types.NamespaceType.TheVariants as own
+use Rattle.ceilings.specs.kernel_laws.Bound.{ceiling, is_open, is_user}
+use Rattle.ceilings.specs.kernel_laws.declared.question_types.kind.CallKind.TheVariants.{ForNamespace}
+use Rattle.questions.specs.filter_settings.declared.filter_rules.namespace_types.NamespaceType.TheVariants.{User}
+use Rattle.ceilings.specs.kernel_laws.declared.question_types.question.Question.TheVariants.{Namespace as Ns}
+use Rattle.ceilings.specs.kernel_laws.Launched.{Launch, can_make_user, lets}
 
 pub not_user : (kind : NamespaceType) → (kind ≡ own.User → ⊥) → is_user kind ≡ false
 not_user own.Cgroup n = refl

@@ -2,9 +2,9 @@
 use Rattle.std.proofs.Common.{◌≡◌, ℕ, zero, suc, ◌+◌, List, [], ◌∷◌, ◌++◌, Option, Some, None, refl, ap, ◌∙◌, subst, length, arith}
 use Rattle.std.specs.Prelude.{option_and_then, option_map, slice_get}
 use Rattle.std.specs.Option.{option_or}
-use Rattle.linux_numbers.specs.Capabilities.{cap_sys_admin}
-use Rattle.kernel_laws.specs.Launched.{Launch}
-use Rattle.chosen_calls.specs.Gaining.{CapWay, GainWay, AtOnce, Behind, at_once, at_power, behind_way, gain}
+use Rattle.ceilings.specs.linux_numbers.Capabilities.{cap_sys_admin}
+use Rattle.ceilings.specs.kernel_laws.Launched.{Launch}
+use Rattle.open_calls.specs.chosen_calls.Gaining.{CapWay, GainWay, AtOnce, Behind, at_once, at_power, behind_way, gain}
 use Rattle.open_calls.specs.Firsts.{AreGained, IsGained}
 use Rattle.open_calls.specs.Meanings.{meant_cap, meant_gain}
 use Rattle.open_calls.specs.declared.gains.Gained.{Gained}

@@ -2,20 +2,20 @@
 use Rattle.std.proofs.Common.{◌≡◌, ℕ, true, [], ◌∷◌, Option, Some, None, refl, ap, sym, subst, arith, ◌≤◌, ◌<◌, length, ◌⊎◌, inl, inr}
 use Rattle.std.specs.Prelude.{is_some, unwrap_or}
 use Rattle.std.proofs.lemmas.Option.{slice_get_within}
-use Rattle.abs_path.specs.Paths.{Path, tail_of, text_of}
-use Rattle.kern_mounts.specs.Split.{Table}
-use Rattle.site_table.specs.declared.row.Row.{Row}
-use Rattle.site_table.specs.Table.{row_at}
-use Rattle.kernel_laws.specs.Launched.{launch_of}
-use Rattle.question_types.specs.declared.wish.Wish.{Wish}
-use Rattle.question_types.specs.declared.power.Power.{Power}
-use Rattle.question_types.specs.declared.power.Power.TheVariants.{None as Nowise, Unmount as Unmounting, Mount as Mounting}
-use Rattle.kernel_laws.specs.Reach.{reach, reaches}
-use Rattle.kernel_model.specs.World.{World}
-use Rattle.kernel_ways.specs.Laws.{IsServedWorld}
-use Rattle.reach_paths.proofs.RowsOfSites.{found_row}
-use Rattle.chosen_calls.specs.Exposing.{IsLead, lead}
-use Rattle.chosen_calls.proofs.Leading.{leads_nowise, leads_unmounting}
+use Rattle.ceilings.specs.abs_path.Paths.{Path, tail_of, text_of}
+use Rattle.ceilings.specs.kern_mounts.Split.{Table}
+use Rattle.ceilings.specs.site_table.declared.row.Row.{Row}
+use Rattle.ceilings.specs.site_table.Table.{row_at}
+use Rattle.ceilings.specs.kernel_laws.Launched.{launch_of}
+use Rattle.ceilings.specs.kernel_laws.declared.question_types.wish.Wish.{Wish}
+use Rattle.ceilings.specs.kernel_laws.declared.question_types.power.Power.{Power}
+use Rattle.ceilings.specs.kernel_laws.declared.question_types.power.Power.TheVariants.{None as Nowise, Unmount as Unmounting, Mount as Mounting}
+use Rattle.ceilings.specs.kernel_laws.Reach.{reach, reaches}
+use Rattle.ceilings.specs.kernel_model.World.{World}
+use Rattle.ceilings.specs.kernel_ways.Laws.{IsServedWorld}
+use Rattle.ceilings.proofs.ReachPaths.RowsOfSites.{found_row}
+use Rattle.open_calls.specs.chosen_calls.Exposing.{IsLead, lead}
+use Rattle.open_calls.proofs.ChosenCallsLeading.{leads_nowise, leads_unmounting}
 
 -- the text of a path has its tail, or is a lone slash
 tail_within : (path : Path) → length (tail_of path) ≤ length (text_of path)

@@ -5,3 +5,15 @@ pub mod Listed
 pub mod Uncovering
 pub mod Keeping
 pub mod Inside
+pub mod Lists
+pub mod FirstLines
+pub mod Exposed
+pub mod Running
+pub mod Gained
+pub mod Complete
+pub mod ChosenCallsInside
+pub mod ChosenCallsRows
+pub mod ChosenCallsIds
+pub mod Shown
+pub mod ChosenCallsLeading
+pub mod Makers

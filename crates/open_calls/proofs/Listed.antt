@@ -1,45 +1,34 @@
 -- The calls for a thing that is listed are those that are chosen for it.
-use Rattle.std.proofs.Common.{◌≡◌, ℕ, true, List, [], ◌∷◌, ◌++◌, Some, None, ap, ◌∙◌, sym, append_assoc}
+use Rattle.std.proofs.Common.{◌≡◌, ℕ, true, [], Some, ap, ◌∙◌, sym}
 use Rattle.std.specs.Prelude.{slice_get, Contains}
 use Rattle.std.specs.List.{list_any}
 use Rattle.std.specs.Option.{option_map_or}
 use Rattle.std.proofs.lemmas.Bool.{and_parts}
-use Rattle.abs_path.specs.Paths.{Path}
-use Rattle.call_table.specs.Table.{every_call}
-use Rattle.call_table.specs.declared.listed.CallLine.{CallLine}
-use Rattle.site_table.specs.declared.row.Row.{Row}
-use Rattle.kernel_calls.specs.declared.call.Call.{Call}
-use Rattle.kernel_laws.specs.Bound.{can_have_for, can_reach, ceiling, if_listed, is_call_open, is_open, power_of}
-use Rattle.kernel_calls.specs.Rules.{rule_of}
-use Rattle.kernel_laws.specs.Launched.{Launch}
-use Rattle.question_types.specs.declared.wish.Wish.{Wish}
-use Rattle.question_types.specs.declared.question.Question.{Question}
-use Rattle.question_types.specs.declared.question.Question.TheVariants as asking
-use Rattle.kernel_laws.specs.Questions.{questions}
-use Rattle.kernel_model.specs.World.{World}
-use Rattle.kernel_ways.specs.Laws.{IsFit, IsServedWorld}
-use Rattle.kernel_ways.proofs.FitQuestions.{listed_are_fit}
+use Rattle.ceilings.specs.abs_path.Paths.{Path}
+use Rattle.ceilings.specs.call_table.Table.{every_call}
+use Rattle.ceilings.specs.call_table.declared.listed.CallLine.{CallLine}
+use Rattle.ceilings.specs.site_table.declared.row.Row.{Row}
+use Rattle.ceilings.specs.kernel_model.declared.kernel_calls.call.Call.{Call}
+use Rattle.ceilings.specs.kernel_laws.Bound.{can_have_for, ceiling, if_listed, is_call_open, is_open}
+use Rattle.ceilings.specs.kernel_model.kernel_calls.Rules.{rule_of}
+use Rattle.ceilings.specs.kernel_laws.Launched.{Launch}
+use Rattle.ceilings.specs.kernel_laws.declared.question_types.wish.Wish.{Wish}
+use Rattle.ceilings.specs.kernel_laws.declared.question_types.question.Question.{Question}
+use Rattle.ceilings.specs.kernel_laws.declared.question_types.question.Question.TheVariants as asking
+use Rattle.ceilings.specs.kernel_laws.Questions.{questions}
+use Rattle.ceilings.specs.kernel_model.World.{World}
+use Rattle.ceilings.specs.kernel_ways.Laws.{IsFit, IsServedWorld}
+use Rattle.ceilings.proofs.KernelWays.FitQuestions.{listed_are_fit}
 use Rattle.questions.proofs.Among.{has_contained, all_had}
-use Rattle.chosen_calls.specs.Chosen.{calls_for, is_called, row_calls}
+use Rattle.open_calls.specs.chosen_calls.Chosen.{calls_for, is_called, row_calls}
 
 module _ (launch : Launch) (program : Path) (place : ℕ) where
   pub row_is : (wish : Wish) (row : Row) → slice_get launch.site.rows place ≡ Some row → row_calls launch program wish row ≡ calls_for launch program (asking.Path wish place)
   unfolding calls_for
   row_is wish row e = sym (ap (λ o. option_map_or (row_calls launch program wish) o []) e)
 
-  -- what is open is listed
-  pub open_row : (wish : Wish) (row : Row) → slice_get launch.site.rows place ≡ Some row → is_open launch (asking.Path wish place) ≡ true → can_reach launch (power_of launch) wish row ≡ true
-  open_row wish row e h = sym (ap (if_listed (can_reach launch (power_of launch) wish)) e) ∙ h
-
   pub open_call : (line : CallLine) → slice_get (every_call launch.calls) place ≡ Some line → is_open launch (asking.Call place) ≡ true → list_any (is_called launch line.name) (every_call launch.calls) ≡ true
   open_call line e h = (and_parts (list_any (is_called launch line.name) (every_call launch.calls)) (can_have_for (ceiling launch) (rule_of line)) (sym (ap (if_listed (is_call_open launch (ceiling launch))) e) ∙ h)).0
-
-  pub no_row : (wish : Wish) → slice_get launch.site.rows place ≡ None → is_open launch (asking.Path wish place) ≡ true → ⊥
-  no_row wish e h = let never = sym (ap (if_listed (can_reach launch (power_of launch) wish)) e) ∙ h in cc
-
--- one call behind others
-pub one_behind : (front more : List Call) (call : Call) (now : List Call) → now ≡ front ++ more → now ++ call ∷ [] ≡ front ++ (more ++ call ∷ [])
-one_behind front more call now e = ap (λ (calls : List Call). calls ++ call ∷ []) e ∙ append_assoc front more (call ∷ [])
 
 -- each question of the list is put to what it is about
 pub fit : (world : World) → IsServedWorld world → (one : Question) → Contains (questions world.calls world.site) one → IsFit world.site one

@@ -2,18 +2,18 @@
 use Rattle.std.proofs.Common.{◌≡◌, ℕ, Bool, true, false, cond, Option, Some, None, refl, ap, ◌∙◌, sym, eqb, inl, inr}
 use Rattle.std.specs.Prelude.{find, ◌&&◌, ◌||◌, not}
 use Rattle.std.specs.List.{list_any}
-use Rattle.site_table.specs.declared.row.Row.{Row}
-use Rattle.kernel_laws.specs.Bound.{any_gid, any_uid, can_run, caps_at, ceiling, grouped_by, is_open, owned_by, power_of}
-use Rattle.question_types.specs.declared.kind.CallKind.{CallKind}
-use Rattle.question_types.specs.declared.kind.CallKind.TheVariants.{TakesUid, TakesGid}
-use Rattle.question_types.specs.declared.power.Power.{Power}
-use Rattle.question_types.specs.declared.power.Power.TheVariants.{None as Nowise}
-use Rattle.kernel_laws.specs.Launched.{Launch, lets}
-use Rattle.kernel_ways.specs.Offers.{Offers}
-use Rattle.chosen_calls.specs.Chosen.{IsIdOpen, runner}
-use Rattle.chosen_calls.specs.Gaining.{CapWay, CapCanBeMade, IsRunner, at_once}
-use Rattle.chosen_calls.proofs.Gained.{found_runner, once_can_be_made}
-use Rattle.chosen_calls.proofs.Ids.{uid_open, gid_open}
+use Rattle.ceilings.specs.site_table.declared.row.Row.{Row}
+use Rattle.ceilings.specs.kernel_laws.Bound.{any_gid, any_uid, can_run, caps_at, ceiling, grouped_by, is_open, owned_by, power_of}
+use Rattle.ceilings.specs.kernel_laws.declared.question_types.kind.CallKind.{CallKind}
+use Rattle.ceilings.specs.kernel_laws.declared.question_types.kind.CallKind.TheVariants.{TakesUid, TakesGid}
+use Rattle.ceilings.specs.kernel_laws.declared.question_types.power.Power.{Power}
+use Rattle.ceilings.specs.kernel_laws.declared.question_types.power.Power.TheVariants.{None as Nowise}
+use Rattle.ceilings.specs.kernel_laws.Launched.{Launch, lets}
+use Rattle.ceilings.specs.kernel_ways.Offers.{Offers}
+use Rattle.open_calls.specs.chosen_calls.Chosen.{IsIdOpen, runner}
+use Rattle.open_calls.specs.chosen_calls.Gaining.{CapWay, CapCanBeMade, IsRunner, at_once}
+use Rattle.open_calls.proofs.Gained.{found_runner, once_can_be_made}
+use Rattle.open_calls.proofs.ChosenCallsIds.{uid_open, gid_open}
 use Rattle.open_calls.specs.Meanings.{asked, gives, is_had, meant_kind}
 use Rattle.open_calls.specs.declared.ids.IdKind.{IdKind}
 use Rattle.open_calls.specs.declared.ids.IdKind.TheVariants.{User, Group}

@@ -1,15 +1,15 @@
 -- The calls that uncover a path, one entry more at a time.
 use Rattle.std.proofs.Common.{◌≡◌, ℕ, Bool, true, false, List, [], ◌∷◌, ◌++◌, Some, refl, ap, ◌∙◌, sym, append_assoc, append-nil}
 use Rattle.std.specs.Prelude.{slice_get, drop, map, ◌+◌, length, ◌≤◌}
-use Rattle.abs_path.specs.Paths.{Path}
-use Rattle.kern_mounts.specs.Entry.{leads_to}
-use Rattle.kern_mounts.specs.Split.{Table}
-use Rattle.kern_mounts.specs.declared.step.MountStep.{MountStep}
-use Rattle.kernel_calls.specs.declared.call.Call.{Call}
-use Rattle.kernel_laws.specs.Questions.{if_so}
-use Rattle.kernel_ways.specs.Uncovering.{covering, umount_call, umount_calls}
-use Rattle.kernel_ways.specs.Ways.{CallAt}
-use Rattle.reach_paths.proofs.Looping.{from_here, none_from}
+use Rattle.ceilings.specs.abs_path.Paths.{Path}
+use Rattle.ceilings.specs.kern_mounts.Entry.{leads_to}
+use Rattle.ceilings.specs.kern_mounts.Split.{Table}
+use Rattle.ceilings.specs.kern_mounts.declared.step.MountStep.{MountStep}
+use Rattle.ceilings.specs.kernel_model.declared.kernel_calls.call.Call.{Call}
+use Rattle.ceilings.specs.kernel_laws.Questions.{if_so}
+use Rattle.ceilings.specs.kernel_ways.Uncovering.{covering, umount_call, umount_calls}
+use Rattle.ceilings.specs.kernel_ways.Ways.{CallAt}
+use Rattle.ceilings.proofs.ReachPaths.Looping.{from_here, none_from}
 
 map_append : {X Y : Type 0} (f : X → Y) (xs ys : List X) → map f (xs ++ ys) ≡ map f xs ++ map f ys
 map_append f [] ys = refl

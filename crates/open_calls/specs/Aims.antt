@@ -1,10 +1,10 @@
 -- What may be wished of a row.
 use Rattle.std.specs.Prelude.{◌≡◌, true, Some}
-use Rattle.site_table.specs.Table.{row_at}
-use Rattle.chosen_calls.specs.Exposing.{lead}
-use Rattle.kernel_laws.specs.Launched.{launch_of}
-use Rattle.kernel_laws.specs.Reach.{reaches}
-use Rattle.kernel_model.specs.World.{World}
+use Rattle.ceilings.specs.site_table.Table.{row_at}
+use Rattle.open_calls.specs.chosen_calls.Exposing.{lead}
+use Rattle.ceilings.specs.kernel_laws.Launched.{launch_of}
+use Rattle.ceilings.specs.kernel_laws.Reach.{reaches}
+use Rattle.ceilings.specs.kernel_model.World.{World}
 use Rattle.open_calls.specs.declared.exposing.Aim.{Aim}
 
 -- the row is of the site, and the power has the entry of this number lead to it, which shows it so far

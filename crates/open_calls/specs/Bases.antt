@@ -1,8 +1,8 @@
 -- What ways are found by is that of a launch.
 use Rattle.std.specs.Prelude.{◌≡◌}
-use Rattle.kernel_laws.specs.Bound.{power_of}
-use Rattle.question_types.specs.declared.kind.CallKind.TheVariants.{SetsCaps, TakesUid, TakesGid}
-use Rattle.kernel_laws.specs.Launched.{Launch, lets}
+use Rattle.ceilings.specs.kernel_laws.Bound.{power_of}
+use Rattle.ceilings.specs.kernel_laws.declared.question_types.kind.CallKind.TheVariants.{SetsCaps, TakesUid, TakesGid}
+use Rattle.ceilings.specs.kernel_laws.Launched.{Launch, lets}
 use Rattle.open_calls.specs.declared.basis.Basis.{Basis}
 
 -- its power over mount tables; capset(2); setuid(2) and its like; setgid(2) and its like

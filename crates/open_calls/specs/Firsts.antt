@@ -1,15 +1,15 @@
 -- The first call of a kind, which of them a service keeps, and the ways that it keeps.
 use Rattle.std.specs.Prelude.{◌≡◌, ℕ, List, Option, Some, slice_get, option_map, IfSome}
-use Rattle.call_table.specs.declared.listed.CallLine.{CallLine}
-use Rattle.chosen_calls.specs.First.{args_of, line_of, own_rule}
-use Rattle.chosen_calls.specs.Gaining.{gain}
-use Rattle.kernel_calls.specs.declared.call.Call.{Call}
-use Rattle.kernel_calls.specs.declared.payload.Payload.{Payload}
-use Rattle.question_types.specs.declared.kind.CallKind.{CallKind}
-use Rattle.question_types.specs.declared.kind.CallKind.TheVariants.{ForPath, ChangesMounts, RemovesMounts, SetsCaps, TakesUid, TakesGid}
-use Rattle.question_types.specs.declared.wish.Wish.TheVariants.{See as ToSee, Read as ToRead, Write as ToWrite, Exec as ToExec}
-use Rattle.kernel_laws.specs.Launched.{Launch}
-use Rattle.kernel_ways.specs.Ways.{CallAt}
+use Rattle.ceilings.specs.call_table.declared.listed.CallLine.{CallLine}
+use Rattle.open_calls.specs.chosen_calls.First.{args_of, line_of, own_rule}
+use Rattle.open_calls.specs.chosen_calls.Gaining.{gain}
+use Rattle.ceilings.specs.kernel_model.declared.kernel_calls.call.Call.{Call}
+use Rattle.ceilings.specs.kernel_model.declared.kernel_calls.payload.Payload.{Payload}
+use Rattle.ceilings.specs.kernel_laws.declared.question_types.kind.CallKind.{CallKind}
+use Rattle.ceilings.specs.kernel_laws.declared.question_types.kind.CallKind.TheVariants.{ForPath, ChangesMounts, RemovesMounts, SetsCaps, TakesUid, TakesGid}
+use Rattle.ceilings.specs.kernel_laws.declared.question_types.wish.Wish.TheVariants.{See as ToSee, Read as ToRead, Write as ToWrite, Exec as ToExec}
+use Rattle.ceilings.specs.kernel_laws.Launched.{Launch}
+use Rattle.ceilings.specs.kernel_ways.Ways.{CallAt}
 use Rattle.open_calls.specs.Meanings.{meant_gain}
 use Rattle.open_calls.specs.declared.first.FirstCall.{FirstCall}
 use Rattle.open_calls.specs.declared.firsts.Firsts.{Firsts}

@@ -1,15 +1,15 @@
 -- What a way of gaining a capability means, over the rows of the site; and what gives and takes an id.
 use Rattle.std.specs.Prelude.{ℕ, Bool, ◌==◌, ◌||◌}
 use Rattle.std.specs.List.{list_any}
-use Rattle.chosen_calls.specs.Gaining as way
-use Rattle.kernel_laws.specs.Bound.{is_owner}
-use Rattle.question_types.specs.declared.kind.CallKind.{CallKind}
-use Rattle.question_types.specs.declared.kind.CallKind.TheVariants.{TakesUid, TakesGid}
-use Rattle.question_types.specs.declared.question.Question.{Question}
-use Rattle.question_types.specs.declared.question.Question.TheVariants.{Uid, Gid}
-use Rattle.kernel_laws.specs.Launched.{Launch}
-use Rattle.linux_numbers.specs.Capabilities.{cap_setuid, cap_setgid}
-use Rattle.site_table.specs.declared.row.Row.{Row}
+use Rattle.open_calls.specs.chosen_calls.Gaining as way
+use Rattle.ceilings.specs.kernel_laws.Bound.{is_owner}
+use Rattle.ceilings.specs.kernel_laws.declared.question_types.kind.CallKind.{CallKind}
+use Rattle.ceilings.specs.kernel_laws.declared.question_types.kind.CallKind.TheVariants.{TakesUid, TakesGid}
+use Rattle.ceilings.specs.kernel_laws.declared.question_types.question.Question.{Question}
+use Rattle.ceilings.specs.kernel_laws.declared.question_types.question.Question.TheVariants.{Uid, Gid}
+use Rattle.ceilings.specs.kernel_laws.Launched.{Launch}
+use Rattle.ceilings.specs.linux_numbers.Capabilities.{cap_setuid, cap_setgid}
+use Rattle.ceilings.specs.site_table.declared.row.Row.{Row}
 use Rattle.open_calls.specs.declared.ids.IdKind.{IdKind}
 use Rattle.open_calls.specs.declared.ids.IdKind.TheVariants.{User, Group}
 use Rattle.open_calls.specs.declared.ways.FileWay.{FileWay}

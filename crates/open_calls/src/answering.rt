@@ -2,29 +2,29 @@
 
 ghost use Rattle.std.specs.Prelude.{◌≡◌, ◌++◌, ◌∷◌, [], Contains, true, option_copied, slice_get, IfOk, OnOk, Some};
 ghost use Rattle.std.specs.List.{list_any};
-ghost use Rattle.call_table.specs.Table.{every_call};
-ghost use Rattle.chosen_calls.specs.Chosen.{calls_for, plain_cap, space_calls, is_called, plain_calls, plain_line};
-ghost use Rattle.chosen_calls.specs.First.{call_by};
-ghost use Rattle.chosen_calls.specs.Makers.{AreMadeByService};
-ghost use Rattle.kernel_calls.specs.declared.payload.Payload.TheVariants.{Nothing};
-ghost use Rattle.kernel_calls.specs.Rules.{rule_of};
-ghost use Rattle.kernel_laws.specs.Bound.{is_open};
-ghost use Rattle.kernel_laws.specs.Denied.{Shows};
-ghost use Rattle.kernel_laws.specs.Launched.{launch_of, lets};
-ghost use Rattle.kernel_laws.specs.Questions.{questions};
-ghost use Rattle.kernel_ways.specs.Laws.{IsServedWorld};
-ghost use Rattle.kernel_ways.specs.Offers.{RunsProgram};
-ghost use Rattle.question_types.specs.declared.question.Question.TheVariants.{Call as CallQuestion, Namespace as Ns, Socket};
+ghost use Rattle.ceilings.specs.call_table.Table.{every_call};
+ghost use Rattle.open_calls.specs.chosen_calls.Chosen.{calls_for, plain_cap, space_calls, is_called, plain_calls, plain_line};
+ghost use Rattle.open_calls.specs.chosen_calls.First.{call_by};
+ghost use Rattle.open_calls.specs.chosen_calls.Makers.{AreMadeByService};
+ghost use Rattle.ceilings.specs.kernel_model.declared.kernel_calls.payload.Payload.TheVariants.{Nothing};
+ghost use Rattle.ceilings.specs.kernel_model.kernel_calls.Rules.{rule_of};
+ghost use Rattle.ceilings.specs.kernel_laws.Bound.{is_open};
+ghost use Rattle.ceilings.specs.kernel_laws.Denied.{Shows};
+ghost use Rattle.ceilings.specs.kernel_laws.Launched.{launch_of, lets};
+ghost use Rattle.ceilings.specs.kernel_laws.Questions.{questions};
+ghost use Rattle.ceilings.specs.kernel_ways.Laws.{IsServedWorld};
+ghost use Rattle.ceilings.specs.kernel_ways.Offers.{RunsProgram};
+ghost use Rattle.ceilings.specs.kernel_laws.declared.question_types.question.Question.TheVariants.{Call as CallQuestion, Namespace as Ns, Socket};
 
 use crate::first::call_of;
 use crate::ids::IdKind;
 use crate::service::{Made, Service};
-use call_table::CallLine;
+use ceilings::call_table::CallLine;
+use ceilings::kernel_laws::question_types::{CallKind, NamespaceType, Question};
+use ceilings::kernel_model::World;
+use ceilings::kernel_model::kernel_calls::{Call, Payload, Rule};
+use ceilings::linux_numbers::capabilities::CAP_SYS_ADMIN;
 use ceilings::{plain_line_at, rule_of};
-use kernel_calls::{Call, Payload, Rule};
-use kernel_model::World;
-use linux_numbers::capabilities::CAP_SYS_ADMIN;
-use question_types::{CallKind, NamespaceType, Question};
 use std::alloc::AllocError;
 
 // The call of this number.
@@ -42,7 +42,7 @@ fn listed_family<'a>(world: &'a World<'_>, at: usize) -> Option<&'a CallLine>
 }
 
 // The line of the plain call that is made for the name of this line, which has this position: by the native ABI, else by the other.
-#[tactic(auto, unfolding(chosen_calls::specs::Chosen::plain_line))]
+#[tactic(auto, unfolding(crate::specs::chosen_calls::Chosen::plain_line))]
 fn named_line<'a>(world: &'a World<'_>, at: usize, line: &'a CallLine) -> &'a CallLine
     requires its_line { slice_get (every_call (launch_of world.now).calls) at ≡ Some line.now }
     requires some_passes { list_any (is_called (launch_of world.now) line.now.name) (every_call (launch_of world.now).calls) ≡ true }
@@ -79,7 +79,7 @@ impl Service<'_> {
     }
 
     // Adds the calls for the plain call of this number.
-    #[tactic(auto, unfolding(chosen_calls::specs::Chosen::calls_for))]
+    #[tactic(auto, unfolding(crate::specs::chosen_calls::Chosen::calls_for))]
     fn push_plain(&self, calls: &mut Vec<Call>, at: usize) -> Made<()>
         requires served { IsServedWorld self.now.world.now }
         requires reachable { is_open (launch_of self.now.world.now) (CallQuestion at) ≡ true }
@@ -92,7 +92,7 @@ impl Service<'_> {
     }
 
     // Adds the calls for the family of this number.
-    #[tactic(auto, unfolding(chosen_calls::specs::Chosen::calls_for))]
+    #[tactic(auto, unfolding(crate::specs::chosen_calls::Chosen::calls_for))]
     fn push_socket(&self, calls: &mut Vec<Call>, at: usize) -> Made<()>
         requires served { IsServedWorld self.now.world.now }
         requires reachable { is_open (launch_of self.now.world.now) (Socket at) ≡ true }
@@ -142,7 +142,7 @@ impl Service<'_> {
     }
 
     // Adds the calls for the question.
-    #[tactic(auto, unfolding(chosen_calls::specs::Chosen::calls_for))]
+    #[tactic(auto, unfolding(crate::specs::chosen_calls::Chosen::calls_for))]
     fn push_calls(&self, calls: &mut Vec<Call>, question: &Question) -> Made<()>
         requires served { IsServedWorld self.now.world.now }
         requires reachable { is_open (launch_of self.now.world.now) question.now ≡ true }

@@ -1,13 +1,13 @@
 //! What ways are found by: the power over mount tables, and which calls pass.
 
 ghost use Rattle.std.specs.Prelude.{◌≡◌};
-ghost use Rattle.kernel_laws.specs.Launched.{launch_of};
+ghost use Rattle.ceilings.specs.kernel_laws.Launched.{launch_of};
 ghost use Rattle.ceilings.specs.Own.{IsCeilingOf};
 ghost use Rattle.open_calls.specs.Bases.{IsBasis};
 
 use ceilings::Ceiling;
-use kernel_model::World;
-use question_types::{CallKind, Power};
+use ceilings::kernel_laws::question_types::{CallKind, Power};
+use ceilings::kernel_model::World;
 
 /// What is known of a launched service before any way is found.
 #[derive(Clone, Copy)]

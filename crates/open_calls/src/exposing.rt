@@ -1,38 +1,38 @@
 //! The path that names a row of the site, the calls that expose it there (mount(2), umount2(2)), and the call behind them.
 
 ghost use Rattle.std.specs.Prelude.{◌≡◌, ◌≤◌, ◌<◌, ◌++◌, [], true, drop, length, IfOk, OnOk, Some};
-ghost use Rattle.abs_path.specs.Paths.{Path, tail_of, proc};
-ghost use Rattle.abs_path.specs.Prefix.{is_prefix, rest_of};
-ghost use Rattle.kern_mounts.specs.Split.{Table};
-ghost use Rattle.site_table.specs.Table.{row_at};
-ghost use Rattle.chosen_calls.specs.Chosen.{doing_calls, inside_calls};
-ghost use Rattle.chosen_calls.specs.Exposing.{IsLead, PassesFor, exposing_calls, exposing_path, lead, shown_at};
-ghost use Rattle.chosen_calls.specs.First.{line_of};
-ghost use Rattle.question_types.specs.declared.kind.CallKind.TheVariants.{ChangesMounts, ForPath, ForNamespace, RemovesMounts};
-ghost use Rattle.question_types.specs.declared.wish.Wish.TheVariants.{Exec as ToExec};
-ghost use Rattle.filter_rules.specs.declared.namespace_types.NamespaceType.TheVariants.{User};
-ghost use Rattle.question_types.specs.declared.wish.Wish.{Wish as PathWish};
-ghost use Rattle.question_types.specs.declared.power.Power.{Power as MountPower};
-ghost use Rattle.question_types.specs.declared.power.Power.TheVariants.{Unmount as Unmounting};
-ghost use Rattle.kernel_laws.specs.Launched.{IsLaunchedWorld, launch_of, lets};
-ghost use Rattle.kernel_laws.specs.Reach.{reach, reaches};
-ghost use Rattle.kernel_ways.specs.Laws.{IsServedWorld};
-ghost use Rattle.kernel_ways.specs.Uncovering.{covering, mount_call, mount_calls, umount_call, umount_calls};
-ghost use Rattle.kernel_ways.specs.Ways.{place_of};
-ghost use Rattle.kern_mounts.specs.Mounts.{steps_of};
+ghost use Rattle.ceilings.specs.abs_path.Paths.{Path, tail_of, proc};
+ghost use Rattle.ceilings.specs.abs_path.Prefix.{is_prefix, rest_of};
+ghost use Rattle.ceilings.specs.kern_mounts.Split.{Table};
+ghost use Rattle.ceilings.specs.site_table.Table.{row_at};
+ghost use Rattle.open_calls.specs.chosen_calls.Chosen.{doing_calls, inside_calls};
+ghost use Rattle.open_calls.specs.chosen_calls.Exposing.{IsLead, PassesFor, exposing_calls, exposing_path, lead, shown_at};
+ghost use Rattle.open_calls.specs.chosen_calls.First.{line_of};
+ghost use Rattle.ceilings.specs.kernel_laws.declared.question_types.kind.CallKind.TheVariants.{ChangesMounts, ForPath, ForNamespace, RemovesMounts};
+ghost use Rattle.ceilings.specs.kernel_laws.declared.question_types.wish.Wish.TheVariants.{Exec as ToExec};
+ghost use Rattle.questions.specs.filter_settings.declared.filter_rules.namespace_types.NamespaceType.TheVariants.{User};
+ghost use Rattle.ceilings.specs.kernel_laws.declared.question_types.wish.Wish.{Wish as PathWish};
+ghost use Rattle.ceilings.specs.kernel_laws.declared.question_types.power.Power.{Power as MountPower};
+ghost use Rattle.ceilings.specs.kernel_laws.declared.question_types.power.Power.TheVariants.{Unmount as Unmounting};
+ghost use Rattle.ceilings.specs.kernel_laws.Launched.{IsLaunchedWorld, launch_of, lets};
+ghost use Rattle.ceilings.specs.kernel_laws.Reach.{reach, reaches};
+ghost use Rattle.ceilings.specs.kernel_ways.Laws.{IsServedWorld};
+ghost use Rattle.ceilings.specs.kernel_ways.Uncovering.{covering, mount_call, mount_calls, umount_call, umount_calls};
+ghost use Rattle.ceilings.specs.kernel_ways.Ways.{place_of};
+ghost use Rattle.ceilings.specs.kern_mounts.Mounts.{steps_of};
 ghost use Rattle.open_calls.specs.Aims.{IsAim};
 ghost use Rattle.open_calls.specs.Firsts.{place_in};
 
 use crate::first::FirstCall;
 use crate::service::{Made, Service};
-use abs_path::AbsPath;
+use ceilings::abs_path::AbsPath;
+use ceilings::kern_mounts::{MountTable, What};
+use ceilings::kernel_laws::question_types::{CallKind, Power, Wish};
+use ceilings::kernel_model::World;
+use ceilings::kernel_model::kernel_calls::{Call, Payload};
 use ceilings::launched_table;
-use kern_mounts::{MountTable, What};
-use kernel_calls::{Call, Payload};
-use kernel_model::World;
-use question_types::{CallKind, Power, Wish};
-use reach_paths::reach;
-use site_table::Row;
+use ceilings::reach_paths::reach;
+use ceilings::site_table::Row;
 use std::alloc::Global;
 
 /// MNT_DETACH of umount2(2).

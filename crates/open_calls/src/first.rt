@@ -1,21 +1,21 @@
 //! Which call of a kind is made, with which words: of those that the filters let through, the first in the order of names.
 
 ghost use Rattle.std.specs.Prelude.{◌≡◌, true, find, option_copied, option_map, IfOk};
-ghost use Rattle.call_table.specs.Lookups.{named};
-ghost use Rattle.call_table.specs.Table.{calls_in};
-ghost use Rattle.chosen_calls.specs.First.{args_of, first_line, lets_name, line_of, own_rule, line_in};
-ghost use Rattle.kernel_laws.specs.Launched.{launch_of, lets};
-ghost use Rattle.kernel_ways.specs.Taking.{id_payload, id_words};
+ghost use Rattle.ceilings.specs.call_table.Lookups.{named};
+ghost use Rattle.ceilings.specs.call_table.Table.{calls_in};
+ghost use Rattle.open_calls.specs.chosen_calls.First.{args_of, first_line, lets_name, line_of, own_rule, line_in};
+ghost use Rattle.ceilings.specs.kernel_laws.Launched.{launch_of, lets};
+ghost use Rattle.ceilings.specs.kernel_ways.Taking.{id_payload, id_words};
 ghost use Rattle.open_calls.specs.Firsts.{call_as, first_of};
 
 use crate::names::names_of;
 use crate::service::Made;
-use call_names::CallRule;
-use call_table::CallLine;
+use ceilings::call_table::CallLine;
+use ceilings::call_table::call_names::CallRule;
+use ceilings::kernel_laws::question_types::CallKind;
+use ceilings::kernel_model::World;
+use ceilings::kernel_model::kernel_calls::{Call, IdList, Payload, Rule};
 use ceilings::{lets_line, passing_line, rule_of, words};
-use kernel_calls::{Call, IdList, Payload, Rule};
-use kernel_model::World;
-use question_types::CallKind;
 use std::alloc::Global;
 
 // The line of this ABI with this name.
@@ -73,7 +73,7 @@ fn first_line<'a>(world: &'a World<'_>, kind: CallKind) -> Option<&'a CallLine>
 }
 
 // The line of the call that is made for a kind of which some call passes.
-#[tactic(auto, unfolding(chosen_calls::specs::First::line_of))]
+#[tactic(auto, unfolding(crate::specs::chosen_calls::First::line_of))]
 fn line_of<'a>(world: &'a World<'_>, kind: CallKind) -> &'a CallLine
     requires some_passes { lets (launch_of world.now) kind ≡ true }
     ensures { result.now ≡ line_of (launch_of world.now) kind }

@@ -1,13 +1,13 @@
 //! The first calls of the kinds that are asked for often, kept; and the first call of every kind.
 
 ghost use Rattle.std.specs.Prelude.{◌≡◌, true, IfOk};
-ghost use Rattle.chosen_calls.specs.Chosen.{call_inside, pid_inside, user_call, socket_payload};
-ghost use Rattle.chosen_calls.specs.First.{call_by, line_of, own_rule};
-ghost use Rattle.question_types.specs.declared.kind.CallKind.TheVariants.{ForNamespace, ForFamily};
-ghost use Rattle.filter_rules.specs.declared.namespace_types.NamespaceType.TheVariants.{User};
-ghost use Rattle.kernel_laws.specs.Launched.{Launch, launch_of, lets};
-ghost use Rattle.kernel_ways.specs.Taking.{id_call};
-ghost use Rattle.kernel_ways.specs.Ways.{place_of};
+ghost use Rattle.open_calls.specs.chosen_calls.Chosen.{call_inside, pid_inside, user_call, socket_payload};
+ghost use Rattle.open_calls.specs.chosen_calls.First.{call_by, line_of, own_rule};
+ghost use Rattle.ceilings.specs.kernel_laws.declared.question_types.kind.CallKind.TheVariants.{ForNamespace, ForFamily};
+ghost use Rattle.questions.specs.filter_settings.declared.filter_rules.namespace_types.NamespaceType.TheVariants.{User};
+ghost use Rattle.ceilings.specs.kernel_laws.Launched.{Launch, launch_of, lets};
+ghost use Rattle.ceilings.specs.kernel_ways.Taking.{id_call};
+ghost use Rattle.ceilings.specs.kernel_ways.Ways.{place_of};
 ghost use Rattle.ceilings.specs.Own.{IsCeilingOf};
 ghost use Rattle.open_calls.specs.Bases.{IsBasis};
 ghost use Rattle.open_calls.specs.Firsts.{AreFirsts, IsFirst, first_of};
@@ -15,11 +15,11 @@ ghost use Rattle.open_calls.specs.Firsts.{AreFirsts, IsFirst, first_of};
 use crate::basis::Basis;
 use crate::first::{FirstCall, first_call, id_payload, id_words};
 use crate::service::{Made, Service};
-use call_names::CallRule;
 use ceilings::Ceiling;
-use kernel_calls::{Call, Payload, Rule};
-use kernel_model::World;
-use question_types::{CallKind, NamespaceType, Wish};
+use ceilings::call_table::call_names::CallRule;
+use ceilings::kernel_laws::question_types::{CallKind, NamespaceType, Wish};
+use ceilings::kernel_model::World;
+use ceilings::kernel_model::kernel_calls::{Call, Payload, Rule};
 
 /// The first calls of some kinds; None where none passes.
 #[derive(Clone, Copy)]

@@ -1,8 +1,8 @@
 //! How the capabilities are gained that a service can have, each found once.
 
 ghost use Rattle.std.specs.Prelude.{◌≡◌, option_map, IfOk};
-ghost use Rattle.chosen_calls.specs.Gaining.{at_once, gain};
-ghost use Rattle.kernel_laws.specs.Launched.{IsLaunchedWorld, Launch, launch_of};
+ghost use Rattle.open_calls.specs.chosen_calls.Gaining.{at_once, gain};
+ghost use Rattle.ceilings.specs.kernel_laws.Launched.{IsLaunchedWorld, Launch, launch_of};
 ghost use Rattle.open_calls.specs.Bases.{IsBasis};
 ghost use Rattle.open_calls.specs.Firsts.{AreGained, IsGained};
 ghost use Rattle.open_calls.specs.Meanings.{meant_cap, meant_gain};
@@ -10,9 +10,9 @@ ghost use Rattle.open_calls.specs.Meanings.{meant_cap, meant_gain};
 use crate::basis::Basis;
 use crate::service::Service;
 use crate::ways::{CapWay, GainWay, gain};
-use cap_sets::CapSet;
-use kernel_model::World;
-use linux_numbers::capabilities::CAP_LAST_CAP;
+use ceilings::cap_sets::CapSet;
+use ceilings::kernel_model::World;
+use ceilings::linux_numbers::capabilities::CAP_LAST_CAP;
 use std::alloc::{AllocError, Global};
 
 /// What is kept of a capability.

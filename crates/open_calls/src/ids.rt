@@ -2,21 +2,21 @@
 
 ghost use Rattle.std.specs.Prelude.{◌≡◌, ◌++◌, ◌==◌, ◌&&◌, [], if◌then◌else◌, true, find, option_copied, option_map, OnOk, None};
 ghost use Rattle.std.specs.List.{list_any};
-ghost use Rattle.chosen_calls.specs.Chosen.{IsIdOpen, id_at_power, id_by_cap, id_calls, runner, taking};
-ghost use Rattle.chosen_calls.specs.Gaining.{at_once};
-ghost use Rattle.kernel_laws.specs.Bound.{can_run, is_open, power_of};
-ghost use Rattle.kernel_laws.specs.Launched.{IsLaunchedWorld, launch_of, lets};
-ghost use Rattle.kernel_ways.specs.Laws.{IsServedWorld};
+ghost use Rattle.open_calls.specs.chosen_calls.Chosen.{IsIdOpen, id_at_power, id_by_cap, id_calls, runner, taking};
+ghost use Rattle.open_calls.specs.chosen_calls.Gaining.{at_once};
+ghost use Rattle.ceilings.specs.kernel_laws.Bound.{can_run, is_open, power_of};
+ghost use Rattle.ceilings.specs.kernel_laws.Launched.{IsLaunchedWorld, launch_of, lets};
+ghost use Rattle.ceilings.specs.kernel_ways.Laws.{IsServedWorld};
 ghost use Rattle.open_calls.specs.Meanings.{asked, gives, is_had, meant_cap, meant_kind, meant_number};
 
 use crate::service::{Made, Service};
 use crate::ways::CapWay;
+use ceilings::kernel_laws::question_types::{CallKind, Power};
+use ceilings::kernel_model::World;
+use ceilings::kernel_model::kernel_calls::Call;
+use ceilings::linux_numbers::capabilities::{CAP_SETGID, CAP_SETUID, CAP_SYS_ADMIN};
+use ceilings::site_table::Row;
 use ceilings::{can_run, launched_process};
-use kernel_calls::Call;
-use kernel_model::World;
-use linux_numbers::capabilities::{CAP_SETGID, CAP_SETUID, CAP_SYS_ADMIN};
-use question_types::{CallKind, Power};
-use site_table::Row;
 
 /// Whose ids, credentials(7).
 #[derive(Clone, Copy)]

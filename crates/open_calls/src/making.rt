@@ -1,21 +1,21 @@
 //! The calls of a way that gains a capability (execve(2), capset(2), setuid(2)).
 
 ghost use Rattle.std.specs.Prelude.{◌≡◌, ◌++◌, [], ◌∷◌, true, IfOk, OnOk};
-ghost use Rattle.chosen_calls.specs.Exposing.{PassesFor};
-ghost use Rattle.chosen_calls.specs.Gaining.{CanBeMade, CapCanBeMade, GainCanBeMade, IsRunner, cap_calls, capset_call, file_calls, gain_calls, gaining, gaining_if, last_path, root_call, run_call, run_calls};
-ghost use Rattle.question_types.specs.declared.kind.CallKind.TheVariants.{SetsCaps, TakesUid};
-ghost use Rattle.kernel_laws.specs.Launched.{launch_of, lets};
-ghost use Rattle.kernel_ways.specs.Laws.{IsServedWorld};
+ghost use Rattle.open_calls.specs.chosen_calls.Exposing.{PassesFor};
+ghost use Rattle.open_calls.specs.chosen_calls.Gaining.{CanBeMade, CapCanBeMade, GainCanBeMade, IsRunner, cap_calls, capset_call, file_calls, gain_calls, gaining, gaining_if, last_path, root_call, run_call, run_calls};
+ghost use Rattle.ceilings.specs.kernel_laws.declared.question_types.kind.CallKind.TheVariants.{SetsCaps, TakesUid};
+ghost use Rattle.ceilings.specs.kernel_laws.Launched.{launch_of, lets};
+ghost use Rattle.ceilings.specs.kernel_ways.Laws.{IsServedWorld};
 ghost use Rattle.open_calls.specs.Meanings.{meant_cap, meant_file, meant_gain};
 
 use crate::exposing::{Aim, REMOUNT, lead};
 use crate::service::{Made, Service};
 use crate::ways::{CapWay, FileWay, GainWay};
-use abs_path::AbsPath;
+use ceilings::abs_path::AbsPath;
+use ceilings::kernel_laws::question_types::{CallKind, Power, Wish};
+use ceilings::kernel_model::kernel_calls::{Call, Payload};
 use ceilings::launched_process;
-use kernel_calls::{Call, Payload};
-use question_types::{CallKind, Power, Wish};
-use site_table::Row;
+use ceilings::site_table::Row;
 
 impl Service<'_> {
     // capset(2) of what the row's set and the bounding set have in common.
@@ -132,7 +132,7 @@ impl Service<'_> {
     }
 
     /// Adds the calls that gain a capability, which the launched service can have.
-    #[tactic(auto, unfolding(chosen_calls::specs::Gaining::gaining))]
+    #[tactic(auto, unfolding(crate::specs::chosen_calls::Gaining::gaining))]
     pub(crate) fn push_gaining(&self, calls: &mut Vec<Call>, cap: u8) -> Made<()>
         requires served { IsServedWorld self.now.world.now }
         ensures { OnOk result (calls.new.items ≡ calls.old.items ++ gaining (launch_of self.now.world.now) self.now.program.now cap) }

@@ -1,9 +1,9 @@
 //! The names of the calls of a kind, in the order in which they are tried.
 
 ghost use Rattle.std.specs.Prelude.{◌≡◌, map};
-ghost use Rattle.chosen_calls.specs.First.{names_of};
+ghost use Rattle.open_calls.specs.chosen_calls.First.{names_of};
 
-use question_types::{CallKind, Wish};
+use ceilings::kernel_laws::question_types::{CallKind, Wish};
 
 // Those that do what is wished of a path.
 fn path_names(wish: Wish) -> &'static [&'static str]

@@ -1,26 +1,26 @@
 //! The calls that see, read, write or execute a row of the site.
 
 ghost use Rattle.std.specs.Prelude.{◌≡◌, ◌++◌, if◌then◌else◌, true, option_copied, slice_get, OnOk, Some};
-ghost use Rattle.site_table.specs.Table.{row_at};
-ghost use Rattle.kern_files.specs.MountCall.{ms_remount_bind};
-ghost use Rattle.chosen_calls.specs.Chosen.{calls_for, is_held_off, row_calls, row_inside, unmarked};
-ghost use Rattle.kernel_laws.specs.Bound.{can_reach, is_mounting, is_open, power_of};
-ghost use Rattle.kernel_laws.specs.Launched.{IsLaunchedWorld, launch_of, can_make_user};
-ghost use Rattle.question_types.specs.declared.question.Question.TheVariants.{Path as ByPath};
-ghost use Rattle.question_types.specs.declared.wish.Wish.TheVariants.{Exec as ToExec};
-ghost use Rattle.question_types.specs.declared.power.Power.TheVariants.{None as Nowise};
-ghost use Rattle.kernel_laws.specs.Reach.{reach};
-ghost use Rattle.kernel_ways.specs.Laws.{IsServedWorld};
+ghost use Rattle.ceilings.specs.site_table.Table.{row_at};
+ghost use Rattle.ceilings.specs.kernel_model.kern_files.MountCall.{ms_remount_bind};
+ghost use Rattle.open_calls.specs.chosen_calls.Chosen.{calls_for, is_held_off, row_calls, row_inside, unmarked};
+ghost use Rattle.ceilings.specs.kernel_laws.Bound.{can_reach, is_mounting, is_open, power_of};
+ghost use Rattle.ceilings.specs.kernel_laws.Launched.{IsLaunchedWorld, launch_of, can_make_user};
+ghost use Rattle.ceilings.specs.kernel_laws.declared.question_types.question.Question.TheVariants.{Path as ByPath};
+ghost use Rattle.ceilings.specs.kernel_laws.declared.question_types.wish.Wish.TheVariants.{Exec as ToExec};
+ghost use Rattle.ceilings.specs.kernel_laws.declared.question_types.power.Power.TheVariants.{None as Nowise};
+ghost use Rattle.ceilings.specs.kernel_laws.Reach.{reach};
+ghost use Rattle.ceilings.specs.kernel_ways.Laws.{IsServedWorld};
 ghost use Rattle.ceilings.specs.Leads.{leads_of};
 
 use crate::exposing::{Aim, REMOUNT, REMOUNT_UNMARKED, lead, number_of};
 use crate::service::{Made, Service};
+use ceilings::kernel_laws::question_types::{Power, Wish};
+use ceilings::kernel_model::World;
+use ceilings::kernel_model::kernel_calls::Call;
+use ceilings::linux_numbers::capabilities::CAP_SYS_ADMIN;
+use ceilings::site_table::Row;
 use ceilings::{RowLeads, is_barred, reach_by};
-use kernel_calls::Call;
-use kernel_model::World;
-use linux_numbers::capabilities::CAP_SYS_ADMIN;
-use question_types::{Power, Wish};
-use site_table::Row;
 
 // The row of this number.
 fn listed_row<'a>(world: &'a World<'_>, at: usize) -> Option<&'a Row>

@@ -2,10 +2,10 @@
 
 ghost use Rattle.std.specs.Prelude.{◌≡◌, IfOk};
 ghost use Rattle.std.proofs.Props.{props};
-ghost use Rattle.cap_sets.specs.Sets.{has};
-ghost use Rattle.linux_numbers.specs.Capabilities.{cap_sys_admin};
-ghost use Rattle.kernel_laws.specs.Bound.{ceiling, power_of};
-ghost use Rattle.kernel_laws.specs.Launched.{IsLaunchedWorld, launch_of};
+ghost use Rattle.ceilings.specs.cap_sets.Sets.{has};
+ghost use Rattle.ceilings.specs.linux_numbers.Capabilities.{cap_sys_admin};
+ghost use Rattle.ceilings.specs.kernel_laws.Bound.{ceiling, power_of};
+ghost use Rattle.ceilings.specs.kernel_laws.Launched.{IsLaunchedWorld, launch_of};
 ghost use Rattle.ceilings.specs.Own.{IsCeilingOf};
 ghost use Rattle.open_calls.specs.Bases.{IsBasis};
 ghost use Rattle.open_calls.specs.Firsts.{AreFirsts, AreGained};
@@ -13,12 +13,12 @@ ghost use Rattle.open_calls.specs.Firsts.{AreFirsts, AreGained};
 use crate::basis::Basis;
 use crate::firsts::Firsts;
 use crate::gains::{Gained, gains};
-use abs_path::AbsPath;
 use ceilings::Ceiling;
-use kernel_model::World;
-use launcher::Launched;
-use linux_numbers::capabilities::CAP_SYS_ADMIN;
-use question_types::Power;
+use ceilings::abs_path::AbsPath;
+use ceilings::kernel_laws::question_types::Power;
+use ceilings::kernel_model::World;
+use ceilings::launcher::Launched;
+use ceilings::linux_numbers::capabilities::CAP_SYS_ADMIN;
 use std::alloc::{AllocError, Global};
 
 /// A launched service, for which calls are made. The ways that gain capabilities and the first calls of the kinds that are asked for

@@ -1,18 +1,18 @@
 //! How a capability is gained, capabilities(7): which way is taken of those that serve. It takes no memory.
 
 ghost use Rattle.std.specs.Prelude.{◌≡◌, ◌&&◌, find, option_copied, option_map};
-ghost use Rattle.chosen_calls.specs.Gaining.{at_once, at_power, behind_way, by_launch, by_rows, capset_way, gain, gives_at_once, gives_by_capset, takes_root};
-ghost use Rattle.kernel_laws.specs.Bound.{can_run};
-ghost use Rattle.kernel_laws.specs.Launched.{IsLaunchedWorld, launch_of};
+ghost use Rattle.open_calls.specs.chosen_calls.Gaining.{at_once, at_power, behind_way, by_launch, by_rows, capset_way, gain, gives_at_once, gives_by_capset, takes_root};
+ghost use Rattle.ceilings.specs.kernel_laws.Bound.{can_run};
+ghost use Rattle.ceilings.specs.kernel_laws.Launched.{IsLaunchedWorld, launch_of};
 ghost use Rattle.open_calls.specs.Bases.{IsBasis};
 ghost use Rattle.open_calls.specs.Meanings.{meant_file, meant_cap, meant_gain};
 
 use crate::basis::Basis;
+use ceilings::kernel_laws::question_types::Power;
+use ceilings::kernel_model::World;
+use ceilings::linux_numbers::capabilities::{CAP_SETUID, CAP_SYS_ADMIN};
+use ceilings::site_table::Row;
 use ceilings::{can_run, launched_process};
-use kernel_model::World;
-use linux_numbers::capabilities::{CAP_SETUID, CAP_SYS_ADMIN};
-use question_types::Power;
-use site_table::Row;
 
 /// How a capability becomes effective by a file.
 #[derive(Clone, Copy)]
@@ -134,7 +134,7 @@ fn takes_root(world: &World<'_>, basis: Basis, cap: u8) -> bool
 }
 
 // How the capability is gained on the launched table, if it is.
-#[tactic(auto, unfolding(chosen_calls::specs::Gaining::at_once))]
+#[tactic(auto, unfolding(crate::specs::chosen_calls::Gaining::at_once))]
 fn at_once<'a>(world: &'a World<'_>, basis: Basis, cap: u8) -> Option<CapWay<'a>>
     requires launched { IsLaunchedWorld world.now }
     requires its_own { IsBasis (launch_of world.now) basis }
@@ -150,7 +150,7 @@ fn at_once<'a>(world: &'a World<'_>, basis: Basis, cap: u8) -> Option<CapWay<'a>
 }
 
 // With the launch's power over mount tables.
-#[tactic(auto, unfolding(chosen_calls::specs::Gaining::at_power))]
+#[tactic(auto, unfolding(crate::specs::chosen_calls::Gaining::at_power))]
 fn at_power<'a>(world: &'a World<'_>, basis: Basis, cap: u8) -> Option<CapWay<'a>>
     requires launched { IsLaunchedWorld world.now }
     requires its_own { IsBasis (launch_of world.now) basis }

@@ -16,7 +16,9 @@ mod marks;
 mod mentions;
 mod paths;
 mod temporary;
+pub mod view_map;
 
+pub use abs_path;
 pub use binds::read_bind;
 pub use error::MentionError;
 pub use folders::read_folder;
@@ -25,3 +27,4 @@ pub use lists::read_path;
 pub use mentions::{Kind, Mention, Mentions};
 pub use paths::read_setting_path;
 pub use temporary::read_temporary;
+pub use text_forms;

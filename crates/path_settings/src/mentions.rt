@@ -7,9 +7,9 @@ ghost use Rattle.path_settings.specs.Mentions.{hides, is_tmp, is_bind, source_of
 
 use crate::error::MentionError;
 use abs_path::AbsPath;
-use item_list::ItemList;
 use std::alloc::{AllocError, Global};
 use std::marker::Model;
+use text_forms::item_list::ItemList;
 
 /// How many mentions there are at most.
 const MOST: usize = 160;

@@ -2,16 +2,16 @@
 use Rattle.std.proofs.Common.{◌≡◌, ◌≢◌, ◌∙◌, ℕ, List, [], ◌∷◌, Some, None, Result, Ok, Err, Vec, Global, refl, sym, ap, subst}
 use Rattle.std.specs.Prelude.{IfOk}
 use Rattle.std.specs.declared.alloc.AllocError.{AllocError}
-use Rattle.path_settings.specs.declared.mentions.Mention.{Mention}
-use Rattle.view_map.specs.Kept.{Host, KeepsByRules, kept_of}
-use Rattle.kern_mounts.specs.Launch.{CanBeMounted}
-use Rattle.kern_mounts.specs.declared.step.MountStep.{MountStep}
+use Rattle.mount_plan.specs.path_settings.declared.mentions.Mention.{Mention}
+use Rattle.mount_plan.specs.path_settings.view_map.Kept.{Host, KeepsByRules, kept_of}
+use Rattle.mount_plan.specs.kern_mounts.Launch.{CanBeMounted}
+use Rattle.mount_plan.specs.kern_mounts.declared.step.MountStep.{MountStep}
 use Rattle.mount_plan.specs.Answers.{Plans}
 use Rattle.mount_plan.specs.AsView.{FindsAsView}
 use Rattle.mount_plan.specs.Form.{HasPlacesOf}
 use Rattle.mount_plan.specs.declared.error.PlanError.{PlanError}
 use Rattle.mount_plan.specs.declared.error.PlanError.TheVariants.{Missing, Kind, Memory}
-use Rattle.command_answers.specs.Stops.{Prepares, first_refusal, or_line, refusal_in, stop_of}
+use Rattle.unit_inputs.specs.command_answers.Stops.{Prepares, first_refusal, or_line, refusal_in, stop_of}
 use Rattle.plan_command.specs.Planned.{IsPlan, path_refusals}
 use Rattle.plan_command.specs.Refusals.{error_line, plan_line}
 

@@ -1,19 +1,19 @@
 -- What is ready, and the line of a refusal, are what the definitions admit.
 use Rattle.std.proofs.Common.{◌≡◌, ◌∙◌, ℕ, Option, Some, None, List, Ok, Err, refl, sym, ap, subst}
 use Rattle.std.specs.Prelude.{IfSome, IsTrue}
-use Rattle.host_io.specs.Files.{Files}
-use Rattle.kern_mounts.specs.declared.step.MountStep.{MountStep}
+use Rattle.unit_inputs.specs.host_io.Files.{Files}
+use Rattle.mount_plan.specs.kern_mounts.declared.step.MountStep.{MountStep}
 use Rattle.mount_plan.specs.Host.{host_of}
-use Rattle.exec_settings.specs.Mounts.{unit_mentions}
-use Rattle.path_settings.specs.declared.mentions.Mention.{Mention}
-use Rattle.command_answers.specs.Endings.{is_answer}
-use Rattle.command_answers.specs.Laws.{AcceptsFiles, GoTogether, IsAdmitted, laws_over}
-use Rattle.command_answers.specs.Stops.{Prepares, first_refusal}
-use Rattle.command_answers.specs.declared.ending.Ending.{Ending}
-use Rattle.command_answers.specs.declared.stop.Stop.{Stop}
-use Rattle.command_answers.proofs.FileCommands.{go_together, ready_is_admitted, stop_is_admitted}
-use Rattle.command_answers.proofs.Refusing.{stops_as, stops_before}
-use Rattle.site_table.specs.Table.{Site}
+use Rattle.unit_inputs.specs.exec_settings.Mounts.{unit_mentions}
+use Rattle.mount_plan.specs.path_settings.declared.mentions.Mention.{Mention}
+use Rattle.unit_inputs.specs.command_answers.Endings.{is_answer}
+use Rattle.unit_inputs.specs.command_answers.Laws.{AcceptsFiles, GoTogether, IsAdmitted, laws_over}
+use Rattle.unit_inputs.specs.command_answers.Stops.{Prepares, first_refusal}
+use Rattle.unit_inputs.specs.declared.command_answers.ending.Ending.{Ending}
+use Rattle.unit_inputs.specs.declared.command_answers.stop.Stop.{Stop}
+use Rattle.unit_inputs.proofs.FileCommands.{go_together, ready_is_admitted, stop_is_admitted}
+use Rattle.unit_inputs.proofs.Refusing.{stops_as, stops_before}
+use Rattle.unit_inputs.specs.site_table.Table.{Site}
 use Rattle.unit_inputs.specs.Inputs.{inputs_of, inputs_view}
 use Rattle.unit_inputs.specs.Settled.{refusals_by, unit_refusals}
 use Rattle.unit_inputs.specs.declared.settling.SettledUnit.{SettledUnit}

@@ -1,12 +1,12 @@
 -- The lines of a table of mounts, each ended by a line feed.
 use Rattle.std.specs.Prelude.{ℕ, Bool, true, false, List, [], ◌∷◌, ◌++◌, length, codes, flat_map}
 use Rattle.std.specs.Fmt.{decimal}
-use Rattle.abs_path.specs.Paths.{text_of as path_text}
-use Rattle.text_forms.specs.Escaped.{escaped_word}
-use Rattle.kern_mounts.specs.declared.step.Flags.{Flags}
-use Rattle.kern_mounts.specs.declared.step.MountStep.{MountStep}
-use Rattle.kern_mounts.specs.declared.step.What.{What}
-use Rattle.kern_mounts.specs.declared.step.What.TheVariants.{Host, Empty, Hidden}
+use Rattle.unit_inputs.specs.abs_path.Paths.{text_of as path_text}
+use Rattle.unit_inputs.specs.text_forms.Escaped.{escaped_word}
+use Rattle.mount_plan.specs.kern_mounts.declared.step.Flags.{Flags}
+use Rattle.mount_plan.specs.kern_mounts.declared.step.MountStep.{MountStep}
+use Rattle.mount_plan.specs.kern_mounts.declared.step.What.{What}
+use Rattle.mount_plan.specs.kern_mounts.declared.step.What.TheVariants.{Host, Empty, Hidden}
 
 -- whether what is shown may be written
 abbrev pub writing : Bool → List ℕ

@@ -1,13 +1,13 @@
 -- The plan of the mentions of a unit, and the line of the first path that is refused.
 use Rattle.std.specs.Prelude.{◌≡◌, ℕ, List, [], ◌∷◌, Option, Result, Ok, Err}
-use Rattle.path_settings.specs.declared.mentions.Mention.{Mention}
-use Rattle.view_map.specs.Kept.{Host, Refusal, KeepsByRules, kept_of}
-use Rattle.kern_mounts.specs.Launch.{CanBeMounted}
-use Rattle.kern_mounts.specs.declared.step.MountStep.{MountStep}
+use Rattle.mount_plan.specs.path_settings.declared.mentions.Mention.{Mention}
+use Rattle.mount_plan.specs.path_settings.view_map.Kept.{Host, Refusal, KeepsByRules, kept_of}
+use Rattle.mount_plan.specs.kern_mounts.Launch.{CanBeMounted}
+use Rattle.mount_plan.specs.kern_mounts.declared.step.MountStep.{MountStep}
 use Rattle.mount_plan.specs.AsView.{FindsAsView}
 use Rattle.mount_plan.specs.Form.{HasPlacesOf}
 use Rattle.mount_plan.specs.Plan.{table_of}
-use Rattle.command_answers.specs.Stops.{or_line, refusal_in}
+use Rattle.unit_inputs.specs.command_answers.Stops.{or_line, refusal_in}
 use Rattle.plan_command.specs.Refusals.{plan_line}
 
 -- a table is the plan of mentions: of those that the rules keep, it is their table, and each path belongs to an entry that has

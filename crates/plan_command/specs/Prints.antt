@@ -1,14 +1,14 @@
 -- What `plan` prints, by the files.
 use Rattle.std.specs.Prelude.{◌≡◌, ◌++◌, ℕ, IsSome, List, Option, Some}
-use Rattle.host_io.specs.Files.{Files}
-use Rattle.kern_mounts.specs.declared.step.MountStep.{MountStep}
+use Rattle.unit_inputs.specs.host_io.Files.{Files}
+use Rattle.mount_plan.specs.kern_mounts.declared.step.MountStep.{MountStep}
 use Rattle.mount_plan.specs.Host.{host_of}
-use Rattle.exec_settings.specs.Mounts.{unit_mentions}
-use Rattle.command_answers.specs.Laws.{FileLaws}
-use Rattle.command_answers.specs.declared.ending.Ending.{Ending}
-use Rattle.command_answers.specs.declared.ending.Ending.TheVariants.{Done}
+use Rattle.unit_inputs.specs.exec_settings.Mounts.{unit_mentions}
+use Rattle.unit_inputs.specs.command_answers.Laws.{FileLaws}
+use Rattle.unit_inputs.specs.declared.command_answers.ending.Ending.{Ending}
+use Rattle.unit_inputs.specs.declared.command_answers.ending.Ending.TheVariants.{Done}
 use Rattle.unit_inputs.specs.Inputs.{Inputs, inputs_of}
-use Rattle.unit_names.specs.Cutting.{name_of}
+use Rattle.unit_inputs.specs.unit_names.Cutting.{name_of}
 use Rattle.unit_inputs.specs.Settled.{refusals_by, unit_refusals}
 use Rattle.plan_command.specs.declared.command.Mounts.{Mounts}
 use Rattle.plan_command.specs.Lines.{text_of}

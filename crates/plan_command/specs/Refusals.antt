@@ -1,9 +1,9 @@
 -- The lines of units whose mounts have no plan.
 use Rattle.std.specs.Prelude.{ℕ, List, [], ◌++◌, codes}
-use Rattle.abs_path.specs.Paths.{Path, text_of}
-use Rattle.text_forms.specs.Escaped.{escaped_word}
-use Rattle.command_answers.specs.Refusals.{refused_line}
-use Rattle.view_map.specs.Kept.{Refusal, missing, wrong_kind}
+use Rattle.unit_inputs.specs.abs_path.Paths.{Path, text_of}
+use Rattle.unit_inputs.specs.text_forms.Escaped.{escaped_word}
+use Rattle.unit_inputs.specs.command_answers.Refusals.{refused_line}
+use Rattle.mount_plan.specs.path_settings.view_map.Kept.{Refusal, missing, wrong_kind}
 use Rattle.mount_plan.specs.declared.error.PlanError.{PlanError}
 use Rattle.mount_plan.specs.declared.error.PlanError.TheVariants.{Missing, Kind, Memory}
 

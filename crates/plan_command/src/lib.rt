@@ -15,3 +15,5 @@ mod refusals;
 pub use command::{Mounts, prepare};
 pub use planning::plan_mounts;
 pub use refusals::plan_line;
+pub use unit_inputs;
+pub use unit_inputs::{host_io, text_forms};

@@ -1,17 +1,17 @@
 //! The plan of a unit's mounts, or the line of its first refusal.
 ghost use Rattle.std.specs.Prelude.{IsErrOf, IsTrue};
-ghost use Rattle.command_answers.specs.Stops.{Prepares};
+ghost use Rattle.unit_inputs.specs.command_answers.Stops.{Prepares};
 ghost use Rattle.mount_plan.specs.Host.{host_of};
-ghost use Rattle.path_settings.specs.Mentions.{leaves_the_root};
-ghost use Rattle.path_settings.specs.Short.{AreShort};
+ghost use Rattle.mount_plan.specs.path_settings.Mentions.{leaves_the_root};
+ghost use Rattle.mount_plan.specs.path_settings.Short.{AreShort};
 ghost use Rattle.plan_command.specs.Planned.{IsPlan, path_refusals};
 
 use crate::refusals::plan_line;
-use command_answers::{Stop, refuse};
+use mount_plan::path_settings::Mentions;
 use mount_plan::{MountSteps, PlanError, plan};
-use path_settings::Mentions;
-use site_table::SiteTable;
 use std::alloc::Global;
+use unit_inputs::command_answers::{Stop, refuse};
+use unit_inputs::site_table::SiteTable;
 
 /// The plan of the mounts of a unit with these mentions on this site, or the line of the first refusal, at the first path in
 /// byte order that has one. The table shows every path as the view has it, and a launch can take it.

@@ -1,13 +1,13 @@
 //! Mounts, printed line by line.
 ghost use Rattle.std.specs.Prelude.{flat_map};
-ghost use Rattle.command_answers.specs.Printing.{HasWriteCause, TakesText};
+ghost use Rattle.unit_inputs.specs.command_answers.Printing.{HasWriteCause, TakesText};
 ghost use Rattle.plan_command.specs.Lines.{mount_line};
 
 use crate::lines::mount_line;
-use command_answers::put_line;
-use host_io::{Sink, SinkError};
-use kern_mounts::MountStep;
+use mount_plan::kern_mounts::MountStep;
 use std::alloc::Global;
+use unit_inputs::command_answers::put_line;
+use unit_inputs::host_io::{Sink, SinkError};
 
 /// Prints mounts, one behind the other: of each its place, what it shows there and how that may be used.
 pub fn print_mounts<K: Sink>(

@@ -3,7 +3,7 @@ use Rattle.std.proofs.Common.{◌≡◌, ℕ, zero, suc, ◌+◌, ◌<◌, ◌�
 use Rattle.std.specs.Prelude.{◌&&◌}
 use Rattle.std.specs.Str.{bytes_eq}
 use Rattle.std.proofs.lemmas.Bool.{and_parts, eqb-true}
-use Rattle.cap_sets.specs.Names.{names, name_of}
+use Rattle.report_text.specs.cap_sets.Names.{names, name_of}
 
 -- the place of the first name that is this
 place_among : List ℕ → List (List ℕ) → ℕ

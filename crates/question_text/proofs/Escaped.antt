@@ -4,7 +4,7 @@ use Rattle.std.specs.Prelude.{◌||◌, ◌==◌, nat_le}
 use Rattle.std.specs.Char.{digit_value, is_digit}
 use Rattle.std.proofs.lemmas.Bool.{and_from, or_parts}
 use Rattle.std.proofs.lemmas.Bool.Decides.{nat_tests}
-use Rattle.text_forms.specs.Escaped.{is_coded, upper_digit, escaped_byte, escaped_word, with_byte, word_read, code_read}
+use Rattle.report_text.specs.text_forms.Escaped.{is_coded, upper_digit, escaped_byte, escaped_word, with_byte, word_read, code_read}
 
 digit_of : (digit : ℕ) → digit < 16 → digit_value (upper_digit digit) ≡ digit
 digit_of digit h = grind (arith, nat_tests)

@@ -9,13 +9,13 @@ use Rattle.std.proofs.lemmas.List.{get_or-map, length-map, map-append, take_more
 use Rattle.std.proofs.lemmas.List.Elements.{Contains-get_or}
 use Rattle.std.proofs.lemmas.Slice.Eq.{bytes_eq-Decides}
 use Rattle.std.proofs.lemmas.Option.{slice_get_cases}
-use Rattle.call_table.specs.Table as calls
-use Rattle.site_table.specs.Table.{Site}
-use Rattle.kernel_laws.specs.Questions as asked
+use Rattle.report_text.specs.call_table.Table as calls
+use Rattle.report_text.specs.site_table.Table.{Site}
+use Rattle.report_text.specs.kernel_laws.Questions as asked
 use Rattle.report_text.specs.Wording.{question_words}
-use Rattle.question_types.specs.declared.question.Question.{Question}
-use Rattle.question_types.specs.declared.question.Question.TheVariants.{Path}
-use Rattle.question_types.specs.declared.wish.Wish.TheVariants.{See}
+use Rattle.report_text.specs.kernel_laws.declared.question_types.question.Question.{Question}
+use Rattle.report_text.specs.kernel_laws.declared.question_types.question.Question.TheVariants.{Path}
+use Rattle.report_text.specs.kernel_laws.declared.question_types.wish.Wish.TheVariants.{See}
 use Rattle.question_text.specs.Printed.{ArePrinted, HaveOneReading, IsPrintedSo, Reads}
 use Rattle.question_text.specs.declared.printed.PrintedQuestion.{PrintedQuestion}
 

@@ -2,13 +2,13 @@
 use Rattle.std.proofs.Common.{◌≡◌, inl, inr, ℕ, ◌≤◌, List, [], ◌∷◌, Option, Some, sym, subst, arith}
 use Rattle.std.specs.Prelude.{Contains, IfSome}
 use Rattle.std.specs.List.{AllByRecursion}
-use Rattle.questions.specs.Listed.{IsUidOf, of_root, of_dynamic_user, of_user, of_owner, IsGidOf, of_root_group, of_dynamic_group, of_group, of_group_of_user, of_further_group, of_group_of_row}
-use Rattle.questions.proofs.Among.{Some_one, some_any, has_contained, all_had}
-use Rattle.site_table.specs.Ids.{greatest_id}
-use Rattle.site_table.specs.Table.{Site, IsSite, IsRowOf, IsUser, IsGroup}
-use Rattle.site_table.specs.declared.row.Row.{Row}
-use Rattle.site_table.specs.declared.accounts.User.{User}
-use Rattle.site_table.specs.declared.accounts.Group.{Group}
+use Rattle.report_text.specs.questions.Listed.{IsUidOf, of_root, of_dynamic_user, of_user, of_owner, IsGidOf, of_root_group, of_dynamic_group, of_group, of_group_of_user, of_further_group, of_group_of_row}
+use Rattle.report_text.proofs.Questions.Among.{Some_one, some_any, has_contained, all_had}
+use Rattle.report_text.specs.site_table.Ids.{greatest_id}
+use Rattle.report_text.specs.site_table.Table.{Site, IsSite, IsRowOf, IsUser, IsGroup}
+use Rattle.report_text.specs.site_table.declared.row.Row.{Row}
+use Rattle.report_text.specs.site_table.declared.accounts.User.{User}
+use Rattle.report_text.specs.site_table.declared.accounts.Group.{Group}
 
 -- what follows for one that is such, of a list of which something holds
 one_of : {X : Type 0} (P Q : X → Type 0) (C : Type 0) (xs : List X) → AllByRecursion P xs → Some_one Q xs → ((x : X) → P x → Q x → C) → C

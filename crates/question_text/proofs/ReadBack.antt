@@ -5,26 +5,26 @@ use Rattle.std.specs.Fmt.{decimal}
 use Rattle.std.specs.Option.{option_and_then, option_map, option_map_or}
 use Rattle.std.specs.Str.{bytes_eq}
 use Rattle.std.proofs.lemmas.Option.{get_or_from_slice_get, slice_get_cases, slice_get_within}
-use Rattle.abs_path.specs.Paths.{parts_of, tail_of, text_of, is_normal}
-use Rattle.abs_path.proofs.Reading.{text_parts}
-use Rattle.call_table.specs.declared.listed.CallLine.{CallLine}
-use Rattle.call_table.specs.Lookups.{AreOnce, place_named}
-use Rattle.call_table.specs.Table as calls
-use Rattle.question_types.specs.declared.wish.Wish.TheVariants.{See as ToSee, Read as ToRead, Write as ToWrite, Exec as ToExec}
-use Rattle.filter_rules.specs.declared.namespace_types.NamespaceType.{NamespaceType}
-use Rattle.filter_rules.specs.declared.namespace_types.NamespaceType.TheVariants.{Cgroup, Ipc, Net, Mnt, Pid, User, Uts}
-use Rattle.question_types.specs.declared.question.Question.{Question}
-use Rattle.question_types.specs.declared.question.Question.TheVariants.{Path as ByPath, Call, Socket, Namespace as Ns, MapWx, ProtectX, ShmX, Realtime, Personality, SuidBit, Cap, Uid, Gid}
-use Rattle.questions.specs.Listed.{IsAskedOf}
-use Rattle.questions.proofs.Among.{all_had, has_contained}
-use Rattle.questions.proofs.Members.{what_is_asked}
+use Rattle.report_text.specs.abs_path.Paths.{parts_of, tail_of, text_of, is_normal}
+use Rattle.report_text.proofs.AbsPath.Reading.{text_parts}
+use Rattle.report_text.specs.call_table.declared.listed.CallLine.{CallLine}
+use Rattle.report_text.specs.call_table.Lookups.{AreOnce, place_named}
+use Rattle.report_text.specs.call_table.Table as calls
+use Rattle.report_text.specs.kernel_laws.declared.question_types.wish.Wish.TheVariants.{See as ToSee, Read as ToRead, Write as ToWrite, Exec as ToExec}
+use Rattle.report_text.specs.filter_settings.declared.filter_rules.namespace_types.NamespaceType.{NamespaceType}
+use Rattle.report_text.specs.filter_settings.declared.filter_rules.namespace_types.NamespaceType.TheVariants.{Cgroup, Ipc, Net, Mnt, Pid, User, Uts}
+use Rattle.report_text.specs.kernel_laws.declared.question_types.question.Question.{Question}
+use Rattle.report_text.specs.kernel_laws.declared.question_types.question.Question.TheVariants.{Path as ByPath, Call, Socket, Namespace as Ns, MapWx, ProtectX, ShmX, Realtime, Personality, SuidBit, Cap, Uid, Gid}
+use Rattle.report_text.specs.questions.Listed.{IsAskedOf}
+use Rattle.report_text.proofs.Questions.Among.{all_had, has_contained}
+use Rattle.report_text.proofs.Questions.Members.{what_is_asked}
 use Rattle.report_text.specs.Wording.{name_at, path_at, question_words}
-use Rattle.site_table.specs.declared.row.Row.{Row}
-use Rattle.site_table.specs.Table.{IsRowOf, IsSite, Site, place_of_text}
-use Rattle.site_table.proofs.Finding.{found_place}
-use Rattle.text_forms.specs.Escaped.{escaped_word, word_read}
-use Rattle.text_forms.specs.Numbers.{number_value}
-use Rattle.text_forms.proofs.Numerals.{decimal_read}
+use Rattle.report_text.specs.site_table.declared.row.Row.{Row}
+use Rattle.report_text.specs.site_table.Table.{IsRowOf, IsSite, Site, place_of_text}
+use Rattle.report_text.proofs.SiteTable.Finding.{found_place}
+use Rattle.report_text.specs.text_forms.Escaped.{escaped_word, word_read}
+use Rattle.report_text.specs.text_forms.Numbers.{number_value}
+use Rattle.report_text.proofs.TextForms.Numerals.{decimal_read}
 use Rattle.question_text.specs.Printed.{HaveOneReading}
 use Rattle.question_text.proofs.CapNames.{cap_back, cap_number}
 use Rattle.question_text.proofs.Escaped.{word_back}
@@ -84,9 +84,6 @@ abbrev told_by : calls.Table → Site → List ℕ → Option Question
 told_by table site text = told table site (front text) (behind text)
 
 -- ---- the things of tables
-
-abbrev such_line : CallLine → CallLine
-such_line line = line
 
 name_there : (lines : List CallLine) (at : ℕ) (line : CallLine) → slice_get lines at ≡ Some line → name_at lines at ≡ line.name
 name_there lines at line stands = ap (λ (found : Option CallLine). option_map_or (λ line. line.name) found []) stands

@@ -1,9 +1,9 @@
 -- Questions of the list as they are printed, and what is read back.
 use Rattle.std.specs.Prelude.{◌≡◌, ℕ, List, Option, Some, None, Contains, map}
-use Rattle.call_table.specs.Table as calls
-use Rattle.site_table.specs.Table.{Site}
-use Rattle.kernel_laws.specs.Questions as asked
-use Rattle.question_types.specs.declared.question.Question.{Question}
+use Rattle.report_text.specs.call_table.Table as calls
+use Rattle.report_text.specs.site_table.Table.{Site}
+use Rattle.report_text.specs.kernel_laws.Questions as asked
+use Rattle.report_text.specs.kernel_laws.declared.question_types.question.Question.{Question}
 use Rattle.report_text.specs.Wording.{question_words}
 use Rattle.question_text.specs.declared.printed.PrintedQuestion.{PrintedQuestion}
 

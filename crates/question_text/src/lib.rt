@@ -13,3 +13,4 @@ mod reading;
 
 pub use printed::{PrintedQuestion, print_questions};
 pub use reading::{find_question, read_question};
+pub use report_text::questions;

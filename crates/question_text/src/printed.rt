@@ -1,17 +1,16 @@
 //! All questions of a table of calls and a site, as they are printed.
 ghost use Rattle.std.specs.Prelude.{◌≡◌, ◌∷◌, ◌++◌, [], ℕ, List, Contains, IfOk, codes, map};
 ghost use Rattle.std.specs.List.{All};
-ghost use Rattle.kernel_laws.specs.Questions.{questions};
+ghost use Rattle.report_text.specs.kernel_laws.Questions.{questions};
 ghost use Rattle.report_text.specs.Wording.{question_words};
 ghost use Rattle.question_text.specs.Printed.{ArePrinted, IsPrinted};
 
 use crate::laws::one_reading;
-use call_table::CallTable;
-use judge::Verdict;
-use question_types::Question;
-use questions::questions;
+use report_text::call_table::CallTable;
+use report_text::kernel_laws::question_types::{Question, Verdict};
+use report_text::questions::questions;
+use report_text::site_table::SiteTable;
 use report_text::verdict_line;
-use site_table::SiteTable;
 use std::alloc::{AllocError, Global};
 
 /// A question, with what a report prints behind its verdict.

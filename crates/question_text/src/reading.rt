@@ -1,13 +1,13 @@
 //! A question, read as it is printed.
 ghost use Rattle.std.specs.Prelude.{IfOk};
-ghost use Rattle.call_table.specs.Table.{Table};
-ghost use Rattle.site_table.specs.Table.{Site};
+ghost use Rattle.report_text.specs.call_table.Table.{Table};
+ghost use Rattle.report_text.specs.site_table.Table.{Site};
 ghost use Rattle.question_text.specs.Printed.{ArePrinted, Reads};
 
 use crate::printed::{PrintedQuestion, print_questions};
-use call_table::CallTable;
-use question_types::Question;
-use site_table::SiteTable;
+use report_text::call_table::CallTable;
+use report_text::kernel_laws::question_types::Question;
+use report_text::site_table::SiteTable;
 use std::alloc::{AllocError, Global};
 
 /// The question among all printed ones of which this is printed, without a line feed, if there is one.

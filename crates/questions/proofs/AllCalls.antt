@@ -2,12 +2,12 @@
 use Rattle.std.proofs.Common.{◌≡◌, ◌<◌, ℕ, zero, suc, Bool, List, [], ◌∷◌, ◌++◌, ◌+◌, Option, Some, false, length, drop, refl, ap, ◌∙◌, sym, arith, length-append}
 use Rattle.std.specs.Prelude.{slice_get, ◌&&◌}
 use Rattle.std.specs.Option.{option_map_or}
-use Rattle.call_table.proofs.AllCalls.{second_are}
-use Rattle.call_table.specs.Members.{is_first}
-use Rattle.call_table.specs.Table.{Table, calls_in, every_call, second_calls}
-use Rattle.call_table.specs.declared.listed.CallLine.{CallLine}
-use Rattle.kernel_calls.specs.Rules.{rule_of}
-use Rattle.question_types.specs.declared.question.Question.TheVariants.{Call}
+use Rattle.kernel_laws.proofs.CallTable.AllCalls.{second_are}
+use Rattle.kernel_laws.specs.call_table.Members.{is_first}
+use Rattle.kernel_laws.specs.call_table.Table.{Table, calls_in, every_call, second_calls}
+use Rattle.kernel_laws.specs.call_table.declared.listed.CallLine.{CallLine}
+use Rattle.kernel_laws.specs.kernel_model.kernel_calls.Rules.{rule_of}
+use Rattle.kernel_laws.specs.declared.question_types.question.Question.TheVariants.{Call}
 use Rattle.kernel_laws.specs.Questions.{if_so, is_plain, of_calls}
 
 module _ (table : Table) where

@@ -5,22 +5,22 @@ use Rattle.std.specs.List.{AllByRecursion}
 use Rattle.std.specs.Option.{option_map_or}
 use Rattle.std.proofs.lemmas.Bool.{and_from, and_parts, eqb-true, eq-eqb}
 use Rattle.std.proofs.lemmas.Bool.Decides.{nat_tests}
-use Rattle.call_table.specs.declared.listed.CallLine.{CallLine}
-use Rattle.call_table.specs.Lookups.{place_named}
-use Rattle.call_table.specs.Members.{is_first}
-use Rattle.call_table.specs.Table as calls
-use Rattle.site_table.specs.declared.row.Row.{Row}
-use Rattle.site_table.specs.declared.accounts.User.{User}
-use Rattle.site_table.specs.declared.accounts.Group.{Group}
-use Rattle.site_table.specs.Kinds.{is_dir, is_exe}
-use Rattle.site_table.specs.Table.{Site}
-use Rattle.kernel_calls.specs.Rules.{rule_of}
-use Rattle.question_types.specs.declared.wish.Wish.{Wish}
-use Rattle.question_types.specs.declared.wish.Wish.TheVariants.{See as ToSee, Read as ToRead, Write as ToWrite, Exec as ToExec}
-use Rattle.filter_rules.specs.declared.namespace_types.NamespaceType.{NamespaceType}
-use Rattle.filter_rules.specs.declared.namespace_types.NamespaceType.TheVariants.{Cgroup, Ipc, Net, Mnt, Pid, User as UserSpace, Uts}
-use Rattle.question_types.specs.declared.question.Question.{Question}
-use Rattle.question_types.specs.declared.question.Question.TheVariants.{Path as ByPath, Call, Socket, Namespace as Ns, MapWx, ProtectX, ShmX, Realtime, Personality, SuidBit, Cap, Uid, Gid}
+use Rattle.kernel_laws.specs.call_table.declared.listed.CallLine.{CallLine}
+use Rattle.kernel_laws.specs.call_table.Lookups.{place_named}
+use Rattle.kernel_laws.specs.call_table.Members.{is_first}
+use Rattle.kernel_laws.specs.call_table.Table as calls
+use Rattle.kernel_laws.specs.site_table.declared.row.Row.{Row}
+use Rattle.kernel_laws.specs.site_table.declared.accounts.User.{User}
+use Rattle.kernel_laws.specs.site_table.declared.accounts.Group.{Group}
+use Rattle.kernel_laws.specs.site_table.Kinds.{is_dir, is_exe}
+use Rattle.kernel_laws.specs.site_table.Table.{Site}
+use Rattle.kernel_laws.specs.kernel_model.kernel_calls.Rules.{rule_of}
+use Rattle.kernel_laws.specs.declared.question_types.wish.Wish.{Wish}
+use Rattle.kernel_laws.specs.declared.question_types.wish.Wish.TheVariants.{See as ToSee, Read as ToRead, Write as ToWrite, Exec as ToExec}
+use Rattle.kernel_laws.specs.filter_settings.declared.filter_rules.namespace_types.NamespaceType.{NamespaceType}
+use Rattle.kernel_laws.specs.filter_settings.declared.filter_rules.namespace_types.NamespaceType.TheVariants.{Cgroup, Ipc, Net, Mnt, Pid, User as UserSpace, Uts}
+use Rattle.kernel_laws.specs.declared.question_types.question.Question.{Question}
+use Rattle.kernel_laws.specs.declared.question_types.question.Question.TheVariants.{Path as ByPath, Call, Socket, Namespace as Ns, MapWx, ProtectX, ShmX, Realtime, Personality, SuidBit, Cap, Uid, Gid}
 use Rattle.kernel_laws.specs.Questions.{is_plain, if_so, of_row, of_rows, of_calls, of_families, count_from, some_ids, joined, uids_of, gids_of, other_questions, questions}
 use Rattle.questions.specs.Listed.{is_asked_of, IsUidOf, of_root, of_dynamic_user, of_user, of_owner, IsGidOf, of_root_group, of_dynamic_group, of_group, of_group_of_user, of_further_group, of_group_of_row, IsAskedOf, ListsWhatIsAsked}
 use Rattle.questions.proofs.Among.{Has, has_contained, contains_had, has_append, has_left, has_right, all_had, Some_one, some_any, any_some, has_mapped, mapped_has}

@@ -3,16 +3,16 @@ use Rattle.std.proofs.Common.{◌≡◌, ◌<◌, ◌≤◌, inl, inr, ℕ, zero
 use Rattle.std.specs.Prelude.{not, nat_lt, ◌==◌, ◌||◌, ◌&&◌}
 use Rattle.std.specs.List.{AllByRecursion, list_all}
 use Rattle.std.proofs.lemmas.Bool.{and_parts, or_cases, not-true, eqb-true, ltb-true, ltb-false}
-use Rattle.call_table.specs.declared.listed.CallLine.{CallLine}
-use Rattle.call_table.specs.Members.{is_first}
-use Rattle.call_table.specs.Table as calls
-use Rattle.site_table.specs.declared.row.Row.{Row}
-use Rattle.site_table.specs.Kinds.{is_dir, is_exe}
-use Rattle.site_table.specs.Table.{Site}
-use Rattle.kernel_calls.specs.Rules.{rule_of}
-use Rattle.question_types.specs.declared.wish.Wish.TheVariants.{See as ToSee, Read as ToRead, Write as ToWrite, Exec as ToExec}
-use Rattle.question_types.specs.declared.question.Question.{Question}
-use Rattle.question_types.specs.declared.question.Question.TheVariants.{Path as ByPath, Call, Socket, Cap, Uid, Gid}
+use Rattle.kernel_laws.specs.call_table.declared.listed.CallLine.{CallLine}
+use Rattle.kernel_laws.specs.call_table.Members.{is_first}
+use Rattle.kernel_laws.specs.call_table.Table as calls
+use Rattle.kernel_laws.specs.site_table.declared.row.Row.{Row}
+use Rattle.kernel_laws.specs.site_table.Kinds.{is_dir, is_exe}
+use Rattle.kernel_laws.specs.site_table.Table.{Site}
+use Rattle.kernel_laws.specs.kernel_model.kernel_calls.Rules.{rule_of}
+use Rattle.kernel_laws.specs.declared.question_types.wish.Wish.TheVariants.{See as ToSee, Read as ToRead, Write as ToWrite, Exec as ToExec}
+use Rattle.kernel_laws.specs.declared.question_types.question.Question.{Question}
+use Rattle.kernel_laws.specs.declared.question_types.question.Question.TheVariants.{Path as ByPath, Call, Socket, Cap, Uid, Gid}
 use Rattle.kernel_laws.specs.Questions.{is_plain, if_so, of_rows, of_calls, of_families, count_from, some_ids, joined, uids_of, gids_of, other_questions, questions}
 use Rattle.questions.specs.Listed.{kind_of, place_of, IsBefore, StandInOrder}
 use Rattle.questions.proofs.Ascending.{Rises, ascending_rises}

@@ -1,9 +1,9 @@
 -- A loop that adds to a list what is asked of one thing after another: what stands in it and what is left make the whole.
 use Rattle.std.proofs.Common.{◌≡◌, ◌<◌, ℕ, zero, suc, List, [], ◌∷◌, ◌++◌, ◌+◌, ◌-◌, length, drop, map, refl, ap, ◌∙◌, sym, append_assoc, arith}
-use Rattle.call_table.specs.declared.listed.CallLine.{CallLine}
+use Rattle.kernel_laws.specs.call_table.declared.listed.CallLine.{CallLine}
 use Rattle.kernel_laws.specs.Questions.{of_families, count_from}
-use Rattle.question_types.specs.declared.question.Question.{Question}
-use Rattle.question_types.specs.declared.question.Question.TheVariants.{Socket, Cap}
+use Rattle.kernel_laws.specs.declared.question_types.question.Question.{Question}
+use Rattle.kernel_laws.specs.declared.question_types.question.Question.TheVariants.{Socket, Cap}
 
 -- one piece more
 pub piece_more : {X : Type 0} (old new piece rest next whole : List X) → old ++ rest ≡ whole → new ≡ old ++ piece → rest ≡ piece ++ next → new ++ next ≡ whole

@@ -1,25 +1,25 @@
 -- The list of questions, in words of its own: which questions are in it, and which comes before which.
 use Rattle.std.specs.Prelude.{◌≡◌, ◌↔◌, ◌⊎◌, ◌<◌, ◌≤◌, ◌*◌, ◌+◌, ℕ, Bool, true, not, List, length, slice_get, Some, Any, AllPairs, Contains}
 use Rattle.std.specs.List.Sorted.{IsStrictlyIncreasing}
-use Rattle.linux_numbers.specs.Capabilities.{cap_last_cap}
-use Rattle.call_table.specs.declared.listed.CallLine.{CallLine}
-use Rattle.call_table.specs.Lookups.{place_named}
-use Rattle.call_table.specs.Table as calls
-use Rattle.site_table.specs.declared.kinds.RowKind.{RowKind}
-use Rattle.site_table.specs.declared.row.Row.{Row}
-use Rattle.site_table.specs.declared.accounts.User.{User}
-use Rattle.site_table.specs.declared.accounts.Group.{Group}
-use Rattle.site_table.specs.Kinds.{is_dir, is_exe}
-use Rattle.site_table.specs.Table.{Site}
-use Rattle.filter_rules.specs.declared.namespace_types.NamespaceType.{NamespaceType}
-use Rattle.filter_rules.specs.NamespaceTypes as filter
-use Rattle.kernel_calls.specs.Rules.{rule_of}
+use Rattle.kernel_laws.specs.linux_numbers.Capabilities.{cap_last_cap}
+use Rattle.kernel_laws.specs.call_table.declared.listed.CallLine.{CallLine}
+use Rattle.kernel_laws.specs.call_table.Lookups.{place_named}
+use Rattle.kernel_laws.specs.call_table.Table as calls
+use Rattle.kernel_laws.specs.site_table.declared.kinds.RowKind.{RowKind}
+use Rattle.kernel_laws.specs.site_table.declared.row.Row.{Row}
+use Rattle.kernel_laws.specs.site_table.declared.accounts.User.{User}
+use Rattle.kernel_laws.specs.site_table.declared.accounts.Group.{Group}
+use Rattle.kernel_laws.specs.site_table.Kinds.{is_dir, is_exe}
+use Rattle.kernel_laws.specs.site_table.Table.{Site}
+use Rattle.kernel_laws.specs.filter_settings.declared.filter_rules.namespace_types.NamespaceType.{NamespaceType}
+use Rattle.kernel_laws.specs.filter_settings.filter_rules.NamespaceTypes as filter
+use Rattle.kernel_laws.specs.kernel_model.kernel_calls.Rules.{rule_of}
 use Rattle.kernel_laws.specs.Questions.{flag_of, is_plain, ascending, questions}
-use Rattle.question_types.specs.declared.wish.Wish.{Wish}
-use Rattle.question_types.specs.declared.wish.Wish.TheVariants.{See as ToSee, Read as ToRead, Write as ToWrite, Exec as ToExec}
-use Rattle.filter_rules.specs.declared.namespace_types.NamespaceType.TheVariants.{Cgroup, Ipc, Net, Mnt, Pid, User as UserSpace, Uts}
-use Rattle.question_types.specs.declared.question.Question.{Question}
-use Rattle.question_types.specs.declared.question.Question.TheVariants.{Path as ByPath, Call, Socket, Namespace as Ns, MapWx, ProtectX, ShmX, Realtime, Personality, SuidBit, Cap, Uid, Gid}
+use Rattle.kernel_laws.specs.declared.question_types.wish.Wish.{Wish}
+use Rattle.kernel_laws.specs.declared.question_types.wish.Wish.TheVariants.{See as ToSee, Read as ToRead, Write as ToWrite, Exec as ToExec}
+use Rattle.kernel_laws.specs.filter_settings.declared.filter_rules.namespace_types.NamespaceType.TheVariants.{Cgroup, Ipc, Net, Mnt, Pid, User as UserSpace, Uts}
+use Rattle.kernel_laws.specs.declared.question_types.question.Question.{Question}
+use Rattle.kernel_laws.specs.declared.question_types.question.Question.TheVariants.{Path as ByPath, Call, Socket, Namespace as Ns, MapWx, ProtectX, ShmX, Realtime, Personality, SuidBit, Cap, Uid, Gid}
 
 -- what is asked of a row of this kind: anything may be seen and read, what is no directory written, an executable executed
 abbrev pub is_asked_of : Wish → RowKind → Bool

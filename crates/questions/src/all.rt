@@ -2,15 +2,15 @@
 
 ghost use Rattle.std.specs.Prelude.{◌≡◌, ◌++◌, map, IfOk, OnOk};
 ghost use Rattle.kernel_laws.specs.Questions.{count_from, questions};
-ghost use Rattle.question_types.specs.declared.question.Question.TheVariants.{Cap as of_cap, Uid as of_uid, Gid as of_gid};
+ghost use Rattle.kernel_laws.specs.declared.question_types.question.Question.TheVariants.{Cap as of_cap, Uid as of_uid, Gid as of_gid};
 
 use crate::ids::{gids, uids};
 use crate::question::other_questions;
 use crate::tables::{push_calls, push_families, push_rows};
-use call_table::CallTable;
-use linux_numbers::capabilities::CAP_LAST_CAP;
-use question_types::Question;
-use site_table::SiteTable;
+use kernel_laws::call_table::CallTable;
+use kernel_laws::linux_numbers::capabilities::CAP_LAST_CAP;
+use kernel_laws::question_types::Question;
+use kernel_laws::site_table::SiteTable;
 use std::alloc::{AllocError, Global};
 
 // Adds a question of each capability.

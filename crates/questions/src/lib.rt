@@ -12,3 +12,5 @@ mod question;
 mod tables;
 
 pub use all::questions;
+pub use kernel_laws;
+pub use kernel_laws::kernel_model;

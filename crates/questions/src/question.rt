@@ -3,8 +3,8 @@
 ghost use Rattle.std.specs.Prelude.{◌≡◌, map};
 ghost use Rattle.kernel_laws.specs.Questions.{other_questions};
 
-use filter_rules::NamespaceType;
-use question_types::Question;
+use kernel_laws::filter_settings::filter_rules::NamespaceType;
+use kernel_laws::question_types::Question;
 
 // The questions of no table, in their order.
 pub(crate) fn other_questions() -> &'static [Question]

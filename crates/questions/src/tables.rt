@@ -2,16 +2,16 @@
 
 ghost use Rattle.std.specs.Prelude.{◌≡◌, ◌++◌, ◌&&◌, false, length, map, slice_get, OnOk};
 ghost use Rattle.std.specs.Option.{option_map_or};
-ghost use Rattle.call_table.specs.Members.{is_first};
-ghost use Rattle.call_table.specs.Table.{every_call};
-ghost use Rattle.kernel_calls.specs.Rules.{rule_of};
+ghost use Rattle.kernel_laws.specs.call_table.Members.{is_first};
+ghost use Rattle.kernel_laws.specs.call_table.Table.{every_call};
+ghost use Rattle.kernel_laws.specs.kernel_model.kernel_calls.Rules.{rule_of};
 ghost use Rattle.kernel_laws.specs.Questions.{if_so, is_plain, of_row, of_rows, of_calls, of_families};
-ghost use Rattle.question_types.specs.declared.question.Question.TheVariants.{Call};
+ghost use Rattle.kernel_laws.specs.declared.question_types.question.Question.TheVariants.{Call};
 
-use call_names::is_known;
-use call_table::{CallLine, CallTable};
-use question_types::{Question, Wish};
-use site_table::{Row, RowKind};
+use kernel_laws::call_table::call_names::is_known;
+use kernel_laws::call_table::{CallLine, CallTable};
+use kernel_laws::question_types::{Question, Wish};
+use kernel_laws::site_table::{Row, RowKind};
 use std::alloc::AllocError;
 
 // Adds what is asked of a row: to see and read it, to write what is no directory, to execute what can be executed.

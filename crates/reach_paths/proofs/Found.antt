@@ -2,28 +2,28 @@
 use Rattle.std.proofs.Common.{◌≡◌, ◌∙◌, ℕ, true, [], ◌∷◌, ◌++◌, Option, Some, refl, ap, sym, subst, arith}
 use Rattle.std.specs.Prelude.{is_some, IsSome}
 use Rattle.std.specs.List.{AllByRecursion}
-use Rattle.abs_path.specs.Paths.{Path, proc}
-use Rattle.abs_path.specs.Prefix.{rest_of}
-use Rattle.site_table.specs.declared.row.Row.{Row}
-use Rattle.site_table.specs.Table.{Site, IsSite, IsRowOf, row_at}
-use Rattle.kern_mounts.specs.Entry.{leads_to, entry_of}
-use Rattle.kern_mounts.specs.Finds.{found_at, found_by, row_or_nothing}
-use Rattle.kern_mounts.specs.Launch.{HasShortPlace, CanBeMounted}
-use Rattle.kern_mounts.specs.declared.step.MountStep.{MountStep}
-use Rattle.kern_mounts.specs.Split.{Table}
-use Rattle.kern_mounts.specs.Table.{StartsAtRoot}
-use Rattle.kern_mounts.specs.Unmounts.{IsOrdered}
-use Rattle.kern_mounts.proofs.Leaving.{ascending_is_ordered}
-use Rattle.abs_path.proofs.Prefixes.{rest-append}
-use Rattle.kern_mounts.proofs.Splits.{split_some, of_split}
-use Rattle.kern_mounts.proofs.Unmounting.{append_all, trimmed_part, unmounts_trim}
-use Rattle.kern_files.specs.Looking.{flags_by}
-use Rattle.kern_files.specs.MountCall.{ms_bind, ms_remount_bind, flags_of}
-use Rattle.kernel_calls.specs.Calls.{IsPath}
-use Rattle.question_types.specs.declared.wish.Wish.{Wish}
-use Rattle.question_types.specs.declared.wish.Wish.TheVariants.{See as ToSee, Read as ToRead, Write as ToWrite, Exec as ToExec}
-use Rattle.question_types.specs.declared.power.Power.{Power}
-use Rattle.question_types.specs.declared.power.Power.TheVariants.{None as Nowise, Unmount as Unmounting, Mount as Mounting}
+use Rattle.kernel_laws.specs.abs_path.Paths.{Path, proc}
+use Rattle.kernel_laws.specs.abs_path.Prefix.{rest_of}
+use Rattle.kernel_laws.specs.site_table.declared.row.Row.{Row}
+use Rattle.kernel_laws.specs.site_table.Table.{Site, IsSite, IsRowOf, row_at}
+use Rattle.kernel_laws.specs.kern_mounts.Entry.{leads_to, entry_of}
+use Rattle.kernel_laws.specs.kern_mounts.Finds.{found_at, found_by, row_or_nothing}
+use Rattle.kernel_laws.specs.kern_mounts.Launch.{HasShortPlace, CanBeMounted}
+use Rattle.kernel_laws.specs.kern_mounts.declared.step.MountStep.{MountStep}
+use Rattle.kernel_laws.specs.kern_mounts.Split.{Table}
+use Rattle.kernel_laws.specs.kern_mounts.Table.{StartsAtRoot}
+use Rattle.kernel_laws.specs.kern_mounts.Unmounts.{IsOrdered}
+use Rattle.kernel_laws.proofs.KernMounts.Leaving.{ascending_is_ordered}
+use Rattle.kernel_laws.proofs.AbsPath.Prefixes.{rest-append}
+use Rattle.kernel_laws.proofs.KernMounts.Splits.{split_some, of_split}
+use Rattle.kernel_laws.proofs.KernMounts.Unmounting.{append_all, trimmed_part, unmounts_trim}
+use Rattle.kernel_laws.specs.kernel_model.kern_files.Looking.{flags_by}
+use Rattle.kernel_laws.specs.kernel_model.kern_files.MountCall.{ms_bind, ms_remount_bind, flags_of}
+use Rattle.kernel_laws.specs.kernel_model.kernel_calls.Calls.{IsPath}
+use Rattle.kernel_laws.specs.declared.question_types.wish.Wish.{Wish}
+use Rattle.kernel_laws.specs.declared.question_types.wish.Wish.TheVariants.{See as ToSee, Read as ToRead, Write as ToWrite, Exec as ToExec}
+use Rattle.kernel_laws.specs.declared.question_types.power.Power.{Power}
+use Rattle.kernel_laws.specs.declared.question_types.power.Power.TheVariants.{None as Nowise, Unmount as Unmounting, Mount as Mounting}
 use Rattle.kernel_laws.specs.Reach.{fits, Leads, reach, reaches}
 use Rattle.kernel_laws.proofs.Reach.{leads}
 use Rattle.kernel_laws.proofs.ReachLaws.{reach_of_the_table, reach_by_unmounts}

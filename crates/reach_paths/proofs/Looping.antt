@@ -3,14 +3,14 @@ use Rattle.std.proofs.Common.{◌≡◌, ◌≤◌, ◌∙◌, ℕ, zero, suc, B
 use Rattle.std.specs.Prelude.{slice_get, not, ◌||◌, ◌&&◌}
 use Rattle.std.specs.List.{list_any}
 use Rattle.std.proofs.lemmas.Bool.{and_from}
-use Rattle.abs_path.specs.Paths.{Path, tail_of, parts_of, is_normal}
-use Rattle.abs_path.specs.Prefix.{is_prefix, rest_of, rest_text}
-use Rattle.kern_mounts.specs.Entry.{leads_to}
-use Rattle.kern_mounts.specs.declared.step.What.TheVariants.{Host}
-use Rattle.abs_path.proofs.Reading.{parts_behind}
-use Rattle.kern_mounts.specs.declared.step.MountStep.{MountStep}
-use Rattle.kern_mounts.specs.Split.{Table}
-use Rattle.question_types.specs.declared.wish.Wish.{Wish}
+use Rattle.kernel_laws.specs.abs_path.Paths.{Path, tail_of, parts_of, is_normal}
+use Rattle.kernel_laws.specs.abs_path.Prefix.{is_prefix, rest_of, rest_text}
+use Rattle.kernel_laws.specs.kern_mounts.Entry.{leads_to}
+use Rattle.kernel_laws.specs.kern_mounts.declared.step.What.TheVariants.{Host}
+use Rattle.kernel_laws.proofs.AbsPath.Reading.{parts_behind}
+use Rattle.kernel_laws.specs.kern_mounts.declared.step.MountStep.{MountStep}
+use Rattle.kernel_laws.specs.kern_mounts.Split.{Table}
+use Rattle.kernel_laws.specs.declared.question_types.wish.Wish.{Wish}
 use Rattle.kernel_laws.specs.Reach.{fits, shows_row, serves, reach_from}
 
 pub from_here : (table : Table) (at : ℕ) (entry : MountStep) → slice_get table at ≡ Some entry → drop at table ≡ entry ∷ drop (at + 1) table
@@ -32,14 +32,8 @@ module _ (p : MountStep → Bool) (table : Table) (at : ℕ) where
   pub any_not_here : (entry : MountStep) → slice_get table at ≡ Some entry → p entry ≡ false → list_any p (drop (at + 1) table) ≡ list_any p (drop at table)
   any_not_here entry e is = sym (ap (list_any p) (from_here table at entry e) ∙ ap (λ b. b || list_any p (drop (at + 1) table)) is)
 
-  pub any_none : length table ≤ at → false ≡ list_any p (drop at table)
-  any_none h = sym (ap (list_any p) (none_from table at h))
-
 -- ---- the first entry that serves from here on
 module _ (uncover : Bool) (row : Path) (wish : Wish) (table : Table) (at : ℕ) where
-  pub none_serves : length table ≤ at → None ≡ reach_from uncover row wish (drop at table) at
-  none_serves h = sym (ap (λ t. reach_from uncover row wish t at) (none_from table at h))
-
   step : (entry : MountStep) → slice_get table at ≡ Some entry → (b : Bool) → serves uncover row wish entry (drop (at + 1) table) ≡ b
       → reach_from uncover row wish (drop at table) at ≡ cond b (Some at) (reach_from uncover row wish (drop (at + 1) table) (at + 1))
   step entry e b is =

@@ -4,29 +4,29 @@ use Rattle.std.specs.Prelude.{map, nat_lt, ◌+◌, option_map}
 use Rattle.std.specs.List.{AllByRecursion}
 use Rattle.std.proofs.lemmas.Bool.{false≢true}
 use Rattle.std.proofs.lemmas.Bool.Decides.{nat_tests}
-use Rattle.abs_path.specs.Paths.{Path, is_root, proc}
-use Rattle.abs_path.specs.Prefix.{is_prefix, is_same, rest_of}
-use Rattle.abs_path.specs.ByteOrder.{AreAscending, is_before}
-use Rattle.abs_path.proofs.ByteOrder.{not_before_itself}
-use Rattle.abs_path.proofs.Prefixes.{prefix-append, prefix_itself, same_itself}
-use Rattle.site_table.specs.declared.row.Row.{Row}
-use Rattle.site_table.specs.Kinds.{is_dir}
-use Rattle.site_table.specs.Table.{Site, IsSite, row_at}
-use Rattle.kern_mounts.specs.Entry.{leads_to, entry_of}
-use Rattle.kern_mounts.specs.Finds.{empty_directory, nothing, finds, found_at, found_by, row_or_nothing}
-use Rattle.kern_mounts.specs.Launch.{BeginsAtRoot, CanBeMounted, IsDirectory, FindsProc}
-use Rattle.kern_mounts.specs.declared.step.Flags.{Flags}
-use Rattle.kern_mounts.specs.declared.step.What.{What}
-use Rattle.kern_mounts.specs.declared.step.What.TheVariants.{Host, Empty, Hidden}
-use Rattle.kern_mounts.specs.declared.step.MountStep.{MountStep}
-use Rattle.kern_mounts.specs.Split.{Table, split_at}
-use Rattle.kern_mounts.specs.Bind.{bound, bound_entry, after_bind}
-use Rattle.kern_mounts.specs.Remount.{remounted, after_remount}
-use Rattle.kern_mounts.proofs.Entries.{entry_push}
-use Rattle.kern_mounts.proofs.Splits.{split_is, of_split}
-use Rattle.kern_files.specs.Bits.{has_all}
-use Rattle.kern_files.specs.Looking.{flags_by}
-use Rattle.kern_files.specs.MountCall.{ms_bind, ms_remount_bind, has_other_kind, flags_of, kind_found, hidden_kind, hidden_at, or_found, target_kind, bind_found, mount_onto, after_mount}
+use Rattle.kernel_laws.specs.abs_path.Paths.{Path, is_root, proc}
+use Rattle.kernel_laws.specs.abs_path.Prefix.{is_prefix, is_same, rest_of}
+use Rattle.kernel_laws.specs.abs_path.ByteOrder.{AreAscending, is_before}
+use Rattle.kernel_laws.proofs.AbsPath.ByteOrder.{not_before_itself}
+use Rattle.kernel_laws.proofs.AbsPath.Prefixes.{prefix-append, prefix_itself, same_itself}
+use Rattle.kernel_laws.specs.site_table.declared.row.Row.{Row}
+use Rattle.kernel_laws.specs.site_table.Kinds.{is_dir}
+use Rattle.kernel_laws.specs.site_table.Table.{Site, IsSite, row_at}
+use Rattle.kernel_laws.specs.kern_mounts.Entry.{leads_to, entry_of}
+use Rattle.kernel_laws.specs.kern_mounts.Finds.{empty_directory, nothing, finds, found_at, found_by, row_or_nothing}
+use Rattle.kernel_laws.specs.kern_mounts.Launch.{BeginsAtRoot, CanBeMounted, IsDirectory, FindsProc}
+use Rattle.kernel_laws.specs.kern_mounts.declared.step.Flags.{Flags}
+use Rattle.kernel_laws.specs.kern_mounts.declared.step.What.{What}
+use Rattle.kernel_laws.specs.kern_mounts.declared.step.What.TheVariants.{Host, Empty, Hidden}
+use Rattle.kernel_laws.specs.kern_mounts.declared.step.MountStep.{MountStep}
+use Rattle.kernel_laws.specs.kern_mounts.Split.{Table, split_at}
+use Rattle.kernel_laws.specs.kern_mounts.Bind.{bound, bound_entry, after_bind}
+use Rattle.kernel_laws.specs.kern_mounts.Remount.{remounted, after_remount}
+use Rattle.kernel_laws.proofs.KernMounts.Entries.{entry_push}
+use Rattle.kernel_laws.proofs.KernMounts.Splits.{split_is, of_split}
+use Rattle.kernel_laws.specs.kernel_model.kern_files.Bits.{has_all}
+use Rattle.kernel_laws.specs.kernel_model.kern_files.Looking.{flags_by}
+use Rattle.kernel_laws.specs.kernel_model.kern_files.MountCall.{ms_bind, ms_remount_bind, has_other_kind, flags_of, kind_found, hidden_kind, hidden_at, or_found, target_kind, bind_found, mount_onto, after_mount}
 use Rattle.kernel_laws.proofs.ExposedByMount.{none_leads}
 use Rattle.reach_paths.specs.Finding.{dirs_of}
 use Rattle.reach_paths.specs.Mounting.{IsBelowProc, MountedTwice, MountedTwiceShowsAll}

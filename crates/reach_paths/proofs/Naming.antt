@@ -1,7 +1,7 @@
 -- Paths that a call can name: a short place and a short rest behind it.
 use Rattle.std.proofs.Common.{◌≡◌, ◌≤◌, true, ◌++◌, ap, length, arith}
-use Rattle.abs_path.specs.Paths.{Path, tail_of, text_of, is_normal}
-use Rattle.kernel_calls.specs.Calls.{IsPath}
+use Rattle.kernel_laws.specs.abs_path.Paths.{Path, tail_of, text_of, is_normal}
+use Rattle.kernel_laws.specs.kernel_model.kernel_calls.Calls.{IsPath}
 use Rattle.kernel_laws.proofs.Exposed.{normal_append, normal_rest, tail_append, text_length, tail_length}
 
 -- of two paths of at most 250 bytes, the one behind the other

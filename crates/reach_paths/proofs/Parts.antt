@@ -1,11 +1,11 @@
 -- What tables and their parts have.
 use Rattle.std.specs.Prelude.{[], ◌∷◌}
 use Rattle.std.specs.List.{AllByRecursion}
-use Rattle.kern_mounts.specs.Launch.{BeginsAtRoot}
-use Rattle.kern_mounts.specs.Table.{StartsAtRoot}
-use Rattle.kern_mounts.specs.declared.step.MountStep.{MountStep}
-use Rattle.kern_mounts.specs.Split.{Table}
-use Rattle.kern_mounts.specs.Unmounts.{IsPart, nothing, keeps, leaves}
+use Rattle.kernel_laws.specs.kern_mounts.Launch.{BeginsAtRoot}
+use Rattle.kernel_laws.specs.kern_mounts.Table.{StartsAtRoot}
+use Rattle.kernel_laws.specs.kern_mounts.declared.step.MountStep.{MountStep}
+use Rattle.kernel_laws.specs.kern_mounts.Split.{Table}
+use Rattle.kernel_laws.specs.kern_mounts.Unmounts.{IsPart, nothing, keeps, leaves}
 
 -- what holds of each entry of a table holds of each entry of a part
 pub part_all : (P : MountStep → Type 0) {part table : Table} → IsPart part table → AllByRecursion P table → AllByRecursion P part

@@ -2,31 +2,31 @@
 use Rattle.std.proofs.Common.{◌≡◌, ◌∙◌, ℕ, zero, suc, Bool, true, false, List, [], ◌∷◌, ◌++◌, Some, Ok, refl, cond, ap, sym, subst, arith, map}
 use Rattle.std.specs.Prelude.{slice_get, slice_set, ◌-◌}
 use Rattle.std.specs.List.{AllByRecursion}
-use Rattle.abs_path.specs.Paths.{Path, proc}
-use Rattle.site_table.specs.Table.{row_at}
-use Rattle.kern_mounts.specs.Launch.{HasShortPlace}
-use Rattle.kern_mounts.specs.Answer.{plain_answer}
-use Rattle.kern_mounts.specs.Mounts.{Mounts, plain}
-use Rattle.kern_mounts.specs.Split.{Table}
-use Rattle.kern_mounts.specs.Table.{StartsAtRoot}
-use Rattle.kern_mounts.specs.Umount.{after_umount}
-use Rattle.kern_mounts.specs.Unmounts.{Unmounts, still, then_one}
-use Rattle.kern_mounts.proofs.Unmounting.{removes, trims, trimmed_part, trimmed_top, append_all}
-use Rattle.kern_files.specs.MountCall.{ms_bind, after_mount}
-use Rattle.kern_files.specs.UmountCall.{umount_answer}
-use Rattle.kern_files.specs.MountsCall.{mounts_after_mount, mounts_umount_answer}
-use Rattle.kern_files.proofs.MountsCall.{mount_entries, umount_answer_entries}
-use Rattle.kernel_calls.specs.Calls.{IsPath}
-use Rattle.kernel_calls.specs.Doing.{Doing, Mount, Umount}
-use Rattle.kernel_calls.specs.declared.call.Call.{Call}
-use Rattle.kernel_model.specs.Effects.{Effect, Refuse, SetTable, table_effect, effect_of}
-use Rattle.kernel_model.specs.Runs.{moments, run, IsDone, AllDone}
-use Rattle.kernel_model.specs.Step.{step, step_by, decided, answered, applied}
-use Rattle.kernel_model.specs.World.{World, living_of, mounts_of, table_or, with_table, host_of, caller_of}
-use Rattle.kernel_model.specs.declared.process.Process.{Process}
-use Rattle.kernel_model.specs.declared.reply.Reply.{Reply}
-use Rattle.kernel_model.specs.declared.reply.Reply.TheVariants.{Done}
-use Rattle.cap_sets.specs.Sets.{has}
+use Rattle.kernel_laws.specs.abs_path.Paths.{Path, proc}
+use Rattle.kernel_laws.specs.site_table.Table.{row_at}
+use Rattle.kernel_laws.specs.kern_mounts.Launch.{HasShortPlace}
+use Rattle.kernel_laws.specs.kern_mounts.Answer.{plain_answer}
+use Rattle.kernel_laws.specs.kern_mounts.Mounts.{Mounts, plain}
+use Rattle.kernel_laws.specs.kern_mounts.Split.{Table}
+use Rattle.kernel_laws.specs.kern_mounts.Table.{StartsAtRoot}
+use Rattle.kernel_laws.specs.kern_mounts.Umount.{after_umount}
+use Rattle.kernel_laws.specs.kern_mounts.Unmounts.{Unmounts, still, then_one}
+use Rattle.kernel_laws.proofs.KernMounts.Unmounting.{removes, trims, trimmed_part, trimmed_top, append_all}
+use Rattle.kernel_laws.specs.kernel_model.kern_files.MountCall.{ms_bind, after_mount}
+use Rattle.kernel_laws.specs.kernel_model.kern_files.UmountCall.{umount_answer}
+use Rattle.kernel_laws.specs.kernel_model.kern_files.MountsCall.{mounts_after_mount, mounts_umount_answer}
+use Rattle.kernel_laws.proofs.KernelModel.MountsCall.{mount_entries, umount_answer_entries}
+use Rattle.kernel_laws.specs.kernel_model.kernel_calls.Calls.{IsPath}
+use Rattle.kernel_laws.specs.kernel_model.kernel_calls.Doing.{Doing, Mount, Umount}
+use Rattle.kernel_laws.specs.kernel_model.declared.kernel_calls.call.Call.{Call}
+use Rattle.kernel_laws.specs.kernel_model.Effects.{Effect, Refuse, SetTable, table_effect, effect_of}
+use Rattle.kernel_laws.specs.kernel_model.Runs.{moments, run, IsDone, AllDone}
+use Rattle.kernel_laws.specs.kernel_model.Step.{step, step_by, decided, answered, applied}
+use Rattle.kernel_laws.specs.kernel_model.World.{World, living_of, mounts_of, table_or, with_table, host_of, caller_of}
+use Rattle.kernel_laws.specs.kernel_model.declared.process.Process.{Process}
+use Rattle.kernel_laws.specs.kernel_model.declared.reply.Reply.{Reply}
+use Rattle.kernel_laws.specs.kernel_model.declared.reply.Reply.TheVariants.{Done}
+use Rattle.kernel_laws.specs.cap_sets.Sets.{has}
 use Rattle.kernel_laws.proofs.Numbered.{number_get, get_number}
 use Rattle.reach_paths.specs.Processes.{CanMount, AsksFor, LeadsTo, MountingShowsAll, umount_flags, CanAskToUnmount, UnmountingIsDone}
 use Rattle.reach_paths.proofs.Mounted.{mounted_twice}

@@ -2,13 +2,13 @@
 use Rattle.std.proofs.Common.{◌≡◌, ◌∙◌, Bool, true, false, List, [], ◌∷◌, Option, Some, None, refl, cond, ap, sym, subst}
 use Rattle.std.specs.Prelude.{option_map}
 use Rattle.std.specs.List.{AllByRecursion}
-use Rattle.abs_path.specs.Paths.{Path}
-use Rattle.abs_path.specs.Prefix.{is_same}
-use Rattle.abs_path.proofs.Prefixes.{same_path}
-use Rattle.site_table.specs.declared.kinds.RowKind.TheVariants.{Dir}
-use Rattle.site_table.specs.declared.row.Row.{Row}
-use Rattle.site_table.specs.Kinds.{is_dir}
-use Rattle.site_table.specs.Table.{Site, IsSite, IsRowOf, row_at}
+use Rattle.kernel_laws.specs.abs_path.Paths.{Path}
+use Rattle.kernel_laws.specs.abs_path.Prefix.{is_same}
+use Rattle.kernel_laws.proofs.AbsPath.Prefixes.{same_path}
+use Rattle.kernel_laws.specs.site_table.declared.kinds.RowKind.TheVariants.{Dir}
+use Rattle.kernel_laws.specs.site_table.declared.row.Row.{Row}
+use Rattle.kernel_laws.specs.site_table.Kinds.{is_dir}
+use Rattle.kernel_laws.specs.site_table.Table.{Site, IsSite, IsRowOf, row_at}
 
 -- its path is the one that it is found by
 pub found_path : (rows : List Row) (path : Path) (found : Row) → row_at rows path ≡ Some found → found.path ≡ path

@@ -3,16 +3,16 @@ use Rattle.std.proofs.Common.{◌≡◌, ◌<◌, ℕ, suc, Bool, true, false, [
 use Rattle.std.specs.Prelude.{not, ◌||◌}
 use Rattle.std.specs.List.{list_any}
 use Rattle.std.proofs.lemmas.Bool.{and_from}
-use Rattle.abs_path.specs.Paths.{Path}
-use Rattle.abs_path.specs.Prefix.{is_prefix, rest_of}
-use Rattle.abs_path.proofs.Prefixes.{prefix-append, rest-append}
-use Rattle.kern_mounts.specs.Entry.{leads_to}
-use Rattle.kern_mounts.specs.declared.step.MountStep.{MountStep}
-use Rattle.kern_mounts.specs.Split.{Table}
-use Rattle.kern_mounts.proofs.Splits.{split_some}
-use Rattle.question_types.specs.declared.wish.Wish.{Wish}
-use Rattle.question_types.specs.declared.power.Power.{Power}
-use Rattle.question_types.specs.declared.power.Power.TheVariants.{None as Nowise, Unmount as Unmounting, Mount as Mounting}
+use Rattle.kernel_laws.specs.abs_path.Paths.{Path}
+use Rattle.kernel_laws.specs.abs_path.Prefix.{is_prefix, rest_of}
+use Rattle.kernel_laws.proofs.AbsPath.Prefixes.{prefix-append, rest-append}
+use Rattle.kernel_laws.specs.kern_mounts.Entry.{leads_to}
+use Rattle.kernel_laws.specs.kern_mounts.declared.step.MountStep.{MountStep}
+use Rattle.kernel_laws.specs.kern_mounts.Split.{Table}
+use Rattle.kernel_laws.proofs.KernMounts.Splits.{split_some}
+use Rattle.kernel_laws.specs.declared.question_types.wish.Wish.{Wish}
+use Rattle.kernel_laws.specs.declared.question_types.power.Power.{Power}
+use Rattle.kernel_laws.specs.declared.question_types.power.Power.TheVariants.{None as Nowise, Unmount as Unmounting, Mount as Mounting}
 use Rattle.kernel_laws.specs.Reach.{shows_row, serves, reach_from, reach}
 use Rattle.kernel_laws.proofs.Reach.{none_any}
 use Rattle.kernel_laws.proofs.ReachLaws.{Served, served_of, served_leads}

@@ -1,18 +1,18 @@
 -- Where a row of a site can be found, on the tables that a power makes of one (path_resolution(7), mount_namespaces(7)).
 use Rattle.std.specs.Prelude.{◌≡◌, ℕ, ◌<◌, ◌^◌, Bool, true, Option, Ok, option_map}
-use Rattle.abs_path.specs.Paths.{Path}
-use Rattle.site_table.specs.declared.row.Row.{Row}
-use Rattle.site_table.specs.Kinds.{is_dir}
-use Rattle.site_table.specs.Table.{Site, kind_at}
-use Rattle.kern_mounts.specs.Finds.{row, finds}
-use Rattle.kern_mounts.specs.Split.{Table}
-use Rattle.kern_mounts.specs.Unmounts.{Unmounts}
-use Rattle.kern_files.specs.Looking.{flags_at}
-use Rattle.kern_files.specs.MountCall.{after_mount}
-use Rattle.kernel_calls.specs.Calls.{IsPath}
-use Rattle.question_types.specs.declared.wish.Wish.{Wish}
-use Rattle.question_types.specs.declared.power.Power.{Power}
-use Rattle.question_types.specs.declared.power.Power.TheVariants.{None as Nowise, Unmount as Unmounting, Mount as Mounting}
+use Rattle.kernel_laws.specs.abs_path.Paths.{Path}
+use Rattle.kernel_laws.specs.site_table.declared.row.Row.{Row}
+use Rattle.kernel_laws.specs.site_table.Kinds.{is_dir}
+use Rattle.kernel_laws.specs.site_table.Table.{Site, kind_at}
+use Rattle.kernel_laws.specs.kern_mounts.Finds.{row, finds}
+use Rattle.kernel_laws.specs.kern_mounts.Split.{Table}
+use Rattle.kernel_laws.specs.kern_mounts.Unmounts.{Unmounts}
+use Rattle.kernel_laws.specs.kernel_model.kern_files.Looking.{flags_at}
+use Rattle.kernel_laws.specs.kernel_model.kern_files.MountCall.{after_mount}
+use Rattle.kernel_laws.specs.kernel_model.kernel_calls.Calls.{IsPath}
+use Rattle.kernel_laws.specs.declared.question_types.wish.Wish.{Wish}
+use Rattle.kernel_laws.specs.declared.question_types.power.Power.{Power}
+use Rattle.kernel_laws.specs.declared.question_types.power.Power.TheVariants.{None as Nowise, Unmount as Unmounting, Mount as Mounting}
 use Rattle.kernel_laws.specs.Reach.{fits}
 
 -- whether the site has a row at a path, and then whether it is a directory

@@ -1,15 +1,15 @@
 -- How calls of mount(2) show the whole host: a bind of `/`, and a remount of it with other flags.
 use Rattle.std.specs.Prelude.{◌≡◌, ℕ, true, false, [], ◌++◌, Some, Ok}
-use Rattle.kern_mounts.specs.Finds.{row, finds}
-use Rattle.abs_path.specs.Paths.{proc}
-use Rattle.kern_mounts.specs.Launch.{CanBeMounted}
-use Rattle.kern_mounts.specs.Split.{Table}
-use Rattle.site_table.specs.declared.row.Row.{Row}
-use Rattle.site_table.specs.Table.{Site, IsSite, row_at}
-use Rattle.kern_files.specs.Bits.{has_all}
-use Rattle.kern_files.specs.Looking.{flags_at}
-use Rattle.kern_files.specs.MountCall.{ms_bind, ms_remount_bind, has_other_kind, flags_of, after_mount}
-use Rattle.kernel_calls.specs.Calls.{IsPath}
+use Rattle.kernel_laws.specs.kern_mounts.Finds.{row, finds}
+use Rattle.kernel_laws.specs.abs_path.Paths.{proc}
+use Rattle.kernel_laws.specs.kern_mounts.Launch.{CanBeMounted}
+use Rattle.kernel_laws.specs.kern_mounts.Split.{Table}
+use Rattle.kernel_laws.specs.site_table.declared.row.Row.{Row}
+use Rattle.kernel_laws.specs.site_table.Table.{Site, IsSite, row_at}
+use Rattle.kernel_laws.specs.kernel_model.kern_files.Bits.{has_all}
+use Rattle.kernel_laws.specs.kernel_model.kern_files.Looking.{flags_at}
+use Rattle.kernel_laws.specs.kernel_model.kern_files.MountCall.{ms_bind, ms_remount_bind, has_other_kind, flags_of, after_mount}
+use Rattle.kernel_laws.specs.kernel_model.kernel_calls.Calls.{IsPath}
 use Rattle.reach_paths.specs.Finding.{dirs_of}
 
 -- a path that a call can name finds the row below the folder of the processes, on a mount with the flags of this word

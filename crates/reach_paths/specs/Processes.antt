@@ -1,25 +1,25 @@
 -- What a process that may mount makes of its mount table, call by call, capabilities(7), CAP_SYS_ADMIN.
 use Rattle.std.specs.Prelude.{◌≡◌, ℕ, Bool, true, false, List, [], ◌∷◌, Some, map, ◌==◌}
-use Rattle.abs_path.specs.Paths.{Path, proc}
-use Rattle.bpf_code.specs.declared.decision.Decision.TheVariants.{Pass}
-use Rattle.cap_sets.specs.Sets.{has}
-use Rattle.linux_numbers.specs.Capabilities.{cap_sys_admin}
-use Rattle.site_table.specs.declared.row.Row.{Row}
-use Rattle.site_table.specs.Table.{IsSite, row_at}
-use Rattle.kern_mounts.specs.Launch.{CanBeMounted}
-use Rattle.kern_mounts.specs.Mounts.{plain}
-use Rattle.kern_mounts.specs.Split.{Table}
-use Rattle.kern_mounts.specs.Unmounts.{Unmounts}
-use Rattle.kern_files.specs.Bits.{has_all}
-use Rattle.kern_files.specs.MountCall.{ms_bind, ms_remount_bind, has_other_kind}
-use Rattle.kern_files.specs.UmountCall.{mnt_detach}
-use Rattle.kernel_calls.specs.Calls.{IsPath}
-use Rattle.kernel_calls.specs.Doing.{Doing, Mount, Umount, Does, asked_of}
-use Rattle.kernel_calls.specs.declared.call.Call.{Call}
-use Rattle.kernel_model.specs.Runs.{moments, run, AllDone}
-use Rattle.kernel_model.specs.Step.{decision_of}
-use Rattle.kernel_model.specs.World.{World, living_of, of_number, owner_of}
-use Rattle.kernel_model.specs.declared.process.Process.{Process}
+use Rattle.kernel_laws.specs.abs_path.Paths.{Path, proc}
+use Rattle.kernel_laws.specs.bpf_code.declared.decision.Decision.TheVariants.{Pass}
+use Rattle.kernel_laws.specs.cap_sets.Sets.{has}
+use Rattle.kernel_laws.specs.linux_numbers.Capabilities.{cap_sys_admin}
+use Rattle.kernel_laws.specs.site_table.declared.row.Row.{Row}
+use Rattle.kernel_laws.specs.site_table.Table.{IsSite, row_at}
+use Rattle.kernel_laws.specs.kern_mounts.Launch.{CanBeMounted}
+use Rattle.kernel_laws.specs.kern_mounts.Mounts.{plain}
+use Rattle.kernel_laws.specs.kern_mounts.Split.{Table}
+use Rattle.kernel_laws.specs.kern_mounts.Unmounts.{Unmounts}
+use Rattle.kernel_laws.specs.kernel_model.kern_files.Bits.{has_all}
+use Rattle.kernel_laws.specs.kernel_model.kern_files.MountCall.{ms_bind, ms_remount_bind, has_other_kind}
+use Rattle.kernel_laws.specs.kernel_model.kern_files.UmountCall.{mnt_detach}
+use Rattle.kernel_laws.specs.kernel_model.kernel_calls.Calls.{IsPath}
+use Rattle.kernel_laws.specs.kernel_model.kernel_calls.Doing.{Doing, Mount, Umount, Does, asked_of}
+use Rattle.kernel_laws.specs.kernel_model.declared.kernel_calls.call.Call.{Call}
+use Rattle.kernel_laws.specs.kernel_model.Runs.{moments, run, AllDone}
+use Rattle.kernel_laws.specs.kernel_model.Step.{decision_of}
+use Rattle.kernel_laws.specs.kernel_model.World.{World, living_of, of_number, owner_of}
+use Rattle.kernel_laws.specs.kernel_model.declared.process.Process.{Process}
 use Rattle.reach_paths.specs.Finding.{dirs_of}
 use Rattle.reach_paths.specs.Mounting.{IsBelowProc}
 

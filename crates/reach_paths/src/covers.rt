@@ -2,13 +2,13 @@
 
 ghost use Rattle.std.specs.Prelude.{◌≡◌, ◌++◌, drop, is_some};
 ghost use Rattle.std.specs.List.{list_any};
-ghost use Rattle.abs_path.specs.Paths.{parts_of};
-ghost use Rattle.abs_path.specs.Prefix.{IsRest, is_prefix, is_behind, behind_text};
-ghost use Rattle.kern_mounts.specs.Mounts.{steps_of};
-ghost use Rattle.kern_mounts.specs.Entry.{leads_to};
+ghost use Rattle.kernel_laws.specs.abs_path.Paths.{parts_of};
+ghost use Rattle.kernel_laws.specs.abs_path.Prefix.{IsRest, is_prefix, is_behind, behind_text};
+ghost use Rattle.kernel_laws.specs.kern_mounts.Mounts.{steps_of};
+ghost use Rattle.kernel_laws.specs.kern_mounts.Entry.{leads_to};
 
-use abs_path::AbsPath;
-use kern_mounts::MountTable;
+use kernel_laws::abs_path::AbsPath;
+use kernel_laws::kern_mounts::MountTable;
 
 // Nothing, or a text that goes on at a slash.
 fn is_behind(rest: &str) -> bool

@@ -1,21 +1,21 @@
 //! The first entry of a mount table that leads to a file of the host.
 
 ghost use Rattle.std.specs.Prelude.{◌≡◌, ◌+◌, ◌<◌, ◌≤◌, ◌↔◌, drop, length, slice_get, Some, IsSome};
-ghost use Rattle.linux_numbers.specs.Limits.{mount_max};
-ghost use Rattle.site_table.specs.declared.row.Row.{Row};
-ghost use Rattle.site_table.specs.Table.{Site, IsSite, row_at};
-ghost use Rattle.kern_mounts.specs.Mounts.{steps_of};
-ghost use Rattle.kern_mounts.specs.Launch.{CanBeMounted};
-ghost use Rattle.kern_mounts.specs.declared.step.MountStep.{MountStep};
+ghost use Rattle.kernel_laws.specs.linux_numbers.Limits.{mount_max};
+ghost use Rattle.kernel_laws.specs.site_table.declared.row.Row.{Row};
+ghost use Rattle.kernel_laws.specs.site_table.Table.{Site, IsSite, row_at};
+ghost use Rattle.kernel_laws.specs.kern_mounts.Mounts.{steps_of};
+ghost use Rattle.kernel_laws.specs.kern_mounts.Launch.{CanBeMounted};
+ghost use Rattle.kernel_laws.specs.kern_mounts.declared.step.MountStep.{MountStep};
 ghost use Rattle.kernel_laws.specs.Reach.{shows_row, reach_from, reach};
 ghost use Rattle.reach_paths.specs.Finding.{dirs_of, CanBeFound};
 ghost use Rattle.reach_paths.specs.First.{IsFirstByPower};
 
 use crate::covers::is_covered;
 use crate::wish::allows;
-use abs_path::AbsPath;
-use kern_mounts::{MountTable, What};
-use question_types::{Power, Wish};
+use kernel_laws::abs_path::AbsPath;
+use kernel_laws::kern_mounts::{MountTable, What};
+use kernel_laws::question_types::{Power, Wish};
 
 // Whether the entry of this number shows the row, at a path that no later entry covers or that can be uncovered.
 fn shows(table: &MountTable, at: usize, row: &AbsPath, uncover: bool) -> bool

@@ -3,8 +3,8 @@
 ghost use Rattle.std.specs.Prelude.{◌≡◌};
 ghost use Rattle.kernel_laws.specs.Reach.{fits};
 
-use kern_mounts::Flags;
-use question_types::Wish;
+use kernel_laws::kern_mounts::Flags;
+use kernel_laws::question_types::Wish;
 
 // Whether what is wished may be done on a mount with these flags, mount(2).
 pub(crate) fn allows(flags: Flags, wish: Wish) -> bool

@@ -1,16 +1,16 @@
 -- The calls of a run, by how it ended behind what was read.
 use Rattle.std.proofs.Common.{ℕ, List, Option, inl, inr, refl}
 use Rattle.std.specs.Prelude.{IsTrue}
-use Rattle.host_io.specs.Calls.{Ask, ShelfCall, Whole}
-use Rattle.host_io.specs.Files.{Files}
-use Rattle.command_answers.specs.Asking.{course_of_run}
-use Rattle.command_answers.specs.Endings.{is_whole}
-use Rattle.command_answers.specs.Printing.{Output}
-use Rattle.command_answers.specs.declared.ending.Ending.{Ending}
-use Rattle.unit_inputs.specs.Asking.{AsksInOrder}
-use Rattle.unit_inputs.proofs.Ended.{order_out, order_printed}
-use Rattle.unit_launch.specs.declared.launching.UnitLaunch.{UnitLaunch}
-use Rattle.unit_launch.specs.declared.launching.UnitLaunch.TheVariants.{Launched, Refused}
+use Rattle.asked_service.specs.host_io.Calls.{Ask, ShelfCall, Whole}
+use Rattle.asked_service.specs.host_io.Files.{Files}
+use Rattle.asked_service.specs.unit_inputs.command_answers.Asking.{course_of_run}
+use Rattle.asked_service.specs.unit_inputs.command_answers.Endings.{is_whole}
+use Rattle.asked_service.specs.unit_inputs.command_answers.Printing.{Output}
+use Rattle.asked_service.specs.unit_inputs.declared.command_answers.ending.Ending.{Ending}
+use Rattle.asked_service.specs.unit_inputs.Asking.{AsksInOrder}
+use Rattle.asked_service.proofs.UnitInputs.Ended.{order_out, order_printed}
+use Rattle.asked_service.specs.declared.unit_launch.launching.UnitLaunch.{UnitLaunch}
+use Rattle.asked_service.specs.declared.unit_launch.launching.UnitLaunch.TheVariants.{Launched, Refused}
 use Rattle.replay_command.specs.Started.{FinishesStarted, ending_of, text_of}
 use Rattle.replay_command.specs.Texts.{ending_behind}
 use Rattle.replay_command.specs.declared.preparing.Prepared.{Prepared}

@@ -4,15 +4,15 @@ use Rattle.std.specs.Prelude.{flat_map, IsErr}
 use Rattle.std.proofs.Math.Seq.{drop-cons}
 use Rattle.std.proofs.lemmas.List.{take_more, take-append-drop}
 use Rattle.std.proofs.lemmas.List.Concat.{flat_map-append}
-use Rattle.call_table.specs.Table.{Table}
-use Rattle.host_io.specs.Writing.{Grew}
-use Rattle.host_io.specs.declared.writing.SinkError.{SinkError}
-use Rattle.command_answers.specs.Printing.{TakesText}
-use Rattle.command_answers.proofs.Texts.{text_as, text_cut, text_then}
-use Rattle.kernel_calls.specs.declared.call.Call.{Call}
-use Rattle.kernel_model.specs.Runs.{moment_at, moments, run}
-use Rattle.kernel_model.specs.Step.{step}
-use Rattle.kernel_model.specs.World.{World}
+use Rattle.asked_service.specs.call_table.Table.{Table}
+use Rattle.asked_service.specs.host_io.Writing.{Grew}
+use Rattle.asked_service.specs.host_io.declared.writing.SinkError.{SinkError}
+use Rattle.asked_service.specs.unit_inputs.command_answers.Printing.{TakesText}
+use Rattle.asked_service.proofs.UnitInputs.Texts.{text_as, text_cut, text_then}
+use Rattle.asked_service.specs.kernel_model.declared.kernel_calls.call.Call.{Call}
+use Rattle.asked_service.specs.kernel_model.Runs.{moment_at, moments, run}
+use Rattle.asked_service.specs.kernel_model.Step.{step}
+use Rattle.asked_service.specs.kernel_model.World.{World}
 use Rattle.replay_command.specs.Lines.{moment_line, run_text}
 use Rattle.replay_command.specs.Performed.{IsCut, Makes, Performs}
 

@@ -1,27 +1,27 @@
 -- A replay that is prepared, started and printed runs by its laws.
 use Rattle.std.proofs.Common.{◌≡◌, ◌∙◌, ℕ, Option, Some, None, List, Ok, Err, refl, sym, ap, subst, inl, inr}
 use Rattle.std.specs.Prelude.{◌⊎◌, IfSome, IsTrue}
-use Rattle.host_io.specs.Files.{Files}
-use Rattle.exec_settings.specs.declared.service.Settings.{Settings}
-use Rattle.kern_mounts.specs.declared.step.MountStep.{MountStep}
-use Rattle.kernel_calls.specs.Calls.{AreCalls}
-use Rattle.kernel_calls.specs.declared.call.Call.{Call}
-use Rattle.launcher.specs.Alike.{above}
-use Rattle.site_table.specs.Table.{Site}
-use Rattle.unit_launch.specs.Launching.{ComesTo}
-use Rattle.call_table.specs.Table.{Table}
-use Rattle.command_answers.specs.Endings.{is_answer}
-use Rattle.command_answers.specs.Laws.{AcceptsFiles, GoTogether, laws_over}
-use Rattle.command_answers.specs.Runs.{IsRun, Outside}
-use Rattle.command_answers.specs.Stops.{HasReadCause, Prepares}
-use Rattle.command_answers.specs.declared.ending.Ending.{Ending}
-use Rattle.command_answers.specs.declared.ending.Ending.TheVariants.{Done, LaunchRefused}
-use Rattle.command_answers.specs.declared.stop.Stop.TheVariants as stop
-use Rattle.command_answers.proofs.FileCommands.{go_together, ready_is_admitted}
-use Rattle.command_answers.proofs.Refusing.{quiet}
-use Rattle.command_answers.proofs.Runs.{ran}
-use Rattle.unit_launch.specs.declared.launching.UnitLaunch.{UnitLaunch}
-use Rattle.unit_launch.specs.declared.launching.UnitLaunch.TheVariants.{Launched, Refused}
+use Rattle.asked_service.specs.host_io.Files.{Files}
+use Rattle.asked_service.specs.exec_settings.declared.service.Settings.{Settings}
+use Rattle.asked_service.specs.kern_mounts.declared.step.MountStep.{MountStep}
+use Rattle.asked_service.specs.kernel_model.kernel_calls.Calls.{AreCalls}
+use Rattle.asked_service.specs.kernel_model.declared.kernel_calls.call.Call.{Call}
+use Rattle.asked_service.specs.launcher.Alike.{above}
+use Rattle.asked_service.specs.site_table.Table.{Site}
+use Rattle.asked_service.specs.unit_launch.Launching.{ComesTo}
+use Rattle.asked_service.specs.call_table.Table.{Table}
+use Rattle.asked_service.specs.unit_inputs.command_answers.Endings.{is_answer}
+use Rattle.asked_service.specs.unit_inputs.command_answers.Laws.{AcceptsFiles, GoTogether, laws_over}
+use Rattle.asked_service.specs.unit_inputs.command_answers.Runs.{IsRun, Outside}
+use Rattle.asked_service.specs.unit_inputs.command_answers.Stops.{HasReadCause, Prepares}
+use Rattle.asked_service.specs.unit_inputs.declared.command_answers.ending.Ending.{Ending}
+use Rattle.asked_service.specs.unit_inputs.declared.command_answers.ending.Ending.TheVariants.{Done, LaunchRefused}
+use Rattle.asked_service.specs.unit_inputs.declared.command_answers.stop.Stop.TheVariants as stop
+use Rattle.asked_service.proofs.UnitInputs.FileCommands.{go_together, ready_is_admitted}
+use Rattle.asked_service.proofs.UnitInputs.Refusing.{quiet}
+use Rattle.asked_service.proofs.UnitInputs.Runs.{ran}
+use Rattle.asked_service.specs.declared.unit_launch.launching.UnitLaunch.{UnitLaunch}
+use Rattle.asked_service.specs.declared.unit_launch.launching.UnitLaunch.TheVariants.{Launched, Refused}
 use Rattle.replay_command.specs.Prepared.{CanBeStarted, IsPrepared, inputs_in, replay_refusals}
 use Rattle.replay_command.specs.Prints.{PrintsReplay, RepliesAlike, replay_laws}
 use Rattle.replay_command.specs.Started.{FinishesStarted, IsStarted, ending_of, text_of}

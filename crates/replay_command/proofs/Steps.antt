@@ -2,27 +2,27 @@
 use Rattle.std.proofs.Common.{◌≡◌, ◌∙◌, ℕ, Option, Some, None, List, ◌++◌, Ok, Err, sym, ap, subst}
 use Rattle.std.specs.Prelude.{All, IfSome}
 use Rattle.std.proofs.lemmas.List.Elements.{recursion_from_All}
-use Rattle.host_io.specs.Files.{Files}
-use Rattle.call_table.specs.Table.{Table}
-use Rattle.kern_mounts.specs.declared.step.MountStep.{MountStep}
-use Rattle.kern_mounts.specs.Launch.{CanBeMounted}
-use Rattle.kernel_calls.specs.Calls.{IsCall}
-use Rattle.kernel_calls.specs.declared.call.Call.{Call}
-use Rattle.mount_plan.specs.Host.{host_of}
-use Rattle.exec_settings.specs.Mounts.{unit_mentions}
-use Rattle.path_settings.specs.declared.mentions.Mention.{Mention}
-use Rattle.command_answers.specs.Stops.{IsAnswer, Prepares, first_refusal}
-use Rattle.command_answers.specs.declared.stop.Stop.{Stop}
-use Rattle.command_answers.proofs.Refusing.{behind_none, passes, stops, stops_as, stops_before}
-use Rattle.site_table.specs.Table.{Site}
-use Rattle.unit_inputs.specs.Inputs.{input_refusals, inputs_of, inputs_view}
-use Rattle.unit_inputs.specs.declared.inputs.UnitInputs.{UnitInputs}
-use Rattle.unit_inputs.specs.Settled.{AreSettled, refusals_by, refusals_of}
-use Rattle.unit_inputs.specs.declared.settling.SettledUnit.{SettledUnit}
-use Rattle.unit_inputs.proofs.Steps as steps
-use Rattle.unit_inputs.proofs.Steps.{AreRead, refusals_with}
-use Rattle.plan_command.specs.Planned.{IsPlan, path_refusals}
-use Rattle.plan_command.specs.Prints.{refused_paths}
+use Rattle.asked_service.specs.host_io.Files.{Files}
+use Rattle.asked_service.specs.call_table.Table.{Table}
+use Rattle.asked_service.specs.kern_mounts.declared.step.MountStep.{MountStep}
+use Rattle.asked_service.specs.kern_mounts.Launch.{CanBeMounted}
+use Rattle.asked_service.specs.kernel_model.kernel_calls.Calls.{IsCall}
+use Rattle.asked_service.specs.kernel_model.declared.kernel_calls.call.Call.{Call}
+use Rattle.asked_service.specs.mount_plan.Host.{host_of}
+use Rattle.asked_service.specs.exec_settings.Mounts.{unit_mentions}
+use Rattle.asked_service.specs.path_settings.declared.mentions.Mention.{Mention}
+use Rattle.asked_service.specs.unit_inputs.command_answers.Stops.{IsAnswer, Prepares, first_refusal}
+use Rattle.asked_service.specs.unit_inputs.declared.command_answers.stop.Stop.{Stop}
+use Rattle.asked_service.proofs.UnitInputs.Refusing.{behind_none, passes, stops, stops_as, stops_before}
+use Rattle.asked_service.specs.site_table.Table.{Site}
+use Rattle.asked_service.specs.unit_inputs.Inputs.{input_refusals, inputs_of, inputs_view}
+use Rattle.asked_service.specs.unit_inputs.declared.inputs.UnitInputs.{UnitInputs}
+use Rattle.asked_service.specs.unit_inputs.Settled.{AreSettled, refusals_by, refusals_of}
+use Rattle.asked_service.specs.unit_inputs.declared.settling.SettledUnit.{SettledUnit}
+use Rattle.asked_service.proofs.UnitInputs.Steps as steps
+use Rattle.asked_service.proofs.UnitInputs.Steps.{AreRead, refusals_with}
+use Rattle.asked_service.specs.plan_command.Planned.{IsPlan, path_refusals}
+use Rattle.asked_service.specs.plan_command.Prints.{refused_paths}
 use Rattle.replay_command.specs.Prepared.{CanBeStarted, IsPrepared, refusals_behind, replay_refusals}
 use Rattle.replay_command.specs.Scripts.{script_in}
 

@@ -1,13 +1,13 @@
 -- The lines of a replay, each ended by a line feed.
 use Rattle.std.specs.Prelude.{ℕ, List, [], ◌∷◌, ◌++◌, codes, flat_map}
 use Rattle.std.specs.Fmt.{decimal}
-use Rattle.call_table.specs.Table.{Table}
-use Rattle.kernel_calls.specs.declared.call.Call.{Call}
-use Rattle.kernel_model.specs.declared.reply.Reply.{Reply}
-use Rattle.kernel_model.specs.declared.reply.Reply.TheVariants.{Done, Refused, Killed}
-use Rattle.kernel_model.specs.Runs.{Moment, moments}
-use Rattle.kernel_model.specs.World.{World}
-use Rattle.script_text.specs.Printed.{call_text}
+use Rattle.asked_service.specs.call_table.Table.{Table}
+use Rattle.asked_service.specs.kernel_model.declared.kernel_calls.call.Call.{Call}
+use Rattle.asked_service.specs.kernel_model.declared.reply.Reply.{Reply}
+use Rattle.asked_service.specs.kernel_model.declared.reply.Reply.TheVariants.{Done, Refused, Killed}
+use Rattle.asked_service.specs.kernel_model.Runs.{Moment, moments}
+use Rattle.asked_service.specs.kernel_model.World.{World}
+use Rattle.asked_service.specs.script_text.Printed.{call_text}
 
 -- what a call comes to: its value, its error number (errno(3)), or that the caller is killed (seccomp(2))
 abbrev pub reply_words : Reply → List ℕ

@@ -1,12 +1,12 @@
 -- Which calls of a script were made, where its replay stopped.
 use Rattle.std.specs.Prelude.{◌≡◌, ◌⊎◌, ◌≤◌, ℕ, List, ◌++◌, length, Option, Result, Ok, Err}
-use Rattle.call_table.specs.Table.{Table}
-use Rattle.host_io.specs.Writing.{Grew}
-use Rattle.host_io.specs.declared.writing.SinkError.{SinkError}
-use Rattle.kernel_calls.specs.declared.call.Call.{Call}
-use Rattle.kernel_model.specs.Runs.{run}
-use Rattle.kernel_model.specs.Step.{step}
-use Rattle.kernel_model.specs.World.{World}
+use Rattle.asked_service.specs.call_table.Table.{Table}
+use Rattle.asked_service.specs.host_io.Writing.{Grew}
+use Rattle.asked_service.specs.host_io.declared.writing.SinkError.{SinkError}
+use Rattle.asked_service.specs.kernel_model.declared.kernel_calls.call.Call.{Call}
+use Rattle.asked_service.specs.kernel_model.Runs.{run}
+use Rattle.asked_service.specs.kernel_model.Step.{step}
+use Rattle.asked_service.specs.kernel_model.World.{World}
 use Rattle.replay_command.specs.Lines.{run_text}
 
 -- the calls that were made are a front of the script: those whose lines the sink has taken whole, and at most one more, of

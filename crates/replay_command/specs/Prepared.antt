@@ -1,15 +1,15 @@
 -- What a replay starts with, and the order of refusals.
 use Rattle.std.specs.Prelude.{◌≡◌, ℕ, List, ◌∷◌, ◌++◌, Option, Some, Ok}
-use Rattle.host_io.specs.Files.{Files}
-use Rattle.kern_mounts.specs.Launch.{CanBeMounted}
-use Rattle.kernel_calls.specs.Calls.{AreCalls}
-use Rattle.mount_plan.specs.Host.{host_of}
-use Rattle.exec_settings.specs.Mounts.{unit_mentions}
-use Rattle.command_answers.specs.Stops.{refusal_in}
-use Rattle.unit_inputs.specs.Inputs.{Inputs, input_refusals, inputs_of, inputs_view}
-use Rattle.unit_inputs.specs.Settled.{AreSettled, refusals_by, refusals_of}
-use Rattle.plan_command.specs.Planned.{IsPlan}
-use Rattle.plan_command.specs.Prints.{refused_paths}
+use Rattle.asked_service.specs.host_io.Files.{Files}
+use Rattle.asked_service.specs.kern_mounts.Launch.{CanBeMounted}
+use Rattle.asked_service.specs.kernel_model.kernel_calls.Calls.{AreCalls}
+use Rattle.asked_service.specs.mount_plan.Host.{host_of}
+use Rattle.asked_service.specs.exec_settings.Mounts.{unit_mentions}
+use Rattle.asked_service.specs.unit_inputs.command_answers.Stops.{refusal_in}
+use Rattle.asked_service.specs.unit_inputs.Inputs.{Inputs, input_refusals, inputs_of, inputs_view}
+use Rattle.asked_service.specs.unit_inputs.Settled.{AreSettled, refusals_by, refusals_of}
+use Rattle.asked_service.specs.plan_command.Planned.{IsPlan}
+use Rattle.asked_service.specs.plan_command.Prints.{refused_paths}
 use Rattle.replay_command.specs.Scripts.{script_in}
 use Rattle.replay_command.specs.declared.preparing.Prepared.{Prepared}
 

@@ -1,29 +1,29 @@
 -- What `replay` prints, by the files.
 use Rattle.std.specs.Prelude.{◌≡◌, ◌⊎◌, ℕ, IsSome, List, Some, Ok}
-use Rattle.host_io.specs.Files.{Files}
-use Rattle.kern_mounts.specs.declared.step.MountStep.{MountStep}
-use Rattle.mount_plan.specs.Host.{host_of}
-use Rattle.exec_settings.specs.Mounts.{unit_mentions}
-use Rattle.exec_settings.specs.declared.service.Settings.{Settings}
-use Rattle.command_answers.specs.Laws.{FileLaws}
-use Rattle.command_answers.specs.declared.ending.Ending.{Ending}
-use Rattle.command_answers.specs.declared.ending.Ending.TheVariants.{Done, LaunchRefused}
-use Rattle.kernel_calls.specs.declared.call.Call.{Call}
-use Rattle.bpf_code.specs.declared.machine.Insn.{Insn}
-use Rattle.kernel_model.specs.World.{World}
-use Rattle.call_table.specs.Table as calls
-use Rattle.site_table.specs.Table.{Site}
-use Rattle.launcher.specs.Alike.{SameReplies}
-use Rattle.launcher.specs.Answers.{launch_with}
-use Rattle.launcher.specs.Launch as ends
-use Rattle.unit_inputs.specs.Inputs.{Inputs, inputs_of}
-use Rattle.unit_names.specs.Cutting.{name_of}
-use Rattle.unit_inputs.specs.Settled.{AreSettled}
-use Rattle.unit_launch.specs.Launching.{ComesTo}
-use Rattle.unit_launch.specs.OtherPrograms.{AreOthers, HasRoomByBounds}
-use Rattle.unit_launch.specs.declared.launching.UnitLaunch.{UnitLaunch}
-use Rattle.unit_launch.specs.declared.launching.UnitLaunch.TheVariants.{Launched, Refused}
-use Rattle.plan_command.specs.Planned.{IsPlan}
+use Rattle.asked_service.specs.host_io.Files.{Files}
+use Rattle.asked_service.specs.kern_mounts.declared.step.MountStep.{MountStep}
+use Rattle.asked_service.specs.mount_plan.Host.{host_of}
+use Rattle.asked_service.specs.exec_settings.Mounts.{unit_mentions}
+use Rattle.asked_service.specs.exec_settings.declared.service.Settings.{Settings}
+use Rattle.asked_service.specs.unit_inputs.command_answers.Laws.{FileLaws}
+use Rattle.asked_service.specs.unit_inputs.declared.command_answers.ending.Ending.{Ending}
+use Rattle.asked_service.specs.unit_inputs.declared.command_answers.ending.Ending.TheVariants.{Done, LaunchRefused}
+use Rattle.asked_service.specs.kernel_model.declared.kernel_calls.call.Call.{Call}
+use Rattle.asked_service.specs.bpf_code.declared.machine.Insn.{Insn}
+use Rattle.asked_service.specs.kernel_model.World.{World}
+use Rattle.asked_service.specs.call_table.Table as calls
+use Rattle.asked_service.specs.site_table.Table.{Site}
+use Rattle.asked_service.specs.launcher.Alike.{SameReplies}
+use Rattle.asked_service.specs.launcher.Answers.{launch_with}
+use Rattle.asked_service.specs.launcher.Launch as ends
+use Rattle.asked_service.specs.unit_inputs.Inputs.{Inputs, inputs_of}
+use Rattle.asked_service.specs.unit_names.Cutting.{name_of}
+use Rattle.asked_service.specs.unit_inputs.Settled.{AreSettled}
+use Rattle.asked_service.specs.unit_launch.Launching.{ComesTo}
+use Rattle.asked_service.specs.unit_launch.OtherPrograms.{AreOthers, HasRoomByBounds}
+use Rattle.asked_service.specs.declared.unit_launch.launching.UnitLaunch.{UnitLaunch}
+use Rattle.asked_service.specs.declared.unit_launch.launching.UnitLaunch.TheVariants.{Launched, Refused}
+use Rattle.asked_service.specs.plan_command.Planned.{IsPlan}
 use Rattle.replay_command.specs.Prepared.{replay_refusals}
 use Rattle.replay_command.specs.Scripts.{script_in}
 use Rattle.replay_command.specs.Texts.{ending_behind, replay_text}

@@ -1,17 +1,17 @@
 -- The script of a path, or the line of its refusal.
 use Rattle.std.specs.Prelude.{ℕ, List, [], ◌++◌, codes, Result}
 use Rattle.std.specs.Fmt.{decimal}
-use Rattle.host_io.specs.Files.{Files}
-use Rattle.call_table.specs.Table.{Table}
-use Rattle.kernel_calls.specs.declared.call.Call.{Call}
-use Rattle.script_text.specs.Causes.{cause_text}
-use Rattle.script_text.specs.Scripts.{script_of}
-use Rattle.script_text.specs.declared.error.ScriptCause.{ScriptCause}
-use Rattle.script_text.specs.declared.error.ScriptError.{ScriptError}
-use Rattle.script_text.specs.declared.error.ScriptError.TheVariants.{NotText, Line, TooMany, Memory}
-use Rattle.command_answers.specs.Refusals.{refused_line}
-use Rattle.command_answers.specs.Stops.{and_then, or_line}
-use Rattle.unit_inputs.specs.FileRefusals.{bytes_in}
+use Rattle.asked_service.specs.host_io.Files.{Files}
+use Rattle.asked_service.specs.call_table.Table.{Table}
+use Rattle.asked_service.specs.kernel_model.declared.kernel_calls.call.Call.{Call}
+use Rattle.asked_service.specs.script_text.Causes.{cause_text}
+use Rattle.asked_service.specs.script_text.Scripts.{script_of}
+use Rattle.asked_service.specs.script_text.declared.error.ScriptCause.{ScriptCause}
+use Rattle.asked_service.specs.script_text.declared.error.ScriptError.{ScriptError}
+use Rattle.asked_service.specs.script_text.declared.error.ScriptError.TheVariants.{NotText, Line, TooMany, Memory}
+use Rattle.asked_service.specs.unit_inputs.command_answers.Refusals.{refused_line}
+use Rattle.asked_service.specs.unit_inputs.command_answers.Stops.{and_then, or_line}
+use Rattle.asked_service.specs.unit_inputs.FileRefusals.{bytes_in}
 
 -- the first faulty line, from 1, and why
 abbrev pub line_cause : ℕ → ScriptCause → List ℕ

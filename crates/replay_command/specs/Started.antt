@@ -1,9 +1,9 @@
 -- A replay that is started, and how a run goes on behind what is prepared.
 use Rattle.std.specs.Prelude.{◌≡◌, ◌⊎◌, ℕ, List}
-use Rattle.command_answers.specs.Printing.{IsUntouched, Output, PrintsText}
-use Rattle.command_answers.specs.declared.ending.Ending.{Ending}
-use Rattle.command_answers.specs.declared.ending.Ending.TheVariants.{OutOfMemory}
-use Rattle.unit_launch.specs.Launching.{ComesTo}
+use Rattle.asked_service.specs.unit_inputs.command_answers.Printing.{IsUntouched, Output, PrintsText}
+use Rattle.asked_service.specs.unit_inputs.declared.command_answers.ending.Ending.{Ending}
+use Rattle.asked_service.specs.unit_inputs.declared.command_answers.ending.Ending.TheVariants.{OutOfMemory}
+use Rattle.asked_service.specs.unit_launch.Launching.{ComesTo}
 use Rattle.replay_command.specs.Prepared.{inputs_in}
 use Rattle.replay_command.specs.Texts.{ending_behind, replay_text}
 use Rattle.replay_command.specs.declared.preparing.Prepared.{Prepared}

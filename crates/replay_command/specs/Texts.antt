@@ -1,17 +1,17 @@
 -- The text of a replay, and how a run ends behind it.
 use Rattle.std.specs.Prelude.{ℕ, List, [], ◌∷◌, ◌++◌, length, codes}
 use Rattle.std.specs.Fmt.{decimal}
-use Rattle.call_table.specs.Table.{Table}
-use Rattle.command_answers.specs.declared.ending.Ending.{Ending}
-use Rattle.command_answers.specs.declared.ending.Ending.TheVariants.{Done, LaunchRefused}
-use Rattle.kernel_calls.specs.declared.call.Call.{Call}
-use Rattle.launcher.specs.declared.launched.Launched.{Launched as Service}
+use Rattle.asked_service.specs.call_table.Table.{Table}
+use Rattle.asked_service.specs.unit_inputs.declared.command_answers.ending.Ending.{Ending}
+use Rattle.asked_service.specs.unit_inputs.declared.command_answers.ending.Ending.TheVariants.{Done, LaunchRefused}
+use Rattle.asked_service.specs.kernel_model.declared.kernel_calls.call.Call.{Call}
+use Rattle.asked_service.specs.launcher.declared.launched.Launched.{Launched as Service}
 use Rattle.replay_command.specs.Lines.{run_text}
-use Rattle.report_text.specs.Launches.{launched_line}
-use Rattle.unit_launch.specs.Refusals.{refusal_line}
-use Rattle.unit_launch.specs.Told.{told_of}
-use Rattle.unit_launch.specs.declared.launching.UnitLaunch.{UnitLaunch}
-use Rattle.unit_launch.specs.declared.launching.UnitLaunch.TheVariants.{Launched, Refused}
+use Rattle.asked_service.specs.report_text.Launches.{launched_line}
+use Rattle.asked_service.specs.unit_launch.Refusals.{refusal_line}
+use Rattle.asked_service.specs.unit_launch.Told.{told_of}
+use Rattle.asked_service.specs.declared.unit_launch.launching.UnitLaunch.{UnitLaunch}
+use Rattle.asked_service.specs.declared.unit_launch.launching.UnitLaunch.TheVariants.{Launched, Refused}
 
 -- how many calls there are
 abbrev pub count_line : ℕ → List ℕ

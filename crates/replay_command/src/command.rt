@@ -1,18 +1,18 @@
 //! The command `replay`, the name of a unit and the path of a script.
 ghost use Rattle.std.specs.Prelude.{◌≡◌, IsSome};
-ghost use Rattle.unit_names.specs.Cutting.{name_of};
-ghost use Rattle.unit_inputs.specs.Asking.{AsksInOrder, asks_with_file};
-ghost use Rattle.command_answers.specs.Asking.{course_of_run};
-ghost use Rattle.command_answers.specs.Laws.{laws_over};
-ghost use Rattle.command_answers.specs.Runs.{IsRun};
+ghost use Rattle.asked_service.specs.unit_names.Cutting.{name_of};
+ghost use Rattle.asked_service.specs.unit_inputs.Asking.{AsksInOrder, asks_with_file};
+ghost use Rattle.asked_service.specs.unit_inputs.command_answers.Asking.{course_of_run};
+ghost use Rattle.asked_service.specs.unit_inputs.command_answers.Laws.{laws_over};
+ghost use Rattle.asked_service.specs.unit_inputs.command_answers.Runs.{IsRun};
 ghost use Rattle.replay_command.specs.Prepared.{CanBeStarted};
 ghost use Rattle.replay_command.specs.Prints.{replay_laws};
 ghost use Rattle.replay_command.specs.Started.{FinishesStarted};
 
 use crate::launching::start;
 use crate::preparing::{Prepared, prepare};
-use command_answers::{Ending, finish, finish_stop};
-use host_io::{Shelf, Sink};
+use asked_service::host_io::{Shelf, Sink};
+use asked_service::unit_inputs::command_answers::{Ending, finish, finish_stop};
 use std::alloc::Global;
 
 // Launches what is prepared and prints its replay.

@@ -5,8 +5,8 @@ ghost use Rattle.replay_command.specs.Started.{IsStarted};
 
 use crate::preparing::Prepared;
 use crate::ready::Replay;
+use asked_service::unit_launch::launch_unit;
 use std::alloc::{AllocError, Global};
-use unit_launch::launch_unit;
 
 /// Launches the unit that is prepared. The replay borrows what the kernel is told.
 pub fn start<'a>(alloc: Global, prepared: &'a Prepared) -> Result<Replay<'a>, AllocError>

@@ -17,5 +17,9 @@ mod ready;
 mod replaying;
 mod script;
 
+pub use asked_service;
+pub use asked_service::{
+    call_table, host_io, plan_command, script_text, site_table, text_forms, unit_inputs,
+};
 pub use command::answer;
 pub use script::read_script;

@@ -3,12 +3,12 @@ ghost use Rattle.std.specs.Prelude.{◌≡◌, ◌++◌, IfOk, OnOk};
 ghost use Rattle.replay_command.specs.Lines.{call_line, reply_words};
 ghost use Rattle.replay_command.specs.Texts.{count_line};
 
-use call_table::CallTable;
-use kernel_calls::Call;
-use kernel_model::Reply;
-use script_text::print_call;
+use asked_service::call_table::CallTable;
+use asked_service::kernel_model::Reply;
+use asked_service::kernel_model::kernel_calls::Call;
+use asked_service::script_text::print_call;
+use asked_service::text_forms::push_u64;
 use std::alloc::{AllocError, Global};
-use text_forms::push_u64;
 
 // Appends what a call comes to: its value, its errno, or that the caller was killed.
 fn push_reply(line: &mut Vec<u8>, reply: Reply) -> Result<(), AllocError>

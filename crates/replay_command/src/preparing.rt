@@ -1,21 +1,21 @@
 //! What `replay` reads, and what it takes from that.
 ghost use Rattle.std.specs.Prelude.{All, IfOk, IfSome};
-ghost use Rattle.command_answers.specs.Asking.{course};
-ghost use Rattle.command_answers.specs.Stops.{Prepares};
-ghost use Rattle.kernel_calls.specs.Calls.{IsCall};
-ghost use Rattle.unit_inputs.specs.Asking.{AsksInOrder, asks_with_file};
-ghost use Rattle.unit_inputs.specs.ReadsFor.{ReadsFor};
+ghost use Rattle.asked_service.specs.unit_inputs.command_answers.Asking.{course};
+ghost use Rattle.asked_service.specs.unit_inputs.command_answers.Stops.{Prepares};
+ghost use Rattle.asked_service.specs.kernel_model.kernel_calls.Calls.{IsCall};
+ghost use Rattle.asked_service.specs.unit_inputs.Asking.{AsksInOrder, asks_with_file};
+ghost use Rattle.asked_service.specs.unit_inputs.ReadsFor.{ReadsFor};
 ghost use Rattle.replay_command.specs.Prepared.{CanBeStarted, IsPrepared, replay_refusals};
 
 use crate::script::read_script;
-use command_answers::Stop;
-use host_io::Shelf;
-use kernel_calls::{Call, fits};
-use mount_plan::MountSteps;
-use plan_command::plan_mounts;
-use script_text::Script;
+use asked_service::host_io::Shelf;
+use asked_service::kernel_model::kernel_calls::{Call, fits};
+use asked_service::mount_plan::MountSteps;
+use asked_service::plan_command::plan_mounts;
+use asked_service::script_text::Script;
+use asked_service::unit_inputs::command_answers::Stop;
+use asked_service::unit_inputs::{SettledUnit, read_inputs, settle};
 use std::alloc::Global;
-use unit_inputs::{SettledUnit, read_inputs, settle};
 
 /// All that a replay starts with.
 #[derive(Drop)]

@@ -1,17 +1,17 @@
 //! Replays, made and printed line by line.
-ghost use Rattle.command_answers.specs.Printing.{HasWriteCause, TakesText};
+ghost use Rattle.asked_service.specs.unit_inputs.command_answers.Printing.{HasWriteCause, TakesText};
 ghost use Rattle.replay_command.specs.Texts.{replay_text, service_text};
 
 use crate::lines::count_line;
 use crate::replaying::replay;
-use call_table::CallTable;
-use command_answers::put_line;
-use host_io::{Sink, SinkError};
-use launcher::Launched;
-use report_text::launched_line;
-use script_text::Script;
+use asked_service::call_table::CallTable;
+use asked_service::host_io::{Sink, SinkError};
+use asked_service::launcher::Launched;
+use asked_service::report_text::launched_line;
+use asked_service::script_text::Script;
+use asked_service::unit_inputs::command_answers::put_line;
+use asked_service::unit_launch::{UnitLaunch, refusal_line, told};
 use std::alloc::Global;
-use unit_launch::{UnitLaunch, refusal_line, told};
 
 // Prints the launch, each call of the script as it is made, and how many there are.
 fn print_service<K: Sink>(

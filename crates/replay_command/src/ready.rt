@@ -3,12 +3,12 @@ ghost use Rattle.std.specs.Prelude.{◌≡◌};
 ghost use Rattle.replay_command.specs.Texts.{ending_behind};
 
 use crate::printing::print_replay;
-use call_table::CallTable;
-use command_answers::{Ending, Ready};
-use host_io::{Sink, SinkError};
-use script_text::Script;
+use asked_service::call_table::CallTable;
+use asked_service::host_io::{Sink, SinkError};
+use asked_service::script_text::Script;
+use asked_service::unit_inputs::command_answers::{Ending, Ready};
+use asked_service::unit_launch::UnitLaunch;
 use std::alloc::Global;
-use unit_launch::UnitLaunch;
 
 /// A unit that is launched, and the script whose calls are made in its world while their lines are printed.
 #[derive(Drop)]

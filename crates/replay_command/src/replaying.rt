@@ -1,18 +1,18 @@
 //! The calls of a script, made one behind the other.
 ghost use Rattle.std.specs.Prelude.{◌≡◌};
-ghost use Rattle.command_answers.specs.Printing.{HasWriteCause, TakesText};
-ghost use Rattle.kernel_model.specs.Runs.{moment_at};
+ghost use Rattle.asked_service.specs.unit_inputs.command_answers.Printing.{HasWriteCause, TakesText};
+ghost use Rattle.asked_service.specs.kernel_model.Runs.{moment_at};
 ghost use Rattle.replay_command.specs.Lines.{moment_line, run_text};
 ghost use Rattle.replay_command.specs.Performed.{Makes, Performs};
 
 use crate::lines::call_line;
-use call_table::CallTable;
-use command_answers::put_line;
-use host_io::{Sink, SinkError};
-use kernel_calls::Call;
-use kernel_model::World;
-use launcher::Launched;
-use script_text::Script;
+use asked_service::call_table::CallTable;
+use asked_service::host_io::{Sink, SinkError};
+use asked_service::kernel_model::World;
+use asked_service::kernel_model::kernel_calls::Call;
+use asked_service::launcher::Launched;
+use asked_service::script_text::Script;
+use asked_service::unit_inputs::command_answers::put_line;
 use std::alloc::Global;
 
 // Makes a call, and prints its line.

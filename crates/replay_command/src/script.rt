@@ -1,16 +1,16 @@
 //! The script, with the lines of its refusals.
 ghost use Rattle.std.specs.Prelude.{◌≡◌, ◌∷◌, [], IfOk, IfSome, IsErrOf};
-ghost use Rattle.host_io.specs.Calls.{Went};
-ghost use Rattle.command_answers.specs.Asking.{course, input_file};
-ghost use Rattle.command_answers.specs.Stops.{HasReadCause, IsAnswer};
+ghost use Rattle.asked_service.specs.host_io.Calls.{Went};
+ghost use Rattle.asked_service.specs.unit_inputs.command_answers.Asking.{course, input_file};
+ghost use Rattle.asked_service.specs.unit_inputs.command_answers.Stops.{HasReadCause, IsAnswer};
 ghost use Rattle.replay_command.specs.Scripts.{line_cause, script_cause, script_in, script_line, script_said};
 
-use call_table::CallTable;
-use command_answers::{Stop, refuse, refused_line};
-use host_io::Shelf;
-use script_text::{Script, ScriptCause, ScriptError, read_script as read_bytes};
+use asked_service::call_table::CallTable;
+use asked_service::host_io::Shelf;
+use asked_service::script_text::{Script, ScriptCause, ScriptError, read_script as read_bytes};
+use asked_service::unit_inputs::command_answers::{Stop, refuse, refused_line};
+use asked_service::unit_inputs::read_input;
 use std::alloc::{AllocError, Global};
-use unit_inputs::read_input;
 
 // Which line is faulty, and why.
 fn line_cause(alloc: Global, line: u64, cause: ScriptCause) -> Result<Vec<u8>, AllocError>

@@ -2,14 +2,14 @@
 use Rattle.std.specs.Prelude.{ℕ, List, [], ◌∷◌, ◌++◌, codes}
 use Rattle.std.specs.Fmt.{decimal}
 use Rattle.std.specs.List.{flat_map}
-use Rattle.abs_path.specs.Paths.{Path, text_of}
-use Rattle.call_table.specs.Table as calls
-use Rattle.site_table.specs.Table.{Site}
-use Rattle.text_forms.specs.Escaped.{escaped_word}
-use Rattle.kernel_calls.specs.declared.call.Call.{Call}
-use Rattle.question_types.specs.declared.question.Question.{Question}
-use Rattle.judge.specs.declared.answer.Verdict.{Verdict}
-use Rattle.judge.specs.declared.answer.Verdict.TheVariants.{Denied, Open}
+use Rattle.exposure_score.specs.abs_path.Paths.{Path, text_of}
+use Rattle.exposure_score.specs.call_table.Table as calls
+use Rattle.exposure_score.specs.site_table.Table.{Site}
+use Rattle.exposure_score.specs.text_forms.Escaped.{escaped_word}
+use Rattle.questions.specs.kernel_model.declared.kernel_calls.call.Call.{Call}
+use Rattle.questions.specs.kernel_laws.declared.question_types.question.Question.{Question}
+use Rattle.questions.specs.kernel_laws.declared.question_types.verdict.Verdict.{Verdict}
+use Rattle.questions.specs.kernel_laws.declared.question_types.verdict.Verdict.TheVariants.{Denied, Open}
 use Rattle.script_text.specs.Printed.{call_text}
 use Rattle.report_text.specs.Wording.{question_words}
 
@@ -17,9 +17,13 @@ abbrev pub verdict_word : Verdict → List ℕ
 verdict_word Denied = codes "denied"
 verdict_word Open = codes "open"
 
--- a question, and what is found about it
+-- a question after a word
+abbrev pub question_line : List ℕ → calls.Table → Site → Question → List ℕ
+question_line word table site question = word ++ (codes " " ++ (question_words table site question ++ 10 ∷ []))
+
+-- a question after what is found about it
 abbrev pub verdict_line : calls.Table → Site → Question → Verdict → List ℕ
-verdict_line table site question verdict = verdict_word verdict ++ (codes " " ++ (question_words table site question ++ 10 ∷ []))
+verdict_line table site question verdict = question_line (verdict_word verdict) table site question
 
 -- a call of a list that shows an open question, as a script has it
 abbrev pub call_line : calls.Table → Call → List ℕ

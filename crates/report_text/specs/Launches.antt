@@ -1,8 +1,8 @@
 -- The lines of launches.
 use Rattle.std.specs.Prelude.{ℕ, Bool, true, false, List, [], ◌∷◌, ◌++◌, codes}
 use Rattle.std.specs.Fmt.{decimal}
-use Rattle.abs_path.specs.Paths.{Path, text_of}
-use Rattle.text_forms.specs.Escaped.{escaped_word}
+use Rattle.exposure_score.specs.abs_path.Paths.{Path, text_of}
+use Rattle.exposure_score.specs.text_forms.Escaped.{escaped_word}
 use Rattle.report_text.specs.declared.launches.Launched.{Launched}
 
 abbrev pub yes_or_no : Bool → List ℕ

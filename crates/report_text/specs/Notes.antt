@@ -2,10 +2,10 @@
 use Rattle.std.specs.Prelude.{ℕ, List, [], ◌∷◌, ◌++◌, codes, slice_get}
 use Rattle.std.specs.Fmt.{decimal}
 use Rattle.std.specs.Option.{option_map_or}
-use Rattle.text_forms.specs.Escaped.{escaped_word}
-use Rattle.dropin_merge.specs.declared.resolved.UnitFile.{UnitFile}
-use Rattle.unit_grammar.specs.Causes.{cause_text}
-use Rattle.unit_values.specs.declared.value.FileNote.{FileNote}
+use Rattle.exposure_score.specs.text_forms.Escaped.{escaped_word}
+use Rattle.exposure_score.specs.dropin_merge.declared.resolved.UnitFile.{UnitFile}
+use Rattle.exposure_score.specs.unit_grammar.Causes.{cause_text}
+use Rattle.exposure_score.specs.dropin_merge.declared.unit_values.value.FileNote.{FileNote}
 
 -- the unit that is reported on
 abbrev pub unit_line : List ℕ → List ℕ

@@ -1,7 +1,7 @@
 -- The lines of scores.
 use Rattle.std.specs.Prelude.{ℕ, List, [], ◌∷◌, ◌++◌, codes, cond}
 use Rattle.std.specs.Fmt.{decimal}
-use Rattle.text_forms.specs.Escaped.{escaped_word}
+use Rattle.exposure_score.specs.text_forms.Escaped.{escaped_word}
 use Rattle.exposure_score.specs.declared.rows.ScoreRow.{ScoreRow}
 
 -- a test that neither a fact nor a stored test decides

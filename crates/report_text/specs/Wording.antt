@@ -2,19 +2,19 @@
 use Rattle.std.specs.Prelude.{ℕ, List, [], ◌++◌, codes, slice_get}
 use Rattle.std.specs.Fmt.{decimal}
 use Rattle.std.specs.Option.{option_map_or}
-use Rattle.abs_path.specs.Paths.{text_of}
-use Rattle.cap_sets.specs.Names.{name_of}
-use Rattle.call_table.specs.declared.listed.CallLine.{CallLine}
-use Rattle.call_table.specs.Table as calls
-use Rattle.site_table.specs.declared.row.Row.{Row}
-use Rattle.site_table.specs.Table.{Site}
-use Rattle.text_forms.specs.Escaped.{escaped_word}
-use Rattle.question_types.specs.declared.wish.Wish.{Wish}
-use Rattle.question_types.specs.declared.wish.Wish.TheVariants.{See as ToSee, Read as ToRead, Write as ToWrite, Exec as ToExec}
-use Rattle.filter_rules.specs.declared.namespace_types.NamespaceType.{NamespaceType}
-use Rattle.filter_rules.specs.declared.namespace_types.NamespaceType.TheVariants.{Cgroup, Ipc, Net, Mnt, Pid, User, Uts}
-use Rattle.question_types.specs.declared.question.Question.{Question}
-use Rattle.question_types.specs.declared.question.Question.TheVariants.{Path as ByPath, Call, Socket, Namespace as Ns, MapWx, ProtectX, ShmX, Realtime, Personality, SuidBit, Cap, Uid, Gid}
+use Rattle.exposure_score.specs.abs_path.Paths.{text_of}
+use Rattle.exposure_score.specs.cap_sets.Names.{name_of}
+use Rattle.exposure_score.specs.call_table.declared.listed.CallLine.{CallLine}
+use Rattle.exposure_score.specs.call_table.Table as calls
+use Rattle.exposure_score.specs.site_table.declared.row.Row.{Row}
+use Rattle.exposure_score.specs.site_table.Table.{Site}
+use Rattle.exposure_score.specs.text_forms.Escaped.{escaped_word}
+use Rattle.questions.specs.kernel_laws.declared.question_types.wish.Wish.{Wish}
+use Rattle.questions.specs.kernel_laws.declared.question_types.wish.Wish.TheVariants.{See as ToSee, Read as ToRead, Write as ToWrite, Exec as ToExec}
+use Rattle.questions.specs.filter_settings.declared.filter_rules.namespace_types.NamespaceType.{NamespaceType}
+use Rattle.questions.specs.filter_settings.declared.filter_rules.namespace_types.NamespaceType.TheVariants.{Cgroup, Ipc, Net, Mnt, Pid, User, Uts}
+use Rattle.questions.specs.kernel_laws.declared.question_types.question.Question.{Question}
+use Rattle.questions.specs.kernel_laws.declared.question_types.question.Question.TheVariants.{Path as ByPath, Call, Socket, Namespace as Ns, MapWx, ProtectX, ShmX, Realtime, Personality, SuidBit, Cap, Uid, Gid}
 
 abbrev pub wish_word : Wish → List ℕ
 wish_word ToSee = codes "see"

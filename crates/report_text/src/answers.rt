@@ -1,19 +1,18 @@
 //! The lines of answers to questions, those of blind folders, and the count of all questions.
 ghost use Rattle.std.specs.Prelude.{◌≡◌, ◌++◌, Contains, IfOk, OnOk, flat_map};
-ghost use Rattle.kernel_laws.specs.Questions.{questions};
-ghost use Rattle.report_text.specs.Answers.{blind_line, call_line, open_lines, summary_line, verdict_line, verdict_word};
+ghost use Rattle.questions.specs.kernel_laws.Questions.{questions};
+ghost use Rattle.report_text.specs.Answers.{blind_line, call_line, open_lines, question_line, summary_line, verdict_line, verdict_word};
 
 use crate::wording::push_question;
-use abs_path::AbsPath;
-use call_table::CallTable;
-use judge::Verdict;
-use kernel_calls::Call;
-use question_types::Question;
+use exposure_score::abs_path::AbsPath;
+use exposure_score::call_table::CallTable;
+use exposure_score::site_table::SiteTable;
+use exposure_score::text_forms::push_word;
+use questions::kernel_laws::question_types::{Question, Verdict};
+use questions::kernel_model::kernel_calls::Call;
 use questions::laws::members;
 use script_text::push_call;
-use site_table::SiteTable;
 use std::alloc::{AllocError, Global};
-use text_forms::push_word;
 
 fn verdict_word(verdict: Verdict) -> &'static str
     ensures { result.now ≡ verdict_word verdict }
@@ -24,20 +23,20 @@ fn verdict_word(verdict: Verdict) -> &'static str
     }
 }
 
-// Puts the line of a question of the list behind a text.
-fn push_verdict_line(
+// Appends the line of a question of the list after a word.
+fn push_question_line(
     text: &mut Vec<u8>,
+    word: &str,
     question: &Question,
-    verdict: Verdict,
     calls: &CallTable,
     site: &SiteTable,
 ) -> Result<(), AllocError>
     requires asked { Contains (questions calls.now site.now) question.now }
-    ensures tells_the_verdict { OnOk result (text.new.items ≡ text.old.items ++ verdict_line calls.now site.now question.now verdict) }
+    ensures tells_the_question { OnOk result (text.new.items ≡ text.old.items ++ question_line word.now calls.now site.now question.now) }
 {
     // There is a thing that each question of the list is asked of.
     members();
-    text.extend_from_slice(verdict_word(verdict).as_bytes())?;
+    text.extend_from_slice(word.as_bytes())?;
     text.push(b' ')?;
     push_question(text, question, calls, site)?;
     text.push(b'\n')?;
@@ -47,7 +46,25 @@ fn push_verdict_line(
 // How much memory the lines of an answer begin with: most need no more.
 const ANSWER_LEN: usize = 128;
 
-/// The line of a question of the list: the verdict, and what is asked. Rows go by their paths and calls and families by their
+/// Returns the line of a question of the list after this word, as a report has it after its verdict.
+///
+/// The one error is want of memory.
+pub fn question_line(
+    alloc: Global,
+    word: &str,
+    question: &Question,
+    calls: &CallTable,
+    site: &SiteTable,
+) -> Result<Vec<u8>, AllocError>
+    requires asked { Contains (questions calls.now site.now) question.now }
+    ensures tells_the_question { IfOk result (λ line. line.items ≡ question_line word.now calls.now site.now question.now) }
+{
+    let mut line = Vec::with_capacity(alloc, ANSWER_LEN)?;
+    push_question_line(&mut line, word, question, calls, site)?;
+    Ok(line)
+}
+
+/// Returns the line of a question of the list: the verdict, and what is asked. Rows go by their paths and calls and families by their
 /// names, each an escaped word; ids go by their numbers, and capabilities by the names of capabilities(7).
 ///
 /// The one error is want of memory.
@@ -61,9 +78,7 @@ pub fn verdict_line(
     requires asked { Contains (questions calls.now site.now) question.now }
     ensures tells_the_verdict { IfOk result (λ line. line.items ≡ verdict_line calls.now site.now question.now verdict) }
 {
-    let mut line = Vec::with_capacity(alloc, ANSWER_LEN)?;
-    push_verdict_line(&mut line, question, verdict, calls, site)?;
-    Ok(line)
+    question_line(alloc, verdict_word(verdict), question, calls, site)
 }
 
 // Puts the line of a call behind a text.

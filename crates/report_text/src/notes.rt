@@ -2,10 +2,10 @@
 ghost use Rattle.std.specs.Prelude.{◌≡◌, IfOk};
 ghost use Rattle.report_text.specs.Notes.{note_line, path_at, unit_line};
 
-use dropin_merge::{Resolved, UnitFile};
+use exposure_score::dropin_merge::unit_values::FileNote;
+use exposure_score::dropin_merge::{Resolved, UnitFile};
+use exposure_score::text_forms::push_word;
 use std::alloc::{AllocError, Global};
-use text_forms::push_word;
-use unit_values::FileNote;
 
 /// The first line of a report: the name of the unit, as an escaped word.
 pub fn unit_line(alloc: Global, unit: &str) -> Result<Vec<u8>, AllocError>

@@ -3,8 +3,8 @@ ghost use Rattle.std.specs.Prelude.{◌≡◌, IfOk};
 ghost use Rattle.report_text.specs.Scores.{exposure_line, numbers_of, score_line, skip_line, test_line};
 
 use exposure_score::ScoreRow;
+use exposure_score::text_forms::push_word;
 use std::alloc::{AllocError, Global};
-use text_forms::push_word;
 
 // The line of a test that is skipped.
 fn skip_line(alloc: Global, row: &ScoreRow) -> Result<Vec<u8>, AllocError>

@@ -1,17 +1,17 @@
 //! Questions, as they are written.
 ghost use Rattle.std.specs.Prelude.{◌≡◌, ◌++◌, OnOk, codes};
 ghost use Rattle.std.specs.Fmt.{decimal};
-ghost use Rattle.call_table.specs.Table.{every_call};
-ghost use Rattle.text_forms.specs.Escaped.{escaped_word};
+ghost use Rattle.exposure_score.specs.call_table.Table.{every_call};
+ghost use Rattle.exposure_score.specs.text_forms.Escaped.{escaped_word};
 ghost use Rattle.questions.specs.Listed.{IsAskedOf};
 ghost use Rattle.report_text.specs.Wording.{name_at, path_at, question_words, wish_word};
 
-use call_table::{CallLine, CallTable};
-use cap_sets::CapSet;
-use question_types::{Question, Wish};
-use site_table::{Row, SiteTable};
+use exposure_score::call_table::{CallLine, CallTable};
+use exposure_score::cap_sets::CapSet;
+use exposure_score::site_table::{Row, SiteTable};
+use exposure_score::text_forms::{push_u64, push_word};
+use questions::kernel_laws::question_types::{Question, Wish};
 use std::alloc::AllocError;
-use text_forms::{push_u64, push_word};
 
 fn wish_word(wish: Wish) -> &'static str
     ensures { result.now ≡ wish_word wish }
@@ -38,7 +38,7 @@ fn path_at(rows: &[Row], at: usize) -> &str
 fn call_at(calls: &CallTable, at: usize) -> &str
     ensures { result.now ≡ name_at (every_call calls.now) at }
 {
-    match call_words::name_at(calls, at) {
+    match exposure_score::call_table::call_words::name_at(calls, at) {
         Some(name) => name,
         None => "",
     }

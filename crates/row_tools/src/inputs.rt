@@ -4,11 +4,11 @@
 use crate::held::HeldText;
 use crate::wording::{said, text_of};
 use call_table::{CallTable, read_calls};
+use dropin_merge::unit_grammar::{Text, read_unit};
+use dropin_merge::unit_names::UnitName;
 use dropin_merge::{Resolved, UnitFile, UnitFiles};
 use site_table::{SiteTable, read_site};
 use std::alloc::{AllocError, Global};
-use unit_grammar::{Text, read_unit};
-use unit_names::UnitName;
 
 /// A unit, a table of calls and a site.
 #[derive(Drop)]
@@ -30,17 +30,11 @@ pub fn site_of(alloc: Global, text: &str) -> Option<Box<SiteTable>> {
     Box::new(alloc, site).ok()
 }
 
-// The text of a file with these lines in its section of the service.
-fn file_text(alloc: Global, lines: &str) -> Result<String, AllocError> {
-    let mut text = String::from_str(alloc, "[Service]\n")?;
-    text.push_str(text_of(alloc, lines)?.as_str())?;
-    text.push('\n')?;
-    Ok(text)
-}
-
+// The file with these lines in its section of the service.
 fn file_of(alloc: Global, lines: &str) -> Option<UnitFile> {
     let path = Text::new(alloc, "web.service").ok()?;
-    let bytes = file_text(alloc, lines).ok()?;
+    let lines = text_of(alloc, lines).ok()?;
+    let bytes = format!(in alloc; "[Service]\n{lines}\n").ok()?;
     let text = read_unit(alloc, bytes.as_bytes()).ok()?;
     Some(UnitFile { path, text })
 }
@@ -53,8 +47,8 @@ fn files_of(alloc: Global, files: &[&str]) -> Option<Vec<UnitFile>> {
     Some(read)
 }
 
-/// The unit web.service with these files; of each the lines of its section of the service.
-pub fn unit_of(alloc: Global, files: &[&str]) -> Option<Box<Resolved>> {
+// The unit web.service with these files; of each the lines of its section of the service.
+fn unit_of(alloc: Global, files: &[&str]) -> Option<Box<Resolved>> {
     let name = UnitName::read(alloc, "web.service").ok()?;
     let files = UnitFiles::new(files_of(alloc, files)?);
     Box::new(alloc, Resolved { name, files }).ok()

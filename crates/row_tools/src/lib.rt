@@ -1,4 +1,4 @@
-//! What programs of rows share: their lines and parts, the words of a row, answers in words, and inputs read from texts.
+//! What programs of rows share: their lines and parts, the words of a row, and inputs read from texts.
 //!
 //! `follow_lines(&rt, &mut parts)` is the `main` of a program of rows, which is a `Follow`; where it has parts, a line `part NAME`
 //! begins one (`part_of`), and prints nothing. A `HeldText` is a text that its lines hold. The words of a row are parted by bars;
@@ -13,8 +13,6 @@ mod lines;
 mod wording;
 
 pub use held::HeldText;
-pub use inputs::{Inputs, Texts, calls_of, inputs_of, site_of, unit_of};
+pub use inputs::{Inputs, Texts, calls_of, inputs_of, site_of};
 pub use lines::{Follow, Shown, follow_line, follow_lines, part_of};
-pub use wording::{
-    bytes_of, long_path, number, number_or_none, number32, said, text_of, words, yes_or_no,
-};
+pub use wording::{bytes_of, long_path, number, number32, said, text_of, words};

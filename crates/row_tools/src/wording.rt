@@ -1,4 +1,4 @@
-//! The words of a row, what they stand for, and answers in words.
+//! The words of a row, and what they stand for.
 use hex::decode;
 use std::alloc::{AllocError, Global};
 
@@ -72,17 +72,4 @@ pub fn number32(word: &str) -> u32 {
 /// These words.
 pub fn said(alloc: Global, text: &str) -> Result<String, AllocError> {
     String::from_str(alloc, text)
-}
-
-/// A number in decimal, or `none`.
-pub fn number_or_none(alloc: Global, number: Option<u64>) -> Result<String, AllocError> {
-    match number {
-        Some(number) => number.to_string(alloc),
-        None => said(alloc, "none"),
-    }
-}
-
-/// `yes` or `no`.
-pub fn yes_or_no(alloc: Global, is_so: bool) -> Result<String, AllocError> {
-    said(alloc, if is_so { "yes" } else { "no" })
 }

@@ -1,28 +1,28 @@
 -- Nothing of a made unit is refused: no setting, no path and no step of its launch.
 use Rattle.std.proofs.Common.{◌≡◌, ◌≢◌, ◌∙◌, ℕ, List, [], Some, None, Result, Ok, Err, ap, refl, sym, subst, length, arith}
-use Rattle.call_table.specs.Facts.{IsWhole}
-use Rattle.call_table.specs.Table as calls
-use Rattle.cap_sets.specs.Sets.{all, none, IsWithin}
-use Rattle.cap_sets.proofs.Members.{none_within, within_self}
-use Rattle.dropin_merge.specs.declared.resolved.Resolved.{Resolved}
-use Rattle.exec_settings.specs.Mounts.{unit_mentions}
-use Rattle.exec_settings.specs.declared.service.Settings.{Settings}
-use Rattle.kern_files.specs.Looking.{flags_by}
-use Rattle.kern_mounts.specs.declared.step.MountStep.{MountStep}
-use Rattle.launched_units.specs.Launching.{IsNotLaunched, IsRefusedUnit, RefusesPath}
-use Rattle.launched_units.specs.declared.refusal.UnitRefusal.{UnitRefusal}
-use Rattle.launched_units.specs.declared.refusal.UnitRefusal.TheVariants.{Settings as InSettings, Plan, Launch, Memory}
-use Rattle.mount_plan.specs.Host.{host_of}
-use Rattle.mount_plan.specs.declared.error.PlanError.{PlanError}
-use Rattle.mount_plan.specs.declared.error.PlanError.TheVariants as plan
-use Rattle.sample_launch.specs.EndsWell.{ArePlain, IsNeverRefused, PlainSettingsAreLaunched, ShowsProgram}
+use Rattle.judge_command.specs.call_table.Facts.{IsWhole}
+use Rattle.judge_command.specs.call_table.Table as calls
+use Rattle.sample_inputs.specs.cap_sets.Sets.{all, none, IsWithin}
+use Rattle.sample_inputs.proofs.Caps.Members.{none_within, within_self}
+use Rattle.judge_command.specs.dropin_merge.declared.resolved.Resolved.{Resolved}
+use Rattle.judge_command.specs.exec_settings.Mounts.{unit_mentions}
+use Rattle.judge_command.specs.exec_settings.declared.service.Settings.{Settings}
+use Rattle.judge_command.specs.kernel_model.kern_files.Looking.{flags_by}
+use Rattle.judge_command.specs.kern_mounts.declared.step.MountStep.{MountStep}
+use Rattle.judge_command.specs.asked_service.launched_units.Launching.{IsNotLaunched, IsRefusedUnit, RefusesPath}
+use Rattle.judge_command.specs.asked_service.declared.launched_units.refusal.UnitRefusal.{UnitRefusal}
+use Rattle.judge_command.specs.asked_service.declared.launched_units.refusal.UnitRefusal.TheVariants.{Settings as InSettings, Plan, Launch, Memory}
+use Rattle.judge_command.specs.mount_plan.Host.{host_of}
+use Rattle.judge_command.specs.mount_plan.declared.error.PlanError.{PlanError}
+use Rattle.judge_command.specs.mount_plan.declared.error.PlanError.TheVariants as plan
+use Rattle.sample_inputs.specs.sample_launch.EndsWell.{ArePlain, IsNeverRefused, PlainSettingsAreLaunched, ShowsProgram}
 use Rattle.sample_inputs.specs.Facts.{HasSampleRows, SaysSample, plain_exe, program}
-use Rattle.sample_launch.specs.Planned.{FindsItsProgram, PathsAreNotRefused, ProgramsAreFound}
-use Rattle.sample_launch.specs.Settled.{AreSampleSettings, SettingsAreNotRefused, SettingsAreTheSamples}
-use Rattle.site_table.specs.Table.{Site}
-use Rattle.unit_launch.specs.Launching.{IsRefused}
-use Rattle.unit_launch.specs.declared.refusal.LaunchRefusal.{LaunchRefusal}
-use Rattle.unit_launch.specs.declared.refusal.LaunchRefusal.TheVariants as refusal
+use Rattle.sample_inputs.specs.sample_launch.Planned.{FindsItsProgram, PathsAreNotRefused, ProgramsAreFound}
+use Rattle.sample_inputs.specs.sample_launch.Settled.{AreSampleSettings, SettingsAreNotRefused, SettingsAreTheSamples}
+use Rattle.judge_command.specs.site_table.Table.{Site}
+use Rattle.judge_command.specs.asked_service.unit_launch.Launching.{IsRefused}
+use Rattle.judge_command.specs.asked_service.declared.unit_launch.refusal.LaunchRefusal.{LaunchRefusal}
+use Rattle.judge_command.specs.asked_service.declared.unit_launch.refusal.LaunchRefusal.TheVariants as refusal
 use Rattle.sample_command.specs.Accepted as sample
 
 are_plain : (n : ℕ) (settings : Settings) → AreSampleSettings n settings → ArePlain settings

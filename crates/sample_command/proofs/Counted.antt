@@ -1,18 +1,18 @@
 -- The counts of all that is asked.
 use Rattle.std.proofs.Common.{◌≡◌, ◌∙◌, ℕ, suc, ◌-◌, Bool, true, false, List, [], ◌∷◌, ap, refl, sym, arith, cond, length, map}
 use Rattle.std.specs.Prelude.{filter, not, if◌then◌else◌}
-use Rattle.abs_path.specs.Paths.{Path}
-use Rattle.asked_service.specs.Rows.{count_open, rows_of}
-use Rattle.chosen_calls.specs.Chosen.{calls_for}
+use Rattle.judge_command.specs.abs_path.Paths.{Path}
+use Rattle.judge_command.specs.asked_service.Rows.{count_open, rows_of}
+use Rattle.judge_command.specs.open_calls.chosen_calls.Chosen.{calls_for}
 use Rattle.judge_command.specs.Answers.{Denied, Open, is_denied}
 use Rattle.judge_command.specs.Asked.{IsAsked, launch_in, world_in}
 use Rattle.judge_command.specs.ByRule.{answer_of, answers_of}
 use Rattle.judge_command.specs.declared.asking.Asked.{Asked}
 use Rattle.judge_command.proofs.Counted.{all_are, both}
-use Rattle.kernel_laws.specs.Bound.{is_open}
-use Rattle.kernel_laws.specs.Launched.{launch_of}
-use Rattle.kernel_model.specs.World.{World}
-use Rattle.question_types.specs.declared.question.Question.{Question}
+use Rattle.judge_command.specs.kernel_laws.Bound.{is_open}
+use Rattle.judge_command.specs.kernel_laws.Launched.{launch_of}
+use Rattle.judge_command.specs.kernel_model.World.{World}
+use Rattle.judge_command.specs.kernel_laws.declared.question_types.question.Question.{Question}
 
 -- those that are open by the rule are those whose answers are not denied
 open_are : (world : World) (program : Path) (list : List Question) → count_open (rows_of world list) ≡ length (filter (λ answer. not (is_denied answer)) (map (answer_of (launch_of world) program) list))

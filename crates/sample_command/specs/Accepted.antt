@@ -1,11 +1,11 @@
 -- A unit of which nothing is refused.
 use Rattle.std.specs.Prelude.{◌≢◌}
-use Rattle.call_table.specs.Table as calls
-use Rattle.dropin_merge.specs.declared.resolved.Resolved.{Resolved}
-use Rattle.launched_units.specs.Launching.{IsNotLaunched}
-use Rattle.launched_units.specs.declared.refusal.UnitRefusal.{UnitRefusal}
-use Rattle.launched_units.specs.declared.refusal.UnitRefusal.TheVariants.{Memory}
-use Rattle.site_table.specs.Table.{Site}
+use Rattle.judge_command.specs.call_table.Table as calls
+use Rattle.judge_command.specs.dropin_merge.declared.resolved.Resolved.{Resolved}
+use Rattle.judge_command.specs.asked_service.launched_units.Launching.{IsNotLaunched}
+use Rattle.judge_command.specs.asked_service.declared.launched_units.refusal.UnitRefusal.{UnitRefusal}
+use Rattle.judge_command.specs.asked_service.declared.launched_units.refusal.UnitRefusal.TheVariants.{Memory}
+use Rattle.judge_command.specs.site_table.Table.{Site}
 
 abbrev pub IsNeverRefused : Resolved → calls.Table → Site → Type 0
 IsNeverRefused unit table site = (refusal : UnitRefusal) → refusal ≢ Memory → IsNotLaunched unit table site refusal → ⊥

@@ -1,15 +1,15 @@
 -- What `sample` prints.
 use Rattle.std.specs.Prelude.{◌≡◌, ℕ, List, [], ◌∷◌, ◌++◌, codes}
 use Rattle.std.specs.Fmt.{decimal}
-use Rattle.call_table.specs.Table as calls
-use Rattle.command_answers.specs.Laws.{Laws}
-use Rattle.command_answers.specs.declared.ending.Ending.{Ending}
-use Rattle.command_answers.specs.declared.ending.Ending.TheVariants.{Done}
-use Rattle.dropin_merge.specs.declared.resolved.Resolved.{Resolved}
+use Rattle.judge_command.specs.call_table.Table as calls
+use Rattle.judge_command.specs.unit_inputs.command_answers.Laws.{Laws}
+use Rattle.judge_command.specs.unit_inputs.declared.command_answers.ending.Ending.{Ending}
+use Rattle.judge_command.specs.unit_inputs.declared.command_answers.ending.Ending.TheVariants.{Done}
+use Rattle.judge_command.specs.dropin_merge.declared.resolved.Resolved.{Resolved}
 use Rattle.judge_command.specs.Answers.{Answer, AreAnswers}
-use Rattle.launched_units.specs.Launching.{IsLaunchedUnit}
-use Rattle.launcher.specs.declared.launched.Launched.{Launched as Service}
-use Rattle.site_table.specs.Table.{Site}
+use Rattle.judge_command.specs.asked_service.launched_units.Launching.{IsLaunchedUnit}
+use Rattle.judge_command.specs.launcher.declared.launched.Launched.{Launched as Service}
+use Rattle.judge_command.specs.site_table.Table.{Site}
 use Rattle.sample_inputs.specs.Made.{IsSample}
 use Rattle.sample_command.specs.Counts.{Counts}
 use Rattle.sample_command.specs.declared.sampled.Sampled.{Sampled}

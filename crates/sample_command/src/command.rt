@@ -1,15 +1,15 @@
 //! The command `sample` and a number.
 ghost use Rattle.std.specs.Prelude.{◌≤◌, IsErrOf};
-ghost use Rattle.command_answers.specs.Laws.{IsAdmitted};
+ghost use Rattle.judge_command.specs.unit_inputs.command_answers.Laws.{IsAdmitted};
 ghost use Rattle.sample_command.specs.Prints.{ending_of, sample_laws, sampled_text};
 
 use crate::judging::judge_sample;
 use crate::launching::launch_sample;
 use crate::sampled::Sampled;
-use command_answers::Stop;
 use judge_command::truths;
+use judge_command::unit_inputs::command_answers::Stop;
 use sample_inputs::made;
-use sample_launch::launches_end_well;
+use sample_inputs::sample_launch::launches_end_well;
 use std::alloc::Global;
 
 /// Prepares `sample` and a number from 0 to 999: makes the inputs, settles, plans and launches the unit, asks every question of the
@@ -21,8 +21,8 @@ pub fn prepare(alloc: Global, number: u32) -> Result<Sampled, Stop>
 {
     // Why the answers are true, and why nothing is refused.
     truths();
-    sample_launch::settings();
-    sample_launch::plan();
+    sample_inputs::sample_launch::settings();
+    sample_inputs::sample_launch::plan();
     launches_end_well();
     let inputs = made(alloc, number)?;
     inputs.calls.look_at();

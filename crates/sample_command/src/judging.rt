@@ -1,15 +1,15 @@
 //! A launched service that is judged.
 ghost use Rattle.std.specs.Prelude.{IfOk};
-ghost use Rattle.kernel_laws.specs.Launched.{launch_of};
-ghost use Rattle.kernel_ways.specs.Laws.{IsServedWorld};
-ghost use Rattle.kernel_ways.specs.Offers.{RunsProgram};
+ghost use Rattle.judge_command.specs.kernel_laws.Launched.{launch_of};
+ghost use Rattle.judge_command.specs.kernel_ways.Laws.{IsServedWorld};
+ghost use Rattle.judge_command.specs.kernel_ways.Offers.{RunsProgram};
 ghost use Rattle.sample_command.specs.Counts.{CountsAnswers};
 ghost use Rattle.judge_command.specs.Asked.{IsAsked};
 
 use crate::sampled::Sampled;
-use asked_service::count_open;
+use judge_command::asked_service::count_open;
+use judge_command::launcher::Launched;
 use judge_command::{Asked, ask};
-use launcher::Launched;
 use std::alloc::{AllocError, Global};
 
 // Counts the answers to all that is asked.

@@ -1,10 +1,10 @@
 //! The launch of a made unit.
 ghost use Rattle.std.specs.Prelude.{IfOk};
-ghost use Rattle.launched_units.specs.Launching.{IsLaunchedUnit};
+ghost use Rattle.judge_command.specs.asked_service.launched_units.Launching.{IsLaunchedUnit};
 ghost use Rattle.sample_command.specs.Accepted.{IsNeverRefused};
 
-use launched_units::{UnitRefusal, launch_whole};
-use launcher::Launched;
+use judge_command::asked_service::launched_units::{UnitRefusal, launch_whole};
+use judge_command::launcher::Launched;
 use sample_inputs::SampleInputs;
 use std::alloc::{AllocError, Global};
 

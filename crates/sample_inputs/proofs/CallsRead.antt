@@ -2,11 +2,11 @@
 use Rattle.std.proofs.Common.{◌≡◌, Ok, refl}
 use Rattle.std.specs.Str.{is_utf8, chars}
 use lib.Utf8.{encode}
-use Rattle.text_forms.specs.Numbers.{decimal_value, numeral_value}
-use Rattle.call_names.specs.Known.{known_call}
-use Rattle.call_table.specs.Reading.{table_of, is_version, line_kind, missing_call}
-use Rattle.call_table.specs.Faults.{entry_fault, group_fault}
-use Rattle.call_table.specs.Numbers.{arch_of, number_of, cap_of}
+use Rattle.launcher.specs.text_forms.Numbers.{decimal_value, numeral_value}
+use Rattle.launcher.specs.call_table.call_names.Known.{known_call}
+use Rattle.launcher.specs.call_table.Reading.{table_of, is_version, line_kind, missing_call}
+use Rattle.launcher.specs.call_table.Faults.{entry_fault, group_fault}
+use Rattle.launcher.specs.call_table.Numbers.{arch_of, number_of, cap_of}
 use Rattle.sample_inputs.specs.Calls.{calls_text, calls_lines}
 use Rattle.sample_inputs.specs.CallTable.{sample_table, sample_calls, sample_families, sample_groups}
 

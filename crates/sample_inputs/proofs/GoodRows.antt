@@ -6,16 +6,16 @@ use Rattle.std.specs.Option.{option_map_or}
 use Rattle.std.specs.Str.{bytes_eq}
 use Rattle.std.proofs.Math.Seq.{take-append_seam}
 use Rattle.std.proofs.lemmas.Bool.{cases_Bool}
-use Rattle.abs_path.specs.Paths.{Path}
-use Rattle.abs_path.specs.Prefix.{is_same}
-use Rattle.abs_path.proofs.Prefixes.{same_path}
+use Rattle.launcher.specs.abs_path.Paths.{Path}
+use Rattle.launcher.specs.abs_path.Prefix.{is_same}
+use Rattle.launcher.proofs.AbsPath.Prefixes.{same_path}
 use Rattle.toml.specs.Data.{Data}
-use Rattle.site_table.specs.declared.error.RowCause.{RowCause}
-use Rattle.site_table.specs.declared.error.SiteError.{SiteError}
-use Rattle.site_table.specs.declared.error.SiteError.TheVariants.{Row as BadRow}
-use Rattle.site_table.specs.declared.error.RowCause.TheVariants.{Duplicate, NoParent}
-use Rattle.site_table.specs.Rows.{path_of, own_causes, place_causes, cause_of, first_of, has_parent, is_duplicate, is_row_at}
-use Rattle.site_table.specs.Reading.{row_faults}
+use Rattle.launcher.specs.site_table.declared.error.RowCause.{RowCause}
+use Rattle.launcher.specs.site_table.declared.error.SiteError.{SiteError}
+use Rattle.launcher.specs.site_table.declared.error.SiteError.TheVariants.{Row as BadRow}
+use Rattle.launcher.specs.site_table.declared.error.RowCause.TheVariants.{Duplicate, NoParent}
+use Rattle.launcher.specs.site_table.Rows.{path_of, own_causes, place_causes, cause_of, first_of, has_parent, is_duplicate, is_row_at}
+use Rattle.launcher.specs.site_table.Reading.{row_faults}
 use Rattle.sample_inputs.proofs.Names.{number_in}
 
 -- the number of a path among those of the site's rows

@@ -15,3 +15,14 @@ pub mod Entries
 pub mod RowsSoFar
 pub mod Printing
 pub mod SampleRows
+pub mod Going
+pub mod Granted
+pub mod Made
+pub mod Launching
+pub mod EndsWell
+pub mod Shown
+pub mod SampleLaunchTurns
+pub mod Alike
+pub mod Settling
+pub mod Plans
+pub use Rattle.launcher.proofs.Caps as Caps

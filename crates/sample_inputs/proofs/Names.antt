@@ -5,7 +5,7 @@ use Rattle.std.specs.Fmt.{digits}
 use Rattle.std.specs.Str.{bytes_eq}
 use Rattle.std.specs.Str.Parse.{digits_value}
 use Rattle.std.proofs.lemmas.Bool.{and_parts, cases_eq, not-true, leb-true, eqb-true}
-use Rattle.abs_path.specs.Paths.{is_part}
+use Rattle.launcher.specs.abs_path.Paths.{is_part}
 use Rattle.sample_inputs.specs.Site.{numbers_from, folder_name, object_name}
 
 -- the number behind the letter of a name

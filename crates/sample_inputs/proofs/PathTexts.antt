@@ -1,10 +1,10 @@
 -- The paths of a site's rows: what their texts are read as.
 use Rattle.std.proofs.Common.{◌≡◌, ℕ, ◌<◌, ◌≤◌, ◌&&◌, Bool, true, cond, nat_le, Option, Some, None, [], ◌∷◌, ◌++◌, length, is_none, refl, sym, ap, ◌∙◌, arith, le-leb, append-nil, append_assoc, length-append}
 use Rattle.std.specs.Fmt.{decimal}
-use Rattle.abs_path.specs.Paths.{Path, text_of, parts_of, is_normal, is_part}
-use Rattle.abs_path.specs.declared.error.PathError.{PathError}
-use Rattle.abs_path.proofs.Reading.{text_parts, text_no_fault}
-use Rattle.site_table.specs.Paths.{short_path}
+use Rattle.launcher.specs.abs_path.Paths.{Path, text_of, parts_of, is_normal, is_part}
+use Rattle.launcher.specs.abs_path.declared.error.PathError.{PathError}
+use Rattle.launcher.proofs.AbsPath.Reading.{text_parts, text_no_fault}
+use Rattle.launcher.specs.site_table.Paths.{short_path}
 use Rattle.sample_inputs.specs.Site.{folder_name, object_name, folder_path, object_path}
 use Rattle.sample_inputs.proofs.Names.{folder_named, object_named}
 

@@ -3,15 +3,15 @@ use Rattle.std.proofs.Common.{◌≡◌, ◌≢◌, true, false, Result, Ok, Err
 use Rattle.toml.specs.Data.{Members, members_have_valid_dates}
 use Rattle.toml.specs.declared.ser.error.Error.{Error}
 use Rattle.toml.specs.declared.ser.error.Error.TheVariants as of_printing
-use Rattle.call_table.specs.Table as calls
-use Rattle.call_table.specs.declared.causes.CallsError.{CallsError}
-use Rattle.call_table.specs.declared.causes.CallsError.TheVariants as of_calls
-use Rattle.unit_grammar.specs.declared.unit.UnitText.{UnitText}
-use Rattle.unit_grammar.specs.declared.unit.UnitError.{UnitError}
-use Rattle.unit_grammar.specs.declared.unit.UnitError.TheVariants as of_unit
-use Rattle.site_table.specs.Table.{Site}
-use Rattle.site_table.specs.declared.error.SiteError.{SiteError}
-use Rattle.site_table.specs.declared.error.SiteError.TheVariants as of_site
+use Rattle.launcher.specs.call_table.Table as calls
+use Rattle.launcher.specs.call_table.declared.causes.CallsError.{CallsError}
+use Rattle.launcher.specs.call_table.declared.causes.CallsError.TheVariants as of_calls
+use Rattle.launcher.specs.unit_grammar.declared.unit.UnitText.{UnitText}
+use Rattle.launcher.specs.unit_grammar.declared.unit.UnitError.{UnitError}
+use Rattle.launcher.specs.unit_grammar.declared.unit.UnitError.TheVariants as of_unit
+use Rattle.launcher.specs.site_table.Table.{Site}
+use Rattle.launcher.specs.site_table.declared.error.SiteError.{SiteError}
+use Rattle.launcher.specs.site_table.declared.error.SiteError.TheVariants as of_site
 
 -- an error of another kind would be the answer to the text
 other_answer : {T E : Type 0} (wanted : Result T E) (value : T) (error : E) → wanted ≡ Ok value → wanted ≡ Err error → ⊥

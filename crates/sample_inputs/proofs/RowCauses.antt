@@ -2,15 +2,15 @@
 use Rattle.std.proofs.Common.{◌≡◌, ℕ, ◌&&◌, ◌||◌, not, Bool, false, Option, Some, None, List, [], ◌∷◌, is_none, refl, ap, ◌∙◌}
 use Rattle.std.specs.Prelude.{find}
 use Rattle.std.specs.Option.{option_map_or}
-use Rattle.abs_path.specs.Paths.{Path}
+use Rattle.launcher.specs.abs_path.Paths.{Path}
 use Rattle.toml.specs.Data.{Data}
-use Rattle.toml_shapes.specs.Keys.{has_keys}
-use Rattle.site_table.specs.Keys.{row_keys}
-use Rattle.site_table.specs.Kinds.{is_dir, is_exe}
-use Rattle.site_table.specs.Paths.{short_path}
-use Rattle.site_table.specs.declared.error.RowCause.{RowCause}
-use Rattle.site_table.specs.declared.error.RowCause.TheVariants.{Key, Path as BadPath, Kind, Number, Caps, Both}
-use Rattle.site_table.specs.Rows.{path_of, kind_of, own_causes, has_exe_key, has_wrong_number, has_wrong_caps, has_both, is_always_dir}
+use Rattle.launcher.specs.toml_shapes.Keys.{has_keys}
+use Rattle.launcher.specs.site_table.Keys.{row_keys}
+use Rattle.launcher.specs.site_table.Kinds.{is_dir, is_exe}
+use Rattle.launcher.specs.site_table.Paths.{short_path}
+use Rattle.launcher.specs.site_table.declared.error.RowCause.{RowCause}
+use Rattle.launcher.specs.site_table.declared.error.RowCause.TheVariants.{Key, Path as BadPath, Kind, Number, Caps, Both}
+use Rattle.launcher.specs.site_table.Rows.{path_of, kind_of, own_causes, has_exe_key, has_wrong_number, has_wrong_caps, has_both, is_always_dir}
 use Rattle.sample_inputs.specs.Site.{dir_row, exe_row, file_row, setuid_row}
 use Rattle.sample_inputs.proofs.GoodRows.{no_cause}
 

@@ -7,15 +7,15 @@ use Rattle.std.proofs.lemmas.List.Elements.{Contains-append_left, Contains-appen
 use Rattle.std.specs.Str.{IsUtf8}
 use Rattle.std.proofs.lemmas.Str.{is_utf8-from_IsUtf8}
 use Rattle.toml.specs.Parse.{parse_document}
-use Rattle.abs_path.specs.Paths.{Path}
+use Rattle.launcher.specs.abs_path.Paths.{Path}
 use Rattle.toml.specs.Data.{Data, table}
-use Rattle.site_table.specs.Exact.{AreExactly}
-use Rattle.site_table.specs.Order.{plain_dir}
-use Rattle.site_table.specs.Paths.{root}
-use Rattle.site_table.specs.Reading.{rows_in, site_in, site_of, site_of_tree, tree_of}
-use Rattle.site_table.specs.Rows.{path_of, row_of}
-use Rattle.site_table.specs.Table.{Site}
-use Rattle.site_table.proofs.Exact.{exact_rows}
+use Rattle.launcher.specs.site_table.Exact.{AreExactly}
+use Rattle.launcher.specs.site_table.Order.{plain_dir}
+use Rattle.launcher.specs.site_table.Paths.{root}
+use Rattle.launcher.specs.site_table.Reading.{rows_in, site_in, site_of, site_of_tree, tree_of}
+use Rattle.launcher.specs.site_table.Rows.{path_of, row_of}
+use Rattle.launcher.specs.site_table.Table.{Site}
+use Rattle.launcher.proofs.SiteTable.Exact.{exact_rows}
 use Rattle.sample_inputs.specs.Facts.{HasSampleRows, program, folder}
 use Rattle.sample_inputs.specs.Site.{numbers_from, folder_path, dir_row, exe_row, folder_rows, site_rows, site_tree}
 use Rattle.sample_inputs.proofs.PathTexts.{folder_reads}

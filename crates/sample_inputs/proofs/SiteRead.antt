@@ -3,9 +3,9 @@ use Rattle.std.proofs.Common.{◌≡◌, ℕ, ◌≤◌, true, false, pos, Some,
 use Rattle.std.specs.List.{list_all}
 use Rattle.toml.specs.Data.{Data, Members, integer, array, table, no_members, member}
 use Rattle.toml.specs.View.{items_of}
-use Rattle.toml_shapes.specs.Tree.{elements}
-use Rattle.toml_shapes.specs.Keys.{is_table}
-use Rattle.site_table.specs.Reading.{top_faults, size_faults, row_faults, user_faults, group_faults, faults_of, unless_fault, site_of_tree, site_in}
+use Rattle.launcher.specs.toml_shapes.Tree.{elements}
+use Rattle.launcher.specs.toml_shapes.Keys.{is_table}
+use Rattle.launcher.specs.site_table.Reading.{top_faults, size_faults, row_faults, faults_of, unless_fault, site_of_tree, site_in}
 use Rattle.sample_inputs.specs.Site.{site_rows, site_users, site_groups, site_tree}
 use Rattle.sample_inputs.proofs.GoodRows.{no_faults}
 use Rattle.sample_inputs.proofs.EachRow.{each_row}
@@ -30,12 +30,6 @@ no_size : (rows : List Data) → length rows ≤ 2048 → size_faults (table (tr
 no_size rows few =
     let within : nat_lt 2048 (length rows) ≡ false = le-ltb 2048 (length rows) few in
     rw (same_elements rows, within) refl
-
-no_users : user_faults site_users ≡ []
-no_users = refl
-
-no_groups : group_faults site_groups ≡ []
-no_groups = refl
 
 nothing_wrong : (rows : List Data) → list_all is_table rows ≡ true → length rows ≤ 2048 → row_faults rows ≡ [] → faults_of (table (tree_of_rows rows)) ≡ []
 nothing_wrong rows tables few fine =

@@ -6,12 +6,12 @@ use Rattle.std.specs.Option.{option_map_or}
 use Rattle.std.proofs.lemmas.Bool.{cases_Bool, cases_eq}
 use Rattle.std.proofs.lemmas.List.{length-map}
 use Rattle.std.proofs.lemmas.List.Folds.{list_any-append}
-use Rattle.abs_path.specs.Paths.{Path}
-use Rattle.abs_path.specs.Prefix.{is_same}
-use Rattle.abs_path.proofs.Prefixes.{same_itself}
+use Rattle.launcher.specs.abs_path.Paths.{Path}
+use Rattle.launcher.specs.abs_path.Prefix.{is_same}
+use Rattle.launcher.proofs.AbsPath.Prefixes.{same_itself}
 use Rattle.toml.specs.Data.{Data}
-use Rattle.site_table.specs.Paths.{short_path, parent_of}
-use Rattle.site_table.specs.Rows.{path_of, is_folder, is_dir_at, is_always_dir, own_causes}
+use Rattle.launcher.specs.site_table.Paths.{short_path, parent_of}
+use Rattle.launcher.specs.site_table.Rows.{path_of, is_folder, is_dir_at, is_always_dir, own_causes}
 use Rattle.sample_inputs.specs.Site.{numbers_from, folder_name, object_name, folder_path, object_path, dir_row, exe_row, file_row, setuid_row, numbered_row, object_row, folder_rows, site_rows}
 use Rattle.sample_inputs.proofs.Names.{number_in, folder_named, object_named}
 use Rattle.sample_inputs.proofs.Numbers.{length_numbers}
@@ -153,9 +153,6 @@ first_good others =
         (good_row all 2 (exe_row (codes "/usr/bin/app")) (codes "usr" ∷ codes "bin" ∷ codes "app" ∷ []) refl refl refl refl, tt),
       ),
     )
-
-pub each_folder : (n k : ℕ) → k < 16 → HasFolder (site_rows n) (folder_name k ∷ [])
-each_folder n k low = subst (λ (all : List Data). HasFolder all (folder_name k ∷ [])) (sym (in_parts n)) (any_back (is_dir_at (folder_name k ∷ [])) first_rows (folders_of n) (folders_there n k low))
 
 pub all_good : (n : ℕ) → AreGood (site_rows n) 0 (site_rows n)
 unfolding first_rows

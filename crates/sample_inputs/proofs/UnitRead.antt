@@ -3,8 +3,8 @@ use Rattle.std.proofs.Common.{◌≡◌, ℕ, zero, suc, ◌%◌, ◌<◌, Some,
 use Rattle.std.specs.Str.{is_utf8, chars}
 use Rattle.std.specs.Fmt.{digits}
 use lib.Utf8.{encode}
-use Rattle.unit_grammar.specs.Reading.{unit_of}
-use Rattle.unit_names.specs.Cutting.{name_of}
+use Rattle.launcher.specs.unit_grammar.Reading.{unit_of}
+use Rattle.launcher.specs.unit_names.Cutting.{name_of}
 use Rattle.sample_inputs.specs.Calls.{text_of_lines}
 use Rattle.sample_inputs.specs.Unit.{sample_name, unit_name, unit_text, unit_said, line_of, assignments_from}
 use Rattle.sample_inputs.proofs.Turns.{same_settings}

@@ -1,9 +1,9 @@
 -- What the calls.txt of the sample is read as: the table that its lines spell.
 use Rattle.std.specs.Prelude.{ℕ, codes, Some, None, List, [], ◌∷◌}
-use Rattle.linux_numbers.specs.Capabilities.{cap_sys_module, cap_sys_rawio, cap_sys_admin, cap_sys_time, cap_syslog}
-use Rattle.call_table.specs.Table.{Table}
-use Rattle.call_table.specs.declared.listed.CallLine.{CallLine}
-use Rattle.call_table.specs.declared.listed.GroupLine.{GroupLine}
+use Rattle.launcher.specs.linux_numbers.Capabilities.{cap_sys_module, cap_sys_rawio, cap_sys_admin, cap_sys_time, cap_syslog}
+use Rattle.launcher.specs.call_table.Table.{Table}
+use Rattle.launcher.specs.call_table.declared.listed.CallLine.{CallLine}
+use Rattle.launcher.specs.call_table.declared.listed.GroupLine.{GroupLine}
 
 -- a call or a family without a capability, and one with a capability
 abbrev pub plain : List ℕ → ℕ → CallLine

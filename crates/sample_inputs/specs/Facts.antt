@@ -1,14 +1,14 @@
 -- What the inputs of a sample have, in the words of those that launch and judge.
 use Rattle.std.specs.Prelude.{◌≡◌, ℕ, ◌<◌, codes, false, List, [], ◌∷◌, None, Some}
-use Rattle.abs_path.specs.Paths.{Path}
-use Rattle.cap_sets.specs.Sets.{none}
-use Rattle.dropin_merge.specs.declared.resolved.Resolved.{Resolved}
-use Rattle.site_table.specs.Order.{plain_dir}
-use Rattle.site_table.specs.Table.{Site, row_at}
-use Rattle.site_table.specs.declared.accounts.Group.{Group}
-use Rattle.site_table.specs.declared.accounts.User.{User}
-use Rattle.site_table.specs.declared.kinds.RowKind.TheVariants.{Exe}
-use Rattle.site_table.specs.declared.row.Row.{Row}
+use Rattle.launcher.specs.abs_path.Paths.{Path}
+use Rattle.launcher.specs.cap_sets.Sets.{none}
+use Rattle.launcher.specs.dropin_merge.declared.resolved.Resolved.{Resolved}
+use Rattle.launcher.specs.site_table.Order.{plain_dir}
+use Rattle.launcher.specs.site_table.Table.{Site, row_at}
+use Rattle.launcher.specs.site_table.declared.accounts.Group.{Group}
+use Rattle.launcher.specs.site_table.declared.accounts.User.{User}
+use Rattle.launcher.specs.site_table.declared.kinds.RowKind.TheVariants.{Exe}
+use Rattle.launcher.specs.site_table.declared.row.Row.{Row}
 use Rattle.sample_inputs.specs.Site.{folder_name}
 use Rattle.sample_inputs.specs.Unit.{unit_path, unit_said}
 

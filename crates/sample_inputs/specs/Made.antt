@@ -1,13 +1,13 @@
 -- The inputs of a sample: what its texts are read as, by the readers of all inputs.
 use Rattle.std.specs.Prelude.{◌≡◌, ℕ, List, [], ◌∷◌, Some, Ok}
-use Rattle.call_table.specs.Reading.{table_of}
-use Rattle.call_table.specs.Table as calls
-use Rattle.dropin_merge.specs.declared.resolved.Resolved.{Resolved}
-use Rattle.site_table.specs.Reading.{site_of, tree_of}
-use Rattle.site_table.specs.Table.{Site}
-use Rattle.unit_grammar.specs.Reading.{unit_of}
-use Rattle.unit_grammar.specs.declared.unit.UnitText.{UnitText}
-use Rattle.unit_names.specs.Cutting.{name_of}
+use Rattle.launcher.specs.call_table.Reading.{table_of}
+use Rattle.launcher.specs.call_table.Table as calls
+use Rattle.launcher.specs.dropin_merge.declared.resolved.Resolved.{Resolved}
+use Rattle.launcher.specs.site_table.Reading.{site_of, tree_of}
+use Rattle.launcher.specs.site_table.Table.{Site}
+use Rattle.launcher.specs.unit_grammar.Reading.{unit_of}
+use Rattle.launcher.specs.unit_grammar.declared.unit.UnitText.{UnitText}
+use Rattle.launcher.specs.unit_names.Cutting.{name_of}
 use Rattle.sample_inputs.specs.Calls.{calls_text}
 use Rattle.sample_inputs.specs.Site.{site_tree}
 use Rattle.sample_inputs.specs.Unit.{unit_name, unit_path, unit_text}

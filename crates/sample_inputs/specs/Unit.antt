@@ -1,8 +1,8 @@
 -- The unit of a sample (systemd.exec(5), Paths): a service of a user of its own, which finds three of four folders changed.
 use Rattle.std.specs.Prelude.{ℕ, ◌+◌, ◌%◌, ◌==◌, codes, Option, Some, None, List, [], ◌∷◌, ◌++◌, map, flat_map, cond}
-use Rattle.unit_grammar.specs.declared.unit.Assignment.{Assignment}
-use Rattle.unit_grammar.specs.declared.unit.UnitText.{UnitText}
-use Rattle.unit_names.specs.Names.{Name}
+use Rattle.launcher.specs.unit_grammar.declared.unit.Assignment.{Assignment}
+use Rattle.launcher.specs.unit_grammar.declared.unit.UnitText.{UnitText}
+use Rattle.launcher.specs.unit_names.Names.{Name}
 use Rattle.sample_inputs.specs.Calls.{text_of_lines}
 use Rattle.sample_inputs.specs.Site.{folder_path, numbers_from}
 

@@ -1,11 +1,11 @@
 //! The table of system calls of a sample.
 
 ghost use Rattle.std.specs.Prelude.{◌≡◌, IfOk};
-ghost use Rattle.call_table.specs.declared.causes.CallsError.TheVariants.{Memory};
+ghost use Rattle.launcher.specs.call_table.declared.causes.CallsError.TheVariants.{Memory};
 ghost use Rattle.sample_inputs.specs.Calls.{calls_text};
 ghost use Rattle.sample_inputs.specs.CallTable.{sample_table};
 
-use call_table::{CallTable, CallsError, read_calls};
+use launcher::call_table::{CallTable, CallsError, read_calls};
 use std::alloc::{AllocError, Global};
 
 /// The calls.txt of each sample: a small table of x86-64, with each call that a launch makes.

@@ -1,11 +1,11 @@
 //! Laws of the made texts, each the contract of a function that does nothing.
 
 ghost use Rattle.std.specs.Prelude.{◌≡◌, ℕ, Ok, Some};
-ghost use Rattle.call_table.specs.Reading.{table_of};
-ghost use Rattle.site_table.specs.Reading.{site_in, site_of_tree};
+ghost use Rattle.launcher.specs.call_table.Reading.{table_of};
+ghost use Rattle.launcher.specs.site_table.Reading.{site_in, site_of_tree};
 ghost use Rattle.toml.specs.Data.{table};
-ghost use Rattle.unit_grammar.specs.Reading.{unit_of};
-ghost use Rattle.unit_names.specs.Cutting.{name_of};
+ghost use Rattle.launcher.specs.unit_grammar.Reading.{unit_of};
+ghost use Rattle.launcher.specs.unit_names.Cutting.{name_of};
 ghost use Rattle.sample_inputs.specs.Calls.{calls_text};
 ghost use Rattle.sample_inputs.specs.CallTable.{sample_table};
 ghost use Rattle.sample_inputs.specs.Site.{site_tree};

@@ -1,7 +1,7 @@
 //! The site of a sample.
 
 ghost use Rattle.std.specs.Prelude.{◌≡◌, ◌≤◌, ◌<◌, IfOk, map, string_bytes, Some};
-ghost use Rattle.site_table.specs.declared.error.SiteError.TheVariants.{Memory};
+ghost use Rattle.launcher.specs.site_table.declared.error.SiteError.TheVariants.{Memory};
 ghost use Rattle.toml.specs.Data.{table};
 ghost use Rattle.toml.specs.Parse.{parse_document};
 ghost use Rattle.toml.specs.View.{table_view, view};
@@ -11,7 +11,7 @@ ghost use Rattle.sample_inputs.specs.Made.{IsSampleSite};
 ghost use Rattle.sample_inputs.specs.Site.{group_row, site_groups, site_rows, site_tree, site_users, user_row};
 
 use crate::rows::{plain_row, push_folder, put};
-use site_table::{SiteError, SiteTable, read_site};
+use launcher::site_table::{SiteError, SiteTable, read_site};
 use std::alloc::{AllocError, Global};
 use toml::{Table, Value};
 

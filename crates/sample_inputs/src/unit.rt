@@ -1,18 +1,18 @@
 //! The unit of a sample.
 
 ghost use Rattle.std.specs.Prelude.{◌≡◌, ◌≢◌, ◌+◌, ◌%◌, ◌≤◌, ◌<◌, ◌++◌, ◌∷◌, [], IfOk, OnOk, map, None, Some, option_copied, string_bytes};
-ghost use Rattle.unit_grammar.specs.declared.unit.UnitError.TheVariants.{Memory as NoRoom};
-ghost use Rattle.unit_names.specs.declared.name.NameError.TheVariants.{Memory};
+ghost use Rattle.launcher.specs.unit_grammar.declared.unit.UnitError.TheVariants.{Memory as NoRoom};
+ghost use Rattle.launcher.specs.unit_names.declared.name.NameError.TheVariants.{Memory};
 ghost use Rattle.sample_inputs.specs.Calls.{text_of_lines};
 ghost use Rattle.sample_inputs.specs.Facts.{SaysSample};
 ghost use Rattle.sample_inputs.specs.Made.{IsSampleUnit};
 ghost use Rattle.sample_inputs.specs.Unit.{folder_key, folder_settings, line_of, privilege_settings, sample_name, setting, unit_path, unit_said, unit_text};
 
 use crate::site::FOLDERS;
-use dropin_merge::{Resolved, UnitFile, UnitFiles};
+use launcher::dropin_merge::{Resolved, UnitFile, UnitFiles};
+use launcher::unit_grammar::{Text, UnitError, UnitText, read_unit};
+use launcher::unit_names::{NameError, UnitName};
 use std::alloc::{AllocError, Global};
-use unit_grammar::{Text, UnitError, UnitText, read_unit};
-use unit_names::{NameError, UnitName};
 
 /// The name of the unit.
 const NAME: &str = "sample.service";

@@ -1,2 +1,1 @@
 mod SameWords
-pub mod NoQuestions

@@ -1,11 +1,11 @@
 -- A run of words is one of the same words, however they are lent.
 use Rattle.std.proofs.Common.{◌≡◌, ℕ, List, Option, inl, subst}
-use Rattle.host_io.specs.Calls.{ShelfCall}
-use Rattle.host_io.specs.Files.{Files}
-use Rattle.exposure_score.specs.StoredTests.{StoredTests}
-use Rattle.tighten.specs.Wishes.{Wishes}
-use Rattle.command_answers.specs.Runs.{Outside}
-use Rattle.command_answers.specs.declared.ending.Ending.{Ending}
+use Rattle.top_call.specs.host_io.Calls.{ShelfCall}
+use Rattle.top_call.specs.host_io.Files.{Files}
+use Rattle.top_call.specs.exposure_score.StoredTests.{StoredTests}
+use Rattle.top_call.specs.tighten_command.tightening.Wishes.{Wishes}
+use Rattle.top_call.specs.unit_inputs.command_answers.Runs.{Outside}
+use Rattle.top_call.specs.unit_inputs.declared.command_answers.ending.Ending.{Ending}
 use Rattle.top_call.specs.Promise.{DoesWhatIsAsked}
 use Rattle.sandbox_cli.specs.Running.{EndsWords, asked_by}
 

@@ -3,14 +3,14 @@ use Rattle.std.specs.Prelude.{◌≡◌, ◌⊎◌, ℕ, List, [], drop, map, st
 use Rattle.std.specs.Process.{exit_status}
 use Rattle.std.specs.declared.alloc.Global.{Global}
 use Rattle.std.specs.declared.process.ExitCode.{ExitCode}
-use Rattle.host_io.specs.Calls.{ShelfCall}
-use Rattle.host_io.specs.Files.{Files}
-use Rattle.exposure_score.specs.StoredTests.{StoredTests}
-use Rattle.tighten.specs.Wishes.{Wishes}
-use Rattle.command_answers.specs.Endings.{code_of}
-use Rattle.command_answers.specs.Runs.{Outside}
-use Rattle.command_answers.specs.declared.ending.Ending.{Ending}
-use Rattle.command_answers.specs.declared.ending.Ending.TheVariants.{OutOfMemory}
+use Rattle.top_call.specs.host_io.Calls.{ShelfCall}
+use Rattle.top_call.specs.host_io.Files.{Files}
+use Rattle.top_call.specs.exposure_score.StoredTests.{StoredTests}
+use Rattle.top_call.specs.tighten_command.tightening.Wishes.{Wishes}
+use Rattle.top_call.specs.unit_inputs.command_answers.Endings.{code_of}
+use Rattle.top_call.specs.unit_inputs.command_answers.Runs.{Outside}
+use Rattle.top_call.specs.unit_inputs.declared.command_answers.ending.Ending.{Ending}
+use Rattle.top_call.specs.unit_inputs.declared.command_answers.ending.Ending.TheVariants.{OutOfMemory}
 use Rattle.top_call.specs.Asked.{Asked}
 use Rattle.top_call.specs.Promise.{DoesWhatIsAsked}
 

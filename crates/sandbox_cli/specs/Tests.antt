@@ -1,7 +1,7 @@
 -- The stored tests that the program hands in: two, by what each may answer for the facts of a service.
 use Rattle.std.specs.Prelude.{◌≡◌, ℕ, codes, List, [], ◌∷◌}
-use Rattle.exposure_score.specs.Stored.{ambient_count, writable_paths}
-use Rattle.exposure_score.specs.declared.facts.Facts.{Facts}
+use Rattle.top_call.specs.exposure_score.Stored.{ambient_count, writable_paths}
+use Rattle.top_call.specs.exposure_score.declared.facts.Facts.{Facts}
 use denote.Ref.{Bor}
 
 module _ {T : Type 0} (id_of : T → List ℕ) (range_of : T → ℕ) (may_answer : T → Bor Facts → ℕ → Type 0) where

@@ -1,10 +1,10 @@
 -- The wish that the program hands in, by what it may answer for the verdicts on a service.
 use Rattle.std.specs.Prelude.{◌≡◌, ◌&&◌, ℕ, Bool, true, false, codes, List, [], ◌∷◌}
 use Rattle.std.specs.List.{list_any}
-use Rattle.asked_service.specs.declared.rows.VerdictRow.{VerdictRow}
-use Rattle.question_types.specs.declared.question.Question.TheVariants as asking
-use Rattle.question_types.specs.declared.wish.Wish.TheVariants as wish_to
-use Rattle.question_types.specs.declared.question.Question.{Question}
+use Rattle.top_call.specs.asked_service.declared.rows.VerdictRow.{VerdictRow}
+use Rattle.top_call.specs.kernel_laws.declared.question_types.question.Question.TheVariants as asking
+use Rattle.top_call.specs.kernel_laws.declared.question_types.wish.Wish.TheVariants as wish_to
+use Rattle.top_call.specs.kernel_laws.declared.question_types.question.Question.{Question}
 use denote.Ref.{Bor}
 
 -- asks to execute a file

@@ -3,8 +3,8 @@
 ghost use Rattle.std.specs.Prelude.{◌≡◌, ◌&&◌};
 ghost use Rattle.sandbox_cli.specs.Wishes.{asks_to_execute, can_execute};
 
-use asked_service::VerdictRow;
-use question_types::{Question, Wish};
+use top_call::asked_service::VerdictRow;
+use top_call::kernel_laws::question_types::{Question, Wish};
 
 // Whether a question asks to execute a file.
 fn asks_to_execute(question: &Question) -> bool

@@ -1,13 +1,13 @@
 //! The process around a run: its arguments, the current folder and the standard output. Of what these hold nothing is known.
 use crate::running::exit_code;
 use crate::stored::run_with_tests;
-use command_answers::Ending;
-use host_io::{DirShelf, StdSink};
 use std::alloc::AllocError;
 use std::process::ExitCode;
 use std::rt::{Env, Files};
 use std::{env, io};
 use top_call::Status;
+use top_call::host_io::{DirShelf, StdSink};
+use top_call::unit_inputs::command_answers::Ending;
 
 // The arguments, the program's name the first of them.
 fn arguments<R: Env + AllocGlobal>(rt: &R) -> io::Result<Vec<String>> {

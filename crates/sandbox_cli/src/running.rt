@@ -1,20 +1,20 @@
 //! A run of the program's arguments, over any files and any output.
 ghost use Rattle.std.specs.Prelude.{◌≡◌, IfOk, drop, map, string_bytes};
 ghost use Rattle.std.specs.Process.{exit_status};
-ghost use Rattle.command_answers.specs.Endings.{code_of};
+ghost use Rattle.top_call.specs.unit_inputs.command_answers.Endings.{code_of};
 ghost use Rattle.top_call.specs.Around.{around};
 ghost use Rattle.sandbox_cli.specs.Running.{EndsWords, ExitsBy, asked_by, words_behind};
 ghost use Rattle.sandbox_cli.specs.Tests.{AreProgramTests};
 ghost use Rattle.sandbox_cli.specs.Wishes.{AreProgramWishes};
 
-use asked_service::VerdictRow;
-use command_answers::Ending;
-use exposure_score::{CustomTest, Facts, Stored};
-use host_io::{Shelf, Sink};
 use std::alloc::{AllocError, Global};
 use std::io;
 use std::process::ExitCode;
-use tighten::{StoredWish, Wished};
+use top_call::asked_service::VerdictRow;
+use top_call::exposure_score::{CustomTest, Facts, Stored};
+use top_call::host_io::{Shelf, Sink};
+use top_call::tighten_command::tightening::{StoredWish, Wished};
+use top_call::unit_inputs::command_answers::Ending;
 use top_call::{Status, run};
 
 // The words behind the program's name, which is the first argument.

@@ -1,18 +1,18 @@
 //! The stored tests of the program, and its wish.
 
 ghost use Rattle.std.specs.Prelude.{◌≡◌, ◌≤◌};
-ghost use Rattle.exposure_score.specs.Stored.{ambient_count, writable_paths};
+ghost use Rattle.top_call.specs.exposure_score.Stored.{ambient_count, writable_paths};
 ghost use Rattle.sandbox_cli.specs.Wishes.{can_execute};
 
 use crate::executing::can_execute;
 use crate::running::run_here;
-use asked_service::VerdictRow;
-use exposure_score::{CustomTest, Facts, ambient_count, writable_paths};
-use host_io::{Shelf, Sink};
 use std::alloc::{AllocError, Global};
 use std::io;
 use std::process::ExitCode;
-use tighten::StoredWish;
+use top_call::asked_service::VerdictRow;
+use top_call::exposure_score::{CustomTest, Facts, ambient_count, writable_paths};
+use top_call::host_io::{Shelf, Sink};
+use top_call::tighten_command::tightening::StoredWish;
 
 /// Runs the arguments over a shelf and a sink, with the tests that a score may ask beside the settings: `AmbientCount`, how many
 /// ambient capabilities the service has, of 41 at most; and `WritablePaths`, how many words of ReadWritePaths= and BindPaths= are

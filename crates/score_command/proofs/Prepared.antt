@@ -1,23 +1,23 @@
 -- What is ready, and the line of a refusal, are what the definitions admit.
 use Rattle.std.proofs.Common.{◌≡◌, ◌∙◌, ℕ, Bool, true, false, Option, Some, None, List, [], ◌∷◌, Result, Ok, Err, refl, sym, ap, subst, inl, inr}
 use Rattle.std.specs.Prelude.{◌⊎◌, nat_lt, IfSome, IsErrOf, IsTrue}
-use Rattle.host_io.specs.Files.{Files}
-use Rattle.exposure_score.specs.Rows.{counted_weight}
-use Rattle.exposure_score.specs.StoredTests.{StoredTests}
-use Rattle.exposure_score.specs.declared.facts.Facts.{Facts}
-use Rattle.exposure_score.specs.declared.rows.Score.{Score}
-use Rattle.policy_file.specs.declared.policy.PolicyTest.{PolicyTest}
-use Rattle.policy_weights.proofs.Weights.{weighs_alike}
-use Rattle.service_facts.specs.Facts.{AreFacts}
-use Rattle.command_answers.specs.Endings.{is_answer}
-use Rattle.command_answers.specs.Laws.{AcceptsFiles, GoTogether, IsAdmitted, laws_over}
-use Rattle.command_answers.specs.Stops.{HasReadCause, Prepares, first_refusal}
-use Rattle.command_answers.specs.declared.ending.Ending.{Ending}
-use Rattle.command_answers.specs.declared.ending.Ending.TheVariants.{Done, AboveThreshold}
-use Rattle.command_answers.specs.declared.stop.Stop.{Stop}
-use Rattle.command_answers.specs.declared.stop.Stop.TheVariants as stop
-use Rattle.command_answers.proofs.FileCommands.{go_together, ready_is_admitted, stop_is_admitted}
-use Rattle.command_answers.proofs.Refusing.{stops_as, stops_before}
+use Rattle.unit_inputs.specs.host_io.Files.{Files}
+use Rattle.report_text.specs.exposure_score.Rows.{counted_weight}
+use Rattle.report_text.specs.exposure_score.StoredTests.{StoredTests}
+use Rattle.report_text.specs.exposure_score.declared.facts.Facts.{Facts}
+use Rattle.report_text.specs.exposure_score.declared.rows.Score.{Score}
+use Rattle.report_text.specs.exposure_score.declared.policy_file.policy.PolicyTest.{PolicyTest}
+use Rattle.report_text.proofs.ExposureScore.Weights.{weighs_alike}
+use Rattle.report_text.specs.exposure_score.service_facts.Facts.{AreFacts}
+use Rattle.unit_inputs.specs.command_answers.Endings.{is_answer}
+use Rattle.unit_inputs.specs.command_answers.Laws.{AcceptsFiles, GoTogether, IsAdmitted, laws_over}
+use Rattle.unit_inputs.specs.command_answers.Stops.{HasReadCause, Prepares, first_refusal}
+use Rattle.unit_inputs.specs.declared.command_answers.ending.Ending.{Ending}
+use Rattle.unit_inputs.specs.declared.command_answers.ending.Ending.TheVariants.{Done, AboveThreshold}
+use Rattle.unit_inputs.specs.declared.command_answers.stop.Stop.{Stop}
+use Rattle.unit_inputs.specs.declared.command_answers.stop.Stop.TheVariants as stop
+use Rattle.unit_inputs.proofs.FileCommands.{go_together, ready_is_admitted, stop_is_admitted}
+use Rattle.unit_inputs.proofs.Refusing.{stops_as, stops_before}
 use Rattle.unit_inputs.specs.Inputs.{inputs_of}
 use Rattle.unit_inputs.specs.Settled.{refusals_by}
 use Rattle.unit_inputs.proofs.Steps.{refusals_with}

@@ -2,16 +2,16 @@
 use Rattle.std.proofs.Common.{◌≡◌, ◌∙◌, ℕ, Option, Some, None, List, [], ◌∷◌, Ok, Err, refl, sym, ap, subst, length, ◌≤◌}
 use Rattle.std.specs.Prelude.{IfSome}
 use Rattle.std.specs.Option.{option_map}
-use Rattle.host_io.specs.Files.{Files}
-use Rattle.command_answers.specs.Stops.{IsAnswer, Prepares, first_refusal}
-use Rattle.command_answers.specs.declared.stop.Stop.{Stop}
-use Rattle.command_answers.specs.declared.stop.Stop.TheVariants as stop
-use Rattle.command_answers.proofs.Refusing.{passes, stops, stops_as}
-use Rattle.exec_settings.specs.Refusals.{refusal_of}
-use Rattle.exec_settings.specs.declared.errors.SettingsError.{SettingsError}
-use Rattle.mount_settings.specs.Written.{unit_written}
-use Rattle.policy_file.specs.declared.policy.PolicyTest.{PolicyTest}
-use Rattle.service_facts.proofs.Accepted.{few_paths}
+use Rattle.unit_inputs.specs.host_io.Files.{Files}
+use Rattle.unit_inputs.specs.command_answers.Stops.{IsAnswer, Prepares, first_refusal}
+use Rattle.unit_inputs.specs.declared.command_answers.stop.Stop.{Stop}
+use Rattle.unit_inputs.specs.declared.command_answers.stop.Stop.TheVariants as stop
+use Rattle.unit_inputs.proofs.Refusing.{passes, stops, stops_as}
+use Rattle.unit_inputs.specs.exec_settings.Refusals.{refusal_of}
+use Rattle.unit_inputs.specs.exec_settings.declared.errors.SettingsError.{SettingsError}
+use Rattle.report_text.specs.mount_settings.Written.{unit_written}
+use Rattle.report_text.specs.exposure_score.declared.policy_file.policy.PolicyTest.{PolicyTest}
+use Rattle.report_text.proofs.ExposureScore.ServiceFactsAccepted.{few_paths}
 use Rattle.unit_inputs.specs.Inputs.{input_refusals, inputs_of, inputs_view}
 use Rattle.unit_inputs.specs.declared.inputs.UnitInputs.{UnitInputs}
 use Rattle.unit_inputs.specs.SettingsRefusals.{settings_line}

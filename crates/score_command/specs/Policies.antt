@@ -1,13 +1,13 @@
 -- The policy of a path, or the line of its refusal.
 use Rattle.std.specs.Prelude.{ℕ, List, [], ◌++◌, codes, Result}
-use Rattle.host_io.specs.Files.{Files}
-use Rattle.text_forms.specs.Escaped.{escaped_word}
-use Rattle.policy_file.specs.Reading.{policy_of}
-use Rattle.policy_file.specs.declared.error.PolicyError.{PolicyError}
-use Rattle.policy_file.specs.declared.error.PolicyError.TheVariants.{NotJson, Field, TooMany, Memory}
-use Rattle.policy_file.specs.declared.policy.PolicyTest.{PolicyTest}
-use Rattle.command_answers.specs.Refusals.{refused_line}
-use Rattle.command_answers.specs.Stops.{and_then, or_line}
+use Rattle.unit_inputs.specs.host_io.Files.{Files}
+use Rattle.report_text.specs.text_forms.Escaped.{escaped_word}
+use Rattle.report_text.specs.exposure_score.policy_file.Reading.{policy_of}
+use Rattle.report_text.specs.exposure_score.declared.policy_file.error.PolicyError.{PolicyError}
+use Rattle.report_text.specs.exposure_score.declared.policy_file.error.PolicyError.TheVariants.{NotJson, Field, TooMany, Memory}
+use Rattle.report_text.specs.exposure_score.declared.policy_file.policy.PolicyTest.{PolicyTest}
+use Rattle.unit_inputs.specs.command_answers.Refusals.{refused_line}
+use Rattle.unit_inputs.specs.command_answers.Stops.{and_then, or_line}
 use Rattle.unit_inputs.specs.FileRefusals.{bytes_in}
 
 -- why a policy is refused; want of memory has no line

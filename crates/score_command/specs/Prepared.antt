@@ -1,7 +1,7 @@
 -- What a score is made from.
 use Rattle.std.specs.Prelude.{◌≡◌, ℕ, ◌≤◌, List, length, Some, Ok}
-use Rattle.host_io.specs.Files.{Files}
-use Rattle.mount_settings.specs.Written.{unit_written}
+use Rattle.unit_inputs.specs.host_io.Files.{Files}
+use Rattle.report_text.specs.mount_settings.Written.{unit_written}
 use Rattle.unit_inputs.specs.Inputs.{Inputs, inputs_of, inputs_view}
 use Rattle.unit_inputs.specs.Settled.{AreSettled}
 use Rattle.score_command.specs.Policies.{policy_in}

@@ -1,17 +1,17 @@
 -- What `score` prints, by the files.
 use Rattle.std.specs.Prelude.{◌≡◌, ◌⊎◌, ℕ, IsSome, List, Some, Ok}
-use Rattle.host_io.specs.Files.{Files}
-use Rattle.exec_settings.specs.declared.service.Settings.{Settings}
-use Rattle.exposure_score.specs.StoredTests.{StoredTests}
-use Rattle.exposure_score.specs.declared.facts.Facts.{Facts}
-use Rattle.exposure_score.specs.declared.rows.Score.{Score}
-use Rattle.policy_file.specs.declared.policy.PolicyTest.{PolicyTest}
-use Rattle.service_facts.specs.Facts.{AreFacts}
-use Rattle.command_answers.specs.Laws.{FileLaws}
-use Rattle.command_answers.specs.declared.ending.Ending.{Ending}
-use Rattle.command_answers.specs.declared.ending.Ending.TheVariants.{Done, AboveThreshold}
+use Rattle.unit_inputs.specs.host_io.Files.{Files}
+use Rattle.unit_inputs.specs.exec_settings.declared.service.Settings.{Settings}
+use Rattle.report_text.specs.exposure_score.StoredTests.{StoredTests}
+use Rattle.report_text.specs.exposure_score.declared.facts.Facts.{Facts}
+use Rattle.report_text.specs.exposure_score.declared.rows.Score.{Score}
+use Rattle.report_text.specs.exposure_score.declared.policy_file.policy.PolicyTest.{PolicyTest}
+use Rattle.report_text.specs.exposure_score.service_facts.Facts.{AreFacts}
+use Rattle.unit_inputs.specs.command_answers.Laws.{FileLaws}
+use Rattle.unit_inputs.specs.declared.command_answers.ending.Ending.{Ending}
+use Rattle.unit_inputs.specs.declared.command_answers.ending.Ending.TheVariants.{Done, AboveThreshold}
 use Rattle.unit_inputs.specs.Inputs.{Inputs, inputs_of}
-use Rattle.unit_names.specs.Cutting.{name_of}
+use Rattle.unit_inputs.specs.unit_names.Cutting.{name_of}
 use Rattle.unit_inputs.specs.Settled.{AreSettled}
 use Rattle.score_command.specs.Policies.{policy_in}
 use Rattle.score_command.specs.Refusals.{score_refusals}

@@ -1,11 +1,11 @@
 -- The order of refusals: the inputs of the unit, the policy, the settings, and then that the policy weighs nothing.
 use Rattle.std.specs.Prelude.{ℕ, List, [], ◌∷◌, ◌++◌, Option, Result, Ok, Err}
-use Rattle.host_io.specs.Files.{Files}
-use Rattle.call_table.specs.Table.{Table}
-use Rattle.policy_file.specs.declared.policy.PolicyTest.{PolicyTest}
-use Rattle.exposure_score.specs.StoredTests.{StoredTests}
-use Rattle.policy_weights.specs.Weights.{weight_of}
-use Rattle.command_answers.specs.Stops.{refusal_in}
+use Rattle.unit_inputs.specs.host_io.Files.{Files}
+use Rattle.report_text.specs.call_table.Table.{Table}
+use Rattle.report_text.specs.exposure_score.declared.policy_file.policy.PolicyTest.{PolicyTest}
+use Rattle.report_text.specs.exposure_score.StoredTests.{StoredTests}
+use Rattle.report_text.specs.exposure_score.policy_weights.Weights.{weight_of}
+use Rattle.unit_inputs.specs.command_answers.Stops.{refusal_in}
 use Rattle.unit_inputs.specs.Inputs.{Inputs, input_refusals, inputs_of}
 use Rattle.unit_inputs.specs.Settled.{refusals_by, refusals_of}
 use Rattle.score_command.specs.Policies.{policy_in}

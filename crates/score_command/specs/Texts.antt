@@ -1,8 +1,8 @@
 -- The text of a score, and how a run ends behind it.
 use Rattle.std.specs.Prelude.{ℕ, nat_lt, cond, List, ◌++◌, flat_map}
-use Rattle.command_answers.specs.declared.ending.Ending.{Ending}
-use Rattle.command_answers.specs.declared.ending.Ending.TheVariants.{Done, AboveThreshold}
-use Rattle.exposure_score.specs.declared.rows.Score.{Score}
+use Rattle.unit_inputs.specs.declared.command_answers.ending.Ending.{Ending}
+use Rattle.unit_inputs.specs.declared.command_answers.ending.Ending.TheVariants.{Done, AboveThreshold}
+use Rattle.report_text.specs.exposure_score.declared.rows.Score.{Score}
 use Rattle.report_text.specs.Scores.{exposure_line, score_line}
 
 -- a line for each test of the policy, and the exposure with the threshold

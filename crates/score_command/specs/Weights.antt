@@ -1,6 +1,6 @@
 -- The line of a policy that weighs nothing.
 use Rattle.std.specs.Prelude.{ℕ, ◌==◌, cond, codes, List, Option, Some, None}
-use Rattle.command_answers.specs.Refusals.{refused_line}
+use Rattle.unit_inputs.specs.command_answers.Refusals.{refused_line}
 
 abbrev pub no_weight_line : List ℕ → List ℕ
 no_weight_line path = refused_line path (codes "no-weight")

@@ -1,8 +1,8 @@
 //! The command `score`, the name of a unit and the path of a policy.
 ghost use Rattle.std.specs.Prelude.{IfOk};
-ghost use Rattle.command_answers.specs.Asking.{course};
-ghost use Rattle.command_answers.specs.Laws.{IsAdmitted, laws_over};
-ghost use Rattle.service_facts.specs.Facts.{AreFacts};
+ghost use Rattle.unit_inputs.specs.command_answers.Asking.{course};
+ghost use Rattle.unit_inputs.specs.command_answers.Laws.{IsAdmitted, laws_over};
+ghost use Rattle.report_text.specs.exposure_score.service_facts.Facts.{AreFacts};
 ghost use Rattle.unit_inputs.specs.Asking.{AsksInOrder, asks_with_file};
 ghost use Rattle.unit_inputs.specs.ReadsFor.{ReadsFor};
 ghost use Rattle.score_command.specs.Prepared.{CanBeWeighed, inputs_in};
@@ -11,11 +11,11 @@ ghost use Rattle.score_command.specs.Prints.{ending_of, score_laws, scored_text}
 use crate::preparing::{Prepared, read_all};
 use crate::ready::Scored;
 use crate::weighing::weigh;
-use command_answers::Stop;
-use exposure_score::{CustomTest, Facts, Stored};
-use host_io::Shelf;
-use service_facts::facts;
+use report_text::exposure_score::service_facts::facts;
+use report_text::exposure_score::{CustomTest, Facts, Stored};
 use std::alloc::{AllocError, Global};
+use unit_inputs::command_answers::Stop;
+use unit_inputs::host_io::Shelf;
 
 // What is known of the settings that are prepared.
 fn facts_of(alloc: Global, prepared: &Prepared) -> Result<Facts, AllocError>

@@ -17,3 +17,6 @@ mod weighing;
 pub use command::prepare;
 pub use policies::read_policy;
 pub use ready::Scored;
+pub use report_text::{call_table, dropin_merge, exposure_score, site_table, text_forms};
+pub use unit_inputs;
+pub use unit_inputs::{exec_settings, host_io, unit_names};

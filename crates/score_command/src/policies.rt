@@ -1,15 +1,17 @@
 //! The policy, with the lines of its refusals.
 ghost use Rattle.std.specs.Prelude.{◌≡◌, ◌∷◌, [], IfOk, IfSome, IsErrOf};
-ghost use Rattle.host_io.specs.Calls.{Went};
-ghost use Rattle.command_answers.specs.Asking.{course, input_file};
-ghost use Rattle.command_answers.specs.Stops.{HasReadCause, IsAnswer};
+ghost use Rattle.unit_inputs.specs.host_io.Calls.{Went};
+ghost use Rattle.unit_inputs.specs.command_answers.Asking.{course, input_file};
+ghost use Rattle.unit_inputs.specs.command_answers.Stops.{HasReadCause, IsAnswer};
 ghost use Rattle.score_command.specs.Policies.{policy_cause, policy_in, policy_line, policy_said};
 
-use command_answers::{Stop, refuse, refused_line};
-use host_io::Shelf;
-use policy_file::{Policy, PolicyError, TestId, read_policy as read_bytes};
+use report_text::exposure_score::policy_file::{
+    Policy, PolicyError, TestId, read_policy as read_bytes,
+};
+use report_text::text_forms::push_word;
 use std::alloc::{AllocError, Global};
-use text_forms::push_word;
+use unit_inputs::command_answers::{Stop, refuse, refused_line};
+use unit_inputs::host_io::Shelf;
 use unit_inputs::read_input;
 
 // Which test is none.

@@ -1,18 +1,18 @@
 //! What `score` reads, and what it takes from that.
 ghost use Rattle.std.specs.Prelude.{IfOk, IfSome};
-ghost use Rattle.command_answers.specs.Asking.{course};
-ghost use Rattle.command_answers.specs.Stops.{Prepares};
+ghost use Rattle.unit_inputs.specs.command_answers.Asking.{course};
+ghost use Rattle.unit_inputs.specs.command_answers.Stops.{Prepares};
 ghost use Rattle.unit_inputs.specs.Asking.{AsksInOrder, asks_with_file};
 ghost use Rattle.unit_inputs.specs.ReadsFor.{ReadsFor};
 ghost use Rattle.score_command.specs.Prepared.{CanBeWeighed, IsPrepared};
 ghost use Rattle.score_command.specs.Refusals.{read_refusals};
 
 use crate::policies::read_policy;
-use command_answers::Stop;
-use host_io::Shelf;
-use policy_file::Policy;
-use service_facts::laws::accepted_units_write_few_paths;
+use report_text::exposure_score::policy_file::Policy;
+use report_text::exposure_score::service_facts::laws::accepted_units_write_few_paths;
 use std::alloc::Global;
+use unit_inputs::command_answers::Stop;
+use unit_inputs::host_io::Shelf;
 use unit_inputs::{SettledUnit, read_inputs, settle};
 
 /// All that a score is made from.

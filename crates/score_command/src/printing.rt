@@ -1,14 +1,14 @@
 //! Scores, printed line by line.
 ghost use Rattle.std.specs.Prelude.{flat_map};
-ghost use Rattle.command_answers.specs.Printing.{HasWriteCause, TakesText};
+ghost use Rattle.unit_inputs.specs.command_answers.Printing.{HasWriteCause, TakesText};
 ghost use Rattle.report_text.specs.Scores.{score_line};
 ghost use Rattle.score_command.specs.Texts.{score_text};
 
-use command_answers::put_line;
-use exposure_score::{Score, ScoreRow};
-use host_io::{Sink, SinkError};
+use report_text::exposure_score::{Score, ScoreRow};
 use report_text::{exposure_line, score_line};
 use std::alloc::Global;
+use unit_inputs::command_answers::put_line;
+use unit_inputs::host_io::{Sink, SinkError};
 
 // Prints what each test of the policy came to.
 fn print_rows<K: Sink>(alloc: Global, rows: &[ScoreRow], out: &mut K) -> Result<(), SinkError>

@@ -1,14 +1,14 @@
 //! What a policy weighs of a service.
 ghost use Rattle.std.specs.Prelude.{◌∷◌, [], IsErrOf};
-ghost use Rattle.exposure_score.specs.Rows.{counted_weight};
-ghost use Rattle.command_answers.specs.Stops.{Prepares};
+ghost use Rattle.report_text.specs.exposure_score.Rows.{counted_weight};
+ghost use Rattle.unit_inputs.specs.command_answers.Stops.{Prepares};
 ghost use Rattle.score_command.specs.Weighed.{IsScoreOf};
 ghost use Rattle.score_command.specs.Weights.{weight_refusal};
 
-use command_answers::{Stop, refuse, refused_line};
-use exposure_score::{CustomTest, Facts, Score, ScoreError, Stored, score};
-use policy_file::Policy;
+use report_text::exposure_score::policy_file::Policy;
+use report_text::exposure_score::{CustomTest, Facts, Score, ScoreError, Stored, score};
 use std::alloc::Global;
+use unit_inputs::command_answers::{Stop, refuse, refused_line};
 
 /// The score of these facts by the policy of this path, or the line of a policy that weighs nothing.
 pub fn weigh(

@@ -5,12 +5,12 @@ use Rattle.std.specs.Option.{option_map_or, option_to_list}
 use Rattle.std.proofs.lemmas.Bool.{false≢true}
 use Rattle.std.proofs.lemmas.Bool.Decides.{nat_tests}
 use Rattle.std.proofs.lemmas.List.Elements.{All-from_recursion}
-use Rattle.call_table.specs.declared.listed.CallLine.{CallLine}
-use Rattle.call_table.specs.Facts.{IsSecond, IsTable}
-use Rattle.call_table.specs.Lookups.{AreOnce}
-use Rattle.call_table.specs.Table.{Abi, Table, abi_at, calls_in}
-use Rattle.call_words.specs.Words.{Lacks, HasOtherName, named_abi, spelling}
-use Rattle.call_words.proofs.Back.{read_back}
+use Rattle.kernel_model.specs.call_table.declared.listed.CallLine.{CallLine}
+use Rattle.kernel_model.specs.call_table.Facts.{IsSecond, IsTable}
+use Rattle.kernel_model.specs.call_table.Lookups.{AreOnce}
+use Rattle.kernel_model.specs.call_table.Table.{Abi, Table, abi_at, calls_in}
+use Rattle.kernel_model.specs.call_table.call_words.Words.{Lacks, HasOtherName, named_abi, spelling}
+use Rattle.kernel_model.proofs.CallTable.Back.{read_back}
 use Rattle.script_text.specs.PrintedAgain.{IsWord}
 use Rattle.script_text.specs.Reading.{Named, named_in, named_call}
 use Rattle.script_text.proofs.Spaced.{HasNo, all_append}

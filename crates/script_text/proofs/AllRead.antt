@@ -2,7 +2,7 @@
 use Rattle.std.proofs.Common.{◌≡◌, ℕ, suc, ◌+◌, ◌<◌, Option, Some, None, List, [], ◌∷◌, ◌++◌, map, take, drop, length, get_or, refl, sym, ap, ◌∙◌}
 use Rattle.std.specs.Option.{option_map}
 use Rattle.std.specs.Prelude.{option_and_then}
-use Rattle.call_table.proofs.Steps.{split_made, take_made}
+use Rattle.kernel_model.proofs.CallTable.Steps.{split_made, take_made}
 use Rattle.script_text.specs.Numbers.{all_read, with_front}
 
 -- one word that cannot be read

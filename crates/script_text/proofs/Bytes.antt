@@ -1,9 +1,9 @@
 -- Bytes that are text, and bytes that are not.
 use Rattle.std.proofs.Common.{◌≡◌, ℕ, Bool, true, false, cond, Some, None, Result, Err, List, refl, sym, ap, ◌∙◌, subst}
 use Rattle.std.proofs.lemmas.Option.{none-some, same_Some}
-use Rattle.line_text.specs.Lines.{Line, is_text, text_of, lines_of}
-use Rattle.call_table.specs.Table.{Table}
-use Rattle.kernel_calls.specs.declared.call.Call.{Call}
+use Rattle.kernel_model.specs.text_forms.line_text.Lines.{Line, is_text, text_of, lines_of}
+use Rattle.kernel_model.specs.call_table.Table.{Table}
+use Rattle.kernel_model.specs.declared.kernel_calls.call.Call.{Call}
 use Rattle.script_text.specs.Progress.{ReadsScript}
 use Rattle.script_text.specs.Scripts.{script_of, script_of_lines}
 use Rattle.script_text.specs.declared.error.ScriptError.{ScriptError}

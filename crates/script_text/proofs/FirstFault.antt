@@ -6,9 +6,9 @@ use Rattle.std.specs.Result.{result_ok}
 use Rattle.std.proofs.lemmas.Bool.Decides.{nat_tests}
 use Rattle.std.proofs.lemmas.List.{length-append}
 use Rattle.std.proofs.lemmas.List.Elements.{filter_map-append}
-use Rattle.line_text.specs.Lines.{Line}
-use Rattle.call_table.specs.Table.{Table}
-use Rattle.kernel_calls.specs.declared.call.Call.{Call}
+use Rattle.kernel_model.specs.text_forms.line_text.Lines.{Line}
+use Rattle.kernel_model.specs.call_table.Table.{Table}
+use Rattle.kernel_model.specs.declared.kernel_calls.call.Call.{Call}
 use Rattle.script_text.specs.Progress.{Adds, HasRead, ReadsLine, ReadsScript}
 use Rattle.script_text.specs.Scripts.{most_calls, line_call, fault_by, fault_at, fault_of, calls_of, unless_fault, script_of_lines}
 use Rattle.script_text.specs.declared.error.ScriptError.{ScriptError}
@@ -71,7 +71,3 @@ reads_more table front line made new call h r few n =
       read = n ∙ ap (λ ls. ls ++ call ∷ []) h.read ∙ ap (λ o. calls_of table front ++ cons_option o []) (sym (ap result_ok r)) ∙ sym (filter_map-append (λ line. result_ok (line_call table line)) front (line ∷ []));
       one_each = ap length n ∙ length-append made (call ∷ []) ∙ ap (λ k. k + 1) same ∙ sym (length-append front (line ∷ []));
     }
-
--- all lines
-pub reads_all : (table : Table) (lines : List Line) (made : List Call) → HasRead table lines made → script_of_lines table lines ≡ Ok made
-reads_all table lines made h = ap (λ o. unless_fault o (calls_of table lines)) h.faultless ∙ ap Ok (sym h.read)

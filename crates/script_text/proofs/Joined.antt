@@ -2,8 +2,8 @@
 use Rattle.std.proofs.Common.{◌≡◌, ℕ, List, [], ◌∷◌, ◌++◌, map, refl, sym, ap, ◌∙◌, append_assoc, decimal}
 use Rattle.std.specs.Prelude.{codes}
 use Rattle.std.proofs.lemmas.Grind.{flat_map-append}
-use Rattle.call_table.specs.Table.{Table}
-use Rattle.kernel_calls.specs.declared.call.Call.{Call}
+use Rattle.kernel_model.specs.call_table.Table.{Table}
+use Rattle.kernel_model.specs.declared.kernel_calls.call.Call.{Call}
 use Rattle.script_text.specs.Numbers.{without_last_zeros}
 use Rattle.script_text.specs.Printed.{each_behind, each_number, front_words, argument_words, call_text, words_behind_pid}
 

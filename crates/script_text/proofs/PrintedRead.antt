@@ -8,18 +8,18 @@ use Rattle.std.proofs.lemmas.Bool.{false≢true, and_parts, eqb-true}
 use Rattle.std.proofs.lemmas.Bool.Decides.{nat_tests}
 use Rattle.std.proofs.lemmas.List.Elements.{recursion_from_All}
 use Rattle.std.proofs.lemmas.List.Folds.{find_at}
-use Rattle.line_text.specs.Lines.{words_of}
-use Rattle.call_names.specs.declared.payload.PayloadForm.{PayloadForm}
-use Rattle.call_names.specs.declared.payload.PayloadForm.TheVariants as form
-use Rattle.call_table.proofs.Places.{place_is}
-use Rattle.call_table.specs.Lookups.{has_name, has_number, named, numbered, AreOnce}
-use Rattle.call_table.specs.Names.{is_name, is_name_byte}
-use Rattle.call_table.specs.Table.{Table, calls_in}
-use Rattle.call_table.specs.declared.listed.CallLine.{CallLine}
-use Rattle.call_words.specs.Words.{HasOtherName, spelling}
-use Rattle.kernel_calls.specs.Calls.{IsCall}
-use Rattle.kernel_calls.specs.declared.call.Call.{Call}
-use Rattle.kernel_calls.specs.declared.payload.Payload.TheVariants.{Nothing}
+use Rattle.kernel_model.specs.text_forms.line_text.Lines.{words_of}
+use Rattle.kernel_model.specs.call_table.declared.call_names.payload.PayloadForm.{PayloadForm}
+use Rattle.kernel_model.specs.call_table.declared.call_names.payload.PayloadForm.TheVariants as form
+use Rattle.kernel_model.proofs.CallTable.Places.{place_is}
+use Rattle.kernel_model.specs.call_table.Lookups.{has_name, has_number, named, numbered, AreOnce}
+use Rattle.kernel_model.specs.call_table.Names.{is_name, is_name_byte}
+use Rattle.kernel_model.specs.call_table.Table.{Table, calls_in}
+use Rattle.kernel_model.specs.call_table.declared.listed.CallLine.{CallLine}
+use Rattle.kernel_model.specs.call_table.call_words.Words.{HasOtherName, spelling}
+use Rattle.kernel_model.specs.kernel_calls.Calls.{IsCall}
+use Rattle.kernel_model.specs.declared.kernel_calls.call.Call.{Call}
+use Rattle.kernel_model.specs.declared.kernel_calls.payload.Payload.TheVariants.{Nothing}
 use Rattle.script_text.specs.Marks.{behind_hash}
 use Rattle.script_text.specs.Numbers.{numbers_of, six_words, without_last_zeros}
 use Rattle.script_text.specs.Payloads.{payload_of}

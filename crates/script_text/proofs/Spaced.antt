@@ -4,7 +4,7 @@ use Rattle.std.specs.Prelude.{◌==◌, not, codes, filter}
 use Rattle.std.specs.List.{AllByRecursion, slice_split}
 use Rattle.std.proofs.lemmas.List.Elements.{All-from_recursion}
 use Rattle.std.proofs.lemmas.List.Splits.{slice_split_none, slice_split_at}
-use Rattle.line_text.specs.Lines.{words_of}
+use Rattle.kernel_model.specs.text_forms.line_text.Lines.{words_of}
 use Rattle.script_text.specs.Printed.{each_behind}
 use Rattle.script_text.specs.PrintedAgain.{IsWord}
 

@@ -5,14 +5,14 @@ use Rattle.std.specs.Option.{option_map, option_map_or, option_or, option_to_lis
 use Rattle.std.specs.List.{AllByRecursion, cons_option, filter, filter_map, onto_first, slice_split}
 use Rattle.std.proofs.lemmas.List.Splits.{slice_split-cons_yes, slice_split-cons_no}
 use Rattle.std.specs.Str.{bytes_eq}
-use Rattle.line_text.specs.Lines.{Line, words_of}
-use Rattle.call_table.proofs.Meant.{meaning}
-use Rattle.call_table.specs.Kinds.{Entry, Kind, abi, call, family, group, malformed, abi_line, entry_of, call_line, family_line, named_group, group_line, kind_of}
-use Rattle.call_table.specs.Names.{is_name, behind_at}
-use Rattle.call_table.specs.Numbers.{cap_of, number_of}
-use Rattle.call_table.specs.Reading.{line_kind, call_of, calls_of, native_lines, opened_by, second_of, table_of}
-use Rattle.call_table.specs.Table.{Abi, Table, calls_in}
-use Rattle.call_table.specs.declared.listed.CallLine.{CallLine}
+use Rattle.kernel_model.specs.text_forms.line_text.Lines.{Line, words_of}
+use Rattle.kernel_model.proofs.CallTable.Meant.{meaning}
+use Rattle.kernel_model.specs.call_table.Kinds.{Entry, Kind, abi, call, family, group, malformed, abi_line, entry_of, call_line, family_line, named_group, group_line, kind_of}
+use Rattle.kernel_model.specs.call_table.Names.{is_name, behind_at}
+use Rattle.kernel_model.specs.call_table.Numbers.{cap_of, number_of}
+use Rattle.kernel_model.specs.call_table.Reading.{line_kind, call_of, calls_of, native_lines, opened_by, second_of, table_of}
+use Rattle.kernel_model.specs.call_table.Table.{Abi, Table, calls_in}
+use Rattle.kernel_model.specs.call_table.declared.listed.CallLine.{CallLine}
 use Rattle.script_text.specs.PrintedAgain.{AreNamed, IsWord}
 use Rattle.script_text.proofs.Spaced.{HasNo}
 

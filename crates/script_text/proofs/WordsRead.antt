@@ -1,10 +1,10 @@
 -- Escaped words read byte by byte.
-use Rattle.std.proofs.Common.{◌≡◌, ℕ, ◌+◌, ◌*◌, Bool, true, false, cond, List, [], ◌∷◌, ◌++◌, Option, Some, None, length, refl, sym, ap, ◌∙◌, subst, arith, append_assoc, append-nil}
+use Rattle.std.proofs.Common.{◌≡◌, ℕ, ◌+◌, ◌*◌, Bool, true, false, cond, List, [], ◌∷◌, ◌++◌, Option, Some, None, length, refl, sym, ap, ◌∙◌, subst, arith, append-nil}
 use Rattle.std.specs.Prelude.{◌==◌, ◌&&◌}
 use Rattle.std.specs.Char.{is_digit, digit_value}
 use Rattle.std.proofs.lemmas.Bool.{and_from}
 use Rattle.std.proofs.lemmas.Bool.Decides.{nat_tests}
-use Rattle.text_forms.specs.Escaped.{with_byte, word_read, code_read}
+use Rattle.kernel_model.specs.text_forms.Escaped.{with_byte, word_read, code_read}
 use Rattle.script_text.specs.Escapes.{GivesByte, GivesCode}
 use denote.Ref.{Bor}
 
@@ -78,10 +78,6 @@ as_it_stands word byte rest e h = ap word_read e ∙ word_by byte rest ∙ ap (�
 abbrev pub behind : List ℕ → Option (List ℕ) → Option (List ℕ)
 behind bytes None = None
 behind bytes (Some more) = Some (bytes ++ more)
-
-pub behind-with : (bytes : List ℕ) (byte : ℕ) (more : Option (List ℕ)) → behind (bytes ++ byte ∷ []) more ≡ behind bytes (with_byte byte more)
-behind-with bytes byte None = refl
-behind-with bytes byte (Some more) = ap Some (append_assoc bytes (byte ∷ []) more)
 
 pub whole : (bytes left word : List ℕ) → behind bytes (word_read left) ≡ word_read word → length left ≡ 0 → word_read word ≡ Some bytes
 unfolding word_read

@@ -12,23 +12,23 @@ use Rattle.std.proofs.lemmas.Slice.Eq.{bytes_eq-Decides}
 use Rattle.std.proofs.lemmas.List.Folds.{find_at}
 use Rattle.std.proofs.lemmas.Option.{same_Some, cond_some, option_and_then_some}
 use Rattle.hex.specs.Hex.{decode_of}
-use Rattle.abs_path.specs.Paths.{Path}
+use Rattle.kernel_model.specs.abs_path.Paths.{Path}
 use Rattle.hex.specs.declared.error.FromHexError.{FromHexError}
 use Rattle.hex.proofs.HexLemmas.{decode_of-ok}
-use Rattle.line_text.specs.Lines.{Line, is_text, lines_of, words_of}
-use Rattle.call_names.specs.declared.payload.PayloadForm.{PayloadForm}
-use Rattle.call_names.specs.declared.payload.PayloadForm.TheVariants as form
-use Rattle.call_table.proofs.Places.{place_is}
-use Rattle.call_table.specs.Lookups.{has_name, has_number, named, numbered, AreOnce}
-use Rattle.call_table.specs.Numbers.{is_lower_hex, number_of}
-use Rattle.call_table.specs.Table.{Table, abi_at, calls_in}
-use Rattle.call_table.specs.declared.listed.CallLine.{CallLine}
-use Rattle.call_words.specs.Words.{spelled}
-use Rattle.call_words.proofs.Back.{spelled_there}
-use Rattle.kernel_calls.specs.declared.call.Call.{Call}
-use Rattle.kernel_calls.specs.declared.payload.Payload.{Payload}
-use Rattle.kernel_calls.specs.declared.payload.Payload.TheVariants.{Nothing, OnePath, TwoPaths, Sets, Ids, Family, Code}
-use Rattle.text_forms.specs.Numbers.{decimal_value}
+use Rattle.kernel_model.specs.text_forms.line_text.Lines.{Line, is_text, lines_of, words_of}
+use Rattle.kernel_model.specs.call_table.declared.call_names.payload.PayloadForm.{PayloadForm}
+use Rattle.kernel_model.specs.call_table.declared.call_names.payload.PayloadForm.TheVariants as form
+use Rattle.kernel_model.proofs.CallTable.Places.{place_is}
+use Rattle.kernel_model.specs.call_table.Lookups.{has_name, has_number, named, numbered, AreOnce}
+use Rattle.kernel_model.specs.call_table.Numbers.{is_lower_hex, number_of}
+use Rattle.kernel_model.specs.call_table.Table.{Table, abi_at, calls_in}
+use Rattle.kernel_model.specs.call_table.declared.listed.CallLine.{CallLine}
+use Rattle.kernel_model.specs.call_table.call_words.Words.{spelled}
+use Rattle.kernel_model.proofs.CallTable.Back.{spelled_there}
+use Rattle.kernel_model.specs.declared.kernel_calls.call.Call.{Call}
+use Rattle.kernel_model.specs.declared.kernel_calls.payload.Payload.{Payload}
+use Rattle.kernel_model.specs.declared.kernel_calls.payload.Payload.TheVariants.{Nothing, OnePath, TwoPaths, Sets, Ids, Family, Code}
+use Rattle.kernel_model.specs.text_forms.Numbers.{decimal_value}
 use Rattle.script_text.specs.Marks.{behind_hash}
 use Rattle.script_text.specs.Numbers.{some_pid, pid_of, numbers_of, six_words}
 use Rattle.script_text.specs.Payloads.{Taken, path_of, set_of, ids_of, is_code, code_of, with_words, payload_of}

@@ -1,7 +1,7 @@
 -- Texts that are written as escaped words.
 use Rattle.std.specs.Prelude.{◌≡◌, ℕ, cond, Option, Some, None, option_and_then, MatchOption, List}
 use Rattle.std.specs.Str.{is_utf8}
-use Rattle.text_forms.specs.Escaped.{with_byte, word_read, code_read}
+use Rattle.kernel_model.specs.text_forms.Escaped.{with_byte, word_read, code_read}
 use denote.Ref.{Bor}
 
 abbrev pub text_only : List ℕ → Option (List ℕ)

@@ -2,7 +2,7 @@
 use Rattle.std.specs.Prelude.{ℕ, ◌==◌, ◌&&◌, ◌^◌, nat_lt, if◌then◌else◌, Bool, Option, Some, None, option_and_then, List, [], ◌∷◌, slice_index}
 use Rattle.std.specs.Option.{option_map}
 use Rattle.std.specs.List.{list_all}
-use Rattle.text_forms.specs.Numbers.{decimal_value, number_value}
+use Rattle.kernel_model.specs.text_forms.Numbers.{decimal_value, number_value}
 
 abbrev pub some_pid : ℕ → Option ℕ
 some_pid number = if nat_lt 0 number && nat_lt number (2 ^ 32) then Some number else None

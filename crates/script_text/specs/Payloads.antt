@@ -4,15 +4,15 @@ use Rattle.std.specs.Option.{option_map}
 use Rattle.std.specs.Result.{result_ok}
 use Rattle.std.specs.List.{list_all}
 use Rattle.std.specs.Str.{bytes_eq}
-use Rattle.abs_path.specs.Paths.{Path, parts_of}
-use Rattle.abs_path.specs.Read.{fault_of as path_fault}
-use Rattle.call_names.specs.declared.payload.PayloadForm.{PayloadForm}
-use Rattle.call_names.specs.declared.payload.PayloadForm.TheVariants as form
-use Rattle.call_table.specs.Numbers.{is_lower_hex, number_of}
+use Rattle.kernel_model.specs.abs_path.Paths.{Path, parts_of}
+use Rattle.kernel_model.specs.abs_path.Read.{fault_of as path_fault}
+use Rattle.kernel_model.specs.call_table.declared.call_names.payload.PayloadForm.{PayloadForm}
+use Rattle.kernel_model.specs.call_table.declared.call_names.payload.PayloadForm.TheVariants as form
+use Rattle.kernel_model.specs.call_table.Numbers.{is_lower_hex, number_of}
 use Rattle.hex.specs.Hex.{decode_of}
-use Rattle.kernel_calls.specs.declared.payload.Payload.{Payload}
-use Rattle.kernel_calls.specs.declared.payload.Payload.TheVariants.{Nothing, OnePath, TwoPaths, Sets, Ids, Family, Code}
-use Rattle.text_forms.specs.Numbers.{number_value}
+use Rattle.kernel_model.specs.declared.kernel_calls.payload.Payload.{Payload}
+use Rattle.kernel_model.specs.declared.kernel_calls.payload.Payload.TheVariants.{Nothing, OnePath, TwoPaths, Sets, Ids, Family, Code}
+use Rattle.kernel_model.specs.text_forms.Numbers.{number_value}
 use Rattle.script_text.specs.Escapes.{escaped_text}
 use Rattle.script_text.specs.Marks.{between_brackets, between_commas}
 use Rattle.script_text.specs.Numbers.{all_read}

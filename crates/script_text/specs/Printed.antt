@@ -2,18 +2,18 @@
 use Rattle.std.specs.Prelude.{ℕ, ◌==◌, ◌%◌, cond, Bool, true, false, Option, Some, None, List, [], ◌∷◌, ◌++◌, length, map, codes}
 use Rattle.std.specs.List.{flat_map}
 use Rattle.std.specs.Fmt.{decimal}
-use Rattle.abs_path.specs.Paths.{text_of}
-use Rattle.call_names.specs.declared.payload.PayloadForm.{PayloadForm}
-use Rattle.call_names.specs.declared.payload.PayloadForm.TheVariants as form
-use Rattle.call_table.specs.Lookups.{numbered}
-use Rattle.call_table.specs.Table.{Table, calls_in}
-use Rattle.call_table.specs.declared.listed.CallLine.{CallLine}
-use Rattle.call_words.specs.Words.{spelling}
+use Rattle.kernel_model.specs.abs_path.Paths.{text_of}
+use Rattle.kernel_model.specs.call_table.declared.call_names.payload.PayloadForm.{PayloadForm}
+use Rattle.kernel_model.specs.call_table.declared.call_names.payload.PayloadForm.TheVariants as form
+use Rattle.kernel_model.specs.call_table.Lookups.{numbered}
+use Rattle.kernel_model.specs.call_table.Table.{Table, calls_in}
+use Rattle.kernel_model.specs.call_table.declared.listed.CallLine.{CallLine}
+use Rattle.kernel_model.specs.call_table.call_words.Words.{spelling}
 use Rattle.hex.specs.Hex.{encode_lower}
-use Rattle.kernel_calls.specs.declared.call.Call.{Call}
-use Rattle.kernel_calls.specs.declared.payload.Payload.{Payload}
-use Rattle.kernel_calls.specs.declared.payload.Payload.TheVariants.{Nothing, OnePath, TwoPaths, Sets, Ids, Family, Code}
-use Rattle.text_forms.specs.Escaped.{escaped_word}
+use Rattle.kernel_model.specs.declared.kernel_calls.call.Call.{Call}
+use Rattle.kernel_model.specs.declared.kernel_calls.payload.Payload.{Payload}
+use Rattle.kernel_model.specs.declared.kernel_calls.payload.Payload.TheVariants.{Nothing, OnePath, TwoPaths, Sets, Ids, Family, Code}
+use Rattle.kernel_model.specs.text_forms.Escaped.{escaped_word}
 use Rattle.script_text.specs.Numbers.{without_last_zeros}
 use Rattle.script_text.specs.Reading.{form_of_name}
 

@@ -2,18 +2,18 @@
 use Rattle.std.specs.Prelude.{◌≡◌, ◌⊎◌, ◌<◌, ◌≤◌, ◌==◌, ℕ, true, false, Some, List, length, slice_get, Ok, IfSome, IsSome}
 use Rattle.std.specs.List.{All, AllByRecursion}
 use Rattle.std.specs.Str.{is_utf8}
-use Rattle.abs_path.specs.Paths.{text_of}
-use Rattle.line_text.specs.Lines.{words_of}
-use Rattle.call_table.specs.Lookups.{numbered, AreOnce}
-use Rattle.call_table.specs.Names.{is_name}
-use Rattle.call_table.specs.Reading.{table_of}
-use Rattle.call_table.specs.Table.{Table, abi_at, calls_in}
-use Rattle.call_table.specs.declared.listed.CallLine.{CallLine}
-use Rattle.call_words.specs.Words.{HasOtherName}
-use Rattle.kernel_calls.specs.Calls.{IsCall}
-use Rattle.kernel_calls.specs.declared.call.Call.{Call}
-use Rattle.kernel_calls.specs.declared.payload.Payload.{Payload}
-use Rattle.kernel_calls.specs.declared.payload.Payload.TheVariants.{Nothing, OnePath, TwoPaths, Sets, Ids, Family, Code}
+use Rattle.kernel_model.specs.abs_path.Paths.{text_of}
+use Rattle.kernel_model.specs.text_forms.line_text.Lines.{words_of}
+use Rattle.kernel_model.specs.call_table.Lookups.{numbered, AreOnce}
+use Rattle.kernel_model.specs.call_table.Names.{is_name}
+use Rattle.kernel_model.specs.call_table.Reading.{table_of}
+use Rattle.kernel_model.specs.call_table.Table.{Table, abi_at, calls_in}
+use Rattle.kernel_model.specs.call_table.declared.listed.CallLine.{CallLine}
+use Rattle.kernel_model.specs.call_table.call_words.Words.{HasOtherName}
+use Rattle.kernel_model.specs.kernel_calls.Calls.{IsCall}
+use Rattle.kernel_model.specs.declared.kernel_calls.call.Call.{Call}
+use Rattle.kernel_model.specs.declared.kernel_calls.payload.Payload.{Payload}
+use Rattle.kernel_model.specs.declared.kernel_calls.payload.Payload.TheVariants.{Nothing, OnePath, TwoPaths, Sets, Ids, Family, Code}
 use Rattle.script_text.specs.Printed.{call_text, has_form}
 use Rattle.script_text.specs.Reading.{call_of, form_of_name}
 

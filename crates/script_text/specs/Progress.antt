@@ -1,9 +1,9 @@
 -- What the steps of the reading answer.
 use Rattle.std.specs.Prelude.{◌≡◌, ℕ, ◌<◌, ◌≤◌, Option, Some, None, Result, Ok, Err, List, [], ◌∷◌, ◌++◌, length, map, Vec}
 use Rattle.std.specs.declared.alloc.Global.{Global}
-use Rattle.kernel_calls.specs.declared.call.Call.{Call}
-use Rattle.line_text.specs.Lines.{Line}
-use Rattle.call_table.specs.Table.{Table}
+use Rattle.kernel_model.specs.declared.kernel_calls.call.Call.{Call}
+use Rattle.kernel_model.specs.text_forms.line_text.Lines.{Line}
+use Rattle.kernel_model.specs.call_table.Table.{Table}
 use Rattle.script_text.specs.Payloads.{Taken}
 use Rattle.script_text.specs.Scripts.{most_calls, fault_of, calls_of}
 use Rattle.script_text.specs.declared.payloads.TakenPayload.{TakenPayload}

@@ -1,18 +1,18 @@
 -- What a line of a script is, by its words: `PID NAME [PAYLOAD] [WORD ..]`.
 use Rattle.std.specs.Prelude.{ℕ, nat_le, cond, Option, Some, None, option_and_then, Result, Ok, Err, List, [], ◌∷◌, length}
 use Rattle.std.specs.Option.{option_map}
-use Rattle.call_names.specs.Known.{known_call, form_of}
-use Rattle.call_names.specs.declared.known.KnownCall.{KnownCall}
-use Rattle.call_names.specs.declared.known.KnownCall.TheVariants.{Modelled, Absent}
-use Rattle.call_names.specs.declared.payload.PayloadForm.{PayloadForm}
-use Rattle.call_names.specs.declared.payload.PayloadForm.TheVariants as form
-use Rattle.call_table.specs.Lookups.{named}
-use Rattle.call_table.specs.Numbers.{number_of}
-use Rattle.call_table.specs.Table.{Table, calls_in}
-use Rattle.call_table.specs.declared.listed.CallLine.{CallLine}
-use Rattle.call_words.specs.Words.{spelled}
-use Rattle.kernel_calls.specs.declared.call.Call.{Call}
-use Rattle.kernel_calls.specs.declared.payload.Payload.{Payload}
+use Rattle.kernel_model.specs.call_table.call_names.Known.{known_call, form_of}
+use Rattle.kernel_model.specs.call_table.declared.call_names.known.KnownCall.{KnownCall}
+use Rattle.kernel_model.specs.call_table.declared.call_names.known.KnownCall.TheVariants.{Modelled, Absent}
+use Rattle.kernel_model.specs.call_table.declared.call_names.payload.PayloadForm.{PayloadForm}
+use Rattle.kernel_model.specs.call_table.declared.call_names.payload.PayloadForm.TheVariants as form
+use Rattle.kernel_model.specs.call_table.Lookups.{named}
+use Rattle.kernel_model.specs.call_table.Numbers.{number_of}
+use Rattle.kernel_model.specs.call_table.Table.{Table, calls_in}
+use Rattle.kernel_model.specs.call_table.declared.listed.CallLine.{CallLine}
+use Rattle.kernel_model.specs.call_table.call_words.Words.{spelled}
+use Rattle.kernel_model.specs.declared.kernel_calls.call.Call.{Call}
+use Rattle.kernel_model.specs.declared.kernel_calls.payload.Payload.{Payload}
 use Rattle.script_text.specs.Marks.{behind_hash}
 use Rattle.script_text.specs.Numbers.{pid_of, numbers_of, six_words}
 use Rattle.script_text.specs.Payloads.{Taken, payload_of}

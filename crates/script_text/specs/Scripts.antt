@@ -2,9 +2,9 @@
 use Rattle.std.specs.Prelude.{ℕ, nat_lt, cond, Option, Some, None, Result, Ok, Err, List, slice_get}
 use Rattle.std.specs.List.{filter_map, enumerate_from}
 use Rattle.std.specs.Result.{result_ok}
-use Rattle.line_text.specs.Lines.{Line, is_text, lines_of, words_of}
-use Rattle.call_table.specs.Table.{Table}
-use Rattle.kernel_calls.specs.declared.call.Call.{Call}
+use Rattle.kernel_model.specs.text_forms.line_text.Lines.{Line, is_text, lines_of, words_of}
+use Rattle.kernel_model.specs.call_table.Table.{Table}
+use Rattle.kernel_model.specs.declared.kernel_calls.call.Call.{Call}
 use Rattle.script_text.specs.Reading.{call_of}
 use Rattle.script_text.specs.declared.error.ScriptCause.{ScriptCause}
 use Rattle.script_text.specs.declared.error.ScriptError.{ScriptError}

@@ -7,8 +7,8 @@ ghost use Rattle.script_text.specs.declared.error.ScriptCause.TheVariants.{Numbe
 
 use crate::error::ScriptCause;
 use crate::line_fault::LineFault;
+use kernel_model::text_forms::{read_decimal, read_u64};
 use std::alloc::Global;
-use text_forms::{read_decimal, read_u64};
 
 /// The number of a process: decimal, from 1, below 2^32.
 #[tactic(auto, unfolding(crate::specs::Numbers::pid_of))]

@@ -2,7 +2,7 @@
 
 ghost use Rattle.std.specs.Prelude.{◌≡◌, ◌<◌, ◌≤◌, length, IfSome, IfOk, SomeIff, IsTrue, option_map, string_bytes};
 ghost use Rattle.std.specs.Char.{is_digit, digit_value};
-ghost use Rattle.text_forms.specs.Escaped.{word_read};
+ghost use Rattle.kernel_model.specs.text_forms.Escaped.{word_read};
 ghost use Rattle.script_text.specs.Escapes.{GivesByte, GivesCode, escaped_text, text_only};
 
 use std::alloc::{AllocError, Global};

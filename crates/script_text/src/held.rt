@@ -2,11 +2,11 @@
 
 ghost use Rattle.std.specs.Prelude.{◌<◌};
 ghost use Rattle.std.specs.List.{All};
-ghost use Rattle.abs_path.specs.Paths.{text_of};
+ghost use Rattle.kernel_model.specs.abs_path.Paths.{text_of};
 ghost use Rattle.script_text.specs.PrintedAgain.{HasTexts, IsHeld, IsText};
 
-use abs_path::AbsPath;
-use kernel_calls::{Call, Payload, fits};
+use kernel_model::abs_path::AbsPath;
+use kernel_model::kernel_calls::{Call, Payload, fits};
 
 fn bytes_fit(bytes: &[u8])
     ensures { All (λ byte. byte < 256) bytes.now }

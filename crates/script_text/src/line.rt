@@ -5,16 +5,16 @@ ghost use Rattle.script_text.specs.Reading.{call_of, with_name};
 ghost use Rattle.script_text.specs.Scripts.{line_call};
 ghost use Rattle.script_text.specs.Progress.{ReadsCall};
 ghost use Rattle.script_text.specs.Views.{view_named};
-ghost use Rattle.line_text.specs.Views.{line_view};
+ghost use Rattle.kernel_model.specs.text_forms.line_text.Views.{line_view};
 
 use crate::arguments::{read_numbers, read_pid, six_words};
 use crate::error::ScriptCause;
 use crate::line_fault::LineFault;
 use crate::names::{NamedCall, find_call};
 use crate::payloads::take_payload;
-use call_table::CallTable;
-use kernel_calls::Call;
-use line_text::{Line, words};
+use kernel_model::call_table::CallTable;
+use kernel_model::kernel_calls::Call;
+use kernel_model::text_forms::line_text::{Line, words};
 use std::alloc::Global;
 
 // the call of a process, by the words behind the name of the call

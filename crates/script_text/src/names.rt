@@ -1,15 +1,15 @@
 //! The call that a line names.
 
 ghost use Rattle.std.specs.Prelude.{◌≡◌, option_map};
-ghost use Rattle.call_table.specs.Numbers.{number_of};
+ghost use Rattle.kernel_model.specs.call_table.Numbers.{number_of};
 ghost use Rattle.script_text.specs.Reading.{form_of_name, named_in, named_call};
 ghost use Rattle.script_text.specs.Marks.{behind_hash};
 ghost use Rattle.script_text.specs.Views.{view_named};
 
-use call_names::{KnownCall, PayloadForm, form_of, known_call};
-use call_table::CallTable;
-use call_words::spelled;
-use text_forms::read_decimal;
+use kernel_model::call_table::CallTable;
+use kernel_model::call_table::call_names::{KnownCall, PayloadForm, form_of, known_call};
+use kernel_model::call_table::call_words::spelled;
+use kernel_model::text_forms::read_decimal;
 
 /// A call, and what it carries beside its words.
 #[derive(Clone, Copy)]

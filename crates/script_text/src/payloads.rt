@@ -2,7 +2,7 @@
 
 ghost use Rattle.std.specs.Prelude.{◌≡◌, ◌==◌, IfOk, map, option_map};
 ghost use Rattle.std.specs.List.{list_all, slice_split};
-ghost use Rattle.call_table.specs.Numbers.{is_lower_hex, number_of};
+ghost use Rattle.kernel_model.specs.call_table.Numbers.{is_lower_hex, number_of};
 ghost use Rattle.script_text.specs.Marks.{before, behind, between_brackets, between_commas};
 ghost use Rattle.script_text.specs.Numbers.{all_read};
 ghost use Rattle.script_text.specs.Payloads.{path_of, set_of, ids_of, is_code, code_of, two_paths, three_sets, payload_of};
@@ -13,13 +13,13 @@ use crate::error::ScriptCause;
 use crate::escapes::read_text;
 use crate::line_fault::LineFault;
 use crate::names::read_number;
-use abs_path::{AbsPath, PathError};
-use call_names::PayloadForm;
-use cap_sets::CapSet;
 use hex::{FromHexError, decode};
-use kernel_calls::{Bytes, IdList, Payload};
+use kernel_model::abs_path::{AbsPath, PathError};
+use kernel_model::call_table::call_names::PayloadForm;
+use kernel_model::cap_sets::CapSet;
+use kernel_model::kernel_calls::{Bytes, IdList, Payload};
+use kernel_model::text_forms::read_u64;
 use std::alloc::{AllocError, Global};
-use text_forms::read_u64;
 
 /// The cause of a payload that is missing, or not of its form.
 const NO_PAYLOAD: LineFault = LineFault::Faulty(ScriptCause::Payload);

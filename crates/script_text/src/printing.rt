@@ -1,22 +1,22 @@
 //! Calls as they are printed, in the form of lines of a script.
 
 ghost use Rattle.std.specs.Prelude.{◌≡◌, ◌++◌, ◌∷◌, OnOk, IfOk, codes, decimal};
-ghost use Rattle.abs_path.specs.Paths.{text_of};
-ghost use Rattle.text_forms.specs.Escaped.{escaped_word};
+ghost use Rattle.kernel_model.specs.abs_path.Paths.{text_of};
+ghost use Rattle.kernel_model.specs.text_forms.Escaped.{escaped_word};
 ghost use Rattle.script_text.specs.Numbers.{without_last_zeros};
 ghost use Rattle.script_text.specs.Printed.{argument_words, call_text, code_word, each_behind, each_number, has_form, ids_word, front_words, numbered_words, payload_words, with_commas};
 ghost use Rattle.script_text.specs.PrintedAgain.{IsReadAs};
 
 use crate::held::is_held;
 use crate::names::form_of_name;
-use abs_path::AbsPath;
-use call_names::PayloadForm;
-use call_table::CallTable;
-use call_words::push_abi;
 use hex::encode;
-use kernel_calls::{Call, Payload};
+use kernel_model::abs_path::AbsPath;
+use kernel_model::call_table::CallTable;
+use kernel_model::call_table::call_names::PayloadForm;
+use kernel_model::call_table::call_words::push_abi;
+use kernel_model::kernel_calls::{Call, Payload};
+use kernel_model::text_forms::{push_u64, push_word};
 use std::alloc::{AllocError, Global};
-use text_forms::{push_u64, push_word};
 
 // whether the payload is of the form; a program is whole instructions, of eight bytes each
 fn has_form(form: PayloadForm, payload: &Payload) -> bool

@@ -2,7 +2,7 @@
 
 ghost use Rattle.std.specs.Prelude.{◌≡◌, ◌≢◌, map, IfOk, IfErr, Ok, Err};
 ghost use Rattle.std.specs.List.{All};
-ghost use Rattle.line_text.specs.Views.{line_view};
+ghost use Rattle.kernel_model.specs.text_forms.line_text.Views.{line_view};
 ghost use Rattle.script_text.specs.Progress.{Adds, ReadsLine, ReadsScript};
 ghost use Rattle.script_text.specs.PrintedAgain.{IsWritten};
 ghost use Rattle.script_text.specs.Scripts.{line_call, script_of, script_of_lines};
@@ -12,9 +12,9 @@ use crate::Script;
 use crate::error::ScriptError;
 use crate::line::read_line;
 use crate::line_fault::LineFault;
-use call_table::CallTable;
-use kernel_calls::Call;
-use line_text::{Line, read_lines, read_text};
+use kernel_model::call_table::CallTable;
+use kernel_model::kernel_calls::Call;
+use kernel_model::text_forms::line_text::{Line, read_lines, read_text};
 use std::alloc::Global;
 
 /// How many calls a script has at most.

@@ -1,5 +1,5 @@
 -- Calls by their numbers.
-use Rattle.std.proofs.Common.{◌≡◌, zero, suc, ℕ, ◌+◌, ◌-◌, ◌*◌, ◌^◌, ◌<◌, ◌≤◌, Bool, true, false, cond, find, List, [], ◌∷◌, ◌++◌, length, map, get_or, inl, inr, refl, sym, ap, ◌∙◌, subst, arith, length-append, append_assoc, append-nil}
+use Rattle.std.proofs.Common.{◌≡◌, suc, ℕ, ◌+◌, ◌-◌, ◌*◌, ◌^◌, ◌<◌, ◌≤◌, Bool, true, false, cond, find, List, [], ◌∷◌, ◌++◌, length, map, inl, inr, refl, sym, ap, ◌∙◌, subst, arith, length-append, append_assoc, append-nil}
 use Rattle.std.specs.Prelude.{◌==◌}
 use Rattle.std.specs.Option.{option_map_or}
 use Rattle.std.specs.List.{All, sum_by}
@@ -100,18 +100,6 @@ numbers_closed calls rest runs decision n closed = record {
 }
 
 -- All rules.
-
--- no call has more cases than all calls together
-cases_within : (calls : List CallRule) (k : ℕ) (d : CallRule) → k < length calls → length (get_or calls k d).cases ≤ sum_by (λ call. length call.cases) calls
-cases_within [] k d below = absurd (omega arith)
-cases_within (call ∷ calls) zero d below = omega (arith, sum_by-cons (λ call. length call.cases) call calls)
-cases_within (call ∷ calls) (suc k) d below = omega (arith, cases_within calls k d (omega arith), sum_by-cons (λ call. length call.cases) call calls)
-
-pub can_compile_calls : (rules : RuleSet) → CanCompile rules → All CanCompileCall rules.calls
-can_compile_calls rules can k d below = record {
-  cases = omega (arith, can.cases, cases_within rules.calls k d below);
-  tests = can.tests k d below;
-}
 
 abbrev tests_in : List Case → ℕ
 tests_in cases = sum_by (λ case. length case.tests) cases

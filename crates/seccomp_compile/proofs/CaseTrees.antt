@@ -6,8 +6,8 @@ use Rattle.std.specs.List.{list_all, list_any}
 use Rattle.std.proofs.lemmas.Bool.{eqb-true}
 use Rattle.std.proofs.lemmas.Bool.Decides.{nat_tests}
 use Rattle.std.proofs.lemmas.List.Sums.{sum_by-cons}
-use Rattle.bpf_code.specs.declared.machine.CallData.{CallData}
-use Rattle.bpf_code.specs.Effects.{words_of}
+use Rattle.call_rules.specs.bpf_code.declared.machine.CallData.{CallData}
+use Rattle.call_rules.specs.bpf_code.Effects.{words_of}
 use Rattle.call_rules.specs.Tested.{Tested}
 use Rattle.call_rules.specs.declared.actions.Action.{Action}
 use Rattle.call_rules.specs.Action.{test_holds, case_holds}
@@ -99,16 +99,6 @@ past_path offset mask limit (ends action) h = h
 past_path offset mask limit (looks other part next) h = past_path_by ((other == offset) && (part == mask)) other part limit next h
 past_path offset mask limit (splits comparison number miss hit) h = h
 past_path offset mask limit (both first second action otherwise) h = h
-
-past_inside_by : (same : Bool) (other part : ℕ) (next : Decision) → LooksInside (looks other part next) → LooksInside (cond same next (looks other part next))
-past_inside_by true other part next h = h.2
-past_inside_by false other part next h = h
-
-pub past_inside : (offset mask : ℕ) (decision : Decision) → LooksInside decision → LooksInside (past_look offset mask decision)
-past_inside offset mask (ends action) h = h
-past_inside offset mask (looks other part next) h = past_inside_by ((other == offset) && (part == mask)) other part next h
-past_inside offset mask (splits comparison number miss hit) h = h
-past_inside offset mask (both first second action otherwise) h = h
 
 tests_decide : (input : CallData) (tests : List Tested) (action other : Action) (otherwise : Decision) → length tests ≤ 2 → ((word : ℕ) → decide otherwise input word ≡ other) → (word : ℕ) →
     decide (by_tests tests action otherwise) input word ≡ cond (list_all (test_holds input) tests) action other

@@ -2,10 +2,10 @@
 use Rattle.std.proofs.Common.{◌≡◌, ℕ, ◌+◌, ◌-◌, ◌%◌, ◌<◌, ◌≤◌, Bool, true, false, cond, List, [], ◌∷◌, ◌++◌, length, drop, refl, sym, ap, ◌∙◌, subst, arith, length-append}
 use Rattle.std.specs.Prelude.{nat_le}
 use Rattle.std.proofs.lemmas.Bool.{leb-true}
-use Rattle.bpf_code.specs.declared.machine.Insn.{Insn}
-use Rattle.bpf_code.specs.declared.machine.CallData.{CallData}
-use Rattle.bpf_code.specs.declared.machine.Regs.{Regs}
-use Rattle.bpf_code.proofs.Endings.{drop_at_found}
+use Rattle.call_rules.specs.bpf_code.declared.machine.Insn.{Insn}
+use Rattle.call_rules.specs.bpf_code.declared.machine.CallData.{CallData}
+use Rattle.call_rules.specs.bpf_code.declared.machine.Regs.{Regs}
+use Rattle.call_rules.proofs.BpfCode.Endings.{drop_at_found}
 use Rattle.call_rules.specs.Tested.{Tested}
 use Rattle.call_rules.specs.declared.actions.Action.{Action}
 use Rattle.call_rules.specs.Action.{test_holds}
@@ -16,10 +16,6 @@ use Rattle.seccomp_compile.specs.Decisions.{Decision, ends, looks, splits, both,
 use Rattle.seccomp_compile.specs.Lengths.{most_of, jumps, hop, look_len, PathWithin}
 use Rattle.seccomp_compile.specs.Placed.{EndsWithin, from_place, IsSound, Grows, Placed, Reached, StandsAt}
 use Rattle.seccomp_compile.proofs.Steps.{from_place-grows, from_place-all, grows_not, grows-trans, grows-le, ends_later, jump_ends, end_ends, is_end_insn, compare_ends, look_ends, test_ends, end_sound, jump_sound, compare_sound, look_sound, test_sound, look_length, test_length}
-
--- what stands at a place is found behind as many instructions as stand in front of it
-at_front : (code : List Insn) (place : ℕ) → drop (length code - place) code ≡ from_place place code
-at_front code place = refl
 
 -- An ending.
 

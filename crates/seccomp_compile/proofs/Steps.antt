@@ -5,15 +5,15 @@ use Rattle.std.specs.Prelude.{not, nat_lt, nat_le, ◌&&◌, ◌==◌, slice_ind
 use Rattle.std.specs.List.{flat_map}
 use Rattle.std.proofs.lemmas.Bool.{lt-ltb, eq-eqb, eqb-true}
 use Rattle.std.proofs.lemmas.Nat.{and_mask}
-use Rattle.bpf_code.specs.declared.machine.Insn.{Insn}
-use Rattle.bpf_code.specs.declared.machine.CallData.{CallData}
-use Rattle.bpf_code.specs.declared.machine.Regs.{Regs}
-use Rattle.bpf_code.specs.declared.program.Fault.TheVariants as fault
-use Rattle.bpf_code.specs.Ops.{op_of}
-use Rattle.bpf_code.specs.Effects.{halves, words_of, effect_by}
-use Rattle.bpf_code.specs.Meaning.{counted, goes_on, run_from}
-use Rattle.bpf_code.specs.Accepted.{fault_of, is_scratch_load, unless}
-use Rattle.bpf_code.proofs.Endings.{run_from-skip}
+use Rattle.call_rules.specs.bpf_code.declared.machine.Insn.{Insn}
+use Rattle.call_rules.specs.bpf_code.declared.machine.CallData.{CallData}
+use Rattle.call_rules.specs.bpf_code.declared.machine.Regs.{Regs}
+use Rattle.call_rules.specs.bpf_code.declared.program.Fault.TheVariants as fault
+use Rattle.call_rules.specs.bpf_code.Ops.{op_of}
+use Rattle.call_rules.specs.bpf_code.Effects.{halves, words_of, effect_by}
+use Rattle.call_rules.specs.bpf_code.Meaning.{counted, goes_on, run_from}
+use Rattle.call_rules.specs.bpf_code.Accepted.{fault_of, is_scratch_load, unless}
+use Rattle.call_rules.proofs.BpfCode.Endings.{run_from-skip}
 use Rattle.call_rules.specs.Tested.{Tested}
 use Rattle.call_rules.specs.Action.{test_holds}
 use Rattle.call_rules.specs.declared.actions.Action.{Action}
@@ -43,9 +43,6 @@ from_place-all code place e = let none : length code - place ≡ 0 = omega arith
 
 pub grows_not : (code : List Insn) → Grows code code
 grows_not code = ([], refl)
-
-pub grows_by : (insn : Insn) (code : List Insn) → Grows code (insn ∷ code)
-grows_by insn code = (insn ∷ [], refl)
 
 pub grows-trans : (a b c : List Insn) → Grows a b → Grows b c → Grows a c
 grows-trans a b c h k = (k.0 ++ h.0, k.1 ∙ ap (λ l. k.0 ++ l) h.1 ∙ sym (append_assoc k.0 h.0 a))
@@ -173,9 +170,6 @@ test_ends test hit miss code input regs there here limit h k =
     (ends_later _ input regs (cond (test_holds input test) there here) (limit + 1 + 2) (limit + 3) (omega arith) all)
 
 -- Sound code.
-
-pub nothing_sound : IsSound []
-nothing_sound = record { fine = tt; ends = refl }
 
 ends_in_front : (insn : Insn) (code : List Insn) → 0 < length code → ends_well code ≡ true → ends_well (insn ∷ code) ≡ true
 ends_in_front insn [] lt e = absurd (omega arith)

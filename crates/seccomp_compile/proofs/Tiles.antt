@@ -1,12 +1,12 @@
 -- Runs that are added one below the other.
 use Rattle.std.proofs.Common.{◌≡◌, suc, ℕ, ◌+◌, ◌-◌, ◌^◌, ◌<◌, ◌≤◌, ◌⊎◌, inl, inr, cond, eqb, false, List, [], ◌∷◌, ◌++◌, length, take, drop, Option, Some, refl, sym, ap, ◌∙◌, subst, arith, length-append, append_assoc}
-use Rattle.std.specs.Prelude.{slice_get, slice_index_or}
+use Rattle.std.specs.Prelude.{slice_get}
 use Rattle.std.specs.Option.{option_to_list}
 use Rattle.std.specs.List.{list_any}
 use Rattle.std.proofs.lemmas.Bool.{cases_lt}
 use Rattle.std.proofs.lemmas.Bool.Decides.{leb_tells, eqb_tells, nat_tests}
 use Rattle.std.proofs.lemmas.List.{take_at}
-use Rattle.bpf_code.specs.declared.machine.CallData.{CallData}
+use Rattle.call_rules.specs.bpf_code.declared.machine.CallData.{CallData}
 use Rattle.call_rules.specs.declared.actions.Action.{Action}
 use Rattle.seccomp_compile.specs.declared.runs.Run.{Run}
 use Rattle.seccomp_compile.specs.declared.tree.Comparison.TheVariants.{AtLeast, Equal}
@@ -51,19 +51,6 @@ enclosed_added runs fewer least after run joined middle o count around e is coun
     (d ∙ ap (λ middle. splits Equal middle.from (run_decision run) (run_decision middle)) same.1
     ∙ ap (λ ending. splits Equal around.middle.from ending (run_decision around.middle)) around.run_ends)
     (added ∙ ap (λ runs. runs ++ joined ∷ []) (taken ∙ take_others fewer around.others around.above count same.0 counted))
-
--- the two lowest runs
-pub lowest_two : (runs : List Run) (above middle : Run) → 2 ≤ length runs → above ≡ slice_index_or runs (length runs - 2) above → middle ≡ slice_index_or runs (length runs - 1) middle → (others : List Run) × (runs ≡ others ++ above ∷ middle ∷ [])
-lowest_two [] above middle le a m = absurd (omega arith)
-lowest_two (first ∷ []) above middle le a m = absurd (omega arith)
-lowest_two (first ∷ second ∷ []) above middle le a m = ([], ap (λ run. run ∷ second ∷ []) (sym a) ∙ ap (λ run. above ∷ run ∷ []) (sym m))
-lowest_two (first ∷ second ∷ third ∷ runs) above middle le a m =
-    let back : length (first ∷ second ∷ third ∷ runs) - 2 ≡ suc (length (second ∷ third ∷ runs) - 2) = omega arith in
-    let last : length (first ∷ second ∷ third ∷ runs) - 1 ≡ suc (length (second ∷ third ∷ runs) - 1) = omega arith in
-    let found = lowest_two (second ∷ third ∷ runs) above middle (omega arith)
-    (a ∙ ap (λ n. slice_index_or (first ∷ second ∷ third ∷ runs) n above) back)
-    (m ∙ ap (λ n. slice_index_or (first ∷ second ∷ third ∷ runs) n middle) last) in
-    (first ∷ found.0, ap (λ runs. first ∷ runs) found.1)
 
 pub extended_added : (runs fewer after : List Run) (run joined lowest : Run) (o : Option Run) (more : Extends runs run) → runs ≡ fewer ++ option_to_list o → o ≡ Some lowest → joined.from ≡ run.from → run_decision joined ≡ run_decision lowest →
     after ≡ fewer ++ joined ∷ [] → AddsRun runs run after

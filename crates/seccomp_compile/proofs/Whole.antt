@@ -2,14 +2,14 @@
 use Rattle.std.proofs.Common.{◌≡◌, zero, suc, ℕ, ◌+◌, ◌<◌, ◌≤◌, true, false, List, [], ◌∷◌, length, Some, subst, arith}
 use Rattle.std.specs.Prelude.{slice_get}
 use Rattle.std.specs.List.{All}
-use Rattle.bpf_code.specs.declared.machine.Insn.{Insn}
-use Rattle.bpf_code.specs.declared.machine.CallData.{CallData}
-use Rattle.bpf_code.specs.Ops.{op_of}
-use Rattle.bpf_code.specs.Meaning.{start_regs, IsCallData}
-use Rattle.bpf_code.specs.Accepted.{IsAccepted, AreFine, is_scratch_load, ends_in_return}
-use Rattle.bpf_code.specs.Reading.{Fits, IsProgram}
-use Rattle.bpf_code.proofs.Chunks.{fitting_program}
-use Rattle.bpf_code.proofs.Endings.{answers_by_run, answers_within_by_run}
+use Rattle.call_rules.specs.bpf_code.declared.machine.Insn.{Insn}
+use Rattle.call_rules.specs.bpf_code.declared.machine.CallData.{CallData}
+use Rattle.call_rules.specs.bpf_code.Ops.{op_of}
+use Rattle.call_rules.specs.bpf_code.Meaning.{start_regs, IsCallData}
+use Rattle.call_rules.specs.bpf_code.Accepted.{IsAccepted, AreFine, is_scratch_load, ends_in_return}
+use Rattle.call_rules.specs.bpf_code.Reading.{Fits, IsProgram}
+use Rattle.call_rules.proofs.BpfCode.Chunks.{fitting_program}
+use Rattle.call_rules.proofs.BpfCode.Endings.{answers_by_run, answers_within_by_run}
 use Rattle.call_rules.specs.declared.rules.RuleSet.{RuleSet}
 use Rattle.call_rules.specs.Action.{word_of, case_action}
 use Rattle.seccomp_compile.specs.Compiled.{Decides, DecidesWithin, longest_path}

@@ -1,20 +1,13 @@
 -- The instructions of compiled programs.
 use Rattle.std.specs.Prelude.{◌≡◌, ℕ, ◌+◌, ◌-◌, ◌*◌, ◌^◌, ◌==◌, if◌then◌else◌, List, [], ◌∷◌}
-use Rattle.bpf_code.specs.declared.machine.Insn.{Insn}
-use Rattle.bpf_code.specs.Codes as bpf
+use Rattle.call_rules.specs.bpf_code.declared.machine.Insn.{Insn}
+use Rattle.call_rules.specs.bpf_code.Codes as bpf
 use Rattle.call_rules.specs.Action.{word_of}
 use Rattle.call_rules.specs.declared.actions.Action.{Action}
 use Rattle.seccomp_compile.specs.declared.tree.Comparison.{Comparison}
 use Rattle.seccomp_compile.specs.declared.tree.Comparison.TheVariants.{AtLeast, Equal, AnyBit}
 
--- the offsets in struct seccomp_data of seccomp(2): the number of the call, the architecture, and the low word of each
--- argument, which has eight bytes
-abbrev pub number_offset : ℕ
-number_offset = 0
-
-abbrev pub arch_offset : ℕ
-arch_offset = 4
-
+-- the offset in struct seccomp_data of seccomp(2) of the low word of an argument, which has eight bytes
 abbrev pub arg_offset : ℕ → ℕ
 arg_offset arg = 16 + 8 * arg
 

@@ -1,8 +1,8 @@
 -- What a compiled program does, and after how many instructions.
 use Rattle.std.specs.Prelude.{ℕ, ◌≤◌, List, length}
-use Rattle.bpf_code.specs.declared.machine.Insn.{Insn}
-use Rattle.bpf_code.specs.declared.machine.CallData.{CallData}
-use Rattle.bpf_code.specs.Meaning.{Answers, AnswersWithin, IsCallData}
+use Rattle.call_rules.specs.bpf_code.declared.machine.Insn.{Insn}
+use Rattle.call_rules.specs.bpf_code.declared.machine.CallData.{CallData}
+use Rattle.call_rules.specs.bpf_code.Meaning.{Answers, AnswersWithin, IsCallData}
 use Rattle.call_rules.specs.declared.rules.CallRule.{CallRule}
 use Rattle.call_rules.specs.declared.rules.RuleSet.{RuleSet}
 use Rattle.call_rules.specs.Action.{case_action, word_of}

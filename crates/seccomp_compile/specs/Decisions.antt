@@ -1,7 +1,7 @@
 -- Decision trees without the pointers that hold them together, and what they mean.
 use Rattle.std.specs.Prelude.{◌≡◌, ℕ, ◌/◌, ◌%◌, ◌^◌, ◌<◌, ◌≤◌, ◌==◌, ◌&&◌, nat_le, not, Bool, true, false, if◌then◌else◌, slice_index, bit_and, Option, Some, None, is_some}
-use Rattle.bpf_code.specs.declared.machine.CallData.{CallData}
-use Rattle.bpf_code.specs.Effects.{words_of}
+use Rattle.call_rules.specs.bpf_code.declared.machine.CallData.{CallData}
+use Rattle.call_rules.specs.bpf_code.Effects.{words_of}
 use Rattle.call_rules.specs.Tested.{Tested}
 use Rattle.call_rules.specs.declared.actions.Action.{Action}
 use Rattle.call_rules.specs.Action.{test_holds}

@@ -1,7 +1,7 @@
 -- How the word of a test is looked at, and the instructions of a test.
 use Rattle.std.specs.Prelude.{ℕ, ◌==◌, ◌&&◌, Bool, if◌then◌else◌, List, [], ◌∷◌, ◌++◌}
 use Rattle.std.specs.Int.{is_power_of_two}
-use Rattle.bpf_code.specs.declared.machine.Insn.{Insn}
+use Rattle.call_rules.specs.bpf_code.declared.machine.Insn.{Insn}
 use Rattle.call_rules.specs.Tested.{Tested}
 use Rattle.seccomp_compile.specs.declared.tree.Comparison.{Comparison}
 use Rattle.seccomp_compile.specs.declared.tree.Comparison.TheVariants.{Equal, AnyBit}

@@ -1,14 +1,14 @@
 -- Code that does what a tree says.
 use Rattle.std.specs.Prelude.{◌≡◌, ℕ, ◌+◌, ◌-◌, ◌<◌, ◌≤◌, Bool, true, false, List, [], ◌∷◌, ◌++◌, length, drop, slice_get, Some, None}
-use Rattle.bpf_code.specs.declared.machine.Insn.{Insn}
-use Rattle.bpf_code.specs.declared.machine.CallData.{CallData}
-use Rattle.bpf_code.specs.declared.machine.Regs.{Regs}
-use Rattle.bpf_code.specs.Ops.{op_of}
+use Rattle.call_rules.specs.bpf_code.declared.machine.Insn.{Insn}
+use Rattle.call_rules.specs.bpf_code.declared.machine.CallData.{CallData}
+use Rattle.call_rules.specs.bpf_code.declared.machine.Regs.{Regs}
+use Rattle.call_rules.specs.bpf_code.Ops.{op_of}
 use Rattle.call_rules.specs.Tested.{Tested}
 use Rattle.call_rules.specs.Action.{word_of}
 use Rattle.call_rules.specs.declared.actions.Action.{Action}
-use Rattle.bpf_code.specs.Meaning.{run_from}
-use Rattle.bpf_code.specs.Accepted.{fault_of, is_scratch_load, ends_in_return}
+use Rattle.call_rules.specs.bpf_code.Meaning.{run_from}
+use Rattle.call_rules.specs.bpf_code.Accepted.{fault_of, is_scratch_load, ends_in_return}
 use Rattle.seccomp_compile.specs.declared.tree.Comparison.{Comparison}
 use Rattle.seccomp_compile.specs.Code.{IsEnd, compare}
 use Rattle.seccomp_compile.specs.Looks.{test_code}

@@ -1,7 +1,7 @@
 //! The compiler's call.
 ghost use Rattle.std.specs.Prelude.{◌≤◌, length, IfOk};
-ghost use Rattle.linux_numbers.specs.Limits.{bpf_maxinsns};
-ghost use Rattle.bpf_code.specs.Reading.{IsProgram};
+ghost use Rattle.call_rules.specs.linux_numbers.Limits.{bpf_maxinsns};
+ghost use Rattle.call_rules.specs.bpf_code.Reading.{IsProgram};
 ghost use Rattle.call_rules.specs.Sizes.{CanCompile, most_insns};
 ghost use Rattle.seccomp_compile.specs.Compiled.{Decides, DecidesWithin, longest_path};
 ghost use Rattle.seccomp_compile.specs.ShortCases.{HaveShortCases};
@@ -9,8 +9,8 @@ ghost use Rattle.seccomp_compile.specs.Form.{AreOfForm};
 
 use crate::decisions::rules_tree;
 use crate::emit::place;
-use bpf_code::Program;
 use call_rules::RuleSet;
+use call_rules::bpf_code::Program;
 use std::alloc::{AllocError, Global};
 use std::collections::VecDeque;
 

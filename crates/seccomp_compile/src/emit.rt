@@ -4,7 +4,7 @@
 //! counted from the end, so that it stays the same. An ending that stands near is used again.
 ghost use Rattle.std.specs.Prelude.{◌≡◌, ◌+◌, ◌-◌, ◌<◌, ◌≤◌, ◌++◌, length, OnOk, IfOk, MatchOption};
 ghost use Rattle.std.specs.List.{All};
-ghost use Rattle.bpf_code.specs.Reading.{Fits};
+ghost use Rattle.call_rules.specs.bpf_code.Reading.{Fits};
 ghost use Rattle.seccomp_compile.specs.Code.{look_code};
 ghost use Rattle.seccomp_compile.specs.Form.{AreOfForm};
 ghost use Rattle.seccomp_compile.specs.Decisions.{decision_of, ends, LooksInside};
@@ -15,7 +15,7 @@ use crate::instructions::{and_mask, answer, is_answer, jump, jump_if, load_word}
 use crate::looks::{comparison_for, mask_for};
 use crate::offsets::{WHOLE_WORD, arg_offset};
 use crate::tree::{Comparison, Tree};
-use bpf_code::Insn;
+use call_rules::bpf_code::Insn;
 use call_rules::{Action, Test};
 use std::alloc::AllocError;
 use std::collections::VecDeque;

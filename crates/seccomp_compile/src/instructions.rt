@@ -1,13 +1,15 @@
 //! The instructions that a compiled program is made of.
 ghost use Rattle.std.specs.Prelude.{◌≡◌, ◌↔◌, IsTrue, true};
-ghost use Rattle.bpf_code.specs.Reading.{Fits};
+ghost use Rattle.call_rules.specs.bpf_code.Reading.{Fits};
 ghost use Rattle.seccomp_compile.specs.Form.{is_of_form};
 ghost use Rattle.seccomp_compile.specs.Code.{load, mask_by, skip, compare, code_of, end, IsEnd};
 
 use crate::tree::Comparison;
-use bpf_code::Insn;
-use bpf_code::codes::{ALU_AND_K, JMP_JA, JMP_JEQ_K, JMP_JGE_K, JMP_JSET_K, LD_W_ABS, RET_K};
 use call_rules::Action;
+use call_rules::bpf_code::Insn;
+use call_rules::bpf_code::codes::{
+    ALU_AND_K, JMP_JA, JMP_JEQ_K, JMP_JGE_K, JMP_JSET_K, LD_W_ABS, RET_K,
+};
 
 // An instruction that is no comparison.
 fn plain(code: u16, k: u32) -> Insn

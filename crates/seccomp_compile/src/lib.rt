@@ -21,5 +21,7 @@ mod runs;
 mod tree;
 mod values;
 
+pub use call_rules;
+pub use call_rules::{bpf_code, text_forms};
 pub use compiler::compile;
 pub use condition::can_compile;

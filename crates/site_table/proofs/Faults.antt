@@ -20,17 +20,14 @@ pub record StandsAt (all : List Data) (i : ℕ) (one : Data) : Type 0 where
   pub after : drop i all ≡ one ∷ drop (i + 1) all
   pub before : take (i + 1) all ≡ take i all ++ one ∷ []
 
-pub stands_among : {X : Type 0} (said_of : X → Data) (values : List X) (i : ℕ) (value : X) → i < length values → value ≡ get_or values i value → StandsAt (map said_of values) i (said_of value)
-stands_among said_of values i value lt is =
-    let same : get_or (map said_of values) i (said_of value) ≡ said_of value = get_or-map said_of values i value (said_of value) lt ∙ ap said_of (sym is) in
-    let within : i < length (map said_of values) = omega (arith, length-map values said_of) in
-    record {
-      after = drop_more (map said_of values) i (said_of value) within ∙ ap (λ one. one ∷ drop (i + 1) (map said_of values)) same;
-      before = take_more (map said_of values) i (said_of value) within ∙ ap (λ one. take i (map said_of values) ++ one ∷ []) same;
-    }
-
 pub stands_at : (values : List Value) (i : ℕ) (value : Value) → i < length values → value ≡ get_or values i value → StandsAt (map view values) i (view value)
-stands_at = stands_among view
+stands_at values i value lt is =
+    let same : get_or (map view values) i (view value) ≡ view value = get_or-map view values i value (view value) lt ∙ ap view (sym is) in
+    let within : i < length (map view values) = omega (arith, length-map values view) in
+    record {
+      after = drop_more (map view values) i (view value) within ∙ ap (λ one. one ∷ drop (i + 1) (map view values)) same;
+      before = take_more (map view values) i (view value) within ∙ ap (λ one. take i (map view values) ++ one ∷ []) same;
+    }
 
 pub faults_step : (fault_at : Fault) (all : List Data) (i : ℕ) (one : Data) → StandsAt all i one
     → faults_from fault_at all i ≡ cons_option (fault_at (i + 1) (take i all) one) (faults_from fault_at all (i + 1))

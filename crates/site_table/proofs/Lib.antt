@@ -20,12 +20,5 @@ pub mod Worked
 pub mod CapSets
 pub mod Exact
 pub mod Behind
-pub mod PlainRows
-pub mod Fronts
-pub mod Frames
-pub mod PlainLines
-pub mod TopNodes
-pub mod PlainRead
-pub mod PlainTables
-pub mod PlainTrees
-pub mod PlainSite
+pub use Rattle.abs_path.proofs as AbsPath
+pub use Rattle.cap_sets.proofs as Caps

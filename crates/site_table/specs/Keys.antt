@@ -17,7 +17,3 @@ user_keys = (codes "name", Text, Must) ∷ (codes "uid", Number, Must) ∷ (code
 
 abbrev pub group_keys : List KnownKey
 group_keys = (codes "name", Text, Must) ∷ (codes "gid", Number, Must) ∷ []
-
--- the keys of users and groups among those at the top
-abbrev pub owner_keys : List KnownKey
-owner_keys = (codes "user", Tables, May) ∷ (codes "group", Tables, May) ∷ []

@@ -87,17 +87,6 @@ has_dir_row rows text = list_any (λ row. is_dir row.kind && bytes_eq text (tail
 abbrev pub stands_behind : List Row → Path → Bool
 stands_behind rows path = option_map_or (λ text. is_always_dir_text text || has_dir_row rows text) (option_map tail_of (parent_of path)) true
 
--- a row without a cause of its own says this
-pub record IsFaultless (row : Data) (said : Row) : Type 0 where
-  pub right : first_of (own_causes row) ≡ None
-  pub says : said ≡ row_of row
-
--- a row with a new path and its folder among the rows is placed among them
-pub record PutsBehind (rows : List Row) (row : Row) (placed : List Row) : Type 0 where
-  pub puts : placed ≡ row_placed row rows
-  pub is_new : has_row rows row.path ≡ false
-  pub stands : stands_behind rows row.path ≡ true
-
 -- the row has no cause of its own, a new path and its folder among the rows, and is placed among them
 abbrev pub PlacesBehind : List Row → Data → List Row → Type 0
 PlacesBehind rows row placed = (first_of (own_causes row) ≡ None) × (placed ≡ row_placed (row_of row) rows) × (has_row rows (row_of row).path ≡ false) × (stands_behind rows (row_of row).path ≡ true)

@@ -61,9 +61,9 @@ fn is_always_dir(path: &AbsPath) -> bool
     is_always_dir_text(tail(path))
 }
 
-/// Whether the row at this path may be of this kind, which has a key that only an executable may have or not.
-pub fn may_be(kind: RowKind, has_exe_key: bool, path: &AbsPath) -> bool
-    ensures right_kind { result ≡ ((is_exe kind || not has_exe_key) && (is_dir kind || not (is_always_dir path.now))) }
+// whether the row at this path may be of this kind, which has a key that only an executable may have or not
+fn may_be(kind: RowKind, has_exe_key: bool, path: &AbsPath) -> bool
+    ensures { result ≡ ((is_exe kind || not has_exe_key) && (is_dir kind || not (is_always_dir path.now))) }
 {
     match kind {
         RowKind::Dir => !has_exe_key,

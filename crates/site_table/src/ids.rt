@@ -3,7 +3,7 @@
 ghost use Rattle.std.specs.Prelude.{◌≡◌, IfOk, is_some};
 ghost use Rattle.std.specs.List.{filter_map, list_all};
 ghost use Rattle.toml.specs.View.{view};
-ghost use Rattle.site_table.specs.Ids.{count_of, count_by, spaces_at, id_of, id_at, is_out_of_range, as_id, ids_at, are_ids};
+ghost use Rattle.site_table.specs.Ids.{count_of, spaces_at, id_of, id_at, is_out_of_range, as_id, ids_at, are_ids};
 
 use crate::texts::Ids;
 use std::alloc::{AllocError, Global};
@@ -16,9 +16,8 @@ const GREATEST_ID: i64 = 4_294_967_294;
 /// The most user namespaces that a site may allow.
 const MOST_SPACES: i64 = 64;
 
-/// The id that a number is, if it is in range.
-pub fn id_of(number: i64) -> Option<u32>
-    ensures id_or_none { result ≡ id_of number }
+fn id_of(number: i64) -> Option<u32>
+    ensures { result ≡ id_of number }
 {
     if 0 <= number && number <= GREATEST_ID {
         Some(number as u32)
@@ -52,21 +51,14 @@ fn count_of(number: i64) -> Option<u32>
     }
 }
 
-/// How many user namespaces may be made: none where no number is told, and no answer where it is out of range.
-pub fn count_by(number: Option<i64>) -> Option<u32>
-    ensures count_in_range { result ≡ count_by number }
-{
-    match number {
-        None => Some(0),
-        Some(number) => count_of(number),
-    }
-}
-
 /// How many user namespaces may be made: none where the key is missing, and no answer where the number is out of range.
 pub fn spaces_at(site: &Value) -> Option<u32>
     ensures count_in_range { result ≡ spaces_at (view site.now) }
 {
-    count_by(number_at(site, "user_namespaces"))
+    match number_at(site, "user_namespaces") {
+        None => Some(0),
+        Some(number) => count_of(number),
+    }
 }
 
 fn as_id(value: &Value) -> Option<u32>

@@ -34,9 +34,3 @@ pub const GROUP_KEYS: [Key; 2] = [
     ("name", Shape::Text, Need::Must),
     ("gid", Shape::Number, Need::Must),
 ];
-
-/// The keys of users and groups among those at the top.
-pub const OWNER_KEYS: [Key; 2] = [
-    ("user", Shape::Tables, Need::May),
-    ("group", Shape::Tables, Need::May),
-];

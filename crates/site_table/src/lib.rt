@@ -1,8 +1,8 @@
 //! The description of a site: its files, users and groups, read from `site.toml`.
 //!
 //! A site is read exactly or refused with the first refusal. It stands on `abs_path` for paths, on
-//! `cap_sets` for the capabilities of files, and on `toml`, `toml_parser` and `toml_shapes` for the text, its tree
-//! and its keys. A text of the form that tools/make-site writes is read without a tree of its rows.
+//! `cap_sets` for the capabilities of files, and on `toml` and `toml_shapes` for the tree of the text and its
+//! keys.
 //! `read_site(alloc, b"dynamic_uid = 61184\n")?` has the two rows `/` and `/proc`.
 //!
 //! What is TOML is the promise of `toml`: TOML 1.1 in UTF-8, with integers of 64 bits, and with arrays,
@@ -22,10 +22,6 @@ pub mod laws;
 mod order;
 mod owners;
 mod paths;
-mod plain_lines;
-mod plain_rows;
-mod plain_site;
-mod plain_values;
 mod reader;
 mod row;
 mod rows;
@@ -33,7 +29,9 @@ mod seen;
 mod table;
 mod texts;
 
+pub use abs_path;
 pub use accounts::{Group, User};
+pub use cap_sets;
 pub use error::{RowCause, SiteError};
 pub use kinds::RowKind;
 pub use reader::read_site;

@@ -13,8 +13,8 @@ use crate::kinds::RowKind;
 use crate::paths::{parent, tail};
 use crate::row::Row;
 use abs_path::AbsPath;
-use item_list::{Held, HeldList};
 use std::alloc::AllocError;
+use text_forms::item_list::{Held, HeldList};
 
 // whether the row is a directory whose path has this text
 fn is_dir_of(row: &Row, text: &str) -> bool

@@ -18,23 +18,29 @@ use std::alloc::{AllocError, Global};
 use toml::Value;
 use toml_shapes::{has_keys, text_at};
 
-/// A user or a group, as an element of the tree describes it.
-trait Owner: Named + Drop + Sized {
+/// What an element of the tree says of an owner.
+trait Telling<L: Named + Drop> {
     ghost use Rattle.std.specs.Prelude.{◌≡◌, IfOk};
     ghost use Rattle.toml.specs.Data.{Data};
     ghost use Rattle.toml.specs.View.{view};
     ghost use Rattle.site_table.specs.Owners.{name_of as name_told};
 
-    ghost said_of: { Data → Self };
+    ghost said_of: { Data → L };
 
     // What the element says, where nothing is wrong with it.
-    fn say(alloc: Global, owner: &Value) -> Result<Self, AllocError>
+    fn say(alloc: Global, owner: &Value) -> Result<L, AllocError>
         ensures { IfOk result (λ said. said ≡ said_of (view owner.now)) };
 
-    ghost keeps_name: { (owner : Data) → Self.Named.name_of (said_of owner) ≡ name_told owner };
+    ghost keeps_name: { (owner : Data) → L.Named.name_of (said_of owner) ≡ name_told owner };
 }
 
-impl Owner for User {
+/// How an element tells a user.
+struct UserTelling;
+
+/// How an element tells a group.
+struct GroupTelling;
+
+impl Telling<User> for UserTelling {
     ghost use Rattle.std.specs.Prelude.{refl};
     ghost use Rattle.site_table.specs.Owners.{user_of};
 
@@ -42,7 +48,7 @@ impl Owner for User {
 
     ghost keeps_name = { λ owner. refl };
 
-    fn say(alloc: Global, owner: &Value) -> Result<Self, AllocError> {
+    fn say(alloc: Global, owner: &Value) -> Result<User, AllocError> {
         Ok(User {
             name: Name::new(alloc, name_of(owner))?,
             uid: id_at(owner, "uid").unwrap_or(0),
@@ -52,7 +58,7 @@ impl Owner for User {
     }
 }
 
-impl Owner for Group {
+impl Telling<Group> for GroupTelling {
     ghost use Rattle.std.specs.Prelude.{refl};
     ghost use Rattle.site_table.specs.Owners.{group_of};
 
@@ -60,7 +66,7 @@ impl Owner for Group {
 
     ghost keeps_name = { λ owner. refl };
 
-    fn say(alloc: Global, owner: &Value) -> Result<Self, AllocError> {
+    fn say(alloc: Global, owner: &Value) -> Result<Group, AllocError> {
         Ok(Group {
             name: Name::new(alloc, name_of(owner))?,
             gid: id_at(owner, "gid").unwrap_or(0),
@@ -115,28 +121,28 @@ fn is_wrong(kind: OwnerKind, owner: &Value) -> bool
 }
 
 // whether something is wrong with the owner, or one before it has the name
-fn is_refused<O: Owner>(kind: OwnerKind, before: &NameTable<O>, owner: &Value) -> bool
+fn is_refused<L: Named>(kind: OwnerKind, before: &NameTable<L>, owner: &Value) -> bool
     ensures { result ≡ (is_wrong kind (view owner.now)
-        || list_any (λ other. bytes_eq (name_of (view owner.now)) (O.name_of other)) before.now) }
+        || list_any (λ other. bytes_eq (name_of (view owner.now)) (L.name_of other)) before.now) }
 {
     is_wrong(kind, owner) || before.has(name_of(owner))
 }
 
 // the owners that the elements of the tree describe, or the first that is wrong
-fn read_owners<O: Owner>(
+fn read_owners<L: Named + Drop, T: Telling<L>>(
     alloc: Global,
     kind: OwnerKind,
     owners: &[Value],
-) -> Result<NameTable<O>, SiteError>
+) -> Result<NameTable<L>, SiteError>
     ensures { IsUnlessMemory (λ read. read) result
-        (unless_fault (owner_faults (is_wrong kind) (refusal_of kind) (map view owners.now)) (map O.said_of (map view owners.now))) }
+        (unless_fault (owner_faults (is_wrong kind) (refusal_of kind) (map view owners.now)) (map T.said_of (map view owners.now))) }
 {
     let mut read = NameTable::new(alloc);
     for (at, value) in owners.iter().enumerate() {
         if is_refused(kind, &read, value) {
             return Err(kind.refusal(at as u64 + 1));
         }
-        read.push(alloc, O::say(alloc, value)?)?;
+        read.push(alloc, T::say(alloc, value)?)?;
     }
     Ok(read)
 }
@@ -146,7 +152,7 @@ pub fn read_users(alloc: Global, users: &[Value]) -> Result<NameTable<User>, Sit
     ensures reads_the_users { IsUnlessMemory (λ read. read) result
         (unless_fault (user_faults (map view users.now)) (map user_of (map view users.now))) }
 {
-    read_owners(alloc, OwnerKind::User, users)
+    read_owners::<User, UserTelling>(alloc, OwnerKind::User, users)
 }
 
 /// The groups that the elements of the tree describe, or the first that is wrong.
@@ -154,5 +160,5 @@ pub fn read_groups(alloc: Global, groups: &[Value]) -> Result<NameTable<Group>, 
     ensures reads_the_groups { IsUnlessMemory (λ read. read) result
         (unless_fault (group_faults (map view groups.now)) (map group_of (map view groups.now))) }
 {
-    read_owners(alloc, OwnerKind::Group, groups)
+    read_owners::<Group, GroupTelling>(alloc, OwnerKind::Group, groups)
 }

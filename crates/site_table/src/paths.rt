@@ -14,9 +14,9 @@ use toml_shapes::text_at;
 /// How many bytes the path of a row has at most.
 const LONGEST: usize = 250;
 
-/// The path of a text, where it is one and short.
-pub fn short_path(alloc: Global, text: &str) -> Result<Option<AbsPath>, AllocError>
-    ensures path_or_none { IfOk result (λ path. path ≡ short_path text.now) }
+// the path of a text, where it is one and short
+fn short_path(alloc: Global, text: &str) -> Result<Option<AbsPath>, AllocError>
+    ensures { IfOk result (λ path. path ≡ short_path text.now) }
 {
     match AbsPath::read(alloc, text) {
         Ok(path) if path.text().len() <= LONGEST => Ok(Some(path)),

@@ -9,7 +9,6 @@ use crate::error::SiteError;
 use crate::ids::{id_at, spaces_at};
 use crate::keys::TOP_KEYS;
 use crate::owners::{read_groups, read_users};
-use crate::plain_site::read_plain;
 use crate::rows::read_rows;
 use crate::table::SiteTable;
 use std::alloc::Global;
@@ -17,11 +16,11 @@ use toml::Value;
 use toml_shapes::{elements_at, has_keys};
 
 /// The most rows that a site may list.
-pub const MOST_ROWS: usize = 2048;
+const MOST_ROWS: usize = 2048;
 /// The most users that it may list.
-pub const MOST_USERS: usize = 512;
+const MOST_USERS: usize = 512;
 /// The most groups that it may list.
-pub const MOST_GROUPS: usize = 512;
+const MOST_GROUPS: usize = 512;
 
 // the dynamic uid and how many user namespaces may be made, where the top keys are right
 fn read_top(site: &Value) -> Option<(u32, u32)>
@@ -61,8 +60,8 @@ fn read_tree(alloc: Global, site: &Value) -> Result<SiteTable, SiteError>
     Ok(SiteTable::new(dynamic_uid, user_namespaces, rows, users, groups))
 }
 
-// what the bytes of a site say, of whatever form
-fn read_any(alloc: Global, bytes: &[u8]) -> Result<SiteTable, SiteError>
+// what the bytes of a site say
+fn read_bytes(alloc: Global, bytes: &[u8]) -> Result<SiteTable, SiteError>
     ensures { IsUnlessMemory (λ table. table) result (site_of bytes.now) }
 {
     match toml::table_from_slice(alloc, bytes) {
@@ -74,16 +73,6 @@ fn read_any(alloc: Global, bytes: &[u8]) -> Result<SiteTable, SiteError>
                 Err(SiteError::NotToml)
             }
         }
-    }
-}
-
-// what the bytes of a site say: first they are looked at as a text of the plain form, which is read faster
-fn read_bytes(alloc: Global, bytes: &[u8]) -> Result<SiteTable, SiteError>
-    ensures { IsUnlessMemory (λ table. table) result (site_of bytes.now) }
-{
-    match read_plain(alloc, bytes) {
-        Some(site) => Ok(site),
-        None => read_any(alloc, bytes),
     }
 }
 

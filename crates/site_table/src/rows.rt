@@ -6,7 +6,7 @@ ghost use Rattle.abs_path.specs.Paths.{proc};
 ghost use Rattle.site_table.specs.Order.{with_fixed, rows_in_order};
 ghost use Rattle.site_table.specs.Reading.{IsUnlessMemory, unless_fault, row_faults};
 ghost use Rattle.site_table.specs.Rows.{row_of};
-ghost use Rattle.site_table.specs.RowSteps.{Places, stands_in, has_folder, TakesFolder, fixed_placed, IsFaultless, PutsBehind, PlacesBehind};
+ghost use Rattle.site_table.specs.RowSteps.{Places, stands_in, has_folder, TakesFolder, fixed_placed, PlacesBehind};
 ghost use Rattle.site_table.specs.Texts.{has_text};
 
 use crate::error::{RowCause, SiteError};
@@ -64,36 +64,6 @@ fn place(number: u64, folders: &Seen, ordered: &mut OrderedRows, row: Row) -> Re
     Ok(put(ordered, at, row)?)
 }
 
-/// What the tree of a row says, where it has no fault of its own.
-pub fn faultless_row(alloc: Global, row: &Value) -> Result<Option<Row>, AllocError>
-    ensures faultless { IfOk result (λ found. IfSome found (λ said. IsFaultless (view row.now) said)) }
-{
-    match read_row(alloc, 1, row) {
-        Ok(said) => Ok(Some(said)),
-        Err(SiteError::Memory) => Err(AllocError),
-        Err(_) => Ok(None),
-    }
-}
-
-/// Puts a row in its place, where its path is new and its folder is among the rows before it; the number
-/// of that folder's row comes back.
-pub fn put_behind(
-    ordered: &mut OrderedRows,
-    hint: usize,
-    row: Row,
-) -> Result<Option<usize>, AllocError>
-    ensures behind_its_folder { IfOk result (λ found. IfSome found (λ at. PutsBehind ordered.old row ordered.new)) }
-{
-    let Some(at) = place_for(ordered, &row.path) else {
-        return Ok(None);
-    };
-    let Some(folder) = folder_of(ordered, hint, &row.path) else {
-        return Ok(None);
-    };
-    put(ordered, at, row)?;
-    Ok(Some(folder))
-}
-
 // puts a row in its place, where it has no fault and its folder is among the rows before it; the number
 // of that folder's row comes back
 fn place_behind(
@@ -104,10 +74,19 @@ fn place_behind(
 ) -> Result<Option<usize>, AllocError>
     ensures { IfOk result (λ found. IfSome found (λ at. PlacesBehind ordered.old (view value.now) ordered.new)) }
 {
-    let Some(said) = faultless_row(alloc, value)? else {
+    let row = match read_row(alloc, 1, value) {
+        Ok(row) => row,
+        Err(SiteError::Memory) => return Err(AllocError),
+        Err(_) => return Ok(None),
+    };
+    let Some(at) = place_for(ordered, &row.path) else {
         return Ok(None);
     };
-    put_behind(ordered, hint, said)
+    let Some(folder) = folder_of(ordered, hint, &row.path) else {
+        return Ok(None);
+    };
+    put(ordered, at, row)?;
+    Ok(Some(folder))
 }
 
 // the listed rows in their order, where none has a fault and each comes behind its folder
@@ -153,9 +132,9 @@ fn listed_rows(alloc: Global, rows: &[Value]) -> Result<OrderedRows, SiteError>
     }
 }
 
-/// The rows, with `/` and `/proc` among them.
-pub fn complete(alloc: Global, mut ordered: OrderedRows) -> Result<Vec<Row>, AllocError>
-    ensures with_fixed { IfOk result (λ rows. rows.items ≡ fixed_placed ordered) }
+// the rows, with `/` and `/proc` among them
+fn complete(alloc: Global, mut ordered: OrderedRows) -> Result<Vec<Row>, AllocError>
+    ensures { IfOk result (λ rows. rows.items ≡ fixed_placed ordered) }
 {
     put_dir(&mut ordered, AbsPath::root(alloc))?;
     put_dir(&mut ordered, AbsPath::proc(alloc)?)?;

@@ -2,9 +2,9 @@
 
 ghost use Rattle.std.specs.Prelude.{◌≡◌, IfOk};
 
-use item_list::ItemList;
 use std::alloc::{AllocError, Global};
 use std::marker::Model;
+use text_forms::item_list::ItemList;
 
 /// The name of a user or a group.
 #[derive(Drop)]

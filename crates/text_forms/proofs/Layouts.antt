@@ -143,9 +143,6 @@ parts_said [] = refl
 parts_said (part ∷ parts) =
     bytes-append (marks_of_part part) (flat_map marks_of_part parts) ∙ ap (λ front. front ++ bytes_of (flat_map marks_of_part parts)) (part_said part) ∙ ap (λ rest. part_bytes part ++ rest) (parts_said parts)
 
-no_gaps : List Mark → Type 0
-no_gaps marks = AllByRecursion (λ mark. is_gap mark ≡ false) marks
-
 all_append : (xs ys : List Mark) → AllByRecursion (λ mark. is_gap mark ≡ false) xs → AllByRecursion (λ mark. is_gap mark ≡ false) ys → AllByRecursion (λ mark. is_gap mark ≡ false) (xs ++ ys)
 all_append [] ys h g = g
 all_append (x ∷ xs) ys h g = (h.0, all_append xs ys h.1 g)

@@ -6,3 +6,4 @@ pub mod Escapes
 pub mod Spelling
 pub mod Layouts
 pub mod Layable
+pub mod Bytes

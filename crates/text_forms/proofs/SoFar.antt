@@ -17,7 +17,7 @@ use Rattle.text_forms.specs.declared.splitting.SoFar.{SoFar}
 use Rattle.text_forms.specs.declared.splitting.symbols.Symbol.{Symbol}
 use Rattle.text_forms.specs.declared.splitting.marks.Mark.{Mark}
 use Rattle.text_forms.specs.declared.splitting.marks.Mark.TheVariants.{Part, Edge, Gap}
-use Rattle.text_forms.specs.Words.{mark_of, open_after, marks_from, open_at_end, is_gap, bytes_of, words_between, words_in, text_only, closed_only, words_by, words_of, symbols_of, with_symbol}
+use Rattle.text_forms.specs.Words.{mark_of, open_after, marks_from, open_at_end, is_gap, bytes_of, words_between, words_in, text_only, closed_only, words_by, words_of, symbols_of}
 use Rattle.text_forms.specs.Answers.{MakesWords}
 use Rattle.text_forms.specs.SoFar.{begun_bytes, marks_of, found, comes_to, splits_on}
 use Rattle.text_forms.proofs.Pieces.{all_text, no_text}
@@ -160,10 +160,6 @@ starts so_far text h = by (symbols_of text)
     by : (o : Option (List Symbol)) → splits_on so_far o ≡ words_by o
     by None = refl
     by (Some symbols) = h symbols
-
-pub goes_on : (old new : SoFar) (symbol : Symbol) (o : Option (List Symbol)) → ((symbols : List Symbol) → comes_to new symbols ≡ comes_to old (symbol ∷ symbols)) → splits_on new o ≡ splits_on old (with_symbol symbol o)
-goes_on old new symbol None h = refl
-goes_on old new symbol (Some symbols) h = h symbols
 
 pub all_read : (so_far : SoFar) (left text : List ℕ) → splits_on so_far (symbols_of left) ≡ words_of text → length left ≡ 0 → comes_to so_far [] ≡ words_of text
 unfolding symbols_of

@@ -6,3 +6,5 @@ pub mod Grammar
 pub mod Escaped
 pub mod Answers
 pub mod SoFar
+pub mod line_text
+pub use Rattle.linux_numbers.specs as linux_numbers

@@ -8,7 +8,9 @@ mod booleans;
 mod errnos;
 mod error;
 mod escaped;
+pub mod item_list;
 pub mod laws;
+pub mod line_text;
 mod numbers;
 mod splitting;
 
@@ -16,5 +18,6 @@ pub use booleans::read_bool;
 pub use errnos::errno_number;
 pub use error::WordsError;
 pub use escaped::push_word;
+pub use linux_numbers;
 pub use numbers::{push_u64, read_decimal, read_u64};
 pub use splitting::words;

@@ -1,4 +1,7 @@
 pub mod Telling
-pub mod Taken
 pub mod Prepared
 pub mod Reading
+pub mod Sets
+pub mod Searched
+pub mod Found
+pub mod Served

@@ -1,40 +1,35 @@
 -- What is ready, and the line of a refusal, are what the definitions admit, and the laws go together.
 use Rattle.std.proofs.Common.{◌≡◌, ◌∙◌, ℕ, List, Option, Some, None, Result, Ok, Err, refl, sym, subst, inl, inr}
 use Rattle.std.specs.List.{All}
-use Rattle.kernel_laws.specs.Questions.{questions}
+use Rattle.asked_service.specs.kernel_laws.Questions.{questions}
 use Rattle.std.specs.Prelude.{Contains, IfSome, IsTrue}
-use Rattle.host_io.specs.Files.{Files}
-use Rattle.call_table.specs.Table.{Table}
-use Rattle.command_answers.specs.Endings.{is_answer, is_whole}
-use Rattle.command_answers.specs.Laws.{GoTogether, IsAdmitted}
-use Rattle.command_answers.specs.Stops.{IsAnswer, Prepares}
-use Rattle.command_answers.specs.declared.ending.Ending.{Ending}
-use Rattle.command_answers.specs.declared.ending.Ending.TheVariants.{Refused}
-use Rattle.command_answers.specs.declared.stop.Stop.{Stop}
-use Rattle.command_answers.specs.declared.stop.Stop.TheVariants as stop
-use Rattle.command_answers.specs.Said.{IsSaid}
-use Rattle.command_answers.proofs.Said.{said_as}
-use Rattle.dropin_merge.specs.declared.resolved.Resolved.{Resolved}
-use Rattle.question_types.specs.declared.question.Question.{Question}
-use Rattle.site_table.specs.Table.{Site}
-use Rattle.tighten.specs.Tried.{Tried, tried_with}
-use Rattle.tighten.specs.Wishes.{Wishes}
-use Rattle.unit_inputs.specs.FileRefusals.{bytes_in}
-use Rattle.unit_inputs.specs.Inputs.{input_refusals, inputs_view}
-use Rattle.unit_inputs.specs.declared.inputs.UnitInputs.{UnitInputs}
-use Rattle.unit_inputs.proofs.Steps.{AreRead}
+use Rattle.asked_service.specs.host_io.Files.{Files}
+use Rattle.asked_service.specs.call_table.Table.{Table}
+use Rattle.asked_service.specs.unit_inputs.command_answers.Endings.{is_answer, is_whole}
+use Rattle.asked_service.specs.unit_inputs.command_answers.Laws.{GoTogether, IsAdmitted}
+use Rattle.asked_service.specs.unit_inputs.command_answers.Stops.{IsAnswer, Prepares}
+use Rattle.asked_service.specs.unit_inputs.declared.command_answers.ending.Ending.{Ending}
+use Rattle.asked_service.specs.unit_inputs.declared.command_answers.ending.Ending.TheVariants.{Refused}
+use Rattle.asked_service.specs.unit_inputs.declared.command_answers.stop.Stop.{Stop}
+use Rattle.asked_service.specs.unit_inputs.declared.command_answers.stop.Stop.TheVariants as stop
+use Rattle.asked_service.specs.unit_inputs.command_answers.Said.{IsSaid}
+use Rattle.asked_service.proofs.UnitInputs.Said.{said_as}
+use Rattle.asked_service.specs.dropin_merge.declared.resolved.Resolved.{Resolved}
+use Rattle.asked_service.specs.kernel_laws.declared.question_types.question.Question.{Question}
+use Rattle.asked_service.specs.site_table.Table.{Site}
+use Rattle.tighten_command.specs.tightening.Tried.{Tried, tried_with}
+use Rattle.tighten_command.specs.tightening.Wishes.{Wishes}
+use Rattle.asked_service.specs.unit_inputs.FileRefusals.{bytes_in}
+use Rattle.asked_service.specs.unit_inputs.Inputs.{input_refusals, inputs_view}
+use Rattle.asked_service.specs.unit_inputs.declared.inputs.UnitInputs.{UnitInputs}
+use Rattle.asked_service.proofs.UnitInputs.Steps.{AreRead}
 use Rattle.tighten_command.specs.KeepFiles.{IsKeepIn, IsKeepOf, no_file, of_file}
-use Rattle.command_answers.specs.ReadyTexts.{ending_of, text_of}
+use Rattle.asked_service.specs.unit_inputs.command_answers.ReadyTexts.{ending_of, text_of}
 use Rattle.tighten_command.specs.Prints.{Admits, MayEndUntold, an_input, refuses, tells, the_keep, tighten_laws}
 use Rattle.tighten_command.specs.Telling.{IsTold, TellsTight, denies, no_launch, no_plan, no_settings, refuses_wish, tightened}
-use Rattle.command_answers.specs.declared.ready_text.ReadyText.{ReadyText}
+use Rattle.asked_service.specs.unit_inputs.declared.command_answers.ready_text.ReadyText.{ReadyText}
 
 -- ---- the file of what is to be kept
--- the bytes of the file are not there
-bytes_stop : {T : Type 0} (see : T → List ℕ) (files : Files) (table : Table) (site : Site) (path : List ℕ) (why : Stop) → IsAnswer see (Err why) (bytes_in files path) → IsSaid {T = List Question} (λ keep. keep) (IsKeepIn files table site path) (Err why)
-bytes_stop see files table site path (stop.Refused line) said = no_file line.items said
-bytes_stop see files table site path stop.ReadFault said = tt
-bytes_stop see files table site path stop.Memory said = tt
 
 pub no_bytes : {T V : Type 0} (see : T → List ℕ) (view : V → List Question) (told : Option Files) (table : Table) (site : Site) (path : List ℕ) (why : Stop) → IfSome told (λ files. IsAnswer see (Err why) (bytes_in files path))
     → IfSome told (λ files. IsSaid view (IsKeepIn files table site path) (Err why))

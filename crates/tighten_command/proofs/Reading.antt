@@ -1,21 +1,21 @@
 -- The questions of lines, one by one.
-use Rattle.std.proofs.Common.{◌≡◌, ◌∙◌, ℕ, ◌+◌, ◌<◌, ◌≤◌, Bool, true, false, cond, List, [], ◌∷◌, ◌++◌, Option, Some, None, Result, Ok, Err, length, get_or, take, take_all, length-append, refl, sym, ap, subst, arith}
-use Rattle.std.specs.Prelude.{Contains, map, slice_get}
+use Rattle.std.proofs.Common.{◌≡◌, ◌∙◌, ℕ, ◌+◌, ◌<◌, ◌≤◌, Bool, true, false, cond, List, [], ◌∷◌, ◌++◌, Some, None, Result, Ok, Err, length, get_or, take, take_all, length-append, refl, sym, ap, subst, arith}
+use Rattle.std.specs.Prelude.{Contains, map}
 use Rattle.std.specs.List.{All}
 use Rattle.std.specs.Result.{IsErrAnd}
 use Rattle.std.proofs.lemmas.List.{get_or-map, length-map, map-append, take_more}
-use Rattle.std.proofs.lemmas.List.Elements.{All-nil, All-push}
+use Rattle.std.proofs.lemmas.List.Elements.{All-push}
 use Rattle.std.proofs.lemmas.Option.{slice_get-get_or}
-use Rattle.call_table.specs.Table as calls
-use Rattle.site_table.specs.Table.{Site}
-use Rattle.kernel_laws.specs.Questions as asked
-use Rattle.line_text.specs.Lines.{Line, is_text, text_of}
-use Rattle.line_text.specs.Views.{line_view}
-use Rattle.line_text.specs.declared.lines.Line.{Line as ReadLine}
-use Rattle.question_types.specs.declared.question.Question.{Question}
+use Rattle.asked_service.specs.call_table.Table as calls
+use Rattle.asked_service.specs.site_table.Table.{Site}
+use Rattle.asked_service.specs.kernel_laws.Questions as asked
+use Rattle.asked_service.specs.text_forms.line_text.Lines.{Line, is_text, text_of}
+use Rattle.asked_service.specs.text_forms.line_text.Views.{line_view}
+use Rattle.asked_service.specs.text_forms.declared.line_text.lines.Line.{Line as ReadLine}
+use Rattle.asked_service.specs.kernel_laws.declared.question_types.question.Question.{Question}
 use Rattle.question_text.specs.Printed.{ArePrinted, IsPrintedSo}
 use Rattle.question_text.specs.declared.printed.PrintedQuestion.{PrintedQuestion}
-use Rattle.report_text.specs.Wording.{question_words}
+use Rattle.asked_service.specs.report_text.Wording.{question_words}
 use Rattle.tighten_command.specs.Keeping.{AreOf, AreTooMany, IsFirstOther, ReadsKeep, ReadsLines, questions, text_lines}
 use Rattle.tighten_command.specs.declared.keeping.KeepError.{KeepError}
 use Rattle.tighten_command.specs.declared.keeping.KeepError.TheVariants.{Memory}
@@ -49,9 +49,6 @@ some_text bytes text is = by (is_text bytes) refl is
 module _ (table : calls.Table) (site : Site) where
   pub lent_printed : (printed lent : List PrintedQuestion) → lent ≡ printed → ArePrinted table site printed → ArePrinted table site lent
   lent_printed printed lent lends are = subst (ArePrinted table site) (sym lends) are
-
-  pub none_of : (lines : List Line) (keep : List Question) → keep ≡ [] → AreOf table site (take 0 lines) keep
-  none_of lines keep is = subst (AreOf table site []) (sym is) (record { printed = refl; listed = All-nil (λ (question : Question). Contains (asked.questions table site) question) })
 
   -- one line more
   one_more : (lines : List Line) (keep : List Question) (line : Line) (question : Question) → AreOf table site lines keep → IsPrintedSo table site line.text question → AreOf table site (lines ++ line ∷ []) (keep ++ question ∷ [])

@@ -1,31 +1,20 @@
 -- What a step of preparing tells.
 use Rattle.std.proofs.Common.{◌≡◌, ℕ, List, Result, Ok, Err, sym, subst}
-use Rattle.std.specs.Prelude.{IfOk, IsErrOf, Vec}
-use Rattle.std.specs.declared.alloc.AllocError.{AllocError}
-use Rattle.std.specs.declared.alloc.Global.{Global}
-use Rattle.command_answers.specs.Stops.{stop_of}
-use Rattle.command_answers.specs.declared.ending.Ending.{Ending}
-use Rattle.command_answers.specs.declared.ending.Ending.TheVariants.{Done, LaunchRefused, Refused}
-use Rattle.command_answers.specs.declared.stop.Stop.{Stop}
-use Rattle.command_answers.specs.declared.stop.Stop.TheVariants as stop
-use Rattle.tighten.specs.Tight.{IsTight, Tightens}
-use Rattle.tighten.specs.Tried.{Tried}
-use Rattle.tighten.specs.declared.tight.Tight.{Tight}
-use Rattle.tighten.specs.declared.tight.TightenError.{TightenError}
-use Rattle.tighten.specs.declared.tight.TightenError.TheVariants as error
+use Rattle.std.specs.Prelude.{IsErrOf}
+use Rattle.asked_service.specs.unit_inputs.declared.command_answers.ending.Ending.{Ending}
+use Rattle.asked_service.specs.unit_inputs.declared.command_answers.ending.Ending.TheVariants.{Done, LaunchRefused, Refused}
+use Rattle.asked_service.specs.unit_inputs.declared.command_answers.stop.Stop.{Stop}
+use Rattle.asked_service.specs.unit_inputs.declared.command_answers.stop.Stop.TheVariants as stop
+use Rattle.tighten_command.specs.tightening.Tight.{IsTight, Tightens}
+use Rattle.tighten_command.specs.tightening.Tried.{Tried}
+use Rattle.tighten_command.specs.declared.tightening.tight.Tight.{Tight}
+use Rattle.tighten_command.specs.declared.tightening.tight.TightenError.{TightenError}
+use Rattle.tighten_command.specs.declared.tightening.tight.TightenError.TheVariants as error
 use Rattle.tighten_command.specs.Lines.{tight_text}
 use Rattle.tighten_command.specs.Telling.{IsTold, TellsError, TellsTight, denies, no_launch, no_plan, no_settings, refuses_wish, tightened}
-use Rattle.command_answers.specs.declared.ready_text.ReadyText.{ReadyText}
+use Rattle.asked_service.specs.unit_inputs.declared.command_answers.ready_text.ReadyText.{ReadyText}
 
 module _ (P : Ending → List ℕ → Type 0) where
-  told_line : (line : Result (Vec ℕ Global) AllocError) (text : List ℕ) → IfOk line (λ own. own.items ≡ text) → P Refused text → IsTold P (Err (stop_of line))
-  told_line (Ok line) text is holds = subst (P Refused) (sym is) holds
-  told_line (Err error) text is holds = tt
-
-  -- the line of a refusal, where there was memory for it
-  pub told_refused : (line : Result (Vec ℕ Global) AllocError) (text : List ℕ) (told : Stop) → told ≡ stop_of line → IfOk line (λ own. own.items ≡ text) → P Refused text → IsTold P (Err told)
-  told_refused line text told same is holds = subst (λ own. IsTold P (Err own)) (sym same) (told_line line text is holds)
-
   -- what is told by one relation is told by another
   pub told_as : (Q : Ending → List ℕ → Type 0) → ((ending : Ending) (text : List ℕ) → P ending text → Q ending text) → (result : Result ReadyText Stop) → IsTold P result → IsTold Q result
   told_as Q as_other (Ok hardening) told = as_other hardening.ending hardening.text.items told

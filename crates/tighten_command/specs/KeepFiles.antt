@@ -1,12 +1,12 @@
 -- The questions that are to be kept, of a file, or the line of its refusal.
 use Rattle.std.specs.Prelude.{◌≡◌, ◌≢◌, ℕ, List, [], ◌++◌, codes, Result, Ok, Err}
 use Rattle.std.specs.Fmt.{decimal}
-use Rattle.host_io.specs.Files.{Files}
-use Rattle.call_table.specs.Table as calls
-use Rattle.command_answers.specs.Refusals.{refused_line}
-use Rattle.question_types.specs.declared.question.Question.{Question}
-use Rattle.site_table.specs.Table.{Site}
-use Rattle.unit_inputs.specs.FileRefusals.{bytes_in}
+use Rattle.asked_service.specs.host_io.Files.{Files}
+use Rattle.asked_service.specs.call_table.Table as calls
+use Rattle.asked_service.specs.unit_inputs.command_answers.Refusals.{refused_line}
+use Rattle.asked_service.specs.kernel_laws.declared.question_types.question.Question.{Question}
+use Rattle.asked_service.specs.site_table.Table.{Site}
+use Rattle.asked_service.specs.unit_inputs.FileRefusals.{bytes_in}
 use Rattle.tighten_command.specs.Keeping.{ReadsKeep}
 use Rattle.tighten_command.specs.declared.keeping.KeepError.{KeepError}
 use Rattle.tighten_command.specs.declared.keeping.KeepError.TheVariants.{NotText, Line, TooMany, Memory}

@@ -1,13 +1,13 @@
 -- Which questions the lines of a file are, or why they are none.
 use Rattle.std.specs.Prelude.{◌≡◌, ◌<◌, ◌≤◌, ℕ, true, false, List, length, map, slice_get, take, Some, Result, Ok, Err, Contains}
 use Rattle.std.specs.List.{All}
-use Rattle.call_table.specs.Table as calls
-use Rattle.site_table.specs.Table.{Site}
-use Rattle.kernel_laws.specs.Questions as asked
-use Rattle.line_text.specs.Lines.{Line, is_text, lines_of}
-use Rattle.question_types.specs.declared.question.Question.{Question}
+use Rattle.asked_service.specs.call_table.Table as calls
+use Rattle.asked_service.specs.site_table.Table.{Site}
+use Rattle.asked_service.specs.kernel_laws.Questions as asked
+use Rattle.asked_service.specs.text_forms.line_text.Lines.{Line, is_text, lines_of}
+use Rattle.asked_service.specs.kernel_laws.declared.question_types.question.Question.{Question}
 use Rattle.question_text.specs.Printed.{IsPrintedSo}
-use Rattle.report_text.specs.Wording.{question_words}
+use Rattle.asked_service.specs.report_text.Wording.{question_words}
 use Rattle.tighten_command.specs.declared.keeping.KeepError.{KeepError}
 use Rattle.tighten_command.specs.declared.keeping.KeepError.TheVariants as error
 

@@ -3,3 +3,4 @@ pub mod KeepFiles
 pub mod Lines
 pub mod Telling
 pub mod Prints
+pub mod tightening

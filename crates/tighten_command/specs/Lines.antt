@@ -1,9 +1,9 @@
 -- The lines of `tighten`.
 use Rattle.std.specs.Prelude.{ℕ, List, [], ◌∷◌, ◌++◌, codes, flat_map, length}
 use Rattle.std.specs.Fmt.{decimal}
-use Rattle.command_answers.specs.Refusals.{refused_line}
-use Rattle.tighten.specs.Items.{line_of}
-use Rattle.tighten.specs.declared.tight.Tight.{Tight}
+use Rattle.asked_service.specs.unit_inputs.command_answers.Refusals.{refused_line}
+use Rattle.tighten_command.specs.tightening.Items.{line_of}
+use Rattle.tighten_command.specs.declared.tightening.tight.Tight.{Tight}
 
 -- a setting that can be added
 abbrev pub add_line : ℕ → List ℕ

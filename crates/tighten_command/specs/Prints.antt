@@ -1,15 +1,15 @@
 -- What `tighten` prints, by the files.
 use Rattle.std.specs.Prelude.{◌≡◌, ◌⊎◌, ℕ, IsSome, List, Option, Some, None, Ok, Err}
-use Rattle.host_io.specs.Files.{Files}
-use Rattle.command_answers.specs.Laws.{Laws}
-use Rattle.command_answers.specs.Stops.{first_refusal}
-use Rattle.command_answers.specs.declared.ending.Ending.{Ending}
-use Rattle.command_answers.specs.declared.ending.Ending.TheVariants.{Done, LaunchRefused, Refused}
-use Rattle.question_types.specs.declared.question.Question.{Question}
-use Rattle.tighten.specs.Tried.{tried_with}
-use Rattle.tighten.specs.Wishes.{Wishes}
-use Rattle.unit_inputs.specs.Inputs.{Inputs, input_refusals, inputs_of}
-use Rattle.unit_names.specs.Cutting.{name_of}
+use Rattle.asked_service.specs.host_io.Files.{Files}
+use Rattle.asked_service.specs.unit_inputs.command_answers.Laws.{Laws}
+use Rattle.asked_service.specs.unit_inputs.command_answers.Stops.{first_refusal}
+use Rattle.asked_service.specs.unit_inputs.declared.command_answers.ending.Ending.{Ending}
+use Rattle.asked_service.specs.unit_inputs.declared.command_answers.ending.Ending.TheVariants.{Done, LaunchRefused, Refused}
+use Rattle.asked_service.specs.kernel_laws.declared.question_types.question.Question.{Question}
+use Rattle.tighten_command.specs.tightening.Tried.{tried_with}
+use Rattle.tighten_command.specs.tightening.Wishes.{Wishes}
+use Rattle.asked_service.specs.unit_inputs.Inputs.{Inputs, input_refusals, inputs_of}
+use Rattle.asked_service.specs.unit_names.Cutting.{name_of}
 use Rattle.tighten_command.specs.KeepFiles.{IsKeepIn}
 use Rattle.tighten_command.specs.Telling.{TellsTight}
 

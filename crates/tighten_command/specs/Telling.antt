@@ -1,24 +1,24 @@
 -- What is told of a unit that is tightened, and of one that is not; want of memory tells nothing.
 use Rattle.std.specs.Prelude.{◌≡◌, ℕ, List, Result, Ok, Err}
-use Rattle.command_answers.specs.declared.ending.Ending.{Ending}
-use Rattle.command_answers.specs.declared.ending.Ending.TheVariants.{Done, LaunchRefused, Refused}
-use Rattle.command_answers.specs.declared.stop.Stop.{Stop}
-use Rattle.command_answers.specs.declared.stop.Stop.TheVariants as stop
-use Rattle.exec_settings.specs.declared.errors.SettingsError.{SettingsError}
-use Rattle.launched_units.specs.Launching.{IsNotLaunched}
-use Rattle.launched_units.specs.declared.refusal.UnitRefusal.TheVariants as refusal
-use Rattle.mount_plan.specs.declared.error.PlanError.{PlanError}
-use Rattle.plan_command.specs.Refusals.{error_line}
-use Rattle.tighten.specs.Tight.{Denies, IsTight, RefusesWish}
-use Rattle.tighten.specs.Tried.{Tried}
-use Rattle.tighten.specs.declared.tight.Tight.{Tight}
-use Rattle.tighten.specs.declared.tight.TightenError.{TightenError}
-use Rattle.tighten.specs.declared.tight.TightenError.TheVariants.{Settings, Plan, Launch, Keep, Wish, Memory}
-use Rattle.unit_launch.specs.Refusals.{refusal_line}
-use Rattle.unit_launch.specs.declared.refusal.LaunchRefusal.{LaunchRefusal}
-use Rattle.unit_inputs.specs.SettingsRefusals.{settings_line}
+use Rattle.asked_service.specs.unit_inputs.declared.command_answers.ending.Ending.{Ending}
+use Rattle.asked_service.specs.unit_inputs.declared.command_answers.ending.Ending.TheVariants.{Done, LaunchRefused, Refused}
+use Rattle.asked_service.specs.unit_inputs.declared.command_answers.stop.Stop.{Stop}
+use Rattle.asked_service.specs.unit_inputs.declared.command_answers.stop.Stop.TheVariants as stop
+use Rattle.asked_service.specs.exec_settings.declared.errors.SettingsError.{SettingsError}
+use Rattle.asked_service.specs.launched_units.Launching.{IsNotLaunched}
+use Rattle.asked_service.specs.declared.launched_units.refusal.UnitRefusal.TheVariants as refusal
+use Rattle.asked_service.specs.mount_plan.declared.error.PlanError.{PlanError}
+use Rattle.asked_service.specs.plan_command.Refusals.{error_line}
+use Rattle.tighten_command.specs.tightening.Tight.{Denies, IsTight, RefusesWish}
+use Rattle.tighten_command.specs.tightening.Tried.{Tried}
+use Rattle.tighten_command.specs.declared.tightening.tight.Tight.{Tight}
+use Rattle.tighten_command.specs.declared.tightening.tight.TightenError.{TightenError}
+use Rattle.tighten_command.specs.declared.tightening.tight.TightenError.TheVariants.{Settings, Plan, Launch, Keep, Wish, Memory}
+use Rattle.asked_service.specs.unit_launch.Refusals.{refusal_line}
+use Rattle.asked_service.specs.declared.unit_launch.refusal.LaunchRefusal.{LaunchRefusal}
+use Rattle.asked_service.specs.unit_inputs.SettingsRefusals.{settings_line}
 use Rattle.tighten_command.specs.Lines.{keep_line, tight_text, wish_line}
-use Rattle.command_answers.specs.declared.ready_text.ReadyText.{ReadyText}
+use Rattle.asked_service.specs.unit_inputs.declared.command_answers.ready_text.ReadyText.{ReadyText}
 
 -- A unit is tightened: what can be added is told. Or nothing is added, since the unit itself has no settings, no plan or no launch,
 -- of which the last is told with a status of its own; or denies a question that is to be kept; or does not grant a wish.

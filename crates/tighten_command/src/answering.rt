@@ -1,24 +1,24 @@
 //! What `tighten` prints.
 ghost use Rattle.std.specs.Prelude.{◌≡◌, ◌≤◌, Contains, IsErrOf};
 ghost use Rattle.std.specs.List.{All};
-ghost use Rattle.kernel_laws.specs.Questions.{questions};
-ghost use Rattle.tighten.specs.Tried.{tried_with};
+ghost use Rattle.asked_service.specs.kernel_laws.Questions.{questions};
+ghost use Rattle.tighten_command.specs.tightening.Tried.{tried_with};
 ghost use Rattle.tighten_command.specs.Telling.{IsTold, TellsError, TellsTight};
 ghost use Rattle.tighten_command.specs.Lines.{tight_text};
-ghost use Rattle.unit_launch.specs.Refusals.{refusal_line};
-ghost use Rattle.command_answers.specs.declared.ending.Ending.TheVariants.{Done, LaunchRefused};
+ghost use Rattle.asked_service.specs.unit_launch.Refusals.{refusal_line};
+ghost use Rattle.asked_service.specs.unit_inputs.declared.command_answers.ending.Ending.TheVariants.{Done, LaunchRefused};
 
 use crate::lines::{keep_line, tight_text, wish_line};
-use call_table::CallTable;
-use command_answers::{Ending, ReadyText, Stop, refuse};
-use dropin_merge::Resolved;
-use plan_command::plan_line;
-use question_types::Question;
-use site_table::SiteTable;
+use crate::tightening::{StoredWish, Tight, TightenError, Wished, tighten};
+use asked_service::call_table::CallTable;
+use asked_service::dropin_merge::Resolved;
+use asked_service::kernel_laws::question_types::Question;
+use asked_service::plan_command::plan_line;
+use asked_service::site_table::SiteTable;
+use asked_service::unit_inputs::command_answers::{Ending, ReadyText, Stop, refuse};
+use asked_service::unit_inputs::settings_line;
+use asked_service::unit_launch::{LaunchRefusal, refusal_line};
 use std::alloc::Global;
-use tighten::{StoredWish, Tight, TightenError, Wished, tighten};
-use unit_inputs::settings_line;
-use unit_launch::{LaunchRefusal, refusal_line};
 
 // What can be added.
 fn tell_tight(alloc: Global, tight: &Tight) -> Result<ReadyText, Stop>

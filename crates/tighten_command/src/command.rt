@@ -1,18 +1,18 @@
 //! The command `tighten`, the name of a unit and the path of what is to be kept.
-ghost use Rattle.command_answers.specs.Asking.{course};
-ghost use Rattle.command_answers.specs.Laws.{IsAdmitted};
-ghost use Rattle.unit_inputs.specs.Asking.{AsksInOrder, asks_with_file};
-ghost use Rattle.unit_inputs.specs.ReadsFor.{ReadsFor};
-ghost use Rattle.command_answers.specs.ReadyTexts.{ending_of, text_of};
+ghost use Rattle.asked_service.specs.unit_inputs.command_answers.Asking.{course};
+ghost use Rattle.asked_service.specs.unit_inputs.command_answers.Laws.{IsAdmitted};
+ghost use Rattle.asked_service.specs.unit_inputs.Asking.{AsksInOrder, asks_with_file};
+ghost use Rattle.asked_service.specs.unit_inputs.ReadsFor.{ReadsFor};
+ghost use Rattle.asked_service.specs.unit_inputs.command_answers.ReadyTexts.{ending_of, text_of};
 ghost use Rattle.tighten_command.specs.Prints.{tighten_laws};
 
 use crate::answering::answer;
 use crate::keep_file::read_keep;
-use command_answers::{ReadyText, Stop};
-use host_io::Shelf;
+use crate::tightening::{StoredWish, Wished};
+use asked_service::host_io::Shelf;
+use asked_service::unit_inputs::command_answers::{ReadyText, Stop};
+use asked_service::unit_inputs::read_inputs;
 use std::alloc::Global;
-use tighten::{StoredWish, Wished};
-use unit_inputs::read_inputs;
 
 /// Prepares `tighten`, the name of a unit and the path of a file of questions: reads the unit, calls.txt, site.toml and the file,
 /// finds the first refusal of them, and tightens the unit as far as these questions and the wishes allow.

@@ -1,21 +1,21 @@
 //! The file of the questions that are to be kept, with the lines of its refusals.
 ghost use Rattle.std.specs.Prelude.{◌≡◌, ◌∷◌, [], Contains, IfOk, IfSome, IsErrOf};
 ghost use Rattle.std.specs.List.{All};
-ghost use Rattle.host_io.specs.Calls.{Went};
-ghost use Rattle.command_answers.specs.Asking.{course, input_file};
-ghost use Rattle.command_answers.specs.Stops.{HasReadCause};
-ghost use Rattle.command_answers.specs.Said.{IsSaid};
-ghost use Rattle.kernel_laws.specs.Questions.{questions};
+ghost use Rattle.asked_service.specs.host_io.Calls.{Went};
+ghost use Rattle.asked_service.specs.unit_inputs.command_answers.Asking.{course, input_file};
+ghost use Rattle.asked_service.specs.unit_inputs.command_answers.Stops.{HasReadCause};
+ghost use Rattle.asked_service.specs.unit_inputs.command_answers.Said.{IsSaid};
+ghost use Rattle.asked_service.specs.kernel_laws.Questions.{questions};
 ghost use Rattle.tighten_command.specs.KeepFiles.{IsKeepIn, IsKeepOf, keep_cause, keep_line};
 
 use crate::keeping::{KeepError, read_questions};
-use call_table::CallTable;
-use command_answers::{Stop, refuse, refused_line};
-use host_io::Shelf;
-use site_table::SiteTable;
+use crate::tightening::Questions;
+use asked_service::call_table::CallTable;
+use asked_service::host_io::Shelf;
+use asked_service::site_table::SiteTable;
+use asked_service::unit_inputs::command_answers::{Stop, refuse, refused_line};
+use asked_service::unit_inputs::read_input;
 use std::alloc::{AllocError, Global};
-use tighten::Questions;
-use unit_inputs::read_input;
 
 // Why a file does not say what is to be kept.
 fn keep_cause(alloc: Global, error: KeepError) -> Result<Vec<u8>, AllocError>

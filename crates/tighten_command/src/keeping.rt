@@ -1,15 +1,15 @@
 //! The questions that are to be kept, one a line.
 ghost use Rattle.std.specs.Prelude.{◌≡◌, map};
-ghost use Rattle.line_text.specs.Views.{line_view};
+ghost use Rattle.asked_service.specs.text_forms.line_text.Views.{line_view};
 ghost use Rattle.tighten_command.specs.Keeping.{ReadsKeep, ReadsLines};
 ghost use Rattle.tighten_command.specs.declared.keeping.KeepError.TheVariants.{Memory};
 
-use call_table::CallTable;
-use line_text::{Line, read_lines, read_text};
+use crate::tightening::Questions;
+use asked_service::call_table::CallTable;
+use asked_service::site_table::SiteTable;
+use asked_service::text_forms::line_text::{Line, read_lines, read_text};
 use question_text::{find_question, print_questions};
-use site_table::SiteTable;
 use std::alloc::{AllocError, AllocFailed, Global};
-use tighten::Questions;
 
 /// The most questions that are to be kept.
 const MOST_QUESTIONS: usize = 512;

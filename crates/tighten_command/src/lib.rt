@@ -1,9 +1,9 @@
-//! The command `tighten`: how far the sandbox of a unit can be tightened while what is to be kept stays open, as text.
+//! The command `tighten`: how far the sandbox of a unit can be tightened while some questions stay open, as text.
 //!
-//! The unit is read, and a file with the questions that are to be kept; then `tighten` adds one setting after the other, and what
-//! can be added is told, with the counts of what is denied and open before and after. It stands on `question_text` for the file.
+//! The command reads the unit, and a file with the questions that are to stay open. [`tightening`] then adds one setting after
+//! the other. The text has the settings that can be added, and how many questions are denied and open before and after.
 //!
-//! `prepare(alloc, &mut shelf, "web.service", "keep.txt", &wishes)?` has the text, and `print` puts it.
+//! `prepare(alloc, &mut shelf, "web.service", "keep.txt", &wishes)?` has the text, and `print` writes it.
 #![tactic(auto)]
 
 mod answering;
@@ -11,5 +11,6 @@ mod command;
 mod keep_file;
 mod keeping;
 mod lines;
+pub mod tightening;
 
 pub use command::prepare;

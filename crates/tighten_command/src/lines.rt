@@ -3,9 +3,9 @@ ghost use Rattle.std.specs.Prelude.{◌≡◌, ◌≤◌, ◌++◌, IfOk, OnOk, 
 ghost use Rattle.std.specs.List.{All};
 ghost use Rattle.tighten_command.specs.Lines.{add_line, counts_line, counts_text, items_line, keep_line, tight_text, wish_line};
 
-use command_answers::refused_line;
+use crate::tightening::{Tight, line};
+use asked_service::unit_inputs::command_answers::refused_line;
 use std::alloc::{AllocError, Global};
-use tighten::{Tight, line};
 
 // Adds the line of an item.
 fn push_item(text: &mut Vec<u8>, item: u8) -> Result<(), AllocError>

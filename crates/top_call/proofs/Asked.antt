@@ -1,15 +1,15 @@
 -- The calls of requests that read nothing.
 use Rattle.std.proofs.Common.{◌≡◌, [], Ok, Option, refl, subst, sym}
 use Rattle.std.specs.Prelude.{IsTrue}
-use Rattle.host_io.specs.Calls.{ShelfCall, Whole}
-use Rattle.host_io.specs.Files.{Files}
-use Rattle.command_answers.specs.Asking.{course_of_run}
-use Rattle.command_answers.specs.Endings.{is_whole}
-use Rattle.command_answers.specs.Printing.{Finishes, Output}
-use Rattle.command_answers.specs.declared.ending.Ending.{Ending}
-use Rattle.unit_inputs.specs.Asking.{AsksInOrder}
-use Rattle.unit_inputs.proofs.Ended.{order_printed}
-use Rattle.unit_inputs.proofs.Ordering.{asked_so}
+use Rattle.derive_command.specs.host_io.Calls.{ShelfCall, Whole}
+use Rattle.derive_command.specs.host_io.Files.{Files}
+use Rattle.derive_command.specs.unit_inputs.command_answers.Asking.{course_of_run}
+use Rattle.derive_command.specs.unit_inputs.command_answers.Endings.{is_whole}
+use Rattle.derive_command.specs.unit_inputs.command_answers.Printing.{Finishes, Output}
+use Rattle.derive_command.specs.unit_inputs.declared.command_answers.ending.Ending.{Ending}
+use Rattle.derive_command.specs.unit_inputs.Asking.{AsksInOrder}
+use Rattle.derive_command.proofs.UnitInputs.Ended.{order_printed}
+use Rattle.derive_command.proofs.UnitInputs.Ordering.{asked_so}
 use Rattle.top_call.specs.Texts.{ending_of, text_of}
 use Rattle.top_call.specs.declared.texts.Fixed.{Fixed}
 

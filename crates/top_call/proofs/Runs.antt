@@ -1,20 +1,20 @@
 -- Texts that are printed as they stand, and what is done for words.
 use Rattle.std.proofs.Common.{◌≡◌, ℕ, List, Ok, Option, subst, sym}
 use Rattle.std.specs.Prelude.{IsTrue}
-use Rattle.host_io.specs.Calls.{ShelfCall}
-use Rattle.host_io.specs.Files.{Files}
-use Rattle.exposure_score.specs.StoredTests.{StoredTests}
-use Rattle.command_answers.specs.Asking.{course_of_run}
-use Rattle.command_answers.specs.Endings.{is_answer, is_whole}
-use Rattle.command_answers.specs.Laws.{fixed_laws}
-use Rattle.command_answers.specs.Printing.{Finishes}
-use Rattle.command_answers.specs.Runs.{IsRun, Outside}
-use Rattle.command_answers.specs.declared.ending.Ending.{Ending}
-use Rattle.command_answers.proofs.FileCommands.{fixed_go_together}
-use Rattle.command_answers.proofs.Refusing.{quiet}
-use Rattle.command_answers.proofs.Runs.{ran}
-use Rattle.tighten.specs.Wishes.{Wishes}
-use Rattle.unit_inputs.specs.Asking.{AsksInOrder}
+use Rattle.derive_command.specs.host_io.Calls.{ShelfCall}
+use Rattle.derive_command.specs.host_io.Files.{Files}
+use Rattle.fleet_command.specs.exposure_score.StoredTests.{StoredTests}
+use Rattle.derive_command.specs.unit_inputs.command_answers.Asking.{course_of_run}
+use Rattle.derive_command.specs.unit_inputs.command_answers.Endings.{is_answer, is_whole}
+use Rattle.derive_command.specs.unit_inputs.command_answers.Laws.{fixed_laws}
+use Rattle.derive_command.specs.unit_inputs.command_answers.Printing.{Finishes}
+use Rattle.derive_command.specs.unit_inputs.command_answers.Runs.{IsRun, Outside}
+use Rattle.derive_command.specs.unit_inputs.declared.command_answers.ending.Ending.{Ending}
+use Rattle.derive_command.proofs.UnitInputs.FileCommands.{fixed_go_together}
+use Rattle.derive_command.proofs.UnitInputs.Refusing.{quiet}
+use Rattle.derive_command.proofs.UnitInputs.Runs.{ran}
+use Rattle.tighten_command.specs.tightening.Wishes.{Wishes}
+use Rattle.derive_command.specs.unit_inputs.Asking.{AsksInOrder}
 use Rattle.top_call.specs.Asked.{Asked, asks_by, asks_of, laws_by, laws_of}
 use Rattle.top_call.specs.Promise.{DoesWhatIsAsked}
 use Rattle.top_call.specs.Requests.{Request, request_in}

@@ -1,11 +1,11 @@
 -- What is promised of a run: it does what is asked, or its status says why not.
 use Rattle.std.specs.Prelude.{◌≡◌, IsTrue}
-use Rattle.host_io.specs.Calls.{ShelfCall}
-use Rattle.command_answers.specs.Asking.{course_of_run}
-use Rattle.command_answers.specs.Endings.{is_whole}
-use Rattle.command_answers.specs.Runs.{Completes, EndsBy, HasFaultCause, Outside, WrotePrefix, WroteWhole}
-use Rattle.command_answers.specs.declared.ending.Ending.{Ending}
-use Rattle.unit_inputs.specs.Asking.{AsksInOrder}
+use Rattle.derive_command.specs.host_io.Calls.{ShelfCall}
+use Rattle.derive_command.specs.unit_inputs.command_answers.Asking.{course_of_run}
+use Rattle.derive_command.specs.unit_inputs.command_answers.Endings.{is_whole}
+use Rattle.derive_command.specs.unit_inputs.command_answers.Runs.{Completes, EndsBy, HasFaultCause, Outside, WrotePrefix, WroteWhole}
+use Rattle.derive_command.specs.unit_inputs.declared.command_answers.ending.Ending.{Ending}
+use Rattle.derive_command.specs.unit_inputs.Asking.{AsksInOrder}
 use Rattle.top_call.specs.Asked.{Accepts, Asked, Prints, ReadsFiles, asks_of, laws_of}
 
 -- A run of what is asked, with the shelf and the sink around it, that ended with this status. Where the status stands for a whole

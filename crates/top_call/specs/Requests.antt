@@ -1,7 +1,7 @@
 -- What a list of words asks for.
 use Rattle.std.specs.Prelude.{List, [], ◌∷◌, ℕ, ◌≤◌, nat_le, codes, cond, map, Option, Some, None, option_map, option_and_then}
 use Rattle.std.specs.Str.{bytes_eq}
-use Rattle.text_forms.specs.Numbers.{decimal_value}
+use Rattle.derive_command.specs.text_forms.Numbers.{decimal_value}
 use Rattle.top_call.specs.declared.request.Request.{Request as Code}
 use Rattle.top_call.specs.declared.request.Request.TheVariants.{Help, Version, Filter, Plan, Judge, Replay, Derive, Effect, Tighten, Why, Lines, Score, Check, Fleet, Sample}
 

@@ -1,7 +1,7 @@
 -- The endings of the numbers of the table of statuses.
 use Rattle.std.specs.Prelude.{ℕ, ◌==◌, cond}
-use Rattle.command_answers.specs.declared.ending.Ending.{Ending}
-use Rattle.command_answers.specs.declared.ending.Ending.TheVariants.{Done, AboveThreshold, NoCommand, Refused, ReadFault, WriteFault, OutOfMemory, LaunchRefused, Differs}
+use Rattle.derive_command.specs.unit_inputs.declared.command_answers.ending.Ending.{Ending}
+use Rattle.derive_command.specs.unit_inputs.declared.command_answers.ending.Ending.TheVariants.{Done, AboveThreshold, NoCommand, Refused, ReadFault, WriteFault, OutOfMemory, LaunchRefused, Differs}
 
 -- the ending of a number of the table
 abbrev pub ending_of : ℕ → Ending

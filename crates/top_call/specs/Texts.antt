@@ -1,6 +1,6 @@
 -- Texts that are printed as they stand, each line ended by a line feed.
 use Rattle.std.specs.Prelude.{ℕ, List, [], ◌∷◌, ◌++◌, codes, flat_map}
-use Rattle.command_answers.specs.declared.ending.Ending.{Ending}
+use Rattle.derive_command.specs.unit_inputs.declared.command_answers.ending.Ending.{Ending}
 use Rattle.top_call.specs.declared.texts.Fixed.{Fixed}
 
 -- lines, each ended by a line feed

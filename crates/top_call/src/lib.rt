@@ -13,5 +13,10 @@ mod running;
 mod status;
 mod texts;
 
+pub use check_command::bpf_code;
+pub use derive_command::{asked_service, host_io, unit_inputs};
+pub use effect_command::kernel_laws;
+pub use fleet_command::exposure_score;
 pub use running::run;
 pub use status::Status;
+pub use tighten_command;

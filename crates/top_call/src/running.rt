@@ -1,9 +1,9 @@
 //! The top call.
 ghost use Rattle.std.specs.Prelude.{◌≡◌, IfSome};
 ghost use Rattle.std.specs.Option.{option_map};
-ghost use Rattle.command_answers.specs.Asking.{course_of_run};
-ghost use Rattle.command_answers.specs.Runs.{IsRun};
-ghost use Rattle.unit_inputs.specs.Asking.{AsksInOrder};
+ghost use Rattle.derive_command.specs.unit_inputs.command_answers.Asking.{course_of_run};
+ghost use Rattle.derive_command.specs.unit_inputs.command_answers.Runs.{IsRun};
+ghost use Rattle.derive_command.specs.unit_inputs.Asking.{AsksInOrder};
 ghost use Rattle.top_call.specs.Around.{around};
 ghost use Rattle.top_call.specs.Asked.{asked, asks_by, asks_for, laws_by, laws_for};
 ghost use Rattle.top_call.specs.Promise.{DoesWhatIsAsked};
@@ -12,11 +12,11 @@ ghost use Rattle.top_call.specs.Requests.{IsNumbered, request_of};
 use crate::request::{Request, parse};
 use crate::status::Status;
 use crate::texts;
-use command_answers::{Ending, finish};
-use exposure_score::{CustomTest, Stored};
-use host_io::{Shelf, Sink};
+use derive_command::host_io::{Shelf, Sink};
+use derive_command::unit_inputs::command_answers::{Ending, finish};
+use fleet_command::exposure_score::{CustomTest, Stored};
 use std::alloc::Global;
-use tighten::{StoredWish, Wished};
+use tighten_command::tightening::{StoredWish, Wished};
 
 // Prepares what is requested, and prints it.
 fn answer_request<S: Shelf, K: Sink>(
@@ -40,9 +40,15 @@ fn answer_request<S: Shelf, K: Sink>(
         Request::Help => finish(alloc, Ok(texts::help()), out),
         Request::Version => finish(alloc, Ok(texts::version()), out),
         Request::Filter(unit) => finish(alloc, filter_command::prepare(alloc, shelf, unit), out),
-        Request::Plan(unit) => finish(alloc, plan_command::prepare(alloc, shelf, unit), out),
-        Request::Judge(unit) => judge_command::answer(alloc, shelf, unit, out),
-        Request::Replay(unit, script) => replay_command::answer(alloc, shelf, unit, script, out),
+        Request::Plan(unit) => finish(
+            alloc,
+            derive_command::plan_command::prepare(alloc, shelf, unit),
+            out,
+        ),
+        Request::Judge(unit) => effect_command::judge_command::answer(alloc, shelf, unit, out),
+        Request::Replay(unit, script) => derive_command::replay_command::answer(
+            alloc, shelf, unit, script, out,
+        ),
         Request::Derive(unit, script) => finish(
             alloc,
             derive_command::prepare(alloc, shelf, unit, script),
@@ -61,10 +67,14 @@ fn answer_request<S: Shelf, K: Sink>(
         Request::Why(unit, words) => {
             finish(alloc, why_command::prepare(alloc, shelf, unit, words), out)
         }
-        Request::Lines(unit) => finish(alloc, lines_command::prepare(alloc, shelf, unit), out),
+        Request::Lines(unit) => finish(
+            alloc,
+            why_command::lines_command::prepare(alloc, shelf, unit),
+            out,
+        ),
         Request::Score(unit, policy, threshold) => finish(
             alloc,
-            score_command::prepare(alloc, shelf, unit, policy, threshold, tests),
+            fleet_command::score_command::prepare(alloc, shelf, unit, policy, threshold, tests),
             out,
         ),
         Request::Check(unit, name, path) => finish(

@@ -1,8 +1,8 @@
 //! The number that the process ends with.
 ghost use Rattle.std.specs.Prelude.{◌≡◌};
-ghost use Rattle.command_answers.specs.Endings.{code_of};
+ghost use Rattle.derive_command.specs.unit_inputs.command_answers.Endings.{code_of};
 
-use command_answers::Ending;
+use derive_command::unit_inputs::command_answers::Ending;
 use std::marker::Model;
 
 /// The status of a run: 0 done, 1 an exposure above the threshold, 2 no command, 3 a refused input, 4 a failed read, 5 a
@@ -14,8 +14,8 @@ pub struct Status {
 
 impl Model for Status {
     ghost use Rattle.std.specs.Prelude.{◌≡◌};
-    ghost use Rattle.command_answers.specs.Endings.{code_of};
-    ghost use Rattle.command_answers.specs.declared.ending.Ending.{Ending};
+    ghost use Rattle.derive_command.specs.unit_inputs.command_answers.Endings.{code_of};
+    ghost use Rattle.derive_command.specs.unit_inputs.declared.command_answers.ending.Ending.{Ending};
     ghost use Rattle.top_call.specs.Statuses.{ending_of};
 
     ghost Value = { Ending };

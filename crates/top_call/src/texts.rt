@@ -1,10 +1,10 @@
 //! Texts that are printed as they stand.
 ghost use Rattle.std.specs.Prelude.{◌≡◌, flat_map};
-ghost use Rattle.command_answers.specs.Printing.{HasWriteCause, TakesText};
+ghost use Rattle.derive_command.specs.unit_inputs.command_answers.Printing.{HasWriteCause, TakesText};
 ghost use Rattle.top_call.specs.Texts.{help_text, text_of, version_text, words_line};
 
-use command_answers::{Ending, Ready, put_piece};
-use host_io::{Sink, SinkError};
+use derive_command::host_io::{Sink, SinkError};
+use derive_command::unit_inputs::command_answers::{Ending, Ready, put_piece};
 use std::alloc::Global;
 
 /// What the program is for, its words, the files that it reads, and its statuses.

@@ -11,20 +11,20 @@ use Rattle.std.proofs.lemmas.List.Quantifiers.{position-Some}
 use Rattle.std.proofs.lemmas.List.Sorted.{IsPermutation-reverse, list_any-IsPermutation}
 use Rattle.std.proofs.lemmas.Option.{slice_get-get_or}
 use Rattle.std.proofs.lemmas.Slice.Eq.{bytes_eq-Decides}
-use Rattle.call_rules.specs.declared.actions.Action.{Action}
-use Rattle.call_rules.specs.declared.actions.Action.TheVariants.{Allow as Allowed}
-use Rattle.call_table.proofs.Places.{some_line}
-use Rattle.call_table.specs.Lookups.{has_name, place_named}
-use Rattle.call_table.specs.Names.{behind_at, is_name, is_name_byte}
-use Rattle.call_table.specs.Table.{Table, every_call}
-use Rattle.call_table.specs.declared.listed.CallLine.{CallLine}
-use Rattle.filter_rules.specs.Calls.{call_action, if_adds, list_action, listed_action}
-use Rattle.filter_rules.specs.Covers.{covers, covers_by}
-use Rattle.filter_rules.specs.declared.mentions.CallList.{CallList}
-use Rattle.filter_rules.specs.declared.mentions.Mention.{Mention}
-use Rattle.filter_rules.specs.declared.mentions.Mode.TheVariants.{Allow}
-use Rattle.filter_settings.specs.CallWords.{is_known, is_known_by, mention_of, word_mention, word_of_sides}
-use Rattle.unit_grammar.specs.Kinds.{cut_at}
+use Rattle.asked_service.specs.call_rules.declared.actions.Action.{Action}
+use Rattle.asked_service.specs.call_rules.declared.actions.Action.TheVariants.{Allow as Allowed}
+use Rattle.asked_service.proofs.CallTable.Places.{some_line}
+use Rattle.asked_service.specs.call_table.Lookups.{has_name, place_named}
+use Rattle.asked_service.specs.call_table.Names.{behind_at, is_name, is_name_byte}
+use Rattle.asked_service.specs.call_table.Table.{Table, every_call}
+use Rattle.asked_service.specs.call_table.declared.listed.CallLine.{CallLine}
+use Rattle.asked_service.specs.filter_settings.filter_rules.Calls.{call_action, if_adds, list_action, listed_action}
+use Rattle.asked_service.specs.filter_settings.filter_rules.Covers.{covers, covers_by}
+use Rattle.asked_service.specs.filter_settings.declared.filter_rules.mentions.CallList.{CallList}
+use Rattle.asked_service.specs.filter_settings.declared.filter_rules.mentions.Mention.{Mention}
+use Rattle.asked_service.specs.filter_settings.declared.filter_rules.mentions.Mode.TheVariants.{Allow}
+use Rattle.asked_service.specs.filter_settings.CallWords.{is_known, is_known_by, mention_of, word_mention, word_of_sides}
+use Rattle.asked_service.specs.unit_grammar.Kinds.{cut_at}
 use Rattle.trace_profile.specs.Extended.{is_first_line, name_at}
 use Rattle.trace_profile.specs.Names.{without}
 use Rattle.trace_profile.proofs.TameBytes.{IsWord, are_names, of_name, word_of}

@@ -4,31 +4,31 @@ use Rattle.std.specs.Prelude.{◌==◌, IfSome, slice_get}
 use Rattle.std.specs.List.{AllByRecursion}
 use Rattle.std.specs.Option.{option_map_or, option_to_list}
 use Rattle.std.proofs.lemmas.Bool.Decides.{nat_tests}
-use Rattle.bpf_code.proofs.Stacks.{answer_is}
-use Rattle.bpf_code.specs.Meaning.{IsCallData}
-use Rattle.bpf_code.specs.declared.machine.CallData.{CallData}
-use Rattle.bpf_code.specs.declared.machine.Insn.{Insn}
-use Rattle.call_rules.specs.Action.{case_action, word_of}
-use Rattle.call_rules.specs.declared.actions.Action.{Action}
-use Rattle.call_table.specs.Facts.{IsTable}
-use Rattle.call_table.specs.Lookups.{numbered}
-use Rattle.call_table.specs.Table.{Abi, Table, arch_of, calls_in, native}
-use Rattle.call_table.specs.declared.listed.CallLine.{CallLine}
-use Rattle.exec_settings.specs.AreSettings.{HasWantedRules}
-use Rattle.filter_rules.specs.Calls.{call_action}
-use Rattle.filter_rules.specs.Installed.{installed, is_installed, place_of}
-use Rattle.filter_rules.specs.Names.{Place, all_programs}
-use Rattle.filter_rules.specs.Wanted.{is_on, named_action, other_action, unnamed_action, wanted_action}
-use Rattle.filter_rules.specs.declared.installed.Filter.{Filter}
-use Rattle.filter_rules.specs.declared.mentions.CallList.{CallList}
-use Rattle.filter_rules.specs.declared.mentions.Mention.{Mention}
-use Rattle.filter_rules.specs.declared.mentions.Mode.TheVariants.{Allow}
-use Rattle.filter_rules.specs.declared.names.FilterName.{FilterName}
-use Rattle.filter_rules.specs.declared.names.FilterName.TheVariants.{Families, MemoryDenyWriteExecute, Realtime, Suid, Namespaces, Hostname, Modules, Logs, Clock, Devices, Personality, Calls, Archs}
-use Rattle.filter_rules.specs.declared.settings.FilterSettings.{FilterSettings}
-use Rattle.launcher.specs.Matching.{AreMatching}
-use Rattle.launcher.proofs.TwoAbis.{IsThere, archs_differ, filters_there}
-use Rattle.allow_laws.specs.Either.{AnswerSame, AnswersAsEither}
+use Rattle.asked_service.proofs.BpfCode.Stacks.{answer_is}
+use Rattle.asked_service.specs.bpf_code.Meaning.{IsCallData}
+use Rattle.asked_service.specs.bpf_code.declared.machine.CallData.{CallData}
+use Rattle.asked_service.specs.bpf_code.declared.machine.Insn.{Insn}
+use Rattle.asked_service.specs.call_rules.Action.{case_action, word_of}
+use Rattle.asked_service.specs.call_rules.declared.actions.Action.{Action}
+use Rattle.asked_service.specs.call_table.Facts.{IsTable}
+use Rattle.asked_service.specs.call_table.Lookups.{numbered}
+use Rattle.asked_service.specs.call_table.Table.{Abi, Table, arch_of, calls_in, native}
+use Rattle.asked_service.specs.call_table.declared.listed.CallLine.{CallLine}
+use Rattle.asked_service.specs.exec_settings.AreSettings.{HasWantedRules}
+use Rattle.asked_service.specs.filter_settings.filter_rules.Calls.{call_action}
+use Rattle.asked_service.specs.filter_settings.filter_rules.Installed.{installed, is_installed, place_of}
+use Rattle.asked_service.specs.filter_settings.filter_rules.Names.{Place, all_programs}
+use Rattle.asked_service.specs.filter_settings.filter_rules.Wanted.{is_on, named_action, other_action, unnamed_action, wanted_action}
+use Rattle.asked_service.specs.filter_settings.declared.filter_rules.installed.Filter.{Filter}
+use Rattle.asked_service.specs.filter_settings.declared.filter_rules.mentions.CallList.{CallList}
+use Rattle.asked_service.specs.filter_settings.declared.filter_rules.mentions.Mention.{Mention}
+use Rattle.asked_service.specs.filter_settings.declared.filter_rules.mentions.Mode.TheVariants.{Allow}
+use Rattle.asked_service.specs.filter_settings.declared.filter_rules.names.FilterName.{FilterName}
+use Rattle.asked_service.specs.filter_settings.declared.filter_rules.names.FilterName.TheVariants.{Families, MemoryDenyWriteExecute, Realtime, Suid, Namespaces, Hostname, Modules, Logs, Clock, Devices, Personality, Calls, Archs}
+use Rattle.asked_service.specs.filter_settings.declared.filter_rules.settings.FilterSettings.{FilterSettings}
+use Rattle.asked_service.specs.launcher.Matching.{AreMatching}
+use Rattle.asked_service.proofs.Launcher.TwoAbis.{IsThere, archs_differ, filters_there}
+use Rattle.trace_profile.specs.allow_laws.Either.{AnswerSame, AnswersAsEither}
 use Rattle.trace_profile.proofs.SameButCalls.{with_calls}
 
 -- a list that allows what these words cover

@@ -8,16 +8,16 @@ use lib.Utf8.{encode}
 use Rattle.std.proofs.lemmas.Bool.{and_from, and_parts, lt-ltb, eq-eqb}
 use Rattle.std.proofs.lemmas.List.{append-nil, length-append, take_all}
 use Rattle.std.proofs.lemmas.Str.{IsUtf8-append, IsUtf8-from_is_utf8, is_utf8-from_IsUtf8}
-use Rattle.call_table.specs.Names.{is_name_byte}
-use Rattle.unit_grammar.specs.Kinds.{Kind, assigns, cut_at, assigned, kind_of, trimmed_kind}
-use Rattle.unit_grammar.specs.Lines.{joined_lines, line_of, parts_from, split_after}
-use Rattle.unit_grammar.specs.Reading.{assignment_in, fault_in, is_text, note_in, unit_of, unit_of_lines, unless_fault}
-use Rattle.unit_grammar.specs.Spaces.{continues, is_backslash, is_white, trim, trim_end, without_last}
-use Rattle.unit_grammar.specs.declared.joined.Line.{Line}
-use Rattle.unit_grammar.specs.declared.unit.Assignment.{Assignment}
-use Rattle.unit_grammar.specs.declared.unit.UnitText.{UnitText}
-use Rattle.unit_grammar.specs.declared.unit.UnitError.{UnitError}
-use Rattle.unit_grammar.specs.declared.unit.UnitError.TheVariants.{NotText}
+use Rattle.asked_service.specs.call_table.Names.{is_name_byte}
+use Rattle.asked_service.specs.unit_grammar.Kinds.{Kind, assigns, cut_at, assigned, kind_of, trimmed_kind}
+use Rattle.asked_service.specs.unit_grammar.Lines.{joined_lines, line_of, parts_from, split_after}
+use Rattle.asked_service.specs.unit_grammar.Reading.{assignment_in, fault_in, is_text, note_in, unit_of, unit_of_lines, unless_fault}
+use Rattle.asked_service.specs.unit_grammar.Spaces.{continues, is_backslash, is_white, trim, trim_end, without_last}
+use Rattle.asked_service.specs.unit_grammar.declared.joined.Line.{Line}
+use Rattle.asked_service.specs.unit_grammar.declared.unit.Assignment.{Assignment}
+use Rattle.asked_service.specs.unit_grammar.declared.unit.UnitText.{UnitText}
+use Rattle.asked_service.specs.unit_grammar.declared.unit.UnitError.{UnitError}
+use Rattle.asked_service.specs.unit_grammar.declared.unit.UnitError.TheVariants.{NotText}
 use Rattle.trace_profile.proofs.TameBytes.{are_names, each_too, is_tame, none_behind_words, of_name, of_tame, tail_of, tame_tail, tame_utf8, unset}
 
 -- ---- a line at the front

@@ -8,29 +8,29 @@ use lib.Utf8.{encode}
 use Rattle.std.proofs.lemmas.Bool.Decides.{nat_tests}
 use Rattle.std.proofs.lemmas.List.{append_assoc, append-nil}
 use Rattle.std.proofs.lemmas.List.Elements.{filter_map-append}
-use Rattle.call_table.specs.Names.{is_name}
-use Rattle.call_table.specs.Table.{Table, every_call}
-use Rattle.call_table.specs.declared.listed.CallLine.{CallLine}
-use Rattle.dropin_merge.specs.declared.resolved.Resolved.{Resolved}
-use Rattle.dropin_merge.specs.declared.resolved.UnitFile.{UnitFile}
-use Rattle.exec_settings.specs.Dynamic.{unit_filters}
-use Rattle.exec_settings.specs.Profile.{asked_by, asks as asks_of, is_asked}
-use Rattle.filter_settings.specs.CallLists.{call_list, unit_call_list}
-use Rattle.filter_settings.specs.Lines.{in_force}
-use Rattle.mount_settings.specs.Assigned.{assigned_by}
-use Rattle.unit_grammar.specs.Before.{last_of}
-use Rattle.unit_grammar.specs.declared.unit.Assignment.{Assignment}
-use Rattle.unit_grammar.specs.declared.unit.UnitText.{UnitText}
-use Rattle.unit_names.specs.Expansion.{expansion, longest_value}
-use Rattle.unit_names.specs.Names.{Name}
-use Rattle.unit_values.proofs.OneMore.{after_last-push}
-use Rattle.unit_values.specs.Assignments.{service_assignments, service_from, service_in}
-use Rattle.unit_values.specs.Listed.{is_reset, listed, unit_listed}
-use Rattle.unit_values.specs.Values.{expanded_at, given_by, values_of}
-use Rattle.unit_values.specs.declared.lines.Line.{Line}
-use Rattle.unit_values.specs.declared.listed.Listed.{Listed}
-use Rattle.unit_values.specs.declared.value.Place.{Place}
-use Rattle.launched_units.specs.Longer.{says, unless_refused}
+use Rattle.asked_service.specs.call_table.Names.{is_name}
+use Rattle.asked_service.specs.call_table.Table.{Table, every_call}
+use Rattle.asked_service.specs.call_table.declared.listed.CallLine.{CallLine}
+use Rattle.asked_service.specs.dropin_merge.declared.resolved.Resolved.{Resolved}
+use Rattle.asked_service.specs.dropin_merge.declared.resolved.UnitFile.{UnitFile}
+use Rattle.asked_service.specs.exec_settings.Dynamic.{unit_filters}
+use Rattle.asked_service.specs.exec_settings.Profile.{asked_by, asks as asks_of, is_asked}
+use Rattle.asked_service.specs.filter_settings.CallLists.{call_list, unit_call_list}
+use Rattle.asked_service.specs.filter_settings.Lines.{in_force}
+use Rattle.asked_service.specs.mount_settings.Assigned.{assigned_by}
+use Rattle.asked_service.specs.unit_grammar.Before.{last_of}
+use Rattle.asked_service.specs.unit_grammar.declared.unit.Assignment.{Assignment}
+use Rattle.asked_service.specs.unit_grammar.declared.unit.UnitText.{UnitText}
+use Rattle.asked_service.specs.unit_names.Expansion.{expansion, longest_value}
+use Rattle.asked_service.specs.unit_names.Names.{Name}
+use Rattle.asked_service.proofs.DropinMerge.OneMore.{after_last-push}
+use Rattle.asked_service.specs.dropin_merge.unit_values.Assignments.{service_assignments, service_from, service_in}
+use Rattle.asked_service.specs.dropin_merge.unit_values.Listed.{is_reset, listed, unit_listed}
+use Rattle.asked_service.specs.dropin_merge.unit_values.Values.{expanded_at, given_by, values_of}
+use Rattle.asked_service.specs.dropin_merge.declared.unit_values.lines.Line.{Line}
+use Rattle.asked_service.specs.dropin_merge.declared.unit_values.listed.Listed.{Listed}
+use Rattle.asked_service.specs.dropin_merge.declared.unit_values.value.Place.{Place}
+use Rattle.asked_service.specs.launched_units.Longer.{says, unless_refused}
 use Rattle.trace_profile.specs.Extended.{drop_in_text, extended, is_first_line, name_at}
 use Rattle.trace_profile.proofs.AllowedNames.{names_are, said_list}
 use Rattle.trace_profile.proofs.DropInText.{allows, reset, unit_is, value}

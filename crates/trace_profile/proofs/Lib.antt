@@ -12,3 +12,6 @@ pub mod PushesNone
 pub mod SameLists
 pub mod OneList
 pub mod Whole
+pub mod Same
+pub mod Either
+pub mod Launches

@@ -9,13 +9,13 @@ use lib.Utf8.{encode}
 use Rattle.std.proofs.lemmas.Bool.{and_from, and_parts}
 use Rattle.std.proofs.lemmas.Bool.Decides.{nat_tests}
 use Rattle.std.proofs.lemmas.Str.{IsUtf8-append, IsUtf8-from_is_utf8, is_utf8-from_IsUtf8}
-use Rattle.call_table.specs.Names.{is_name, is_name_byte}
-use Rattle.text_forms.specs.Grammar.{EndsWord, IsPart, LaysOut, Part, Spells, bare, nothing, part_bytes, part_symbols, quoted, white, word}
-use Rattle.text_forms.specs.Words.{words_of}
-use Rattle.text_forms.proofs.Layouts.{split_as_laid}
-use Rattle.unit_names.specs.Expansion.{Piece, literal, expansion, if_short, if_text, longest_value, pieces_meaning, pieces_of, onto_pieces}
-use Rattle.unit_names.specs.Names.{Name}
-use Rattle.unit_values.specs.Lines.{line_of, words_if}
+use Rattle.asked_service.specs.call_table.Names.{is_name, is_name_byte}
+use Rattle.asked_service.specs.text_forms.Grammar.{EndsWord, IsPart, LaysOut, Part, Spells, bare, nothing, part_bytes, part_symbols, quoted, white, word}
+use Rattle.asked_service.specs.text_forms.Words.{words_of}
+use Rattle.asked_service.proofs.TextForms.Layouts.{split_as_laid}
+use Rattle.asked_service.specs.unit_names.Expansion.{Piece, literal, expansion, if_short, if_text, longest_value, pieces_meaning, pieces_of, onto_pieces}
+use Rattle.asked_service.specs.unit_names.Names.{Name}
+use Rattle.asked_service.specs.dropin_merge.unit_values.Lines.{line_of, words_if}
 use Rattle.trace_profile.proofs.TameBytes.{are_names, each_too, is_tame, of_name, of_tame, tail_of, tame_of_names, tame_tail, tame_utf8, unset, word_of}
 
 -- ---- specifiers: there are none

@@ -6,8 +6,8 @@ use Rattle.std.proofs.lemmas.List.{map-id}
 use Rattle.std.proofs.lemmas.List.Elements.{All-filter, filter_passes}
 use Rattle.std.proofs.lemmas.List.FromFn.{filter_of_map_range_with_len_more, get_or-range_with_len, length-range_with_len}
 use Rattle.std.proofs.lemmas.List.Kept.{IsStrictlyIncreasing-filter}
-use Rattle.call_table.proofs.AllCalls.{second_are}
-use Rattle.call_table.specs.Table.{Table, calls_in, every_call, second_calls}
+use Rattle.asked_service.proofs.CallTable.AllCalls.{second_are}
+use Rattle.asked_service.specs.call_table.Table.{Table, calls_in, every_call, second_calls}
 use Rattle.trace_profile.specs.Extended.{every_name, is_first_line}
 use Rattle.trace_profile.specs.Names.{AreNames}
 

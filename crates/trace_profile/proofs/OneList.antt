@@ -4,66 +4,66 @@ use Rattle.std.specs.Prelude.{◌≤◌, ◌==◌, ◌||◌, not}
 use Rattle.std.specs.List.{AllByRecursion}
 use Rattle.std.specs.Option.{option_map}
 use Rattle.std.proofs.lemmas.List.Elements.{All-from_recursion, recursion_from_All}
-use Rattle.abs_path.specs.Paths.{Path}
-use Rattle.bpf_code.specs.Reading.{bytes_of}
-use Rattle.bpf_code.specs.declared.machine.Insn.{Insn}
-use Rattle.call_table.specs.Facts.{IsWhole}
-use Rattle.call_table.specs.Table as calls
-use Rattle.cred_settings.specs.Ambient.{ambient_of}
-use Rattle.cred_settings.specs.Identities.{identity_of}
-use Rattle.cred_settings.specs.NewPrivileges.{is_in_effect}
-use Rattle.cred_settings.specs.declared.accounts.Identity.{Identity}
-use Rattle.cred_settings.specs.declared.error.IdentityError.{IdentityError}
-use Rattle.dropin_merge.specs.declared.resolved.Resolved.{Resolved}
-use Rattle.exec_settings.specs.AreSettings.{AreSettings, HasWantedRules}
-use Rattle.exec_settings.specs.Dynamic.{is_dynamic, sets_new_privileges, unit_filters}
-use Rattle.exec_settings.specs.Groups.{missing_group}
-use Rattle.exec_settings.specs.Mounts.{paths_refusal, unit_mentions}
-use Rattle.exec_settings.specs.Refusals.{command_refusal, first_reason, group_refusal, identity_refusal, refusal_of}
-use Rattle.exec_settings.specs.Settings.{has_filter, unit_bounding, unit_new_privileges, unit_program}
-use Rattle.exec_settings.specs.declared.errors.SettingsError.TheVariants.{MissingGroup}
-use Rattle.exec_settings.specs.declared.service.Settings.{Settings}
-use Rattle.filter_rules.specs.Covers.{covers}
-use Rattle.call_rules.specs.declared.actions.Action.TheVariants.{Allow as Allowed}
-use Rattle.filter_rules.specs.Installed.{installed, place_of}
-use Rattle.filter_rules.specs.Names.{Place}
-use Rattle.filter_rules.specs.declared.mentions.Mention.{Mention}
-use Rattle.filter_rules.specs.declared.settings.FilterSettings.{FilterSettings}
-use Rattle.kern_mounts.specs.Split.{Table}
-use Rattle.kern_mounts.specs.declared.step.MountStep.{MountStep}
-use Rattle.kernel_calls.specs.Calls.{AreCalls}
-use Rattle.kernel_calls.specs.declared.call.Call.{Call}
-use Rattle.kernel_model.specs.Runs.{replies}
-use Rattle.kernel_model.specs.World.{World}
-use Rattle.kernel_model.specs.declared.reply.Reply.{Reply}
-use Rattle.launched_units.specs.Launching.{IsLaunchedUnit, IsNotLaunched, RefusesPath}
-use Rattle.launched_units.specs.declared.refusal.UnitRefusal.{UnitRefusal}
-use Rattle.launched_units.specs.declared.refusal.UnitRefusal.TheVariants.{Memory, Settings as InSettings, Plan, Launch}
-use Rattle.launcher.specs.Alike.{HasWordArchs, above}
-use Rattle.launcher.specs.Answers.{codes_of, given_bytes, launch_with, wanted_of}
-use Rattle.launcher.specs.Launch.{Ending, Launched, Wanted, launch}
-use Rattle.launcher.specs.Launches.{AreRead}
-use Rattle.launcher.specs.LaunchesAlike.{AreInstalled}
-use Rattle.launcher.specs.Matching.{AreMatching}
-use Rattle.launcher.specs.declared.launched.Launched.{Launched as Service}
-use Rattle.launcher.proofs.Conditions.{settings_can_be_launched}
-use Rattle.launcher.proofs.Matching.{room}
-use Rattle.launcher.proofs.Programs.{they_are_read, they_match}
-use Rattle.mount_plan.specs.Answers.{Plans}
-use Rattle.mount_plan.specs.Host.{host_of}
-use Rattle.mount_plan.specs.Plan.{table_of}
-use Rattle.mount_plan.specs.declared.error.PlanError.{PlanError}
-use Rattle.mount_plan.specs.declared.error.PlanError.TheVariants as plan
-use Rattle.path_settings.specs.declared.mentions.Mention.{Mention as PathMention}
-use Rattle.site_table.specs.Table.{IsSite, Site}
-use Rattle.unit_launch.specs.declared.refusal.LaunchRefusal.{LaunchRefusal}
-use Rattle.unit_launch.specs.declared.refusal.LaunchRefusal.TheVariants as refusal
-use Rattle.unit_launch.specs.Launching.{IsRefused}
-use Rattle.view_map.specs.Kept.{Refusal, kept_of}
-use Rattle.allow_laws.specs.Either.{PushNone}
-use Rattle.allow_laws.specs.Launches.{LaunchesBy}
-use Rattle.allow_laws.proofs.Either.{either_replies}
-use Rattle.allow_laws.proofs.Launches.{either_launches}
+use Rattle.asked_service.specs.abs_path.Paths.{Path}
+use Rattle.asked_service.specs.bpf_code.Reading.{bytes_of}
+use Rattle.asked_service.specs.bpf_code.declared.machine.Insn.{Insn}
+use Rattle.asked_service.specs.call_table.Facts.{IsWhole}
+use Rattle.asked_service.specs.call_table.Table as calls
+use Rattle.asked_service.specs.cred_settings.Ambient.{ambient_of}
+use Rattle.asked_service.specs.cred_settings.Identities.{identity_of}
+use Rattle.asked_service.specs.cred_settings.NewPrivileges.{is_in_effect}
+use Rattle.asked_service.specs.cred_settings.declared.accounts.Identity.{Identity}
+use Rattle.asked_service.specs.cred_settings.declared.error.IdentityError.{IdentityError}
+use Rattle.asked_service.specs.dropin_merge.declared.resolved.Resolved.{Resolved}
+use Rattle.asked_service.specs.exec_settings.AreSettings.{AreSettings, HasWantedRules}
+use Rattle.asked_service.specs.exec_settings.Dynamic.{is_dynamic, sets_new_privileges, unit_filters}
+use Rattle.asked_service.specs.exec_settings.Groups.{missing_group}
+use Rattle.asked_service.specs.exec_settings.Mounts.{paths_refusal, unit_mentions}
+use Rattle.asked_service.specs.exec_settings.Refusals.{command_refusal, first_reason, group_refusal, identity_refusal, refusal_of}
+use Rattle.asked_service.specs.exec_settings.Settings.{has_filter, unit_bounding, unit_new_privileges, unit_program}
+use Rattle.asked_service.specs.exec_settings.declared.errors.SettingsError.TheVariants.{MissingGroup}
+use Rattle.asked_service.specs.exec_settings.declared.service.Settings.{Settings}
+use Rattle.asked_service.specs.filter_settings.filter_rules.Covers.{covers}
+use Rattle.asked_service.specs.call_rules.declared.actions.Action.TheVariants.{Allow as Allowed}
+use Rattle.asked_service.specs.filter_settings.filter_rules.Installed.{installed, place_of}
+use Rattle.asked_service.specs.filter_settings.filter_rules.Names.{Place}
+use Rattle.asked_service.specs.filter_settings.declared.filter_rules.mentions.Mention.{Mention}
+use Rattle.asked_service.specs.filter_settings.declared.filter_rules.settings.FilterSettings.{FilterSettings}
+use Rattle.asked_service.specs.kern_mounts.Split.{Table}
+use Rattle.asked_service.specs.kern_mounts.declared.step.MountStep.{MountStep}
+use Rattle.asked_service.specs.kernel_model.kernel_calls.Calls.{AreCalls}
+use Rattle.asked_service.specs.kernel_model.declared.kernel_calls.call.Call.{Call}
+use Rattle.asked_service.specs.kernel_model.Runs.{replies}
+use Rattle.asked_service.specs.kernel_model.World.{World}
+use Rattle.asked_service.specs.kernel_model.declared.reply.Reply.{Reply}
+use Rattle.asked_service.specs.launched_units.Launching.{IsLaunchedUnit, IsNotLaunched, RefusesPath}
+use Rattle.asked_service.specs.declared.launched_units.refusal.UnitRefusal.{UnitRefusal}
+use Rattle.asked_service.specs.declared.launched_units.refusal.UnitRefusal.TheVariants.{Memory, Settings as InSettings, Plan, Launch}
+use Rattle.asked_service.specs.launcher.Alike.{HasWordArchs, above}
+use Rattle.asked_service.specs.launcher.Answers.{codes_of, given_bytes, launch_with, wanted_of}
+use Rattle.asked_service.specs.launcher.Launch.{Ending, Launched, Wanted, launch}
+use Rattle.asked_service.specs.launcher.Launches.{AreRead}
+use Rattle.asked_service.specs.launcher.LaunchesAlike.{AreInstalled}
+use Rattle.asked_service.specs.launcher.Matching.{AreMatching}
+use Rattle.asked_service.specs.launcher.declared.launched.Launched.{Launched as Service}
+use Rattle.asked_service.proofs.Launcher.Conditions.{settings_can_be_launched}
+use Rattle.asked_service.proofs.Launcher.Matching.{room}
+use Rattle.asked_service.proofs.Launcher.Programs.{they_are_read, they_match}
+use Rattle.asked_service.specs.mount_plan.Answers.{Plans}
+use Rattle.asked_service.specs.mount_plan.Host.{host_of}
+use Rattle.asked_service.specs.mount_plan.Plan.{table_of}
+use Rattle.asked_service.specs.mount_plan.declared.error.PlanError.{PlanError}
+use Rattle.asked_service.specs.mount_plan.declared.error.PlanError.TheVariants as plan
+use Rattle.asked_service.specs.path_settings.declared.mentions.Mention.{Mention as PathMention}
+use Rattle.asked_service.specs.site_table.Table.{IsSite, Site}
+use Rattle.asked_service.specs.declared.unit_launch.refusal.LaunchRefusal.{LaunchRefusal}
+use Rattle.asked_service.specs.declared.unit_launch.refusal.LaunchRefusal.TheVariants as refusal
+use Rattle.asked_service.specs.unit_launch.Launching.{IsRefused}
+use Rattle.asked_service.specs.path_settings.view_map.Kept.{Refusal, kept_of}
+use Rattle.trace_profile.specs.allow_laws.Either.{PushNone}
+use Rattle.trace_profile.specs.allow_laws.Launches.{LaunchesBy}
+use Rattle.trace_profile.proofs.Either.{either_replies}
+use Rattle.trace_profile.proofs.Launches.{either_launches}
 use Rattle.trace_profile.specs.Derived.{Fails, IsDerived, IsOnlyOne, not_launched, other_reply, tried_with}
 use Rattle.trace_profile.specs.Extended.{every_name, extended, is_first_line, name_at, open_unit}
 use Rattle.trace_profile.specs.Names.{AreNames, without}

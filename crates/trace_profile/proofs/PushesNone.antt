@@ -7,24 +7,24 @@ use Rattle.std.specs.Option.{option_map, option_map_or}
 use Rattle.std.specs.Str.{bytes_eq}
 use Rattle.std.proofs.lemmas.Bool.{and_parts}
 use Rattle.std.proofs.lemmas.Slice.Eq.{bytes_eq-Decides}
-use Rattle.abs_path.specs.Paths.{Path}
-use Rattle.call_names.specs.Known.{known_call, known_calls, place_of}
-use Rattle.call_names.specs.declared.known.KnownCall.{KnownCall}
-use Rattle.call_names.specs.declared.known.KnownCall.TheVariants.{Modelled, Absent}
-use Rattle.call_names.specs.declared.rule.CallRule.{CallRule}
-use Rattle.call_names.specs.declared.rule.CallRule.TheVariants as known
-use Rattle.call_table.proofs.Places.{any_nowhere, or_false}
-use Rattle.call_table.specs.Lookups.{numbered}
-use Rattle.call_table.specs.Table.{Table, calls_in}
-use Rattle.call_table.specs.declared.listed.CallLine.{CallLine}
-use Rattle.kernel_calls.specs.Doing as d
-use Rattle.kernel_calls.specs.Doing.{Asked, Does, Doing, Lacking, Misformed, asked_by, asked_if, asked_of, bare, by_code, by_family, by_ids, by_path, by_paths, by_sets, known_doing}
-use Rattle.kernel_calls.specs.Rules.{rule_by, rule_of}
-use Rattle.kernel_calls.specs.Words.{low_word}
-use Rattle.kernel_calls.specs.declared.call.Call.{Call}
-use Rattle.kernel_calls.specs.declared.payload.Payload.{Payload}
-use Rattle.kernel_calls.specs.declared.payload.Payload.TheVariants.{Nothing, OnePath, TwoPaths, Sets, Ids, Family, Code}
-use Rattle.allow_laws.specs.Either.{PushNone, PushesNone}
+use Rattle.asked_service.specs.abs_path.Paths.{Path}
+use Rattle.asked_service.specs.call_table.call_names.Known.{known_call, known_calls, place_of}
+use Rattle.asked_service.specs.call_table.declared.call_names.known.KnownCall.{KnownCall}
+use Rattle.asked_service.specs.call_table.declared.call_names.known.KnownCall.TheVariants.{Modelled, Absent}
+use Rattle.asked_service.specs.call_table.declared.call_names.rule.CallRule.{CallRule}
+use Rattle.asked_service.specs.call_table.declared.call_names.rule.CallRule.TheVariants as known
+use Rattle.asked_service.proofs.CallTable.Places.{any_nowhere, or_false}
+use Rattle.asked_service.specs.call_table.Lookups.{numbered}
+use Rattle.asked_service.specs.call_table.Table.{Table, calls_in}
+use Rattle.asked_service.specs.call_table.declared.listed.CallLine.{CallLine}
+use Rattle.asked_service.specs.kernel_model.kernel_calls.Doing as d
+use Rattle.asked_service.specs.kernel_model.kernel_calls.Doing.{Asked, Does, Doing, Lacking, Misformed, asked_by, asked_if, asked_of, bare, by_code, by_family, by_ids, by_path, by_paths, by_sets, known_doing}
+use Rattle.asked_service.specs.kernel_model.kernel_calls.Rules.{rule_by, rule_of}
+use Rattle.asked_service.specs.kernel_model.kernel_calls.Words.{low_word}
+use Rattle.asked_service.specs.kernel_model.declared.kernel_calls.call.Call.{Call}
+use Rattle.asked_service.specs.kernel_model.declared.kernel_calls.payload.Payload.{Payload}
+use Rattle.asked_service.specs.kernel_model.declared.kernel_calls.payload.Payload.TheVariants.{Nothing, OnePath, TwoPaths, Sets, Ids, Family, Code}
+use Rattle.trace_profile.specs.allow_laws.Either.{PushNone, PushesNone}
 use Rattle.trace_profile.specs.Scripts.{first_seccomp, is_seccomp}
 
 -- what a call does pushes a program

@@ -5,57 +5,57 @@ use Rattle.std.specs.Option.{option_map}
 use Rattle.std.specs.List.{filter_map, list_all, list_any}
 use Rattle.std.specs.Str.{bytes_eq}
 use Rattle.std.proofs.lemmas.Bool.{and_parts}
-use Rattle.call_table.specs.Table.{Table}
-use Rattle.cap_sets.specs.Sets.{minus}
-use Rattle.cred_settings.specs.Ambient.{ambient_of}
-use Rattle.cred_settings.specs.Bounding.{bounding_of}
-use Rattle.cred_settings.specs.CapLists.{caps_by, unit_caps}
-use Rattle.cred_settings.specs.FurtherGroups.{further_words}
-use Rattle.cred_settings.specs.Groups.{group_word}
-use Rattle.cred_settings.specs.Identities.{identity_from, identity_of}
-use Rattle.cred_settings.specs.Users.{user_word}
-use Rattle.dropin_merge.specs.declared.resolved.Resolved.{Resolved}
-use Rattle.dropin_merge.specs.declared.resolved.UnitFile.{UnitFile}
-use Rattle.exec_settings.specs.Bounding.{left_of, taken_caps}
-use Rattle.exec_settings.specs.Commands.{launched_of, unit_command}
-use Rattle.exec_settings.specs.Dynamic.{is_dynamic, sets_new_privileges, unit_filters, with_dynamic_user}
-use Rattle.exec_settings.specs.Keys.{keys}
-use Rattle.exec_settings.specs.Mounts.{paths_refusal, unit_mentions, unit_switches}
-use Rattle.exec_settings.specs.Profile.{is_asked, is_outside, is_outside_by, outside_key}
-use Rattle.exec_settings.specs.Refusals.{command_refusal, first_reason, group_refusal, identity_reason, identity_refusal, no_command, outside, privileged, refusal_of}
-use Rattle.exec_settings.specs.Settings.{program_path, unit_bounding, unit_program}
-use Rattle.exec_settings.specs.declared.commands.Command.{Command}
-use Rattle.exec_settings.specs.declared.errors.SettingsError.TheVariants.{OutsideProfile, TooManyPaths}
-use Rattle.exec_settings.specs.declared.keys.Meaning.{Meaning}
-use Rattle.exec_settings.specs.declared.keys.Meaning.TheVariants as means
-use Rattle.exec_settings.proofs.FilterSame.{same_settings}
-use Rattle.filter_rules.specs.declared.mentions.CallList.{CallList}
-use Rattle.filter_rules.specs.declared.settings.FilterSettings.{FilterSettings}
-use Rattle.filter_settings.specs.Architectures.{is_read, is_second, unit_refuses_second}
-use Rattle.filter_settings.specs.CallLists.{unit_call_list}
-use Rattle.filter_settings.specs.ErrorActions.{default_action, error_action_value, unit_error_action}
-use Rattle.filter_settings.specs.FamilyLists.{family_list, unit_family_list}
-use Rattle.filter_settings.specs.Lines.{in_force}
-use Rattle.filter_settings.specs.Namespaces.{namespaces_of, unit_namespaces}
-use Rattle.filter_settings.specs.Settings.{settings_of}
-use Rattle.mount_settings.specs.Assigned.{assigned_by}
-use Rattle.mount_settings.specs.Home.{home_value}
-use Rattle.mount_settings.specs.Protections.{in_effect, unit_protections}
-use Rattle.mount_settings.specs.Roots.{mentions_root}
-use Rattle.mount_settings.specs.Settings.{mentions_of, protections_of}
-use Rattle.mount_settings.specs.System.{system_value}
-use Rattle.mount_settings.specs.Tmp.{tmp_value}
-use Rattle.mount_settings.specs.Written.{unit_written, written}
-use Rattle.mount_settings.specs.declared.protections.HomeProtection.TheVariants as home
-use Rattle.mount_settings.specs.declared.protections.SystemProtection.TheVariants as system
-use Rattle.site_table.specs.Table.{Site}
-use Rattle.unit_values.specs.Assignments.{service_assignments}
-use Rattle.unit_values.specs.Flags.{flag_value, unit_flag}
-use Rattle.unit_values.specs.Lasting.{last_read, last_text, unit_last, unit_last_text}
-use Rattle.unit_values.specs.Listed.{listed, unit_listed}
-use Rattle.unit_values.specs.Values.{in_force as in_force_values, values_of}
-use Rattle.unit_values.specs.Words.{unit_words, words_in}
-use Rattle.unit_values.specs.declared.value.Value.{Value}
+use Rattle.asked_service.specs.call_table.Table.{Table}
+use Rattle.asked_service.specs.cap_sets.Sets.{minus}
+use Rattle.asked_service.specs.cred_settings.Ambient.{ambient_of}
+use Rattle.asked_service.specs.cred_settings.Bounding.{bounding_of}
+use Rattle.asked_service.specs.cred_settings.CapLists.{caps_by, unit_caps}
+use Rattle.asked_service.specs.cred_settings.FurtherGroups.{further_words}
+use Rattle.asked_service.specs.cred_settings.Groups.{group_word}
+use Rattle.asked_service.specs.cred_settings.Identities.{identity_from, identity_of}
+use Rattle.asked_service.specs.cred_settings.Users.{user_word}
+use Rattle.asked_service.specs.dropin_merge.declared.resolved.Resolved.{Resolved}
+use Rattle.asked_service.specs.dropin_merge.declared.resolved.UnitFile.{UnitFile}
+use Rattle.asked_service.specs.exec_settings.Bounding.{left_of, taken_caps}
+use Rattle.asked_service.specs.exec_settings.Commands.{launched_of, unit_command}
+use Rattle.asked_service.specs.exec_settings.Dynamic.{is_dynamic, sets_new_privileges, unit_filters, with_dynamic_user}
+use Rattle.asked_service.specs.exec_settings.Keys.{keys}
+use Rattle.asked_service.specs.exec_settings.Mounts.{paths_refusal, unit_mentions, unit_switches}
+use Rattle.asked_service.specs.exec_settings.Profile.{is_asked, is_outside, is_outside_by, outside_key}
+use Rattle.asked_service.specs.exec_settings.Refusals.{command_refusal, first_reason, group_refusal, identity_reason, identity_refusal, no_command, outside, privileged, refusal_of}
+use Rattle.asked_service.specs.exec_settings.Settings.{program_path, unit_bounding, unit_program}
+use Rattle.asked_service.specs.exec_settings.declared.commands.Command.{Command}
+use Rattle.asked_service.specs.exec_settings.declared.errors.SettingsError.TheVariants.{OutsideProfile, TooManyPaths}
+use Rattle.asked_service.specs.exec_settings.declared.keys.Meaning.{Meaning}
+use Rattle.asked_service.specs.exec_settings.declared.keys.Meaning.TheVariants as means
+use Rattle.asked_service.proofs.ExecSettings.FilterSame.{same_settings}
+use Rattle.asked_service.specs.filter_settings.declared.filter_rules.mentions.CallList.{CallList}
+use Rattle.asked_service.specs.filter_settings.declared.filter_rules.settings.FilterSettings.{FilterSettings}
+use Rattle.asked_service.specs.filter_settings.Architectures.{is_read, is_second, unit_refuses_second}
+use Rattle.asked_service.specs.filter_settings.CallLists.{unit_call_list}
+use Rattle.asked_service.specs.filter_settings.ErrorActions.{default_action, error_action_value, unit_error_action}
+use Rattle.asked_service.specs.filter_settings.FamilyLists.{family_list, unit_family_list}
+use Rattle.asked_service.specs.filter_settings.Lines.{in_force}
+use Rattle.asked_service.specs.filter_settings.Namespaces.{namespaces_of, unit_namespaces}
+use Rattle.asked_service.specs.filter_settings.Settings.{settings_of}
+use Rattle.asked_service.specs.mount_settings.Assigned.{assigned_by}
+use Rattle.asked_service.specs.mount_settings.Home.{home_value}
+use Rattle.asked_service.specs.mount_settings.Protections.{in_effect, unit_protections}
+use Rattle.asked_service.specs.mount_settings.Roots.{mentions_root}
+use Rattle.asked_service.specs.mount_settings.Settings.{mentions_of, protections_of}
+use Rattle.asked_service.specs.mount_settings.System.{system_value}
+use Rattle.asked_service.specs.mount_settings.Tmp.{tmp_value}
+use Rattle.asked_service.specs.mount_settings.Written.{unit_written, written}
+use Rattle.asked_service.specs.mount_settings.declared.protections.HomeProtection.TheVariants as home
+use Rattle.asked_service.specs.mount_settings.declared.protections.SystemProtection.TheVariants as system
+use Rattle.asked_service.specs.site_table.Table.{Site}
+use Rattle.asked_service.specs.dropin_merge.unit_values.Assignments.{service_assignments}
+use Rattle.asked_service.specs.dropin_merge.unit_values.Flags.{flag_value, unit_flag}
+use Rattle.asked_service.specs.dropin_merge.unit_values.Lasting.{last_read, last_text, unit_last, unit_last_text}
+use Rattle.asked_service.specs.dropin_merge.unit_values.Listed.{listed, unit_listed}
+use Rattle.asked_service.specs.dropin_merge.unit_values.Values.{in_force as in_force_values, values_of}
+use Rattle.asked_service.specs.dropin_merge.unit_values.Words.{unit_words, words_in}
+use Rattle.asked_service.specs.dropin_merge.declared.unit_values.value.Value.{Value}
 
 -- the settings with another list of calls
 abbrev pub with_calls : FilterSettings → Option CallList → FilterSettings

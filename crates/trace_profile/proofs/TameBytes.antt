@@ -8,7 +8,7 @@ use Rattle.std.proofs.lemmas.Bool.Decides.{nat_tests}
 use Rattle.std.proofs.lemmas.List.{append_assoc, append-nil, reverse-append}
 use Rattle.std.proofs.lemmas.List.Folds.{list_all-append}
 use Rattle.std.proofs.lemmas.Str.{IsUtf8-from_ascii, is_utf8-from_IsUtf8}
-use Rattle.call_table.specs.Names.{is_name, is_name_byte}
+use Rattle.asked_service.specs.call_table.Names.{is_name, is_name_byte}
 
 -- a byte of a name, or a space
 abbrev pub is_tame : ℕ → Bool

@@ -3,17 +3,17 @@ use Rattle.std.proofs.Common.{◌≡◌, ◌≢◌, inl, inr, ℕ, Bool, true, f
 use Rattle.std.specs.Prelude.{IfOk}
 use Rattle.std.specs.Result.{IsErrAnd}
 use Rattle.std.specs.declared.alloc.AllocError.{AllocError}
-use Rattle.call_table.specs.Table as calls
-use Rattle.dropin_merge.specs.declared.resolved.Resolved.{Resolved}
-use Rattle.kernel_calls.specs.declared.call.Call.{Call}
-use Rattle.kernel_model.specs.Runs.{replies}
-use Rattle.kernel_model.specs.declared.reply.Reply.{Reply}
-use Rattle.launched_units.specs.Launching.{IsLaunchedUnit, IsNotLaunched}
-use Rattle.launched_units.specs.declared.refusal.UnitRefusal.{UnitRefusal}
-use Rattle.launched_units.specs.declared.refusal.UnitRefusal.TheVariants.{Memory}
-use Rattle.launcher.specs.declared.launched.Launched.{Launched as Service}
-use Rattle.site_table.specs.Table.{Site}
-use Rattle.trace_profile.specs.Derived.{IsDerived, IsLeast, Tells, Tried, not_launched, other_reply, tried_with}
+use Rattle.asked_service.specs.call_table.Table as calls
+use Rattle.asked_service.specs.dropin_merge.declared.resolved.Resolved.{Resolved}
+use Rattle.asked_service.specs.kernel_model.declared.kernel_calls.call.Call.{Call}
+use Rattle.asked_service.specs.kernel_model.Runs.{replies}
+use Rattle.asked_service.specs.kernel_model.declared.reply.Reply.{Reply}
+use Rattle.asked_service.specs.launched_units.Launching.{IsLaunchedUnit, IsNotLaunched}
+use Rattle.asked_service.specs.declared.launched_units.refusal.UnitRefusal.{UnitRefusal}
+use Rattle.asked_service.specs.declared.launched_units.refusal.UnitRefusal.TheVariants.{Memory}
+use Rattle.asked_service.specs.launcher.declared.launched.Launched.{Launched as Service}
+use Rattle.asked_service.specs.site_table.Table.{Site}
+use Rattle.trace_profile.specs.Derived.{IsDerived, IsLeast, Serves, Tells, Tried, not_launched, other_reply, tried_with}
 use Rattle.trace_profile.specs.Extended.{every_name, extended, open_unit}
 use Rattle.trace_profile.specs.Names.{AreNames, is_marked, without}
 use Rattle.trace_profile.specs.Replies.{Compares}
@@ -61,38 +61,32 @@ marked_serve tried marks every lent used lent_used told serving lends is lends_u
   serves = told_of tried lent_used used told true lends_used tells does;
 }
 
-module _ (unit : Resolved) (table : calls.Table) (site : Site) (script : List Call) (own : Resolved) (every lent_every : List ℕ) (all : every ≡ every_name table) (lends : lent_every ≡ every) (is : own ≡ extended unit table lent_every) where
-  opened_is : own ≡ open_unit unit table
-  opened_is = is ∙ ap (extended unit table) (lends ∙ all)
-
+module _ (unit : Resolved) (table : calls.Table) (site : Site) (script : List Call) (every lent_every : List ℕ) (all : every ≡ every_name table) (lends : lent_every ≡ every) where
   -- the unit that allows every call is not launched
-  pub not_opened : (error : UnitRefusal) → IsNotLaunched own table site error → IsNotLaunched (open_unit unit table) table site error
-  not_opened error refused = subst (λ these. IsNotLaunched these table site error) opened_is refused
+  pub not_opened : (error : UnitRefusal) → IsNotLaunched (extended unit table lent_every) table site error → IsNotLaunched (open_unit unit table) table site error
+  not_opened error refused = subst (λ these. IsNotLaunched (extended unit table these) table site error) (lends ∙ all) refused
 
-  module _ (service : Service) (launched : IsLaunchedUnit own table site service) (said lent_said : List Reply) (first lent : List Call) (replied : said ≡ replies service.world first) (lends_first : first ≡ script) (lends_script : lent ≡ script) (lends_said : lent_said ≡ said) where
-    opened : IsLaunchedUnit (open_unit unit table) table site service
-    opened = subst (λ these. IsLaunchedUnit these table site service) opened_is launched
-
-    says_so : lent_said ≡ replies service.world script
-    says_so = lends_said ∙ replied ∙ ap (replies service.world) lends_first
+  module _ (said lent_said : List Reply) (first lent : List Call) (serves : Serves (tried_with unit table site first said) lent_every) (lends_first : first ≡ script) (lends_script : lent ≡ script) (lends_said : lent_said ≡ said) where
+    says_so : lent_said ≡ replies serves.service.world script
+    says_so = lends_said ∙ sym serves.replies ∙ ap (replies serves.service.world) lends_first
 
     -- all names serve
     pub every_serve : AreServing (tried_with unit table site lent lent_said) every
     every_serve = record {
       are_names = subst (AreNames table) (sym all) (every_are_names table);
       serves = record {
-        service = service;
-        launched = subst (λ these. IsLaunchedUnit (extended unit table these) table site service) (sym all) opened;
-        replies = ap (replies service.world) lends_script ∙ sym says_so;
+        service = serves.service;
+        launched = subst (λ these. IsLaunchedUnit (extended unit table these) table site serves.service) lends serves.launched;
+        replies = ap (replies serves.service.world) lends_script ∙ sym says_so;
       };
     }
 
     -- the least list is derived
     pub derived_is : (names made : List ℕ) → made ≡ names → IsLeast (tried_with unit table site lent lent_said) names → IsDerived unit table site script made
     derived_is names made same least = record {
-      service = service;
-      opened = opened;
-      least = subst (IsLeast (tried_with unit table site script (replies service.world script))) (sym same)
+      service = serves.service;
+      opened = subst (λ these. IsLaunchedUnit (extended unit table these) table site serves.service) (lends ∙ all) serves.launched;
+      least = subst (IsLeast (tried_with unit table site script (replies serves.service.world script))) (sym same)
           (subst (λ these. IsLeast (tried_with unit table site script these) names) says_so
           (subst (λ (calls : List Call). IsLeast (tried_with unit table site calls lent_said) names) lends_script least));
     }

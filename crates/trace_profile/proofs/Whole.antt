@@ -2,16 +2,16 @@
 use Rattle.std.proofs.Common.{◌≡◌, ◌<◌, ◌^◌, None, Result, Ok, Err, List, All, sym, subst}
 use Rattle.std.specs.Prelude.{IsErrAnd}
 use Rattle.std.proofs.lemmas.List.Elements.{recursion_from_All}
-use Rattle.call_table.specs.Facts.{IsWhole}
-use Rattle.call_table.specs.Table as calls
-use Rattle.dropin_merge.specs.declared.resolved.Resolved.{Resolved}
-use Rattle.kernel_calls.specs.Calls.{IsCall}
-use Rattle.kernel_calls.specs.declared.call.Call.{Call}
-use Rattle.launched_units.specs.Launching.{IsNotLaunched}
-use Rattle.launched_units.specs.declared.refusal.UnitRefusal.{UnitRefusal}
-use Rattle.launched_units.specs.declared.refusal.UnitRefusal.TheVariants as refusal
-use Rattle.launcher.proofs.TwoAbis.{word_archs}
-use Rattle.site_table.specs.Table.{IsSite, Site}
+use Rattle.asked_service.specs.call_table.Facts.{IsWhole}
+use Rattle.asked_service.specs.call_table.Table as calls
+use Rattle.asked_service.specs.dropin_merge.declared.resolved.Resolved.{Resolved}
+use Rattle.asked_service.specs.kernel_model.kernel_calls.Calls.{IsCall}
+use Rattle.asked_service.specs.kernel_model.declared.kernel_calls.call.Call.{Call}
+use Rattle.asked_service.specs.launched_units.Launching.{IsNotLaunched}
+use Rattle.asked_service.specs.declared.launched_units.refusal.UnitRefusal.{UnitRefusal}
+use Rattle.asked_service.specs.declared.launched_units.refusal.UnitRefusal.TheVariants as refusal
+use Rattle.asked_service.proofs.Launcher.TwoAbis.{word_archs}
+use Rattle.asked_service.specs.site_table.Table.{IsSite, Site}
 use Rattle.trace_profile.specs.Derived.{Derives}
 use Rattle.trace_profile.specs.Errors.{error_of}
 use Rattle.trace_profile.specs.Extended.{open_unit}

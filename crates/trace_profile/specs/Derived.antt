@@ -1,16 +1,16 @@
 -- The least list of names with which a unit answers a script as with all names.
 use Rattle.std.specs.Prelude.{◌≡◌, ◌≢◌, ⊤, ℕ, Bool, true, false, List, Some, None, Result, Ok, Err}
 use Rattle.std.specs.List.{All}
-use Rattle.call_table.specs.Table as calls
-use Rattle.dropin_merge.specs.declared.resolved.Resolved.{Resolved}
-use Rattle.kernel_calls.specs.declared.call.Call.{Call}
-use Rattle.kernel_model.specs.Runs.{replies}
-use Rattle.kernel_model.specs.declared.reply.Reply.{Reply}
-use Rattle.launched_units.specs.Launching.{IsLaunchedUnit, IsNotLaunched}
-use Rattle.launched_units.specs.declared.refusal.UnitRefusal.{UnitRefusal}
-use Rattle.launched_units.specs.declared.refusal.UnitRefusal.TheVariants as refusal
-use Rattle.launcher.specs.declared.launched.Launched.{Launched as Service}
-use Rattle.site_table.specs.Table.{Site}
+use Rattle.asked_service.specs.call_table.Table as calls
+use Rattle.asked_service.specs.dropin_merge.declared.resolved.Resolved.{Resolved}
+use Rattle.asked_service.specs.kernel_model.declared.kernel_calls.call.Call.{Call}
+use Rattle.asked_service.specs.kernel_model.Runs.{replies}
+use Rattle.asked_service.specs.kernel_model.declared.reply.Reply.{Reply}
+use Rattle.asked_service.specs.launched_units.Launching.{IsLaunchedUnit, IsNotLaunched}
+use Rattle.asked_service.specs.declared.launched_units.refusal.UnitRefusal.{UnitRefusal}
+use Rattle.asked_service.specs.declared.launched_units.refusal.UnitRefusal.TheVariants as refusal
+use Rattle.asked_service.specs.launcher.declared.launched.Launched.{Launched as Service}
+use Rattle.asked_service.specs.site_table.Table.{Site}
 use Rattle.trace_profile.specs.Extended.{extended, open_unit}
 use Rattle.trace_profile.specs.Names.{AreNames, without}
 use Rattle.trace_profile.specs.PlainNames.{HasPlainNames, IsBesideDefault}

@@ -1,6 +1,6 @@
 -- Why nothing is derived for a unit that is not launched.
-use Rattle.launched_units.specs.declared.refusal.UnitRefusal.{UnitRefusal}
-use Rattle.launched_units.specs.declared.refusal.UnitRefusal.TheVariants as refusal
+use Rattle.asked_service.specs.declared.launched_units.refusal.UnitRefusal.{UnitRefusal}
+use Rattle.asked_service.specs.declared.launched_units.refusal.UnitRefusal.TheVariants as refusal
 use Rattle.trace_profile.specs.declared.derived.DeriveError.{DeriveError}
 use Rattle.trace_profile.specs.declared.derived.DeriveError.TheVariants.{Settings, Plan, Launch, Memory}
 

@@ -2,10 +2,10 @@
 use Rattle.std.specs.Prelude.{ℕ, Bool, List, [], ◌∷◌, ◌++◌, codes, flat_map, filter, length, slice_get}
 use Rattle.std.specs.List.{range_with_len}
 use Rattle.std.specs.Option.{option_map_or}
-use Rattle.call_table.specs.Members.{is_first}
-use Rattle.call_table.specs.Table.{Table, every_call}
-use Rattle.dropin_merge.specs.declared.resolved.Resolved.{Resolved}
-use Rattle.launched_units.specs.Longer.{with_file}
+use Rattle.asked_service.specs.call_table.Members.{is_first}
+use Rattle.asked_service.specs.call_table.Table.{Table, every_call}
+use Rattle.asked_service.specs.dropin_merge.declared.resolved.Resolved.{Resolved}
+use Rattle.asked_service.specs.launched_units.Longer.{with_file}
 
 -- the name of the call line at a place
 abbrev pub name_at : Table → ℕ → List ℕ

@@ -1,11 +1,11 @@
 -- What is derived for a script that asks to push no program.
 use Rattle.std.specs.Prelude.{List, Result, Ok, Err}
-use Rattle.call_table.specs.Table as calls
-use Rattle.dropin_merge.specs.declared.resolved.Resolved.{Resolved}
-use Rattle.kernel_calls.specs.declared.call.Call.{Call}
-use Rattle.launched_units.specs.Launching.{IsNotLaunched}
-use Rattle.launched_units.specs.declared.refusal.UnitRefusal.{UnitRefusal}
-use Rattle.site_table.specs.Table.{Site}
+use Rattle.asked_service.specs.call_table.Table as calls
+use Rattle.asked_service.specs.dropin_merge.declared.resolved.Resolved.{Resolved}
+use Rattle.asked_service.specs.kernel_model.declared.kernel_calls.call.Call.{Call}
+use Rattle.asked_service.specs.launched_units.Launching.{IsNotLaunched}
+use Rattle.asked_service.specs.declared.launched_units.refusal.UnitRefusal.{UnitRefusal}
+use Rattle.asked_service.specs.site_table.Table.{Site}
 use Rattle.trace_profile.specs.Derived.{IsDerived}
 use Rattle.trace_profile.specs.Extended.{open_unit}
 use Rattle.trace_profile.specs.declared.derived.Derived.{Derived}

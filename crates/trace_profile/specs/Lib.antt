@@ -8,3 +8,5 @@ pub mod Derived
 pub mod Only
 pub mod Searching
 pub mod Finding
+pub mod allow_laws
+pub use Rattle.asked_service.specs.dropin_merge as dropin_merge

@@ -3,7 +3,7 @@ use Rattle.std.specs.Prelude.{◌≡◌, ℕ, ◌==◌, Bool, true, false, not, 
 use Rattle.std.specs.List.{All}
 use Rattle.std.specs.List.Sorted.{IsStrictlyIncreasing}
 use Rattle.std.specs.Option.{option_map_or}
-use Rattle.call_table.specs.Table.{Table}
+use Rattle.asked_service.specs.call_table.Table.{Table}
 use Rattle.trace_profile.specs.Extended.{is_first_line}
 
 -- the names but one

@@ -1,12 +1,12 @@
 -- The least list is the only one, and names no call of `@default`.
 use Rattle.std.specs.Prelude.{◌≡◌, ℕ, None, List}
-use Rattle.call_table.specs.Facts.{IsWhole}
-use Rattle.call_table.specs.Table as calls
-use Rattle.dropin_merge.specs.declared.resolved.Resolved.{Resolved}
-use Rattle.kernel_calls.specs.Calls.{AreCalls}
-use Rattle.kernel_calls.specs.declared.call.Call.{Call}
-use Rattle.launcher.specs.Alike.{HasWordArchs}
-use Rattle.site_table.specs.Table.{IsSite, Site}
+use Rattle.asked_service.specs.call_table.Facts.{IsWhole}
+use Rattle.asked_service.specs.call_table.Table as calls
+use Rattle.asked_service.specs.dropin_merge.declared.resolved.Resolved.{Resolved}
+use Rattle.asked_service.specs.kernel_model.kernel_calls.Calls.{AreCalls}
+use Rattle.asked_service.specs.kernel_model.declared.kernel_calls.call.Call.{Call}
+use Rattle.asked_service.specs.launcher.Alike.{HasWordArchs}
+use Rattle.asked_service.specs.site_table.Table.{IsSite, Site}
 use Rattle.trace_profile.specs.Derived.{IsDerived, IsOnlyOne}
 use Rattle.trace_profile.specs.PlainNames.{HasPlainNames}
 use Rattle.trace_profile.specs.Scripts.{first_seccomp}

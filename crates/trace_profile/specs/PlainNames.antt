@@ -1,10 +1,10 @@
 -- Names that a drop-in can list, and those of them that it need not.
 use Rattle.std.specs.Prelude.{◌≡◌, ℕ, ◌≤◌, false, true, List, ◌∷◌, ◌++◌, codes, flat_map, length}
 use Rattle.std.specs.List.{list_all}
-use Rattle.call_table.specs.Names.{is_name}
-use Rattle.call_table.specs.Table.{Table, every_call}
-use Rattle.filter_rules.specs.Covers.{covers}
-use Rattle.unit_names.specs.Expansion.{longest_value}
+use Rattle.asked_service.specs.call_table.Names.{is_name}
+use Rattle.asked_service.specs.call_table.Table.{Table, every_call}
+use Rattle.asked_service.specs.filter_settings.filter_rules.Covers.{covers}
+use Rattle.asked_service.specs.unit_names.Expansion.{longest_value}
 use Rattle.trace_profile.specs.Extended.{name_at}
 use Rattle.trace_profile.specs.Names.{AreNames}
 

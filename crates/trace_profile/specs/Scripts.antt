@@ -2,9 +2,9 @@
 use Rattle.std.specs.Prelude.{ℕ, ◌+◌, Bool, false, List, Option, codes, option_map, position}
 use Rattle.std.specs.Option.{option_map_or}
 use Rattle.std.specs.Str.{bytes_eq}
-use Rattle.call_table.specs.Lookups.{numbered}
-use Rattle.call_table.specs.Table.{Table, calls_in}
-use Rattle.kernel_calls.specs.declared.call.Call.{Call}
+use Rattle.asked_service.specs.call_table.Lookups.{numbered}
+use Rattle.asked_service.specs.call_table.Table.{Table, calls_in}
+use Rattle.asked_service.specs.kernel_model.declared.kernel_calls.call.Call.{Call}
 
 -- the number of the call is that of seccomp(2) in its ABI, whether a script writes the name or the number
 abbrev pub is_seccomp : Table → Call → Bool

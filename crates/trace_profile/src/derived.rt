@@ -3,11 +3,11 @@
 ghost use Rattle.std.specs.Prelude.{◌≡◌};
 ghost use Rattle.trace_profile.specs.Errors.{error_of};
 
-use exec_settings::SettingsError;
-use item_list::ItemList;
-use launched_units::UnitRefusal;
-use mount_plan::PlanError;
-use unit_launch::LaunchRefusal;
+use asked_service::exec_settings::SettingsError;
+use asked_service::launched_units::UnitRefusal;
+use asked_service::mount_plan::PlanError;
+use asked_service::text_forms::item_list::ItemList;
+use asked_service::unit_launch::LaunchRefusal;
 
 /// Places of call lines among those of calls.txt, from 0, ascending; contracts see them as a list.
 pub type Names = ItemList<u32>;

@@ -3,9 +3,9 @@
 ghost use Rattle.std.specs.Prelude.{◌≡◌, ◌∷◌, ◌++◌, IfOk, OnOk, flat_map};
 ghost use Rattle.trace_profile.specs.Extended.{drop_in_text, extended, name_at};
 
-use call_table::CallTable;
-use dropin_merge::Resolved;
-use launched_units::with_file;
+use asked_service::call_table::CallTable;
+use asked_service::dropin_merge::Resolved;
+use asked_service::launched_units::with_file;
 use std::alloc::{AllocError, Global};
 
 /// The name of the call line at a place.

@@ -1,11 +1,13 @@
 //! The least list, derived.
 
-ghost use Rattle.trace_profile.specs.Derived.{Derives};
+ghost use Rattle.asked_service.specs.launched_units.Launching.{IsNotLaunched};
+ghost use Rattle.trace_profile.specs.Derived.{Derives, Serves, tried_with};
+ghost use Rattle.trace_profile.specs.Extended.{extended};
 ghost use Rattle.trace_profile.specs.Finding.{DerivesOpen};
-ghost use Rattle.std.specs.Prelude.{◌≡◌, All, IfOk, None, length};
+ghost use Rattle.std.specs.Prelude.{◌≡◌, All, IfOk, IfErr, None, length};
 ghost use Rattle.trace_profile.specs.Derived.{IsLeast};
 ghost use Rattle.trace_profile.specs.Searching.{AreServing, tried_of};
-ghost use Rattle.kernel_calls.specs.Calls.{IsCall};
+ghost use Rattle.asked_service.specs.kernel_model.kernel_calls.Calls.{IsCall};
 
 use crate::derived::{DeriveError, Derived, Names};
 use crate::extending::extended;
@@ -14,12 +16,13 @@ use crate::replies::replies_of;
 use crate::scripts::first_seccomp;
 use crate::searching::Trial;
 use crate::used::used_marks;
-use call_table::CallTable;
-use dropin_merge::Resolved;
-use kernel_calls::{Call, fits};
-use launched_units::{UnitRefusal, launch_whole};
-use script_text::Script;
-use site_table::SiteTable;
+use asked_service::call_table::CallTable;
+use asked_service::dropin_merge::Resolved;
+use asked_service::kernel_model::Reply;
+use asked_service::kernel_model::kernel_calls::{Call, fits};
+use asked_service::launched_units::{UnitRefusal, launch_whole};
+use asked_service::script_text::Script;
+use asked_service::site_table::SiteTable;
 use std::alloc::{AllocError, Global};
 
 // Names that serve: those that the script uses, which as a rule do, or else all.
@@ -34,6 +37,25 @@ fn begin(alloc: Global, trial: &Trial, every: Vec<u32>) -> Result<Vec<u32>, Allo
     if serves { Ok(used) } else { Ok(every) }
 }
 
+// The replies of the unit that allows these names, where it is launched.
+fn replies_with(
+    alloc: Global,
+    unit: &Resolved,
+    calls: &CallTable,
+    site: &SiteTable,
+    names: &[u32],
+    script: &[Call],
+) -> Result<Vec<Reply>, UnitRefusal>
+    ensures replies { IfOk result (λ said. Serves (tried_with unit.now calls.now site.now script.now said.items) names.now) }
+    ensures one_each { IfOk result (λ said. length said.items ≡ length script.now) }
+    ensures refused { IfErr result (λ error. IsNotLaunched (extended unit.now calls.now names.now) calls.now site.now error) }
+{
+    let open = extended(alloc, unit, calls, names)?;
+    let mut service = launch_whole(alloc, &open, calls, site)?;
+    let said = replies_of(alloc, &mut service.world, script)?;
+    Ok(said)
+}
+
 // The least list, for a script that asks to push no program.
 fn derive_open(
     alloc: Global,
@@ -45,9 +67,7 @@ fn derive_open(
     ensures { DerivesOpen unit.now calls.now site.now script.now result }
 {
     let every = every_name(alloc, calls)?;
-    let open = extended(alloc, unit, calls, &every)?;
-    let mut service = launch_whole(alloc, &open, calls, site)?;
-    let said = replies_of(alloc, &mut service.world, script.list())?;
+    let said = replies_with(alloc, unit, calls, site, &every, script.list())?;
     let trial = Trial {
         unit,
         calls,

@@ -1,12 +1,13 @@
-//! The least list of calls that a service has to be allowed for a script of calls.
+//! Finds the least list of calls that a service must be allowed for a script of calls.
 //!
-//! Whoever knows what a service calls, by a trace or a test run, gets the one `SystemCallFilter=` that lets it through. The list
-//! is searched by launching the unit with lists of names and making the calls of the script: it rests on `launched_units` for the
-//! services of longer units, and on `kernel_model`, whose step makes each call.
+//! If you know what a service calls, by a trace or a test run, this is the one `SystemCallFilter=` that lets it through. The
+//! search launches the unit with lists of names and makes the calls of the script (`launched_units`, and the step of
+//! `kernel_model`). [`allow_laws`] says why trying a name at a time is enough.
 //!
 //! `derive(alloc, &unit, &calls, &site, &script)?.names` are places of call lines, and `drop_in` is the text that allows them.
 #![tactic(auto)]
 
+pub mod allow_laws;
 mod derived;
 mod extending;
 mod finding;
@@ -16,6 +17,7 @@ mod scripts;
 mod searching;
 mod used;
 
+pub use asked_service::dropin_merge;
 pub use derived::{DeriveError, Derived, Names};
 pub use extending::drop_in;
 pub use finding::derive;

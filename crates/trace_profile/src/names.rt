@@ -1,13 +1,13 @@
 //! Lists of names, each by the place of its first line.
 
 ghost use Rattle.std.specs.Prelude.{◌≡◌, ◌∷◌, [], ◌++◌, IfOk, OnOk, cond, filter, length};
-ghost use Rattle.call_table.specs.Members.{is_first};
-ghost use Rattle.call_table.specs.Table.{every_call};
+ghost use Rattle.asked_service.specs.call_table.Members.{is_first};
+ghost use Rattle.asked_service.specs.call_table.Table.{every_call};
 ghost use Rattle.trace_profile.specs.Extended.{every_name, is_first_line};
 ghost use Rattle.trace_profile.specs.Names.{is_marked, without};
 
 use crate::extending::name_at;
-use call_table::CallTable;
+use asked_service::call_table::CallTable;
 use std::alloc::{AllocError, Global};
 
 // How many call lines there are, in all ABIs.

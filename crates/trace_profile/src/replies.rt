@@ -1,11 +1,11 @@
 //! The replies to the calls of a script, made one behind the other.
 
 ghost use Rattle.std.specs.Prelude.{◌≡◌, ◌≢◌, IfOk, IsTrue, false, length};
-ghost use Rattle.kernel_model.specs.Runs.{replies};
+ghost use Rattle.asked_service.specs.kernel_model.Runs.{replies};
 ghost use Rattle.trace_profile.specs.Replies.{Compares};
 
-use kernel_calls::Call;
-use kernel_model::{Reply, World};
+use asked_service::kernel_model::kernel_calls::Call;
+use asked_service::kernel_model::{Reply, World};
 use std::alloc::{AllocError, Global};
 
 /// The replies, in the order of the calls.

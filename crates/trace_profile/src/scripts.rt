@@ -3,8 +3,8 @@
 ghost use Rattle.std.specs.Prelude.{◌≡◌, ◌<◌, IfSome, length, position};
 ghost use Rattle.trace_profile.specs.Scripts.{first_seccomp, is_seccomp};
 
-use call_table::CallTable;
-use kernel_calls::Call;
+use asked_service::call_table::CallTable;
+use asked_service::kernel_model::kernel_calls::Call;
 
 // Whether the number of the call is that of seccomp(2) in its ABI.
 fn is_seccomp(calls: &CallTable, call: &Call) -> bool

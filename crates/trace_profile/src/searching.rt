@@ -2,18 +2,18 @@
 
 ghost use Rattle.std.specs.Prelude.{◌≡◌, ◌≢◌, IfOk, false, length};
 ghost use Rattle.trace_profile.specs.Derived.{IsLeast, Tells};
-ghost use Rattle.launched_units.specs.declared.refusal.UnitRefusal.TheVariants.{Memory};
+ghost use Rattle.asked_service.specs.declared.launched_units.refusal.UnitRefusal.TheVariants.{Memory};
 ghost use Rattle.trace_profile.specs.Searching.{AreKept, AreServing, LeavesOut, tried_of};
 
 use crate::extending::extended;
 use crate::names::without;
 use crate::replies::are_replies;
-use call_table::CallTable;
-use dropin_merge::Resolved;
-use kernel_calls::Call;
-use kernel_model::Reply;
-use launched_units::{UnitRefusal, launch_whole};
-use site_table::SiteTable;
+use asked_service::call_table::CallTable;
+use asked_service::dropin_merge::Resolved;
+use asked_service::kernel_model::Reply;
+use asked_service::kernel_model::kernel_calls::Call;
+use asked_service::launched_units::{UnitRefusal, launch_whole};
+use asked_service::site_table::SiteTable;
 use std::alloc::{AllocError, Global};
 
 /// What lists of names are tried on.

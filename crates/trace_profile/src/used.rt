@@ -1,7 +1,7 @@
 //! The names that a script uses.
 
-use call_table::CallTable;
-use kernel_calls::Call;
+use asked_service::call_table::CallTable;
+use asked_service::kernel_model::kernel_calls::Call;
 use std::alloc::{AllocError, Global};
 
 fn set_mark(marks: &mut [bool], place: usize, mark: bool) {

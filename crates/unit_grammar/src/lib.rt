@@ -16,5 +16,7 @@ mod unit;
 
 pub use notes::{Note, NoteCause, Notes};
 pub use reader::read_unit;
+pub use text_forms;
+pub use text_forms::linux_numbers;
 pub use texts::Text;
 pub use unit::{Assignment, Assignments, UnitError, UnitText};

@@ -5,8 +5,8 @@ ghost use Rattle.std.specs.Prelude.{◌≡◌};
 ghost use Rattle.unit_grammar.specs.Causes.{cause_text};
 
 use NoteCause::{NoEquals, NoSection, Specifier, Unjudged, UnknownName, Value};
-use item_list::ItemList;
 use std::alloc::{AllocError, Global};
+use text_forms::item_list::ItemList;
 
 /// Why a line, or a part of it, has no effect.
 #[derive(Clone, Copy, Debug, PartialEq, Eq)]

@@ -6,8 +6,8 @@ ghost use Rattle.unit_grammar.specs.declared.unit.UnitError.TheVariants.{Memory}
 
 use crate::notes::Notes;
 use crate::texts::Text;
-use item_list::ItemList;
 use std::alloc::{AllocError, Global};
+use text_forms::item_list::ItemList;
 use thiserror::Error;
 
 /// A key of a section, and the value that it is given.

@@ -1,16 +1,16 @@
 -- Calls in their order, by how a run ended behind what was prepared.
 use Rattle.std.proofs.Common.{◌≡◌, ℕ, List, Option, Result, Ok, Err, sym, subst}
 use Rattle.std.specs.Prelude.{IsTrue}
-use Rattle.host_io.specs.Calls.{Ask, ShelfCall, Whole}
-use Rattle.host_io.specs.Files.{Files}
-use Rattle.command_answers.specs.Asking.{course, course_of_run}
-use Rattle.command_answers.specs.Endings.{is_whole}
-use Rattle.command_answers.specs.Laws.{GoTogether, IsAdmitted, Laws}
-use Rattle.command_answers.specs.Printing.{Finishes, FinishesStop, Output, PrintsText}
-use Rattle.command_answers.specs.declared.ending.Ending.{Ending}
-use Rattle.command_answers.specs.declared.ending.Ending.TheVariants.{OutOfMemory}
-use Rattle.command_answers.specs.declared.stop.Stop.{Stop}
-use Rattle.command_answers.proofs.Ended.{ended_so, printed_so, stopped_so}
+use Rattle.exec_settings.specs.host_io.Calls.{Ask, ShelfCall, Whole}
+use Rattle.exec_settings.specs.host_io.Files.{Files}
+use Rattle.unit_inputs.specs.command_answers.Asking.{course, course_of_run}
+use Rattle.unit_inputs.specs.command_answers.Endings.{is_whole}
+use Rattle.unit_inputs.specs.command_answers.Laws.{GoTogether, IsAdmitted, Laws}
+use Rattle.unit_inputs.specs.command_answers.Printing.{Finishes, FinishesStop, Output, PrintsText}
+use Rattle.unit_inputs.specs.declared.command_answers.ending.Ending.{Ending}
+use Rattle.unit_inputs.specs.declared.command_answers.ending.Ending.TheVariants.{OutOfMemory}
+use Rattle.unit_inputs.specs.declared.command_answers.stop.Stop.{Stop}
+use Rattle.unit_inputs.proofs.CommandAnswersEnded.{ended_so, printed_so, stopped_so}
 use Rattle.unit_inputs.specs.Asking.{AsksInOrder}
 use Rattle.unit_inputs.proofs.Ordering.{order_cut}
 

@@ -2,3 +2,15 @@ pub mod Ended
 pub mod Ordering
 pub mod Reading
 pub mod Steps
+pub mod Asking
+pub mod CommandAnswersEnded
+pub mod FileCommands
+pub mod ReadyTexts
+pub mod Refusing
+pub mod Texts
+pub mod Runs
+pub mod Stopped
+pub mod Said
+pub use Rattle.exec_settings.proofs.AbsPath as AbsPath
+pub use Rattle.exec_settings.proofs.HostIo as HostIo
+pub use Rattle.exec_settings.proofs.TextForms as TextForms

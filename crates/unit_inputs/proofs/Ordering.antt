@@ -2,17 +2,17 @@
 use Rattle.std.proofs.Common.{◌≡◌, ℕ, Box, Global, List, [], ◌∷◌, ◌++◌, Option, Some, None, Result, Ok, Err, refl}
 use Rattle.std.specs.Prelude.{IfSome, IsErrOf}
 use Rattle.std.specs.Result.{IsErrAnd}
-use Rattle.host_io.specs.Calls.{Ask, ShelfCall, Course, Whole, Cut, Went, unless_refused}
-use Rattle.host_io.specs.Files.{Files}
-use Rattle.host_io.proofs.Calling.{all_told, told_cut}
-use Rattle.call_table.specs.Table.{Table}
-use Rattle.dropin_merge.specs.Asking.{resolve_asks}
-use Rattle.dropin_merge.specs.declared.resolved.Resolved.{Resolved}
-use Rattle.command_answers.specs.Asking.{course, input_file, unless_told}
-use Rattle.command_answers.specs.Stops.{IsAnswer, Prepares, first_refusal}
-use Rattle.command_answers.specs.declared.stop.Stop.{Stop}
-use Rattle.command_answers.specs.declared.stop.Stop.TheVariants.{ReadFault}
-use Rattle.command_answers.proofs.Asking.{answer_behind, answer_stops, prepared_behind, prepared_stops, told_quiet, told_quiet_stopped, told_stopped}
+use Rattle.exec_settings.specs.host_io.Calls.{Ask, ShelfCall, Course, Whole, Cut, Went, unless_refused}
+use Rattle.exec_settings.specs.host_io.Files.{Files}
+use Rattle.exec_settings.proofs.HostIo.Calling.{all_told, told_cut}
+use Rattle.exec_settings.specs.call_table.Table.{Table}
+use Rattle.exec_settings.specs.dropin_merge.Asking.{resolve_asks}
+use Rattle.exec_settings.specs.dropin_merge.declared.resolved.Resolved.{Resolved}
+use Rattle.unit_inputs.specs.command_answers.Asking.{course, input_file, unless_told}
+use Rattle.unit_inputs.specs.command_answers.Stops.{IsAnswer, Prepares, first_refusal}
+use Rattle.unit_inputs.specs.declared.command_answers.stop.Stop.{Stop}
+use Rattle.unit_inputs.specs.declared.command_answers.stop.Stop.TheVariants.{ReadFault}
+use Rattle.unit_inputs.proofs.Asking.{answer_behind, answer_stops, prepared_behind, prepared_stops, told_quiet, told_quiet_stopped, told_stopped}
 use Rattle.unit_inputs.specs.Asking.{AsksInOrder, asks_with_file, input_asks, site_asks, table_asks}
 use Rattle.unit_inputs.specs.CallsRefusals.{calls_in}
 use Rattle.unit_inputs.specs.Inputs.{input_refusals, inputs_of, inputs_view}

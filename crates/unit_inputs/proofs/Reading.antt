@@ -2,13 +2,13 @@
 use Rattle.std.proofs.Common.{◌≡◌, ◌∙◌, ℕ, List, Option, Some, None, Result, Ok, Err, refl, ap}
 use Rattle.std.specs.Prelude.{IsErrOf, IsSome}
 use Rattle.std.specs.Result.{IsErrAnd}
-use Rattle.host_io.specs.Files.{Files}
-use Rattle.command_answers.specs.Stops.{HasReadCause}
-use Rattle.command_answers.specs.declared.stop.Stop.{Stop}
-use Rattle.command_answers.specs.declared.stop.Stop.TheVariants.{ReadFault}
-use Rattle.command_answers.proofs.FileCommands.{at_stop}
-use Rattle.command_answers.proofs.Refusing.{quiet}
-use Rattle.unit_names.specs.Cutting.{name_of}
+use Rattle.exec_settings.specs.host_io.Files.{Files}
+use Rattle.unit_inputs.specs.command_answers.Stops.{HasReadCause}
+use Rattle.unit_inputs.specs.declared.command_answers.stop.Stop.{Stop}
+use Rattle.unit_inputs.specs.declared.command_answers.stop.Stop.TheVariants.{ReadFault}
+use Rattle.unit_inputs.proofs.FileCommands.{at_stop}
+use Rattle.unit_inputs.proofs.Refusing.{quiet}
+use Rattle.exec_settings.specs.unit_names.Cutting.{name_of}
 use Rattle.unit_inputs.specs.ReadsFor.{ReadsFor}
 
 module _ {S T : Type 0} (told : S → Option Files) (faults : S → ℕ) (unit : List ℕ) (before now : S) (value : T) (reads : ReadsFor told faults unit before now (Ok value)) where

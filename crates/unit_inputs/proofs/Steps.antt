@@ -1,11 +1,11 @@
 -- From inputs to settings.
 use Rattle.std.proofs.Common.{◌≡◌, ℕ, Option, Some, None, List, ◌++◌, Result, Ok, Err, sym, ap, ◌∙◌}
 use Rattle.std.specs.Prelude.{IfSome}
-use Rattle.host_io.specs.Files.{Files}
-use Rattle.command_answers.specs.Stops.{Prepares, first_refusal}
-use Rattle.command_answers.specs.declared.stop.Stop.{Stop}
-use Rattle.command_answers.specs.declared.stop.Stop.TheVariants as stop
-use Rattle.command_answers.proofs.Refusing.{behind_none, stops_before}
+use Rattle.exec_settings.specs.host_io.Files.{Files}
+use Rattle.unit_inputs.specs.command_answers.Stops.{Prepares, first_refusal}
+use Rattle.unit_inputs.specs.declared.command_answers.stop.Stop.{Stop}
+use Rattle.unit_inputs.specs.declared.command_answers.stop.Stop.TheVariants as stop
+use Rattle.unit_inputs.proofs.Refusing.{behind_none, stops_before}
 use Rattle.unit_inputs.specs.Inputs.{Inputs, input_refusals, inputs_of, inputs_view}
 use Rattle.unit_inputs.specs.declared.inputs.UnitInputs.{UnitInputs}
 use Rattle.unit_inputs.specs.Settled.{AreSettled, refusals_by, refusals_of, unit_refusals}

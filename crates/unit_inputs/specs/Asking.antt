@@ -1,11 +1,11 @@
 -- The calls by which the inputs of a command on a unit are read, in their order. Each answer is judged before the next call.
 use Rattle.std.specs.Prelude.{ℕ, List, [], ◌∷◌, ◌++◌, IfSome, Option}
-use Rattle.host_io.specs.Calls.{Ask, ShelfCall, Course, Went, unless_refused}
-use Rattle.host_io.specs.Files.{Files}
-use Rattle.dropin_merge.specs.Asking.{resolve_asks}
-use Rattle.command_answers.specs.Asking.{input_file, unless_told}
-use Rattle.command_answers.specs.ReadFiles.{table_path}
-use Rattle.command_answers.specs.Stops.{first_refusal}
+use Rattle.exec_settings.specs.host_io.Calls.{Ask, ShelfCall, Course, Went, unless_refused}
+use Rattle.exec_settings.specs.host_io.Files.{Files}
+use Rattle.exec_settings.specs.dropin_merge.Asking.{resolve_asks}
+use Rattle.unit_inputs.specs.command_answers.Asking.{input_file, unless_told}
+use Rattle.unit_inputs.specs.command_answers.ReadFiles.{table_path}
+use Rattle.unit_inputs.specs.command_answers.Stops.{first_refusal}
 use Rattle.unit_inputs.specs.CallsRefusals.{calls_in}
 use Rattle.unit_inputs.specs.Inputs.{input_refusals}
 use Rattle.unit_inputs.specs.SiteRefusals.{site_path}

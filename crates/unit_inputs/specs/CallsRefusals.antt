@@ -1,18 +1,18 @@
 -- The table of calls.txt, or the line of its refusal.
 use Rattle.std.specs.Prelude.{ℕ, List, [], ◌++◌, codes, Result}
 use Rattle.std.specs.Fmt.{decimal}
-use Rattle.host_io.specs.Files.{Files}
-use Rattle.text_forms.specs.Escaped.{escaped_word}
-use Rattle.call_table.specs.Causes.{cause_text}
-use Rattle.call_table.specs.Reading.{table_of}
-use Rattle.call_table.specs.Table.{Table}
-use Rattle.call_table.specs.declared.causes.CallsCause.{CallsCause}
-use Rattle.call_table.specs.declared.causes.CallsError.{CallsError}
-use Rattle.call_table.specs.declared.causes.CallsError.TheVariants.{NotText, Line, NoAbi, NoCall, Memory}
-use Rattle.command_answers.specs.ReadFiles.{table_path}
-use Rattle.command_answers.specs.Refusals.{refused_line}
+use Rattle.exec_settings.specs.host_io.Files.{Files}
+use Rattle.exec_settings.specs.text_forms.Escaped.{escaped_word}
+use Rattle.exec_settings.specs.call_table.Causes.{cause_text}
+use Rattle.exec_settings.specs.call_table.Reading.{table_of}
+use Rattle.exec_settings.specs.call_table.Table.{Table}
+use Rattle.exec_settings.specs.call_table.declared.causes.CallsCause.{CallsCause}
+use Rattle.exec_settings.specs.call_table.declared.causes.CallsError.{CallsError}
+use Rattle.exec_settings.specs.call_table.declared.causes.CallsError.TheVariants.{NotText, Line, NoAbi, NoCall, Memory}
+use Rattle.unit_inputs.specs.command_answers.ReadFiles.{table_path}
+use Rattle.unit_inputs.specs.command_answers.Refusals.{refused_line}
 use Rattle.unit_inputs.specs.FileRefusals.{bytes_in}
-use Rattle.command_answers.specs.Stops.{and_then, or_line}
+use Rattle.unit_inputs.specs.command_answers.Stops.{and_then, or_line}
 
 -- the first faulty line, from 1, and why
 abbrev pub line_cause : ℕ → CallsCause → List ℕ

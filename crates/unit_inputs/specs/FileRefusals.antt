@@ -1,8 +1,8 @@
 -- A file that has to be there: its bytes, or the line that refuses it.
 use Rattle.std.specs.Prelude.{ℕ, List, codes, Result, Ok, Err}
-use Rattle.host_io.specs.Files.{Files}
-use Rattle.command_answers.specs.ReadFiles.{Content, Holds, IsMissing, IsTooLarge, content_at}
-use Rattle.command_answers.specs.Refusals.{refused_line}
+use Rattle.exec_settings.specs.host_io.Files.{Files}
+use Rattle.unit_inputs.specs.command_answers.ReadFiles.{Content, Holds, IsMissing, IsTooLarge, content_at}
+use Rattle.unit_inputs.specs.command_answers.Refusals.{refused_line}
 
 -- by what the file has
 abbrev pub bytes_held : List ℕ → Content → Result (List ℕ) (List ℕ)

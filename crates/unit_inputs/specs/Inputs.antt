@@ -1,10 +1,10 @@
 -- The inputs of a command on a unit, and the lines of their refusals.
 use Rattle.std.specs.Prelude.{ℕ, List, [], ◌∷◌, Option, Some, None, Result, Ok, Err}
-use Rattle.host_io.specs.Files.{Files}
-use Rattle.call_table.specs.Table.{Table}
-use Rattle.dropin_merge.specs.declared.resolved.Resolved.{Resolved}
-use Rattle.site_table.specs.Table.{Site}
-use Rattle.command_answers.specs.Stops.{refusal_in}
+use Rattle.exec_settings.specs.host_io.Files.{Files}
+use Rattle.exec_settings.specs.call_table.Table.{Table}
+use Rattle.exec_settings.specs.dropin_merge.declared.resolved.Resolved.{Resolved}
+use Rattle.exec_settings.specs.site_table.Table.{Site}
+use Rattle.unit_inputs.specs.command_answers.Stops.{refusal_in}
 use Rattle.unit_inputs.specs.declared.inputs.UnitInputs.{UnitInputs}
 use Rattle.unit_inputs.specs.CallsRefusals.{calls_in}
 use Rattle.unit_inputs.specs.SiteRefusals.{site_in}

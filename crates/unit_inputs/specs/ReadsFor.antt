@@ -1,10 +1,10 @@
 -- How the files of a unit are read, whatever is taken from them.
 use Rattle.std.specs.Prelude.{◌≡◌, ℕ, IsErrOf, IsSome, List, Option, Result}
-use Rattle.host_io.specs.Files.{Files}
-use Rattle.command_answers.specs.Stops.{HasReadCause}
-use Rattle.command_answers.specs.declared.stop.Stop.{Stop}
-use Rattle.command_answers.specs.declared.stop.Stop.TheVariants.{ReadFault}
-use Rattle.unit_names.specs.Cutting.{name_of}
+use Rattle.exec_settings.specs.host_io.Files.{Files}
+use Rattle.unit_inputs.specs.command_answers.Stops.{HasReadCause}
+use Rattle.unit_inputs.specs.declared.command_answers.stop.Stop.{Stop}
+use Rattle.unit_inputs.specs.declared.command_answers.stop.Stop.TheVariants.{ReadFault}
+use Rattle.exec_settings.specs.unit_names.Cutting.{name_of}
 
 -- a read fails only for the name of a service, and without one the shelf is not read; the files stay what they were; and a
 -- fault comes where the shelf's count of them rose

@@ -1,7 +1,7 @@
 -- The lines of units whose settings are refused.
 use Rattle.std.specs.Prelude.{ℕ, List, [], ◌++◌, codes}
-use Rattle.text_forms.specs.Escaped.{escaped_word}
-use Rattle.command_answers.specs.Refusals.{refused_line}
+use Rattle.exec_settings.specs.text_forms.Escaped.{escaped_word}
+use Rattle.unit_inputs.specs.command_answers.Refusals.{refused_line}
 use Rattle.exec_settings.specs.declared.errors.SettingsError.{SettingsError}
 use Rattle.exec_settings.specs.declared.errors.SettingsError.TheVariants.{NoCommand, PrivilegedCommand, OutsideProfile, NoSuchUser, NoSuchGroup, MissingGroup, TooManyPaths, Memory}
 

@@ -1,7 +1,7 @@
 -- The settings of a unit by its inputs, and the lines of their refusals.
 use Rattle.std.specs.Prelude.{ℕ, List, [], ◌∷◌, ◌++◌, Option, Some, None}
 use Rattle.std.specs.Option.{option_map}
-use Rattle.host_io.specs.Files.{Files}
+use Rattle.exec_settings.specs.host_io.Files.{Files}
 use Rattle.exec_settings.specs.AreSettings.{AreSettings}
 use Rattle.exec_settings.specs.Refusals.{refusal_of}
 use Rattle.exec_settings.specs.declared.service.Settings.{Settings}

@@ -1,16 +1,16 @@
 -- The site of site.toml, or the line of its refusal.
 use Rattle.std.specs.Prelude.{ℕ, List, [], ◌++◌, codes, Result}
 use Rattle.std.specs.Fmt.{decimal}
-use Rattle.host_io.specs.Files.{Files}
-use Rattle.site_table.specs.Reading.{site_of}
-use Rattle.site_table.specs.Table.{Site}
-use Rattle.site_table.specs.declared.error.RowCause.{RowCause}
-use Rattle.site_table.specs.declared.error.RowCause.TheVariants.{Key, Path, Kind, Number, Caps, Both, Duplicate, NoParent}
-use Rattle.site_table.specs.declared.error.SiteError.{SiteError}
-use Rattle.site_table.specs.declared.error.SiteError.TheVariants.{NotToml, Top, TooMany, Row, User, Group, Memory}
-use Rattle.command_answers.specs.Refusals.{refused_line}
+use Rattle.exec_settings.specs.host_io.Files.{Files}
+use Rattle.exec_settings.specs.site_table.Reading.{site_of}
+use Rattle.exec_settings.specs.site_table.Table.{Site}
+use Rattle.exec_settings.specs.site_table.declared.error.RowCause.{RowCause}
+use Rattle.exec_settings.specs.site_table.declared.error.RowCause.TheVariants.{Key, Path, Kind, Number, Caps, Both, Duplicate, NoParent}
+use Rattle.exec_settings.specs.site_table.declared.error.SiteError.{SiteError}
+use Rattle.exec_settings.specs.site_table.declared.error.SiteError.TheVariants.{NotToml, Top, TooMany, Row, User, Group, Memory}
+use Rattle.unit_inputs.specs.command_answers.Refusals.{refused_line}
 use Rattle.unit_inputs.specs.FileRefusals.{bytes_in}
-use Rattle.command_answers.specs.Stops.{and_then, or_line}
+use Rattle.unit_inputs.specs.command_answers.Stops.{and_then, or_line}
 
 abbrev pub site_path : List ℕ
 site_path = codes "site.toml"

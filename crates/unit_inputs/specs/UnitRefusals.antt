@@ -1,18 +1,18 @@
 -- The unit of a name, or the line of its refusal (systemd.unit(5)).
 use Rattle.std.specs.Prelude.{◌≡◌, ℕ, List, [], ◌++◌, codes, IsSome, None, Result, Ok, Err}
 use Rattle.std.specs.Fmt.{decimal}
-use Rattle.host_io.specs.Files.{Files}
-use Rattle.unit_grammar.specs.declared.unit.UnitError.{UnitError}
-use Rattle.unit_grammar.specs.declared.unit.UnitError.TheVariants as text
-use Rattle.dropin_merge.specs.Resolving.{resolved_of}
-use Rattle.dropin_merge.specs.declared.errors.ResolveError.{ResolveError}
-use Rattle.dropin_merge.specs.declared.errors.ResolveError.TheVariants.{BadName, NotFound, Masked, DropIns, TooLarge, Text, ReadFault, Memory}
-use Rattle.dropin_merge.specs.declared.resolved.Resolved.{Resolved}
-use Rattle.command_answers.specs.Refusals.{refused_line}
-use Rattle.command_answers.specs.Stops.{or_line}
-use Rattle.command_answers.specs.declared.stop.Stop.{Stop}
-use Rattle.command_answers.specs.declared.stop.Stop.TheVariants as stop
-use Rattle.unit_names.specs.Cutting.{name_of}
+use Rattle.exec_settings.specs.host_io.Files.{Files}
+use Rattle.exec_settings.specs.unit_grammar.declared.unit.UnitError.{UnitError}
+use Rattle.exec_settings.specs.unit_grammar.declared.unit.UnitError.TheVariants as text
+use Rattle.exec_settings.specs.dropin_merge.Resolving.{resolved_of}
+use Rattle.exec_settings.specs.dropin_merge.declared.errors.ResolveError.{ResolveError}
+use Rattle.exec_settings.specs.dropin_merge.declared.errors.ResolveError.TheVariants.{BadName, NotFound, Masked, DropIns, TooLarge, Text, ReadFault, Memory}
+use Rattle.exec_settings.specs.dropin_merge.declared.resolved.Resolved.{Resolved}
+use Rattle.unit_inputs.specs.command_answers.Refusals.{refused_line}
+use Rattle.unit_inputs.specs.command_answers.Stops.{or_line}
+use Rattle.unit_inputs.specs.declared.command_answers.stop.Stop.{Stop}
+use Rattle.unit_inputs.specs.declared.command_answers.stop.Stop.TheVariants as stop
+use Rattle.exec_settings.specs.unit_names.Cutting.{name_of}
 
 -- why the text of a file is refused
 abbrev pub text_cause : UnitError → List ℕ

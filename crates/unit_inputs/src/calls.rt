@@ -1,17 +1,17 @@
 // The table of system calls, with the lines of its refusals.
 ghost use Rattle.std.specs.Prelude.{◌≡◌, IfOk, IfSome, IsErrOf};
-ghost use Rattle.host_io.specs.Calls.{Went};
-ghost use Rattle.command_answers.specs.Asking.{course};
-ghost use Rattle.command_answers.specs.Stops.{HasReadCause, IsAnswer};
+ghost use Rattle.exec_settings.specs.host_io.Calls.{Went};
+ghost use Rattle.unit_inputs.specs.command_answers.Asking.{course};
+ghost use Rattle.unit_inputs.specs.command_answers.Stops.{HasReadCause, IsAnswer};
 ghost use Rattle.unit_inputs.specs.Asking.{table_asks};
 ghost use Rattle.unit_inputs.specs.CallsRefusals.{calls_cause, calls_in, calls_line, calls_said, line_cause, no_call};
 
+use crate::command_answers::{Stop, TABLE_PATH, boxed, refuse, refused_line};
 use crate::files::read_input;
-use call_table::{CallTable, CallsCause, CallsError, read_calls};
-use command_answers::{Stop, TABLE_PATH, boxed, refuse, refused_line};
-use host_io::Shelf;
+use exec_settings::call_table::{CallTable, CallsCause, CallsError, read_calls};
+use exec_settings::host_io::Shelf;
+use exec_settings::text_forms::push_word;
 use std::alloc::{AllocError, Global};
-use text_forms::push_word;
 
 // Which line is faulty, and why.
 fn line_cause(alloc: Global, line: u64, cause: CallsCause) -> Result<Vec<u8>, AllocError>

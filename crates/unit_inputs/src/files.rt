@@ -1,12 +1,12 @@
 // The bytes of a file that has to be there.
 ghost use Rattle.std.specs.Prelude.{◌≡◌, ◌∷◌, [], IfSome};
-ghost use Rattle.host_io.specs.Calls.{Went};
-ghost use Rattle.command_answers.specs.Asking.{course, input_file};
-ghost use Rattle.command_answers.specs.Stops.{HasReadCause, IsAnswer};
+ghost use Rattle.exec_settings.specs.host_io.Calls.{Went};
+ghost use Rattle.unit_inputs.specs.command_answers.Asking.{course, input_file};
+ghost use Rattle.unit_inputs.specs.command_answers.Stops.{HasReadCause, IsAnswer};
 ghost use Rattle.unit_inputs.specs.FileRefusals.{bytes_in};
 
-use command_answers::{FileRead, Stop, read_file, refuse, refused_line};
-use host_io::Shelf;
+use crate::command_answers::{FileRead, Stop, read_file, refuse, refused_line};
+use exec_settings::host_io::Shelf;
 use std::alloc::Global;
 
 /// The bytes of a file, which is refused where it is missing or has more than 1 MiB.

@@ -1,20 +1,20 @@
 // The inputs of a command on a unit.
 ghost use Rattle.std.specs.Prelude.{◌≡◌, IfOk, IfSome, Some};
-ghost use Rattle.command_answers.specs.Asking.{course};
-ghost use Rattle.command_answers.specs.Stops.{Prepares};
-ghost use Rattle.unit_names.specs.Cutting.{name_of};
+ghost use Rattle.unit_inputs.specs.command_answers.Asking.{course};
+ghost use Rattle.unit_inputs.specs.command_answers.Stops.{Prepares};
+ghost use Rattle.exec_settings.specs.unit_names.Cutting.{name_of};
 ghost use Rattle.unit_inputs.specs.Asking.{AsksInOrder, input_asks};
 ghost use Rattle.unit_inputs.specs.ReadsFor.{ReadsFor};
 ghost use Rattle.unit_inputs.specs.Inputs.{input_refusals, inputs_of, inputs_view};
 
 use crate::calls::read_table;
+use crate::command_answers::Stop;
 use crate::site::read_site;
 use crate::units::read_unit;
-use call_table::CallTable;
-use command_answers::Stop;
-use dropin_merge::Resolved;
-use host_io::Shelf;
-use site_table::SiteTable;
+use exec_settings::call_table::CallTable;
+use exec_settings::dropin_merge::Resolved;
+use exec_settings::host_io::Shelf;
+use exec_settings::site_table::SiteTable;
 use std::alloc::Global;
 
 /// What a command on a unit reads.

@@ -9,6 +9,7 @@
 #![tactic(auto)]
 
 mod calls;
+pub mod command_answers;
 mod files;
 mod inputs;
 mod refusals;
@@ -17,6 +18,10 @@ mod site;
 mod units;
 
 pub use calls::read_table;
+pub use exec_settings;
+pub use exec_settings::{
+    abs_path, call_table, filter_settings, host_io, site_table, text_forms, unit_names,
+};
 pub use files::read_input;
 pub use inputs::{UnitInputs, read_inputs};
 pub use refusals::settings_line;

@@ -2,10 +2,10 @@
 ghost use Rattle.std.specs.Prelude.{◌≡◌, IfOk};
 ghost use Rattle.unit_inputs.specs.SettingsRefusals.{cause_with, settings_cause, settings_line};
 
-use command_answers::refused_line;
+use crate::command_answers::refused_line;
 use exec_settings::SettingsError;
+use exec_settings::text_forms::push_word;
 use std::alloc::{AllocError, Global};
-use text_forms::push_word;
 
 // A cause, and what it is about.
 fn cause_with(alloc: Global, cause: &[u8], what: &str) -> Result<Vec<u8>, AllocError>

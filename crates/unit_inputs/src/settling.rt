@@ -1,17 +1,17 @@
 //! The inputs of a unit with its settings.
 ghost use Rattle.std.specs.Prelude.{◌≡◌, IfOk, IfSome, IsErrOf, Some};
-ghost use Rattle.command_answers.specs.Asking.{course};
-ghost use Rattle.command_answers.specs.Stops.{Prepares};
+ghost use Rattle.unit_inputs.specs.command_answers.Asking.{course};
+ghost use Rattle.unit_inputs.specs.command_answers.Stops.{Prepares};
 ghost use Rattle.unit_inputs.specs.Inputs.{inputs_of, inputs_view};
 ghost use Rattle.unit_inputs.specs.Asking.{AsksInOrder, input_asks};
 ghost use Rattle.unit_inputs.specs.ReadsFor.{ReadsFor};
 ghost use Rattle.unit_inputs.specs.Settled.{AreSettled, refusals_of, unit_refusals};
 
+use crate::command_answers::{Stop, boxed, refuse};
 use crate::inputs::{UnitInputs, read_inputs};
 use crate::refusals::settings_line;
-use command_answers::{Stop, boxed, refuse};
+use exec_settings::host_io::Shelf;
 use exec_settings::{Settings, SettingsError, settings};
-use host_io::Shelf;
 use std::alloc::Global;
 
 /// A unit with its settings.

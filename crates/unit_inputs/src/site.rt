@@ -1,15 +1,15 @@
 // The site, with the lines of its refusals.
 ghost use Rattle.std.specs.Prelude.{◌≡◌, IfOk, IfSome, IsErrOf};
-ghost use Rattle.host_io.specs.Calls.{Went};
-ghost use Rattle.command_answers.specs.Asking.{course};
-ghost use Rattle.command_answers.specs.Stops.{HasReadCause, IsAnswer};
+ghost use Rattle.exec_settings.specs.host_io.Calls.{Went};
+ghost use Rattle.unit_inputs.specs.command_answers.Asking.{course};
+ghost use Rattle.unit_inputs.specs.command_answers.Stops.{HasReadCause, IsAnswer};
 ghost use Rattle.unit_inputs.specs.Asking.{site_asks};
 ghost use Rattle.unit_inputs.specs.SiteRefusals.{cause_word, row_cause, site_cause, site_in, site_line, site_said};
 
+use crate::command_answers::{Stop, boxed, refuse, refused_line};
 use crate::files::read_input;
-use command_answers::{Stop, boxed, refuse, refused_line};
-use host_io::Shelf;
-use site_table::{RowCause, SiteError, SiteTable, read_site as read_bytes};
+use exec_settings::host_io::Shelf;
+use exec_settings::site_table::{RowCause, SiteError, SiteTable, read_site as read_bytes};
 use std::alloc::{AllocError, Global};
 
 /// Where the description of the site is.

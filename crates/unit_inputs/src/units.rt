@@ -1,20 +1,20 @@
 // The unit, with the lines of its refusals.
 ghost use Rattle.std.specs.Prelude.{◌≡◌, IfOk, IfSome, Some};
-ghost use Rattle.dropin_merge.specs.Asking.{resolve_asks};
-ghost use Rattle.command_answers.specs.Asking.{course};
-ghost use Rattle.command_answers.specs.Refusals.{refused_line};
-ghost use Rattle.command_answers.specs.Stops.{HasReadCause, IsAnswer};
-ghost use Rattle.unit_names.specs.Cutting.{name_of};
+ghost use Rattle.exec_settings.specs.dropin_merge.Asking.{resolve_asks};
+ghost use Rattle.unit_inputs.specs.command_answers.Asking.{course};
+ghost use Rattle.unit_inputs.specs.command_answers.Refusals.{refused_line};
+ghost use Rattle.unit_inputs.specs.command_answers.Stops.{HasReadCause, IsAnswer};
+ghost use Rattle.exec_settings.specs.unit_names.Cutting.{name_of};
 ghost use Rattle.unit_inputs.specs.Asking.{AsksInOrder};
 ghost use Rattle.unit_inputs.specs.ReadsFor.{ReadsFor};
 ghost use Rattle.unit_inputs.specs.UnitRefusals.{HasNameOrTells, text_cause, unit_in, unit_line};
 
-use command_answers::{Stop, boxed, refuse, refused_line};
-use dropin_merge::{ResolveError, Resolved, resolve};
-use host_io::Shelf;
+use crate::command_answers::{Stop, boxed, refuse, refused_line};
+use exec_settings::dropin_merge::{ResolveError, Resolved, resolve};
+use exec_settings::host_io::Shelf;
+use exec_settings::unit_grammar::UnitError;
+use exec_settings::unit_names::{NameError, UnitName};
 use std::alloc::{AllocError, Global};
-use unit_grammar::UnitError;
-use unit_names::{NameError, UnitName};
 
 // Why the text of a file is refused.
 fn text_cause(alloc: Global, fault: UnitError) -> Result<Vec<u8>, AllocError>

@@ -18,10 +18,6 @@ pub option_append_none : (middle : Option (List ℕ)) → option_append middle N
 option_append_none None = refl
 option_append_none (Some middle) = refl
 
-pub option_append-nil : (more : Option (List ℕ)) → option_append (Some []) more ≡ more
-option_append-nil None = refl
-option_append-nil (Some more) = refl
-
 -- only what is missing makes the whole missing
 pub missing_more : (old : List ℕ) (more : Option (List ℕ)) → option_append (Some old) more ≡ None → more ≡ None
 missing_more old None e = refl

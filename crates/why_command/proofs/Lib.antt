@@ -2,3 +2,9 @@ pub mod Named
 pub mod Joined
 pub mod Prepared
 pub mod Told
+pub mod Opening
+pub mod Trying
+pub mod Gathered
+pub mod Listed
+pub mod LinesCommandTold
+pub mod LinesCommandPrepared

@@ -3,12 +3,12 @@ use Rattle.std.proofs.Common.{◌≡◌, ◌∙◌, ℕ, zero, suc, ◌<◌, Boo
 use Rattle.std.specs.Prelude.{Contains, find}
 use Rattle.std.specs.Str.{bytes_eq}
 use Rattle.std.proofs.lemmas.Slice.Eq.{bytes_eq-Decides}
-use Rattle.call_table.specs.Table as calls
-use Rattle.kernel_laws.specs.Questions as asked
+use Rattle.judge_command.specs.call_table.Table as calls
+use Rattle.judge_command.specs.kernel_laws.Questions as asked
 use Rattle.question_text.specs.Printed.{IsPrintedSo, Reads}
-use Rattle.question_types.specs.declared.question.Question.{Question}
-use Rattle.report_text.specs.Wording.{question_words}
-use Rattle.site_table.specs.Table.{Site}
+use Rattle.judge_command.specs.kernel_laws.declared.question_types.question.Question.{Question}
+use Rattle.judge_command.specs.report_text.Wording.{question_words}
+use Rattle.judge_command.specs.site_table.Table.{Site}
 use Rattle.why_command.specs.Asking.{or_refused, question_named}
 
 module _ {X : Type 0} (p : X → Bool) where

@@ -2,33 +2,33 @@
 use Rattle.std.proofs.Common.{◌≡◌, ◌∙◌, ℕ, List, [], Some, None, Option, Result, Ok, Err, Vec, Global, ◌⊎◌, inl, inr, refl, sym, ap, subst}
 use Rattle.std.specs.declared.alloc.AllocError.{AllocError}
 use Rattle.std.specs.Prelude.{Contains, IfOk, IfSome, IsErrOf, IsTrue}
-use Rattle.host_io.specs.Files.{Files}
-use Rattle.call_table.specs.Table.{Table}
-use Rattle.command_answers.specs.Endings.{is_answer}
-use Rattle.command_answers.specs.Laws.{AcceptsFiles, GoTogether, IsAdmitted, laws_over}
-use Rattle.command_answers.specs.Stops.{IsAnswer, Prepares, first_refusal, stop_of}
-use Rattle.command_answers.specs.declared.ending.Ending.{Ending}
-use Rattle.command_answers.specs.declared.ending.Ending.TheVariants.{Done, LaunchRefused}
-use Rattle.command_answers.specs.declared.stop.Stop.{Stop}
-use Rattle.command_answers.specs.declared.stop.Stop.TheVariants as stop
-use Rattle.command_answers.proofs.FileCommands.{go_together, ready_is_admitted, stop_is_admitted}
-use Rattle.command_answers.proofs.Refusing.{passes, stops, stops_as}
+use Rattle.judge_command.specs.host_io.Files.{Files}
+use Rattle.judge_command.specs.call_table.Table.{Table}
+use Rattle.judge_command.specs.unit_inputs.command_answers.Endings.{is_answer}
+use Rattle.judge_command.specs.unit_inputs.command_answers.Laws.{AcceptsFiles, GoTogether, IsAdmitted, laws_over}
+use Rattle.judge_command.specs.unit_inputs.command_answers.Stops.{IsAnswer, Prepares, first_refusal, stop_of}
+use Rattle.judge_command.specs.unit_inputs.declared.command_answers.ending.Ending.{Ending}
+use Rattle.judge_command.specs.unit_inputs.declared.command_answers.ending.Ending.TheVariants.{Done, LaunchRefused}
+use Rattle.judge_command.specs.unit_inputs.declared.command_answers.stop.Stop.{Stop}
+use Rattle.judge_command.specs.unit_inputs.declared.command_answers.stop.Stop.TheVariants as stop
+use Rattle.judge_command.proofs.UnitInputs.FileCommands.{go_together, ready_is_admitted, stop_is_admitted}
+use Rattle.judge_command.proofs.UnitInputs.Refusing.{passes, stops, stops_as}
 use Rattle.deciding_lines.specs.Tried.{Tried}
-use Rattle.kernel_laws.specs.Questions as asked
-use Rattle.question_types.specs.declared.question.Question.{Question}
-use Rattle.site_table.specs.Table.{Site}
-use Rattle.started_units.specs.Starting.{start_refusals}
-use Rattle.unit_inputs.specs.Inputs.{Inputs, input_refusals, inputs_of, inputs_view}
-use Rattle.unit_inputs.specs.declared.inputs.UnitInputs.{UnitInputs}
-use Rattle.unit_launch.specs.declared.launching.UnitLaunch.{UnitLaunch}
-use Rattle.unit_launch.specs.declared.launching.UnitLaunch.TheVariants.{Launched, Refused}
-use Rattle.unit_inputs.specs.Settled.{refusals_by}
-use Rattle.unit_inputs.proofs.Steps as steps
-use Rattle.unit_inputs.proofs.Steps.{AreRead, refusals_with}
+use Rattle.judge_command.specs.kernel_laws.Questions as asked
+use Rattle.judge_command.specs.kernel_laws.declared.question_types.question.Question.{Question}
+use Rattle.judge_command.specs.site_table.Table.{Site}
+use Rattle.judge_command.specs.asked_service.started_units.Starting.{start_refusals}
+use Rattle.judge_command.specs.unit_inputs.Inputs.{Inputs, input_refusals, inputs_of, inputs_view}
+use Rattle.judge_command.specs.unit_inputs.declared.inputs.UnitInputs.{UnitInputs}
+use Rattle.judge_command.specs.asked_service.declared.unit_launch.launching.UnitLaunch.{UnitLaunch}
+use Rattle.judge_command.specs.asked_service.declared.unit_launch.launching.UnitLaunch.TheVariants.{Launched, Refused}
+use Rattle.judge_command.specs.unit_inputs.Settled.{refusals_by}
+use Rattle.judge_command.proofs.UnitInputs.Steps as steps
+use Rattle.judge_command.proofs.UnitInputs.Steps.{AreRead, refusals_with}
 use Rattle.why_command.specs.Asking.{question_in, refused_question}
-use Rattle.command_answers.specs.ReadyTexts.{ending_of, text_of}
+use Rattle.judge_command.specs.unit_inputs.command_answers.ReadyTexts.{ending_of, text_of}
 use Rattle.why_command.specs.Prints.{PrintsWhy, TellsLaunch, TellsWhy, refusals_behind, why_laws, why_refusals}
-use Rattle.command_answers.specs.declared.ready_text.ReadyText.{ReadyText}
+use Rattle.judge_command.specs.unit_inputs.declared.command_answers.ready_text.ReadyText.{ReadyText}
 
 -- each ends as it may
 ends_so : (tried : Tried) (launch : UnitLaunch) (ending : Ending) (text : List ℕ) → TellsLaunch tried launch ending text → (ending ≡ Done) ⊎ (ending ≡ LaunchRefused)

@@ -1,16 +1,16 @@
 -- The question that words ask.
 use Rattle.std.specs.Prelude.{◌≡◌, ℕ, List, [], ◌∷◌, ◌++◌, codes, find, flat_map, Option, Some, None, Result, Ok, Err}
 use Rattle.std.specs.Str.{bytes_eq}
-use Rattle.asked_service.specs.Asked.{IsBounded}
-use Rattle.asked_service.specs.declared.bounding.Bounded.{Bounded}
-use Rattle.call_table.specs.Table as calls
+use Rattle.judge_command.specs.asked_service.Asked.{IsBounded}
+use Rattle.judge_command.specs.asked_service.declared.bounding.Bounded.{Bounded}
+use Rattle.judge_command.specs.call_table.Table as calls
 use Rattle.deciding_lines.specs.Tried.{Tried}
-use Rattle.question_types.specs.declared.question.Question.{Question}
-use Rattle.kernel_laws.specs.Questions.{questions}
-use Rattle.kernel_laws.specs.Launched.{launch_of}
-use Rattle.kernel_ways.specs.Offers.{RunsProgram}
-use Rattle.report_text.specs.Wording.{question_words}
-use Rattle.site_table.specs.Table.{Site}
+use Rattle.judge_command.specs.kernel_laws.declared.question_types.question.Question.{Question}
+use Rattle.judge_command.specs.kernel_laws.Questions.{questions}
+use Rattle.judge_command.specs.kernel_laws.Launched.{launch_of}
+use Rattle.deciding_lines.specs.kernel_ways.Offers.{RunsProgram}
+use Rattle.judge_command.specs.report_text.Wording.{question_words}
+use Rattle.judge_command.specs.site_table.Table.{Site}
 
 -- words, with a space before each but the first
 abbrev pub spaced : List ℕ → List ℕ

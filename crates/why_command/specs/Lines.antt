@@ -3,14 +3,14 @@ use Rattle.std.specs.Prelude.{ℕ, List, [], ◌∷◌, ◌++◌, codes, filter,
 use Rattle.std.specs.Fmt.{decimal}
 use Rattle.deciding_lines.specs.declared.reason.Reason.{Reason}
 use Rattle.deciding_lines.specs.declared.reason.Reason.TheVariants as reason
-use Rattle.dropin_merge.specs.declared.resolved.Resolved.{Resolved}
-use Rattle.dropin_merge.specs.declared.resolved.UnitFile.{UnitFile}
-use Rattle.report_text.specs.Notes.{path_at}
-use Rattle.text_forms.specs.Escaped.{escaped_word}
-use Rattle.unit_lines.specs.Lines.{lines_of}
-use Rattle.unit_lines.specs.Without.{is_among}
-use Rattle.unit_lines.specs.declared.line.UnitLine.{UnitLine}
-use Rattle.unit_values.specs.declared.value.Place.{Place}
+use Rattle.judge_command.specs.dropin_merge.declared.resolved.Resolved.{Resolved}
+use Rattle.judge_command.specs.dropin_merge.declared.resolved.UnitFile.{UnitFile}
+use Rattle.judge_command.specs.report_text.Notes.{path_at}
+use Rattle.judge_command.specs.text_forms.Escaped.{escaped_word}
+use Rattle.deciding_lines.specs.unit_lines.Lines.{lines_of}
+use Rattle.deciding_lines.specs.unit_lines.Without.{is_among}
+use Rattle.deciding_lines.specs.declared.unit_lines.line.UnitLine.{UnitLine}
+use Rattle.judge_command.specs.dropin_merge.declared.unit_values.value.Place.{Place}
 
 -- the file, the number of the line, and what it assigns, so that each is one word
 abbrev pub place_words : List UnitFile → UnitLine → List ℕ

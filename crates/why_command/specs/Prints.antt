@@ -1,25 +1,25 @@
 -- What `why` prints, by the files.
 use Rattle.std.specs.Prelude.{◌≡◌, ◌⊎◌, ◌++◌, ◌∷◌, ℕ, IsSome, List, Option, Some, Ok, flat_map}
-use Rattle.host_io.specs.Files.{Files}
-use Rattle.command_answers.specs.Laws.{FileLaws}
-use Rattle.command_answers.specs.Stops.{refusal_in}
-use Rattle.command_answers.specs.declared.ending.Ending.{Ending}
-use Rattle.command_answers.specs.declared.ending.Ending.TheVariants.{Done, LaunchRefused}
+use Rattle.judge_command.specs.host_io.Files.{Files}
+use Rattle.judge_command.specs.unit_inputs.command_answers.Laws.{FileLaws}
+use Rattle.judge_command.specs.unit_inputs.command_answers.Stops.{refusal_in}
+use Rattle.judge_command.specs.unit_inputs.declared.command_answers.ending.Ending.{Ending}
+use Rattle.judge_command.specs.unit_inputs.declared.command_answers.ending.Ending.TheVariants.{Done, LaunchRefused}
 use Rattle.deciding_lines.specs.Deciding.{IsReason}
 use Rattle.deciding_lines.specs.Tried.{Tried}
 use Rattle.deciding_lines.specs.declared.reason.Reason.{Reason}
-use Rattle.judge.specs.declared.answer.Verdict.TheVariants as verdict
+use Rattle.judge_command.specs.kernel_laws.declared.question_types.verdict.Verdict.TheVariants as verdict
 use Rattle.judge_command.specs.Answers.{Denied, Open, IsTrueAnswer}
 use Rattle.judge_command.specs.Report.{answer_lines}
-use Rattle.kernel_calls.specs.declared.call.Call.{Call}
-use Rattle.launcher.specs.declared.launched.Launched.{Launched as Service}
-use Rattle.started_units.specs.Starting.{StartsAs, start_refusals}
-use Rattle.unit_inputs.specs.Inputs.{Inputs, input_refusals, inputs_of}
-use Rattle.unit_launch.specs.Refusals.{refusal_line}
-use Rattle.unit_launch.specs.declared.launching.UnitLaunch.{UnitLaunch}
-use Rattle.unit_launch.specs.declared.launching.UnitLaunch.TheVariants.{Launched, Refused}
-use Rattle.unit_names.specs.Cutting.{name_of}
-use Rattle.unit_inputs.specs.Settled.{refusals_by}
+use Rattle.judge_command.specs.kernel_model.declared.kernel_calls.call.Call.{Call}
+use Rattle.judge_command.specs.launcher.declared.launched.Launched.{Launched as Service}
+use Rattle.judge_command.specs.asked_service.started_units.Starting.{StartsAs, start_refusals}
+use Rattle.judge_command.specs.unit_inputs.Inputs.{Inputs, input_refusals, inputs_of}
+use Rattle.judge_command.specs.asked_service.unit_launch.Refusals.{refusal_line}
+use Rattle.judge_command.specs.asked_service.declared.unit_launch.launching.UnitLaunch.{UnitLaunch}
+use Rattle.judge_command.specs.asked_service.declared.unit_launch.launching.UnitLaunch.TheVariants.{Launched, Refused}
+use Rattle.judge_command.specs.unit_names.Cutting.{name_of}
+use Rattle.judge_command.specs.unit_inputs.Settled.{refusals_by}
 use Rattle.why_command.specs.Asking.{question_in}
 use Rattle.why_command.specs.Lines.{reason_text}
 

@@ -1,25 +1,25 @@
 //! The answer to a question, and what denies it.
 ghost use Rattle.std.specs.Prelude.{◌≡◌, IfOk, IsErrOf, false, true};
-ghost use Rattle.asked_service.specs.Asked.{is_open_by};
-ghost use Rattle.asked_service.specs.Rows.{IsSo};
-ghost use Rattle.command_answers.specs.Stops.{Prepares};
+ghost use Rattle.judge_command.specs.asked_service.Asked.{is_open_by};
+ghost use Rattle.judge_command.specs.asked_service.Rows.{IsSo};
+ghost use Rattle.judge_command.specs.unit_inputs.command_answers.Stops.{Prepares};
 ghost use Rattle.deciding_lines.specs.Tried.{CanBeTried, tried_of};
-ghost use Rattle.started_units.specs.Starting.{StartsAs, start_refusals};
-ghost use Rattle.unit_launch.specs.declared.launching.UnitLaunch.TheVariants.{Launched as Started};
+ghost use Rattle.judge_command.specs.asked_service.started_units.Starting.{StartsAs, start_refusals};
+ghost use Rattle.judge_command.specs.asked_service.declared.unit_launch.launching.UnitLaunch.TheVariants.{Launched as Started};
 ghost use Rattle.why_command.specs.Asking.{CanBeAsked};
-ghost use Rattle.command_answers.specs.ReadyTexts.{IsReadyWith, ending_of, text_of};
+ghost use Rattle.judge_command.specs.unit_inputs.command_answers.ReadyTexts.{IsReadyWith, ending_of, text_of};
 ghost use Rattle.why_command.specs.Prints.{TellsLaunch, TellsService, TellsWhy};
 
 use crate::telling::denied_text;
-use asked_service::{Bounded, bound};
-use command_answers::{Ending, ReadyText, Stop};
 use deciding_lines::Trial;
-use launcher::Launched;
-use open_calls::{Service, calls};
-use report_text::open_lines;
-use started_units::start;
+use judge_command::asked_service::started_units::start;
+use judge_command::asked_service::unit_launch::{UnitLaunch, refusal_line};
+use judge_command::asked_service::{Bounded, bound};
+use judge_command::launcher::Launched;
+use judge_command::open_calls::{Service, calls};
+use judge_command::report_text::open_lines;
+use judge_command::unit_inputs::command_answers::{Ending, ReadyText, Stop};
 use std::alloc::{AllocError, Global};
-use unit_launch::{UnitLaunch, refusal_line};
 
 // A question that is open, with the calls that reach it.
 fn tell_open(alloc: Global, trial: &Trial<'_>, bounded: &Bounded<'_>) -> Result<Vec<u8>, AllocError>

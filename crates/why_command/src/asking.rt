@@ -1,14 +1,14 @@
 //! The question that the words ask.
 ghost use Rattle.std.specs.Prelude.{◌≡◌, ◌++◌, Contains, IfOk, IsErrOf, OnOk, flat_map, map};
-ghost use Rattle.command_answers.specs.Stops.{IsAnswer};
-ghost use Rattle.kernel_laws.specs.Questions.{questions};
+ghost use Rattle.judge_command.specs.unit_inputs.command_answers.Stops.{IsAnswer};
+ghost use Rattle.judge_command.specs.kernel_laws.Questions.{questions};
 ghost use Rattle.why_command.specs.Asking.{joined_words, question_in, refused_question, spaced};
 
-use call_table::CallTable;
-use command_answers::{Stop, refuse};
+use judge_command::call_table::CallTable;
+use judge_command::kernel_laws::question_types::Question;
+use judge_command::site_table::SiteTable;
+use judge_command::unit_inputs::command_answers::{Stop, refuse};
 use question_text::read_question;
-use question_types::Question;
-use site_table::SiteTable;
 use std::alloc::{AllocError, Global};
 
 // Puts a space and a word behind a text.

@@ -1,19 +1,19 @@
 //! The command `why`, the name of a unit and the words of a question.
 ghost use Rattle.std.specs.Prelude.{map};
-ghost use Rattle.command_answers.specs.Asking.{course};
-ghost use Rattle.command_answers.specs.Laws.{IsAdmitted, laws_over};
-ghost use Rattle.unit_inputs.specs.Asking.{AsksInOrder, input_asks};
-ghost use Rattle.unit_inputs.specs.ReadsFor.{ReadsFor};
-ghost use Rattle.command_answers.specs.ReadyTexts.{ending_of, text_of};
+ghost use Rattle.judge_command.specs.unit_inputs.command_answers.Asking.{course};
+ghost use Rattle.judge_command.specs.unit_inputs.command_answers.Laws.{IsAdmitted, laws_over};
+ghost use Rattle.judge_command.specs.unit_inputs.Asking.{AsksInOrder, input_asks};
+ghost use Rattle.judge_command.specs.unit_inputs.ReadsFor.{ReadsFor};
+ghost use Rattle.judge_command.specs.unit_inputs.command_answers.ReadyTexts.{ending_of, text_of};
 ghost use Rattle.why_command.specs.Prints.{why_laws};
 
 use crate::answering::answer;
 use crate::asking::asked_question;
-use command_answers::{ReadyText, Stop};
 use deciding_lines::Trial;
-use host_io::Shelf;
+use judge_command::host_io::Shelf;
+use judge_command::unit_inputs::command_answers::{ReadyText, Stop};
+use judge_command::unit_inputs::read_inputs;
 use std::alloc::Global;
-use unit_inputs::read_inputs;
 
 /// Prepares `why`, the name of a unit and the words of a question: reads the unit, calls.txt and site.toml, finds the first refusal
 /// of them, of the question and of the settings and paths of the unit, and tells the answer with what denies it.

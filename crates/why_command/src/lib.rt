@@ -1,16 +1,18 @@
-//! The command `why`: which lines of a unit deny a question, as text.
+//! The command `why`: which lines of a unit deny a question, or what each line denies, as text.
 //!
-//! The verdict is that of `judge`. Below one that is denied stand the lines without which the question would be open and of which
-//! each matters. It stands on `deciding_lines` for the lines, on `question_text` for what is asked, and on `judge_command` and
-//! `open_calls` for the answer.
+//! The verdict is that of `judge`. For a denied question the text lists lines without which it would be open, each of which
+//! matters (`deciding_lines`). Without a question, [`lines_command`] prints what each line denies by itself, as [`opening_lines`]
+//! finds it.
 //!
-//! `prepare(alloc, &mut shelf, "web.service", &["write", "/etc/passwd"])?` has the text, and `print` puts it.
+//! `prepare(alloc, &mut shelf, "web.service", &["write", "/etc/passwd"])?` has the text, and `print` writes it.
 #![tactic(auto)]
 
 mod answering;
 mod asking;
 mod command;
 mod lines;
+pub mod lines_command;
+pub mod opening_lines;
 mod telling;
 
 pub use command::prepare;

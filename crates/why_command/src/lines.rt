@@ -1,14 +1,14 @@
 //! The lines of `why`.
 ghost use Rattle.std.specs.Prelude.{◌≡◌, ◌++◌, filter, flat_map, length, IfOk, OnOk};
-ghost use Rattle.report_text.specs.Notes.{path_at};
-ghost use Rattle.unit_lines.specs.Without.{is_among, is_place};
+ghost use Rattle.judge_command.specs.report_text.Notes.{path_at};
+ghost use Rattle.deciding_lines.specs.unit_lines.Without.{is_among, is_place};
 ghost use Rattle.why_command.specs.Lines.{by_line, by_lines, lines_at, lines_line, lines_text, place_words, told_unless};
 
-use dropin_merge::{Resolved, UnitFile};
+use deciding_lines::unit_lines::{UnitLine, lines};
+use judge_command::dropin_merge::unit_values::Place;
+use judge_command::dropin_merge::{Resolved, UnitFile};
+use judge_command::text_forms::push_word;
 use std::alloc::{AllocError, Global};
-use text_forms::push_word;
-use unit_lines::{UnitLine, lines};
-use unit_values::Place;
 
 // The path of the file of this number.
 fn path_at(files: &[UnitFile], at: usize) -> &str

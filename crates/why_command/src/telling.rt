@@ -1,19 +1,19 @@
 //! What is told of a question.
 ghost use Rattle.std.specs.Prelude.{◌≡◌, ◌++◌, Contains, IfOk};
 ghost use Rattle.deciding_lines.specs.Deciding.{IsReason};
-ghost use Rattle.kernel_laws.specs.Questions.{questions};
-ghost use Rattle.judge.specs.declared.answer.Verdict.TheVariants as verdict;
-ghost use Rattle.report_text.specs.Answers.{verdict_line};
+ghost use Rattle.judge_command.specs.kernel_laws.Questions.{questions};
+ghost use Rattle.judge_command.specs.kernel_laws.declared.question_types.verdict.Verdict.TheVariants as verdict;
+ghost use Rattle.judge_command.specs.report_text.Answers.{verdict_line};
 ghost use Rattle.why_command.specs.Lines.{reason_text};
 
 use crate::lines::lines_text;
-use call_table::CallTable;
 use deciding_lines::Reason;
-use dropin_merge::Resolved;
-use judge::Verdict;
-use question_types::Question;
-use report_text::verdict_line;
-use site_table::SiteTable;
+use judge_command::call_table::CallTable;
+use judge_command::dropin_merge::Resolved;
+use judge_command::judge::Verdict;
+use judge_command::kernel_laws::question_types::Question;
+use judge_command::report_text::verdict_line;
+use judge_command::site_table::SiteTable;
 use std::alloc::{AllocError, Global};
 
 // What denies it.

@@ -16,7 +16,7 @@ from lentsheep.compare import changes, lines_of
 from lentsheep.expect import Fault, baseline, failures, read_expectations, rows_for
 from lentsheep.jsonform import json_of
 from lentsheep.notes import told_notes
-from lentsheep.partings import partings
+from lentsheep.partings import partings_by_text
 from lentsheep.program import Run
 from lentsheep.report import parse, read_instruction
 from lentsheep.schema import faults, read_schema
@@ -74,7 +74,7 @@ class Form(unittest.TestCase):
 
     def test_view(self):
         report = parse(test_brief.ROOT)
-        view = View(report, None, test_brief.TABLE, told_notes(report.notes, [test_brief.UNIT]), partings([test_brief.UNIT]))
+        view = View(report, None, test_brief.TABLE, told_notes(report.notes, [test_brief.UNIT]), partings_by_text([test_brief.UNIT]))
         found = as_json(test_brief.ROOT, view=view)
         self.assertEqual([], faults(found, read_schema()))
         cause = found["result"]["causes"][0]

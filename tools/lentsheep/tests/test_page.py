@@ -17,7 +17,7 @@ from lentsheep.decisions import End, Numbers, decision_tree, narrowed
 from lentsheep.page import page_of, read_names
 from lentsheep.page_tree import is_alike, others_of, tree_of
 from lentsheep.notes import told_notes
-from lentsheep.partings import UnitFile, partings
+from lentsheep.partings import UnitFile, partings_by_text
 from lentsheep.report import parse
 
 REPORT = """\
@@ -116,7 +116,7 @@ class Text(unittest.TestCase):
 
     def test_partings_and_notes(self):
         files = [UnitFile("etc/systemd/system/web.service", "[Service]\nProtectSystem=strict\n\n\n\nRestrat=always\n")]
-        text = made(partings=partings(files), notes=told_notes(parse(REPORT, "judge").notes, files))
+        text = made(partings=partings_by_text(files), notes=told_notes(parse(REPORT, "judge").notes, files))
         self.assertIn("<td class=\"\">ProtectSystem=</td><td class=\"\">denied here, open there</td>", text)
         self.assertIn("etc/systemd/system/web.service:6", text)
         self.assertIn("<code>Restrat=always</code></td><td class=\"\">Restart= is meant?</td>", text)

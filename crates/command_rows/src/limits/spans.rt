@@ -41,7 +41,10 @@ impl Spans {
         if !self.text.is_empty() {
             self.text.push('\n')?;
         }
-        let numbers = shown(alloc, self.first, self.last)?;
+        let numbers = match (self.first, self.last) {
+            (first, last) if first == last => format!(in alloc; "  {first}: "),
+            (first, last) => format!(in alloc; "  {first} to {last}: "),
+        }?;
         self.text.push_str(numbers.as_str())?;
         self.text.push_str(self.answer.as_str())
     }
@@ -51,13 +54,5 @@ impl Spans {
         self.end(alloc)?;
         self.answer.clear();
         self.text.clone()
-    }
-}
-
-fn shown(alloc: Global, first: u64, last: u64) -> Result<String, AllocError> {
-    if first == last {
-        format!(in alloc; "  {first}: ")
-    } else {
-        format!(in alloc; "  {first} to {last}: ")
     }
 }

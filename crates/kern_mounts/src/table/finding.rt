@@ -3,13 +3,13 @@
 ghost use Rattle.std.specs.Prelude.{◌≡◌, ◌≤◌, false, length, MatchOption};
 ghost use Rattle.std.specs.List.{AllWithin};
 ghost use Rattle.abs_path.specs.Prefix.{is_prefix};
-ghost use Rattle.place_tree.specs.Places.{IsLastAt, IsLastLeading};
+ghost use Rattle.abs_path.specs.place_tree.Places.{IsLastAt, IsLastLeading};
 ghost use Rattle.kern_mounts.specs.Table.{Knows, places_of};
 ghost use Rattle.kern_mounts.specs.Mounts.{steps_of};
 
 use crate::step::Mount;
 use abs_path::AbsPath;
-use place_tree::PlaceTree;
+use abs_path::place_tree::PlaceTree;
 
 // The number of the last mount that leads to the path, of those behind the first, this many.
 fn last_behind(mounts: &[Mount], known: usize, path: &AbsPath) -> Option<usize>

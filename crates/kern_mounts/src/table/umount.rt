@@ -11,8 +11,8 @@ ghost use Rattle.kern_mounts.specs.MountsUmount.{mounts_after_umount};
 use super::{MountTable, later_than};
 use crate::step::Mount;
 use abs_path::AbsPath;
+use abs_path::place_tree::PlaceTree;
 use linux_numbers::errnos::{EBUSY, EINVAL};
-use place_tree::PlaceTree;
 
 // How many places are known at most once one of those was taken away, which numbers what is left of them anew.
 const MOST_LEFT: usize = 256;

@@ -1,7 +1,7 @@
 //! The tables that every world is told.
-use call_table::CallTable;
+use asked_service::call_table::CallTable;
+use asked_service::site_table::SiteTable;
 use row_tools::{HeldText, calls_of, site_of};
-use site_table::SiteTable;
 use std::alloc::{AllocError, Global};
 
 /// A table of calls and a site.

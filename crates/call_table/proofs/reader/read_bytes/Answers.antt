@@ -1,5 +1,5 @@
 use Rattle.std.proofs.Common.{ap, ◌∙◌, map}
-use Rattle.line_text.specs.Views.{line_view}
+use Rattle.text_forms.specs.line_text.Views.{line_view}
 use Rattle.call_table.proofs.Bytes.{no_text, of_text}
 use Rattle.call_table.proofs.reader.read_bytes.Goals as goal
 

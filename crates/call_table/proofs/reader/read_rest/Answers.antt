@@ -1,8 +1,8 @@
 use Rattle.std.proofs.Common.{[], take, drop, suc, map, sym, subst, get_or, List}
 use Rattle.std.proofs.lemmas.Result.{err_from_is_err_and}
-use Rattle.line_text.specs.declared.lines.Line.{Line as ReadLine}
-use Rattle.line_text.specs.Lines.{Line}
-use Rattle.line_text.specs.Views.{line_view}
+use Rattle.text_forms.specs.declared.line_text.lines.Line.{Line as ReadLine}
+use Rattle.text_forms.specs.line_text.Lines.{Line}
+use Rattle.text_forms.specs.line_text.Views.{line_view}
 use Rattle.call_table.specs.Views.{made}
 use Rattle.call_table.specs.Progress.{HasRead, with_kind}
 use Rattle.call_table.specs.Reading.{Head, line_kind}

@@ -1,5 +1,5 @@
 use Rattle.std.proofs.Common.{take, map}
-use Rattle.line_text.specs.Views.{line_view}
+use Rattle.text_forms.specs.line_text.Views.{line_view}
 use Rattle.call_table.specs.Views.{made}
 use Rattle.call_table.specs.Progress.{HasRead}
 use Rattle.call_table.proofs.reader.read_rest.Given as goal

@@ -1,10 +1,10 @@
 use Rattle.std.proofs.Common.{◌∙◌, ap, sym, Bool}
 use Rattle.std.specs.Prelude.{◌&&◌, find}
 use Rattle.std.specs.Str.{bytes_eq}
-use Rattle.call_table.specs.Table.{Table, calls_in}
-use Rattle.call_table.specs.declared.listed.CallLine.{CallLine}
-use Rattle.question_types.specs.declared.kind.CallKind.TheVariants.{PlainCall}
-use Rattle.kernel_laws.specs.Launched.{launch_of, lets_line}
+use Rattle.kernel_ways.specs.call_table.Table.{Table, calls_in}
+use Rattle.kernel_ways.specs.call_table.declared.listed.CallLine.{CallLine}
+use Rattle.kernel_ways.specs.kernel_laws.declared.question_types.kind.CallKind.TheVariants.{PlainCall}
+use Rattle.kernel_ways.specs.kernel_laws.Launched.{launch_of, lets_line}
 use Rattle.ceilings.proofs.Naming.{itself_found, other_found}
 use Rattle.ceilings.proofs.calls.plain_line_at.Goals as goal
 

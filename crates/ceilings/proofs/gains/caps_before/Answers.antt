@@ -1,8 +1,8 @@
 use Rattle.std.proofs.Common.{ℕ, ◌+◌, ◌∙◌, ap, drop}
-use Rattle.cap_sets.specs.Sets.{union}
-use Rattle.site_table.specs.declared.row.Row.{Row}
-use Rattle.kernel_laws.specs.Bound.{gathered, gain_at, caps_before}
-use Rattle.kernel_laws.specs.Launched.{launch_of}
+use Rattle.kernel_ways.specs.cap_sets.Sets.{union}
+use Rattle.kernel_ways.specs.site_table.declared.row.Row.{Row}
+use Rattle.kernel_ways.specs.kernel_laws.Bound.{gathered, gain_at, caps_before}
+use Rattle.kernel_ways.specs.kernel_laws.Launched.{launch_of}
 use Rattle.ceilings.proofs.Unions.{gathered_more, gathered_all}
 use Rattle.ceilings.proofs.gains.caps_before.Goals as goal
 

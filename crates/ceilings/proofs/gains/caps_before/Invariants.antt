@@ -1,7 +1,7 @@
 use Rattle.std.proofs.Common.{◌≡◌, drop}
-use Rattle.cap_sets.specs.Sets.{union}
-use Rattle.kernel_laws.specs.Bound.{gathered, gain_at, caps_before}
-use Rattle.kernel_laws.specs.Launched.{launch_of}
+use Rattle.kernel_ways.specs.cap_sets.Sets.{union}
+use Rattle.kernel_ways.specs.kernel_laws.Bound.{gathered, gain_at, caps_before}
+use Rattle.kernel_ways.specs.kernel_laws.Launched.{launch_of}
 use Rattle.ceilings.proofs.gains.caps_before.Given as goal
 
 -- what was gathered, and what is left to gather

@@ -1,6 +1,6 @@
 use Rattle.std.proofs.Common.{◌∙◌, ap, sym}
-use Rattle.kernel_laws.specs.Bound.{when, file_gain, can_run}
-use Rattle.kernel_laws.specs.Launched.{launch_of}
+use Rattle.kernel_ways.specs.kernel_laws.Bound.{when, file_gain, can_run}
+use Rattle.kernel_ways.specs.kernel_laws.Launched.{launch_of}
 use Rattle.ceilings.proofs.Unions.{when_none, nothing_is_none}
 use Rattle.ceilings.proofs.gains.gain_at.Goals as goal
 use Rattle.ceilings.proofs.gains.gain_at.Goals.{else-bits-ne0-via-then-bits-ne0+else-can_run, else-bits-ne0-via-else-bits-ne0}

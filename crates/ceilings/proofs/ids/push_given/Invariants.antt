@@ -1,5 +1,5 @@
 use Rattle.std.proofs.Common.{◌≡◌, ◌++◌, drop}
-use Rattle.kernel_laws.specs.Launched.{launch_of}
+use Rattle.kernel_ways.specs.kernel_laws.Launched.{launch_of}
 use Rattle.ceilings.specs.Owners.{given_ids}
 use Rattle.ceilings.proofs.ids.push_given.Given as goal
 

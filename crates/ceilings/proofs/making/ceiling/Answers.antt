@@ -1,10 +1,10 @@
 use Rattle.std.proofs.Common.{◌≡◌, ◌∙◌, ap, sym}
 use Rattle.std.specs.Prelude.{◌&&◌}
-use Rattle.linux_numbers.specs.Capabilities.{cap_sys_admin, cap_setuid, cap_setgid}
-use Rattle.cap_sets.specs.Sets.{has}
-use Rattle.kernel_laws.specs.Bound.{caps_at, power_by, power_of}
-use Rattle.question_types.specs.declared.kind.CallKind.TheVariants.{ChangesMounts, RemovesMounts, TakesUid, TakesGid}
-use Rattle.kernel_laws.specs.Launched.{Launch, launch_of, lets}
+use Rattle.kernel_ways.specs.linux_numbers.Capabilities.{cap_sys_admin, cap_setuid, cap_setgid}
+use Rattle.kernel_ways.specs.cap_sets.Sets.{has}
+use Rattle.kernel_ways.specs.kernel_laws.Bound.{caps_at, power_by, power_of}
+use Rattle.kernel_ways.specs.kernel_laws.declared.question_types.kind.CallKind.TheVariants.{ChangesMounts, RemovesMounts, TakesUid, TakesGid}
+use Rattle.kernel_ways.specs.kernel_laws.Launched.{Launch, launch_of, lets}
 use Rattle.kernel_ways.proofs.Exact.{ceiling_is_exact}
 use Rattle.kernel_ways.specs.Spared.{caps_by, power_using}
 use Rattle.ceilings.proofs.Bounded.{cap_denied, uid_denied, gid_denied}

@@ -1,6 +1,6 @@
 use Rattle.std.proofs.Common.{◌≡◌, drop}
 use Rattle.std.specs.List.{list_any}
-use Rattle.kernel_laws.specs.Launched.{launch_of, lets_line}
+use Rattle.kernel_ways.specs.kernel_laws.Launched.{launch_of, lets_line}
 use Rattle.ceilings.proofs.ruled.lets_some.Given as goal
 
 -- none of the calls so far passes

@@ -1,5 +1,5 @@
 use Rattle.std.proofs.Common.{◌≡◌, ◌++◌, drop, map}
-use Rattle.kernel_calls.specs.Rules.{rule_of}
+use Rattle.kernel_ways.specs.kernel_model.kernel_calls.Rules.{rule_of}
 use Rattle.ceilings.proofs.ruled.rules_of.Given as goal
 
 -- what was found, and what is left to find

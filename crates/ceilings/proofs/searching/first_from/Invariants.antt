@@ -1,6 +1,6 @@
 use Rattle.std.proofs.Common.{◌≡◌, drop, false}
-use Rattle.kernel_laws.specs.Reach.{reach_from}
-use Rattle.kern_mounts.specs.Mounts.{steps_of}
+use Rattle.kernel_ways.specs.kernel_laws.Reach.{reach_from}
+use Rattle.kernel_ways.specs.kern_mounts.Mounts.{steps_of}
 use Rattle.ceilings.proofs.searching.first_from.Given as goal
 
 -- what is looked for stands from here on

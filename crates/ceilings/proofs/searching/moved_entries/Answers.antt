@@ -1,5 +1,5 @@
 use Rattle.std.proofs.Common.{Bool, List, ◌++◌, ◌+◌, ◌∙◌, ap, drop, map}
-use Rattle.kern_mounts.specs.Mounts.{steps_of}
+use Rattle.kernel_ways.specs.kern_mounts.Mounts.{steps_of}
 use Rattle.ceilings.specs.Leads.{is_moved}
 use Rattle.ceilings.proofs.Leading.{moved_more}
 use Rattle.ceilings.proofs.searching.moved_entries.Goals as goal

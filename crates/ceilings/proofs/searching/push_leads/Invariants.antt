@@ -1,6 +1,6 @@
 use Rattle.std.proofs.Common.{◌≡◌, ◌++◌, drop, map}
-use Rattle.site_table.specs.declared.row.Row.{Row}
-use Rattle.kern_mounts.specs.Mounts.{steps_of}
+use Rattle.kernel_ways.specs.site_table.declared.row.Row.{Row}
+use Rattle.kernel_ways.specs.kern_mounts.Mounts.{steps_of}
 use Rattle.ceilings.specs.Leads.{leads_of}
 use Rattle.ceilings.proofs.searching.push_leads.Given as goal
 

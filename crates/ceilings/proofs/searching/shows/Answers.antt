@@ -1,5 +1,5 @@
 use Rattle.std.proofs.Common.{◌∙◌, sym}
-use Rattle.kern_mounts.specs.Mounts.{steps_of}
+use Rattle.kernel_ways.specs.kern_mounts.Mounts.{steps_of}
 use Rattle.ceilings.proofs.Leading.{kept_at, shows_own}
 use Rattle.ceilings.proofs.searching.shows.Goals as goal
 

@@ -1,5 +1,5 @@
-use Rattle.command_answers.specs.Laws.{IsAdmitted}
-use Rattle.command_answers.proofs.FileCommands.{at_stop}
+use Rattle.unit_inputs.specs.command_answers.Laws.{IsAdmitted}
+use Rattle.unit_inputs.proofs.FileCommands.{at_stop}
 use Rattle.unit_inputs.proofs.Reading.{read_then}
 use Rattle.check_command.specs.Checked.{checked_text, ending_of}
 use Rattle.check_command.specs.Prints.{check_laws}

@@ -1,6 +1,6 @@
 use Rattle.std.proofs.Common.{None, Some, ap, ◌∙◌}
-use Rattle.exec_settings.specs.Dynamic.{unit_filters}
-use Rattle.command_answers.proofs.Said.{said_refused}
+use Rattle.unit_inputs.specs.exec_settings.Dynamic.{unit_filters}
+use Rattle.unit_inputs.proofs.Said.{said_refused}
 use Rattle.check_command.specs.Causes.{no_filter_line}
 use Rattle.check_command.specs.Comparing.{ComparesNamed, not_on}
 use Rattle.check_command.specs.declared.ready.Checked.{Checked}

@@ -2,7 +2,7 @@ use Rattle.std.proofs.Common.{rules}
 use Rattle.std.specs.Prelude.{◌≢◌}
 use Rattle.filter_check.specs.Finding.{wanted_by}
 use Rattle.filter_check.specs.declared.outcome.CheckError.TheVariants.{Memory}
-use Rattle.command_answers.proofs.Said.{said_refused}
+use Rattle.unit_inputs.proofs.Said.{said_refused}
 use Rattle.check_command.specs.Causes.{check_line}
 use Rattle.check_command.specs.Comparing.{Compares, is_compared, not_compared}
 use Rattle.check_command.specs.declared.ready.Checked.{Checked}

@@ -1,7 +1,7 @@
 use Rattle.std.proofs.Common.{◌∷◌, ◌++◌, sym, ap, ◌∙◌}
 use Rattle.std.specs.Str.{bytes_eq}
-use Rattle.call_table.specs.Table.{abi_at}
-use Rattle.filter_rules.specs.Names.{text_of}
+use Rattle.unit_inputs.specs.call_table.Table.{abi_at}
+use Rattle.unit_inputs.specs.filter_settings.filter_rules.Names.{text_of}
 use Rattle.check_command.proofs.Joined.{with_abi}
 use Rattle.check_command.proofs.naming.means_with_abi.Goals as goal
 

@@ -1,14 +1,14 @@
 use Rattle.std.proofs.Common.{◌≡◌, Some}
 use Rattle.std.specs.Prelude.{IfSome}
-use Rattle.command_answers.proofs.FileCommands.{at_stop}
+use Rattle.unit_inputs.proofs.FileCommands.{at_stop}
 use Rattle.unit_inputs.specs.Inputs.{inputs_of, inputs_view}
 use Rattle.unit_inputs.specs.Settled.{AreSettled}
 use Rattle.check_command.specs.Prepared.{IsPrepared}
 use Rattle.check_command.proofs.Steps.{is_prepared, program_read, stops_at_file, stops_at_inputs, stops_at_settings}
 use Rattle.unit_inputs.specs.Asking.{asks_with_file}
-use Rattle.host_io.specs.Calls.{Whole}
+use Rattle.unit_inputs.specs.host_io.Calls.{Whole}
 use Rattle.unit_inputs.specs.declared.settling.SettledUnit.{SettledUnit}
-use Rattle.bpf_code.specs.declared.machine.Insn.{Insn}
+use Rattle.filter_check.specs.bpf_code.declared.machine.Insn.{Insn}
 use Rattle.std.proofs.Common.{List}
 use Rattle.unit_inputs.proofs.Ordering.{order_quiet_stopped, stops_at_file as asked_at_file, stops_before_file, with_file}
 use Rattle.check_command.proofs.preparing.read_all.Goals as goal

@@ -1,7 +1,7 @@
 use Rattle.std.proofs.Common.{rules}
 use Rattle.std.specs.Prelude.{◌≢◌}
-use Rattle.filter_lines.specs.declared.error.FileError.TheVariants.{Memory}
-use Rattle.command_answers.proofs.Said.{said_refused}
+use Rattle.filter_check.specs.declared.filter_lines.error.FileError.TheVariants.{Memory}
+use Rattle.unit_inputs.proofs.Said.{said_refused}
 use Rattle.check_command.specs.Causes.{file_line}
 use Rattle.check_command.specs.Programs.{IsProgramOf, a_program, no_program}
 use Rattle.check_command.proofs.programs.program_of_bytes.Goals as goal

@@ -1,13 +1,13 @@
 use Rattle.std.proofs.Common.{List, ℕ, Global, subst}
 use Rattle.std.specs.Prelude.{IfSome, Vec}
-use Rattle.bpf_code.specs.declared.machine.Insn.{Insn}
-use Rattle.command_answers.proofs.FileCommands.{at_stop}
+use Rattle.filter_check.specs.bpf_code.declared.machine.Insn.{Insn}
+use Rattle.unit_inputs.proofs.FileCommands.{at_stop}
 use Rattle.check_command.specs.Programs.{IsProgramIn, IsProgramOf}
 use Rattle.check_command.proofs.Steps.{no_bytes, some_bytes}
-use Rattle.command_answers.proofs.Asking.{went_quiet}
+use Rattle.unit_inputs.proofs.Asking.{went_quiet}
 use Rattle.std.proofs.Common.{[], ◌∷◌}
-use Rattle.command_answers.specs.Asking.{input_file}
-use Rattle.command_answers.specs.Said.{IsSaid}
+use Rattle.unit_inputs.specs.command_answers.Asking.{input_file}
+use Rattle.unit_inputs.specs.command_answers.Said.{IsSaid}
 use Rattle.check_command.proofs.programs.read_program.Goals as goal
 
 pub returns-in_err-bytes-clause-reads_the_program : goal.returns-in_err-bytes-clause-reads_the_program

@@ -1,7 +1,7 @@
 use Rattle.std.proofs.Common.{◌≡◌, drop}
 use Rattle.std.specs.Prelude.{fold}
 use Rattle.std.specs.List.{filter_map}
-use Rattle.cap_sets.specs.Sets.{none, union, single}
+use Rattle.site_table.specs.cap_sets.Sets.{none, union, single}
 use Rattle.cred_settings.specs.CapNames.{cap_named}
 use Rattle.cred_settings.proofs.cap_names.named_caps.Given as goal
 

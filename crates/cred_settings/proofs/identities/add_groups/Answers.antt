@@ -1,6 +1,6 @@
 use Rattle.std.proofs.Common.{Some, ap, sym, ◌∙◌, ◌++◌, [], subst}
 use Rattle.std.specs.List.{cons_option}
-use Rattle.unit_values.proofs.OneMore.{added_by_some}
+use Rattle.dropin_merge.proofs.OneMore.{added_by_some}
 use Rattle.cred_settings.specs.Groups.{gid_meant}
 use Rattle.cred_settings.specs.Identities.{names_no_group}
 use Rattle.cred_settings.specs.Answers.{IsOfGroup}

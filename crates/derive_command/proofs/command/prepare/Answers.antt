@@ -1,19 +1,19 @@
 use Rattle.std.proofs.Common.{◌≡◌, Some, refl}
-use Rattle.command_answers.specs.Laws.{IsAdmitted, laws_over}
-use Rattle.command_answers.proofs.FileCommands.{at_stop}
-use Rattle.unit_names.specs.Cutting.{name_of}
-use Rattle.unit_inputs.specs.Inputs.{inputs_of, inputs_view}
-use Rattle.started_units.specs.Starting.{given}
-use Rattle.started_units.proofs.Given.{same_inputs}
-use Rattle.unit_inputs.proofs.Reading.{named, read_behind}
-use Rattle.command_answers.specs.ReadyTexts.{ending_of, text_of}
+use Rattle.replay_command.specs.unit_inputs.command_answers.Laws.{IsAdmitted, laws_over}
+use Rattle.replay_command.proofs.UnitInputs.FileCommands.{at_stop}
+use Rattle.replay_command.specs.unit_names.Cutting.{name_of}
+use Rattle.replay_command.specs.unit_inputs.Inputs.{inputs_of, inputs_view}
+use Rattle.replay_command.specs.asked_service.started_units.Starting.{given}
+use Rattle.replay_command.proofs.AskedService.Given.{same_inputs}
+use Rattle.replay_command.proofs.UnitInputs.Reading.{named, read_behind}
+use Rattle.replay_command.specs.unit_inputs.command_answers.ReadyTexts.{ending_of, text_of}
 use Rattle.derive_command.specs.Prints.{derive_laws}
 use Rattle.derive_command.proofs.Prepared.{admitted_as, stops_at_inputs, stops_at_script}
-use Rattle.unit_inputs.specs.Asking.{asks_with_file}
-use Rattle.host_io.specs.Calls.{Whole}
-use Rattle.kernel_calls.specs.declared.call.Call.{Call}
+use Rattle.replay_command.specs.unit_inputs.Asking.{asks_with_file}
+use Rattle.replay_command.specs.host_io.Calls.{Whole}
+use Rattle.replay_command.specs.kernel_model.declared.kernel_calls.call.Call.{Call}
 use Rattle.std.proofs.Common.{List}
-use Rattle.unit_inputs.proofs.Ordering.{order_quiet, stops_at_file, stops_before_file, with_file}
+use Rattle.replay_command.proofs.UnitInputs.Ordering.{order_quiet, stops_at_file, stops_before_file, with_file}
 use Rattle.derive_command.proofs.command.prepare.Goals as goal
 
 pub returns-in_err-inputs-clause-prepares : goal.returns-in_err-inputs-clause-prepares

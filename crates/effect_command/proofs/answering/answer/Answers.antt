@@ -1,11 +1,11 @@
 use Rattle.std.proofs.Common.{Err, Ok}
-use Rattle.command_answers.specs.Stops.{Prepares}
-use Rattle.command_answers.proofs.FileCommands.{at_stop}
-use Rattle.started_units.specs.Starting.{given}
-use Rattle.command_answers.specs.ReadyTexts.{ending_of, text_of}
+use Rattle.judge_command.specs.unit_inputs.command_answers.Stops.{Prepares}
+use Rattle.judge_command.proofs.UnitInputs.FileCommands.{at_stop}
+use Rattle.judge_command.specs.asked_service.started_units.Starting.{given}
+use Rattle.judge_command.specs.unit_inputs.command_answers.ReadyTexts.{ending_of, text_of}
 use Rattle.effect_command.specs.Prints.{TellsBoth, TellsWith}
 use Rattle.effect_command.specs.Refusals.{refusals_behind_dropin}
-use Rattle.command_answers.proofs.ReadyTexts.{ready_reads_nothing}
+use Rattle.judge_command.proofs.UnitInputs.ReadyTexts.{ready_reads_nothing}
 use Rattle.effect_command.proofs.Prepared.{answers_both, answers_refused, answers_refused_with, starts_over, with_longer}
 use Rattle.effect_command.proofs.answering.answer.Goals as goal
 

@@ -1,18 +1,18 @@
 use Rattle.std.proofs.Common.{◌≡◌, Some}
-use Rattle.command_answers.specs.Laws.{IsAdmitted, laws_over}
-use Rattle.command_answers.proofs.FileCommands.{at_stop}
-use Rattle.unit_names.specs.Cutting.{name_of}
-use Rattle.unit_inputs.specs.Inputs.{inputs_of, inputs_view}
-use Rattle.started_units.specs.Starting.{given}
-use Rattle.started_units.proofs.Given.{same_inputs}
-use Rattle.unit_inputs.proofs.Reading.{named, read_behind}
-use Rattle.command_answers.specs.ReadyTexts.{ending_of, text_of}
+use Rattle.judge_command.specs.unit_inputs.command_answers.Laws.{IsAdmitted, laws_over}
+use Rattle.judge_command.proofs.UnitInputs.FileCommands.{at_stop}
+use Rattle.judge_command.specs.unit_names.Cutting.{name_of}
+use Rattle.judge_command.specs.unit_inputs.Inputs.{inputs_of, inputs_view}
+use Rattle.judge_command.specs.asked_service.started_units.Starting.{given}
+use Rattle.judge_command.proofs.AskedService.Given.{same_inputs}
+use Rattle.judge_command.proofs.UnitInputs.Reading.{named, read_behind}
+use Rattle.judge_command.specs.unit_inputs.command_answers.ReadyTexts.{ending_of, text_of}
 use Rattle.effect_command.specs.Prints.{effect_laws}
 use Rattle.effect_command.proofs.Prepared.{admitted_as, stops_at_dropin, stops_at_inputs}
-use Rattle.unit_inputs.specs.Asking.{asks_with_file}
-use Rattle.host_io.specs.Calls.{Whole}
-use Rattle.unit_grammar.specs.declared.unit.UnitText.{UnitText}
-use Rattle.unit_inputs.proofs.Ordering.{order_quiet, stops_at_file, stops_before_file, with_file}
+use Rattle.judge_command.specs.unit_inputs.Asking.{asks_with_file}
+use Rattle.judge_command.specs.host_io.Calls.{Whole}
+use Rattle.judge_command.specs.unit_grammar.declared.unit.UnitText.{UnitText}
+use Rattle.judge_command.proofs.UnitInputs.Ordering.{order_quiet, stops_at_file, stops_before_file, with_file}
 use Rattle.effect_command.proofs.command.prepare.Goals as goal
 
 pub returns-in_err-inputs-clause-prepares : goal.returns-in_err-inputs-clause-prepares

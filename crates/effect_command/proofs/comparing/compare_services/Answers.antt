@@ -1,9 +1,9 @@
 use Rattle.std.proofs.Common.{refl}
-use Rattle.command_answers.specs.declared.stop.Stop.TheVariants as stop
-use Rattle.command_answers.proofs.FileCommands.{at_stop}
-use Rattle.unit_launch.specs.declared.launching.UnitLaunch.TheVariants.{Launched}
+use Rattle.judge_command.specs.unit_inputs.declared.command_answers.stop.Stop.TheVariants as stop
+use Rattle.judge_command.proofs.UnitInputs.FileCommands.{at_stop}
+use Rattle.judge_command.specs.asked_service.declared.unit_launch.launching.UnitLaunch.TheVariants.{Launched}
 use Rattle.effect_command.specs.Prints.{TellsBoth}
-use Rattle.command_answers.specs.ReadyTexts.{IsReadyWith}
+use Rattle.judge_command.specs.unit_inputs.command_answers.ReadyTexts.{IsReadyWith}
 use Rattle.effect_command.proofs.Compared.{compared, same_calls, same_site}
 use Rattle.effect_command.proofs.comparing.compare_services.Goals as goal
 

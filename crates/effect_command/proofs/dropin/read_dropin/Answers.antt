@@ -1,5 +1,5 @@
-use Rattle.command_answers.proofs.Asking.{went_quiet}
-use Rattle.command_answers.specs.Asking.{input_file}
+use Rattle.judge_command.proofs.UnitInputs.Asking.{went_quiet}
+use Rattle.judge_command.specs.unit_inputs.command_answers.Asking.{input_file}
 use Rattle.std.proofs.Common.{[], ◌∷◌}
 use Rattle.effect_command.proofs.dropin.read_dropin.Goals as goal
 

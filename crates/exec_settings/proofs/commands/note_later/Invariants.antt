@@ -1,6 +1,6 @@
 use Rattle.std.proofs.Common.{◌≡◌, ◌++◌, take}
 use Rattle.std.specs.List.{list_any}
-use Rattle.unit_values.specs.Notes.{noted}
+use Rattle.cred_settings.specs.dropin_merge.unit_values.Notes.{noted}
 use Rattle.exec_settings.specs.Commands.{is_command, later_causes}
 use Rattle.exec_settings.proofs.commands.note_later.Given as goal
 

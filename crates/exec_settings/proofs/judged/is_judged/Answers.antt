@@ -1,7 +1,7 @@
 use Rattle.std.proofs.Common.{sym, ap, ◌∙◌}
 use Rattle.std.specs.List.{list_any}
 use Rattle.std.specs.Str.{bytes_eq}
-use Rattle.filter_rules.proofs.Mapped.{list_any-map}
+use Rattle.filter_settings.proofs.Mapped.{list_any-map}
 use Rattle.exec_settings.proofs.judged.is_judged.Goals as goal
 
 pub returns : goal.returns

@@ -1,7 +1,7 @@
 use Rattle.std.proofs.Common.{◌≡◌, ◌++◌}
 use Rattle.std.specs.List.{filter_map}
-use Rattle.unit_values.specs.Assignments.{service_assignments}
-use Rattle.unit_values.specs.Walk.{assignments_left}
+use Rattle.cred_settings.specs.dropin_merge.unit_values.Assignments.{service_assignments}
+use Rattle.cred_settings.specs.dropin_merge.unit_values.Walk.{assignments_left}
 use Rattle.exec_settings.specs.Judged.{unjudged_at}
 use Rattle.exec_settings.proofs.judged.note_unjudged.Given as goal
 

@@ -1,9 +1,9 @@
 use Rattle.std.proofs.Common.{◌≡◌, false}
 use Rattle.std.specs.Prelude.{unwrap_or}
 use Rattle.std.specs.List.{filter_map}
-use Rattle.unit_grammar.specs.Before.{last_of}
-use Rattle.unit_values.specs.Assignments.{service_assignments}
-use Rattle.unit_values.specs.Walk.{assignments_left}
+use Rattle.cred_settings.specs.unit_grammar.Before.{last_of}
+use Rattle.cred_settings.specs.dropin_merge.unit_values.Assignments.{service_assignments}
+use Rattle.cred_settings.specs.dropin_merge.unit_values.Walk.{assignments_left}
 use Rattle.exec_settings.specs.Profile.{asked_by}
 use Rattle.exec_settings.proofs.profile.is_asked.Given as goal
 

@@ -1,5 +1,5 @@
 use Rattle.std.proofs.Common.{subst}
-use Rattle.filter_paths.specs.Walked.{TellsPaths}
+use Rattle.filter_check.specs.filter_paths.Walked.{TellsPaths}
 use Rattle.filter_check.specs.Finding.{too_many, wanted_by}
 use Rattle.filter_check.proofs.Found.{memory_found}
 use Rattle.filter_check.proofs.checking.compared.Goals as goal

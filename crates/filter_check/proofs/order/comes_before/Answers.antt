@@ -2,7 +2,7 @@ use Rattle.std.proofs.Common.{◌≡◌, true, false, sym, ap, ◌∙◌}
 use Rattle.std.proofs.lemmas.Bool.{OnTrue_from, OnFalse_from}
 use Rattle.std.specs.Cmp.Lexicographic.{slice_cmp}
 use Rattle.std.specs.Ordering.{nat_cmp, is_lt}
-use Rattle.bpf_code.specs.Effects.{words_of}
+use Rattle.seccomp_compile.specs.bpf_code.Effects.{words_of}
 use Rattle.filter_check.specs.Order.{IsNotAfter}
 use Rattle.filter_check.proofs.Sorting.{before_by_cmp, behind_by_cmp}
 use Rattle.filter_check.proofs.order.comes_before.Goals as goal

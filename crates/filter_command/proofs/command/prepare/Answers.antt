@@ -1,6 +1,6 @@
 use Rattle.std.proofs.Common.{ap, ◌∙◌}
-use Rattle.command_answers.specs.Laws.{IsAdmitted, laws_over}
-use Rattle.command_answers.proofs.FileCommands.{at_stop, stop_is_admitted}
+use Rattle.unit_inputs.specs.command_answers.Laws.{IsAdmitted, laws_over}
+use Rattle.unit_inputs.proofs.FileCommands.{at_stop, stop_is_admitted}
 use Rattle.unit_inputs.proofs.Reading.{read_then}
 use Rattle.unit_inputs.specs.declared.settling.SettledUnit.{SettledUnit}
 use Rattle.filter_command.specs.Prints.{ending_of, filter_laws, filters_text}

@@ -1,7 +1,7 @@
 use Rattle.std.proofs.Common.{refl, subst, sym}
 use Rattle.std.specs.Prelude.{flat_map}
-use Rattle.command_answers.specs.Printing.{HasWriteCause}
-use Rattle.command_answers.proofs.Texts.{text_at_error, text_cut, text_then}
+use Rattle.unit_inputs.specs.command_answers.Printing.{HasWriteCause}
+use Rattle.unit_inputs.proofs.Texts.{text_at_error, text_cut, text_then}
 use Rattle.filter_command.specs.Lines.{head_line, insn_line}
 use Rattle.filter_command.proofs.printing.print_filter.Goals as goal
 

@@ -1,5 +1,5 @@
 use Rattle.std.proofs.Common.{get_or, arith, refl, ◌∙◌}
-use Rattle.command_answers.proofs.Texts.{items_cut, items_more, text_at_error}
+use Rattle.unit_inputs.proofs.Texts.{items_cut, items_more, text_at_error}
 use Rattle.filter_command.specs.Lines.{insn_line}
 use Rattle.filter_command.proofs.printing.print_insns.Goals as goal
 

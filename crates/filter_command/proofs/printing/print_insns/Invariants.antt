@@ -1,6 +1,6 @@
 use Rattle.std.proofs.Common.{◌≡◌, take}
 use Rattle.std.specs.Prelude.{flat_map}
-use Rattle.host_io.specs.Writing.{Grew}
+use Rattle.unit_inputs.specs.host_io.Writing.{Grew}
 use Rattle.filter_command.specs.Lines.{insn_line}
 use Rattle.filter_command.proofs.printing.print_insns.Given as goal
 

@@ -1,7 +1,7 @@
 use Rattle.std.proofs.Common.{arith}
 use Rattle.std.specs.Prelude.{not}
 use Rattle.std.proofs.lemmas.List.Sums.{suffix_len-le-length}
-use Rattle.unit_values.specs.Listed.{is_reset}
+use Rattle.dropin_merge.specs.unit_values.Listed.{is_reset}
 use Rattle.filter_settings.proofs.lines.in_force.Goals as goal
 
 pub overflow_sub-result : goal.overflow_sub-result

@@ -1,6 +1,6 @@
 use Rattle.std.proofs.Common.{◌≡◌, ◌++◌, drop}
 use Rattle.std.specs.Prelude.{flat_map}
-use Rattle.unit_values.specs.Notes.{notes_at}
+use Rattle.dropin_merge.specs.unit_values.Notes.{notes_at}
 use Rattle.filter_settings.proofs.list_words.note_words.Given as goal
 
 abbrev pub invariant-loop-word : goal.invariant-loop-word

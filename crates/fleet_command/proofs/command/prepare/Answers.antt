@@ -1,13 +1,13 @@
-use Rattle.exposure_score.specs.StoredTests.{stored_by}
-use Rattle.command_answers.specs.Laws.{IsAdmitted, laws_over}
-use Rattle.command_answers.proofs.FileCommands.{at_stop}
+use Rattle.score_command.specs.exposure_score.StoredTests.{stored_by}
+use Rattle.score_command.specs.unit_inputs.command_answers.Laws.{IsAdmitted, laws_over}
+use Rattle.score_command.proofs.UnitInputs.FileCommands.{at_stop}
 use Rattle.fleet_command.specs.Prints.{ending_of, fleet_laws, text_of}
 use Rattle.fleet_command.proofs.Prepared.{ready, stops_at_weights, stops_before_units}
 use Rattle.std.proofs.Common.{Err, Global, Vec}
-use Rattle.command_answers.specs.Asking.{course}
-use Rattle.host_io.specs.Calls.{Whole}
-use Rattle.unit_inputs.proofs.Ordering.{order_stopped}
-use Rattle.fleet_report.specs.declared.rows.FleetRow.{FleetRow}
+use Rattle.score_command.specs.unit_inputs.command_answers.Asking.{course}
+use Rattle.score_command.specs.host_io.Calls.{Whole}
+use Rattle.score_command.proofs.UnitInputs.Ordering.{order_stopped}
+use Rattle.fleet_command.specs.declared.fleet_report.rows.FleetRow.{FleetRow}
 use Rattle.fleet_command.specs.Asking.{fleet_asks}
 use Rattle.fleet_command.specs.declared.preparing.FleetInputs.{FleetInputs}
 use Rattle.fleet_command.proofs.Asked.{reads_units, stops_before}

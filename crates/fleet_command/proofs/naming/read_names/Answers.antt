@@ -1,9 +1,9 @@
 use Rattle.std.proofs.Common.{Err, Global, Ok, Vec, rules}
-use Rattle.command_answers.proofs.Asking.{told_line}
-use Rattle.fleet_names.specs.Asking.{names_asks}
-use Rattle.fleet_names.specs.declared.errors.NamesError.TheVariants as naming
-use Rattle.unit_inputs.proofs.Ordering.{order_quiet}
-use Rattle.unit_names.specs.Names.{Name}
+use Rattle.score_command.proofs.UnitInputs.Asking.{told_line}
+use Rattle.fleet_command.specs.fleet_names.Asking.{names_asks}
+use Rattle.fleet_command.specs.declared.fleet_names.errors.NamesError.TheVariants as naming
+use Rattle.score_command.proofs.UnitInputs.Ordering.{order_quiet}
+use Rattle.score_command.specs.unit_names.Names.{Name}
 use Rattle.fleet_command.proofs.Asked.{named_so}
 use Rattle.fleet_command.proofs.naming.read_names.Goals as goal
 

@@ -1,12 +1,12 @@
-use Rattle.call_table.specs.Table.{Table}
+use Rattle.score_command.specs.call_table.Table.{Table}
 use Rattle.fleet_command.proofs.Asked.{behind_the_names, behind_the_site, behind_the_table, stops_at_names, stops_at_site, stops_at_table}
 use Rattle.fleet_command.specs.Asking.{read_asks}
-use Rattle.host_io.specs.Calls.{Whole}
-use Rattle.policy_file.specs.declared.policy.PolicyTest.{PolicyTest}
-use Rattle.site_table.specs.Table.{Site}
+use Rattle.score_command.specs.host_io.Calls.{Whole}
+use Rattle.score_command.specs.exposure_score.declared.policy_file.policy.PolicyTest.{PolicyTest}
+use Rattle.score_command.specs.site_table.Table.{Site}
 use Rattle.std.proofs.Common.{Box, Global, List, Vec}
-use Rattle.unit_inputs.proofs.Ordering.{order_stopped}
-use Rattle.unit_names.specs.Names.{Name}
+use Rattle.score_command.proofs.UnitInputs.Ordering.{order_stopped}
+use Rattle.score_command.specs.unit_names.Names.{Name}
 use Rattle.fleet_command.proofs.preparing.read_all.Goals as goal
 
 pub returns-in_err-names-clause-asks_in_order : goal.returns-in_err-names-clause-asks_in_order

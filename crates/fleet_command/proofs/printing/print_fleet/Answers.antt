@@ -1,6 +1,6 @@
 use Rattle.std.proofs.Common.{◌≡◌, subst}
 use Rattle.std.specs.Prelude.{IfOk, count_by, flat_map, length}
-use Rattle.command_answers.proofs.Texts.{text_at_error, text_cut, text_then}
+use Rattle.score_command.proofs.UnitInputs.Texts.{text_at_error, text_cut, text_then}
 use Rattle.fleet_command.specs.Texts.{counts_line, is_refused, row_line}
 use Rattle.fleet_command.proofs.printing.print_fleet.Goals as goal
 

@@ -1,5 +1,5 @@
 use Rattle.std.proofs.Common.{◌∙◌}
-use Rattle.command_answers.proofs.Texts.{items_cut, items_more, text_at_error}
+use Rattle.score_command.proofs.UnitInputs.Texts.{items_cut, items_more, text_at_error}
 use Rattle.fleet_command.specs.Texts.{row_line}
 use Rattle.fleet_command.proofs.printing.print_rows.Goals as goal
 

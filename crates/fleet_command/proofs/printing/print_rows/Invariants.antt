@@ -1,6 +1,6 @@
 use Rattle.std.proofs.Common.{◌≡◌, take}
 use Rattle.std.specs.Prelude.{flat_map}
-use Rattle.host_io.specs.Writing.{Grew}
+use Rattle.score_command.specs.host_io.Writing.{Grew}
 use Rattle.fleet_command.specs.Texts.{row_line}
 use Rattle.fleet_command.proofs.printing.print_rows.Given as goal
 

@@ -1,11 +1,11 @@
 use Rattle.std.proofs.Common.{Err, Global, Ok, Vec, ap, rules, sym, ◌∙◌}
-use Rattle.exposure_score.specs.StoredTests.{stored_by}
-use Rattle.policy_weights.specs.Weights.{weight_of}
-use Rattle.command_answers.proofs.Asking.{told_line}
-use Rattle.fleet_report.specs.Asking.{rows_asks, unless_weightless}
-use Rattle.fleet_report.specs.declared.errors.FleetError.TheVariants as fleet
-use Rattle.fleet_report.specs.declared.rows.FleetRow.{FleetRow}
-use Rattle.unit_inputs.proofs.Ordering.{order_quiet}
+use Rattle.score_command.specs.exposure_score.StoredTests.{stored_by}
+use Rattle.score_command.specs.exposure_score.policy_weights.Weights.{weight_of}
+use Rattle.score_command.proofs.UnitInputs.Asking.{told_line}
+use Rattle.fleet_command.specs.fleet_report.Asking.{rows_asks, unless_weightless}
+use Rattle.fleet_command.specs.declared.fleet_report.errors.FleetError.TheVariants as fleet
+use Rattle.fleet_command.specs.declared.fleet_report.rows.FleetRow.{FleetRow}
+use Rattle.score_command.proofs.UnitInputs.Ordering.{order_quiet}
 use Rattle.fleet_command.proofs.Asked.{reported_so}
 use Rattle.fleet_command.specs.Inputs.{inputs_view}
 use Rattle.fleet_command.specs.Reports.{AreFleet}

@@ -1,6 +1,6 @@
 use Rattle.std.proofs.Common.{◌∙◌, sym}
-use Rattle.kernel_laws.proofs.Blind.{blind_is_sound}
-use Rattle.kernel_ways.proofs.BlindShown.{blind_is_exact}
+use Rattle.ceilings.proofs.KernelLaws.Blind.{blind_is_sound}
+use Rattle.ceilings.proofs.KernelWays.BlindShown.{blind_is_exact}
 use Rattle.judge.proofs.Folders.{dir_is_folder}
 use Rattle.judge.proofs.blindness.blind.Goals as goal
 

@@ -1,5 +1,5 @@
 use Rattle.std.proofs.Common.{◌∙◌, sym}
-use Rattle.kern_mounts.specs.Mounts.{steps_of}
+use Rattle.ceilings.specs.kern_mounts.Mounts.{steps_of}
 use Rattle.judge.proofs.Exposing.{shown_here, not_shown_here}
 use Rattle.judge.proofs.blindness.exposes.Goals as goal
 

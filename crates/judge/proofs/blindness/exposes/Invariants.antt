@@ -1,6 +1,6 @@
 use Rattle.std.proofs.Common.{◌≡◌, drop}
-use Rattle.kernel_laws.specs.Blind.{exposes}
-use Rattle.kern_mounts.specs.Mounts.{steps_of}
+use Rattle.ceilings.specs.kernel_laws.Blind.{exposes}
+use Rattle.ceilings.specs.kern_mounts.Mounts.{steps_of}
 use Rattle.judge.proofs.blindness.exposes.Given as goal
 
 -- what is looked for stands from here on

@@ -1,6 +1,6 @@
 use Rattle.std.proofs.Common.{◌∙◌, ◌++◌, drop, ◌+◌}
-use Rattle.kernel_laws.specs.Blind.{is_clear}
-use Rattle.kern_mounts.specs.Mounts.{steps_of}
+use Rattle.ceilings.specs.kernel_laws.Blind.{is_clear}
+use Rattle.ceilings.specs.kern_mounts.Mounts.{steps_of}
 use Rattle.judge.proofs.Exposing.{at_folder}
 use Rattle.judge.proofs.blindness.shows_folder.Goals as goal
 

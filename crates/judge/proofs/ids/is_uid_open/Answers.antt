@@ -1,6 +1,6 @@
 use Rattle.std.proofs.Common.{◌∙◌, ap, sym}
 use Rattle.std.specs.Prelude.{◌||◌}
-use Rattle.kernel_ways.specs.Spared.{uids_of}
+use Rattle.ceilings.specs.kernel_ways.Spared.{uids_of}
 use Rattle.ceilings.proofs.Spares.{uid_either}
 use Rattle.judge.proofs.ids.is_uid_open.Goals as goal
 

@@ -1,5 +1,5 @@
 use Rattle.std.proofs.Common.{◌∙◌, sym}
-use Rattle.kernel_laws.proofs.Verdict.{denial_is_sound}
+use Rattle.ceilings.proofs.KernelLaws.Verdict.{denial_is_sound}
 use Rattle.judge.proofs.Asked.{asked, exact}
 use Rattle.judge.proofs.judging.verdict.Goals as goal
 

@@ -1,6 +1,6 @@
 use Rattle.std.proofs.Common.{◌∙◌, ap, sym}
-use Rattle.call_names.specs.Known.{is_known}
-use Rattle.kernel_laws.specs.Bound.{ceiling}
+use Rattle.ceilings.specs.call_table.call_names.Known.{is_known}
+use Rattle.ceilings.specs.kernel_laws.Bound.{ceiling}
 use Rattle.judge.proofs.PlainCaps.{known_have, plain_have}
 use Rattle.judge.proofs.lines.can_have_for.Goals as goal
 

@@ -1,6 +1,6 @@
 use Rattle.std.proofs.Common.{◌∙◌, ap, sym}
-use Rattle.kernel_laws.specs.Bound.{can_reach, if_listed, power_of}
-use Rattle.kernel_laws.specs.Launched.{launch_of}
+use Rattle.ceilings.specs.kernel_laws.Bound.{can_reach, if_listed, power_of}
+use Rattle.ceilings.specs.kernel_laws.Launched.{launch_of}
 use Rattle.judge.proofs.rows.is_path_open.Goals as goal
 
 pub can_reach-requires-clause-of_the_row : goal.can_reach-requires-clause-of_the_row

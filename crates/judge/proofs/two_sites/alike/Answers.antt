@@ -1,5 +1,5 @@
 use Rattle.judge.proofs.Noninterference.{blind_to_others}
-use Rattle.launcher.specs.Answers.{given_bytes}
+use Rattle.ceilings.specs.launcher.Answers.{given_bytes}
 use Rattle.judge.proofs.Folders.{dir_is_folder}
 use Rattle.judge.proofs.two_sites.alike.Goals as goal
 

@@ -1,7 +1,7 @@
 use Rattle.std.proofs.Common.{◌≡◌, ◌∙◌, subst}
 use Rattle.std.specs.Prelude.{IfOk}
-use Rattle.judge.specs.declared.answer.Verdict.TheVariants.{Denied}
-use Rattle.kernel_laws.specs.Bound.{is_open}
+use Rattle.asked_service.specs.kernel_laws.declared.question_types.verdict.Verdict.TheVariants.{Denied}
+use Rattle.asked_service.specs.kernel_laws.Bound.{is_open}
 use Rattle.judge_command.specs.Asked.{launch_in}
 use Rattle.judge_command.proofs.Lent.{chosen_for_it, is_served, lists_it, opens_it, runs_it}
 use Rattle.judge_command.proofs.Texts.{denied_text, not_open, own_line, own_lines}

@@ -1,6 +1,6 @@
 use Rattle.std.proofs.Common.{◌∙◌}
-use Rattle.command_answers.proofs.Texts.{nothing_taken, text_as}
-use Rattle.host_io.specs.declared.writing.SinkError.TheVariants.{Memory}
+use Rattle.asked_service.proofs.UnitInputs.Texts.{nothing_taken, text_as}
+use Rattle.asked_service.specs.host_io.declared.writing.SinkError.TheVariants.{Memory}
 use Rattle.judge_command.specs.Asked.{answer_text}
 use Rattle.judge_command.proofs.answers.print_answer.Goals as goal
 

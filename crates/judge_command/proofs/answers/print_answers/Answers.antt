@@ -1,8 +1,8 @@
 use Rattle.std.proofs.Common.{◌+◌, ap₂, arith, get_or, refl, ◌∙◌}
 use Rattle.std.specs.Prelude.{flat_map}
 use Rattle.asked_service.proofs.Listed.{listed_at, some_question}
-use Rattle.command_answers.proofs.Texts.{items_cut, items_more, nothing_taken, text_at_error}
-use Rattle.host_io.specs.declared.writing.SinkError.TheVariants.{Memory}
+use Rattle.asked_service.proofs.UnitInputs.Texts.{items_cut, items_more, nothing_taken, text_at_error}
+use Rattle.asked_service.specs.host_io.declared.writing.SinkError.TheVariants.{Memory}
 use Rattle.judge_command.specs.Asked.{answer_text}
 use Rattle.judge_command.proofs.Counted.{at_most_one, one_more}
 use Rattle.judge_command.proofs.answers.print_answers.Goals as goal

@@ -1,8 +1,8 @@
 use Rattle.std.proofs.Common.{ap₂, subst, sym, ◌∙◌}
-use Rattle.kernel_laws.specs.Launched.{launch_of}
-use Rattle.kernel_laws.specs.Questions.{questions}
-use Rattle.kernel_ways.specs.Offers.{RunsProgram}
-use Rattle.launcher.specs.declared.launched.Launched.{Launched as Service}
+use Rattle.asked_service.specs.kernel_laws.Launched.{launch_of}
+use Rattle.asked_service.specs.kernel_laws.Questions.{questions}
+use Rattle.asked_service.specs.kernel_ways.Offers.{RunsProgram}
+use Rattle.asked_service.specs.launcher.declared.launched.Launched.{Launched as Service}
 use Rattle.judge_command.proofs.asking.ask.Goals as goal
 
 pub returns : goal.returns

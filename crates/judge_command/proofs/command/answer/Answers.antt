@@ -1,10 +1,10 @@
-use Rattle.command_answers.proofs.Stopped.{ran_stopped}
+use Rattle.asked_service.proofs.UnitInputs.Stopped.{ran_stopped}
 use Rattle.judge_command.proofs.Runs.{ran_prepared, together}
 use Rattle.judge_command.specs.Prepared.{IsPrepared}
 use Rattle.judge_command.specs.Prints.{judge_laws}
-use Rattle.unit_inputs.specs.Asking.{input_asks}
+use Rattle.asked_service.specs.unit_inputs.Asking.{input_asks}
 use Rattle.judge_command.specs.declared.preparing.Prepared.{Prepared}
-use Rattle.unit_inputs.proofs.Ended.{order_stop}
+use Rattle.asked_service.proofs.UnitInputs.Ended.{order_stop}
 use Rattle.judge_command.proofs.InOrder.{order_started}
 use Rattle.judge_command.proofs.command.answer.Goals as goal
 

@@ -1,4 +1,4 @@
-use Rattle.judge.proofs.Folders.{dir_listed}
+use Rattle.asked_service.proofs.Judge.Folders.{dir_listed}
 use Rattle.judge_command.proofs.folders.is_named.Goals as goal
 
 pub blind-requires : goal.blind-requires

@@ -1,6 +1,6 @@
 use Rattle.std.proofs.Common.{sym, ◌∙◌}
-use Rattle.command_answers.proofs.Texts.{text_as}
-use Rattle.report_text.specs.Answers.{blind_line}
+use Rattle.asked_service.proofs.UnitInputs.Texts.{text_as}
+use Rattle.asked_service.specs.report_text.Answers.{blind_line}
 use Rattle.judge_command.specs.Asked.{folder_text}
 use Rattle.judge_command.proofs.Texts.{named_text}
 use Rattle.judge_command.proofs.folders.print_folder.Goals as goal

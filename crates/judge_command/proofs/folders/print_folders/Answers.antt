@@ -1,5 +1,5 @@
 use Rattle.std.proofs.Common.{arith, ◌∙◌}
-use Rattle.command_answers.proofs.Texts.{items_cut, items_more, text_at_error}
+use Rattle.asked_service.proofs.UnitInputs.Texts.{items_cut, items_more, text_at_error}
 use Rattle.judge_command.specs.Asked.{folder_text}
 use Rattle.judge_command.proofs.folders.print_folders.Goals as goal
 

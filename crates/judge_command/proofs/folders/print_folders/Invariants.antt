@@ -1,6 +1,6 @@
 use Rattle.std.proofs.Common.{◌≡◌, take}
 use Rattle.std.specs.Prelude.{flat_map}
-use Rattle.host_io.specs.Writing.{Grew}
+use Rattle.asked_service.specs.host_io.Writing.{Grew}
 use Rattle.judge_command.specs.Asked.{folder_text}
 use Rattle.judge_command.proofs.folders.print_folders.Given as goal
 

@@ -1,15 +1,15 @@
 use Rattle.std.proofs.Common.{◌≡◌, Some, ap, ◌∙◌}
 use Rattle.std.specs.Prelude.{IfSome}
-use Rattle.command_answers.specs.Stops.{Prepares}
-use Rattle.command_answers.proofs.FileCommands.{at_stop}
-use Rattle.plan_command.specs.Prints.{plan_refusals}
+use Rattle.asked_service.specs.unit_inputs.command_answers.Stops.{Prepares}
+use Rattle.asked_service.proofs.UnitInputs.FileCommands.{at_stop}
+use Rattle.asked_service.specs.plan_command.Prints.{plan_refusals}
 use Rattle.judge_command.specs.Prepared.{IsPrepared}
 use Rattle.judge_command.proofs.Prepared.{is_prepared, stops_at_paths, stops_before_paths}
-use Rattle.unit_inputs.specs.Asking.{input_asks}
-use Rattle.unit_inputs.proofs.Ordering.{order_quiet_stopped}
-use Rattle.kern_mounts.specs.declared.step.MountStep.{MountStep}
+use Rattle.asked_service.specs.unit_inputs.Asking.{input_asks}
+use Rattle.asked_service.proofs.UnitInputs.Ordering.{order_quiet_stopped}
+use Rattle.asked_service.specs.kern_mounts.declared.step.MountStep.{MountStep}
 use Rattle.std.proofs.Common.{List}
-use Rattle.unit_inputs.specs.Inputs.{inputs_of, inputs_view}
+use Rattle.asked_service.specs.unit_inputs.Inputs.{inputs_of, inputs_view}
 use Rattle.judge_command.proofs.preparing.prepare.Goals as goal
 
 pub returns-in_err-plan-clause-prepares : goal.returns-in_err-plan-clause-prepares

@@ -1,6 +1,6 @@
 use Rattle.std.proofs.Common.{◌≡◌, ◌++◌, Err, Ok, ap, length, subst, ◌∙◌}
 use Rattle.std.specs.Prelude.{IfOk}
-use Rattle.command_answers.proofs.Texts.{text_short, text_then}
+use Rattle.asked_service.proofs.UnitInputs.Texts.{text_short, text_then}
 use Rattle.judge_command.specs.Asked.{denied_among}
 use Rattle.judge_command.proofs.Counted.{count_is, few_are}
 use Rattle.judge_command.proofs.Texts.{answers_part, answers_put, behind_launch, count_part, folders_part, folders_put, launch_part, launch_told}

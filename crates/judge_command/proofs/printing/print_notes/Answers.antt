@@ -1,7 +1,7 @@
 use Rattle.std.proofs.Common.{get_or, arith, refl, ◌∙◌}
-use Rattle.unit_grammar.specs.declared.notes.NoteCause.TheVariants.{NoSection}
-use Rattle.command_answers.proofs.Texts.{items_cut, items_more, text_at_error}
-use Rattle.report_text.specs.Notes.{note_line}
+use Rattle.asked_service.specs.unit_grammar.declared.notes.NoteCause.TheVariants.{NoSection}
+use Rattle.asked_service.proofs.UnitInputs.Texts.{items_cut, items_more, text_at_error}
+use Rattle.asked_service.specs.report_text.Notes.{note_line}
 use Rattle.judge_command.proofs.printing.print_notes.Goals as goal
 
 pub loop-note-preserved : goal.loop-note-preserved

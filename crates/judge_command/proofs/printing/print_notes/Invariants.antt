@@ -1,7 +1,7 @@
 use Rattle.std.proofs.Common.{◌≡◌, take}
 use Rattle.std.specs.Prelude.{flat_map}
-use Rattle.host_io.specs.Writing.{Grew}
-use Rattle.report_text.specs.Notes.{note_line}
+use Rattle.asked_service.specs.host_io.Writing.{Grew}
+use Rattle.asked_service.specs.report_text.Notes.{note_line}
 use Rattle.judge_command.proofs.printing.print_notes.Given as goal
 
 abbrev pub invariant-loop-note : goal.invariant-loop-note

@@ -1,7 +1,7 @@
 use Rattle.std.proofs.Common.{◌++◌, Err}
 use Rattle.std.specs.Prelude.{flat_map}
-use Rattle.command_answers.proofs.Texts.{text_at_error, text_cut, text_then}
-use Rattle.report_text.specs.Notes.{note_line, unit_line}
+use Rattle.asked_service.proofs.UnitInputs.Texts.{text_at_error, text_cut, text_then}
+use Rattle.asked_service.specs.report_text.Notes.{note_line, unit_line}
 use Rattle.judge_command.specs.Started.{told_text}
 use Rattle.judge_command.proofs.printing.print_parts.Goals as goal
 

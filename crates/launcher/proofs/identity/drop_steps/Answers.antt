@@ -1,6 +1,6 @@
 use Rattle.std.proofs.Common.{arith, ap, ◌∙◌}
 use Rattle.std.specs.Prelude.{not}
-use Rattle.cap_sets.specs.Sets.{has}
+use Rattle.exec_settings.specs.cap_sets.Sets.{has}
 use Rattle.launcher.specs.Launch.{prctl_step, capbset_drop}
 use Rattle.launcher.proofs.Appending.{step_more}
 use Rattle.launcher.proofs.identity.drop_steps.Goals as goal

@@ -1,6 +1,6 @@
 use Rattle.std.proofs.Common.{◌≡◌, ◌++◌}
 use Rattle.std.specs.Prelude.{not}
-use Rattle.cap_sets.specs.Sets.{has}
+use Rattle.exec_settings.specs.cap_sets.Sets.{has}
 use Rattle.launcher.specs.Launch.{prctl_step, capbset_drop}
 use Rattle.launcher.proofs.Appending.{steps_from}
 use Rattle.launcher.proofs.identity.drop_steps.Given as goal

@@ -1,5 +1,5 @@
 use Rattle.std.proofs.Common.{arith, ◌∙◌}
-use Rattle.cap_sets.specs.Sets.{has}
+use Rattle.exec_settings.specs.cap_sets.Sets.{has}
 use Rattle.launcher.specs.Launch.{prctl_step, cap_ambient, ambient_raise}
 use Rattle.launcher.proofs.Appending.{step_more}
 use Rattle.launcher.proofs.identity.raise_steps.Goals as goal

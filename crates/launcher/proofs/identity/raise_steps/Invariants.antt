@@ -1,5 +1,5 @@
 use Rattle.std.proofs.Common.{◌≡◌, ◌++◌}
-use Rattle.cap_sets.specs.Sets.{has}
+use Rattle.exec_settings.specs.cap_sets.Sets.{has}
 use Rattle.launcher.specs.Launch.{prctl_step, cap_ambient, ambient_raise}
 use Rattle.launcher.proofs.Appending.{steps_from}
 use Rattle.launcher.proofs.identity.raise_steps.Given as goal

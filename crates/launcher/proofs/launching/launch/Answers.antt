@@ -1,9 +1,9 @@
 use Rattle.launcher.proofs.TwoAbis.{word_archs}
 use Rattle.std.proofs.Common.{◌≡◌, ◌≤◌, ◌∙◌, sym, subst, refl, List, length, Ok, Err, false}
-use Rattle.kern_mounts.specs.Finds.{finds}
+use Rattle.kernel_laws.specs.kern_mounts.Finds.{finds}
 use Rattle.kernel_laws.specs.Launched.{IsLaunchedWorld}
-use Rattle.kernel_model.specs.World.{World}
-use Rattle.site_table.specs.Table.{row_at}
+use Rattle.kernel_laws.specs.kernel_model.World.{World}
+use Rattle.exec_settings.specs.site_table.Table.{row_at}
 use Rattle.launcher.specs.declared.launched.Launched.{Launched as Service}
 use Rattle.launcher.specs.Answers.{AreProgramsOf, EndsAs, LaunchesTo, LeavesService, given_bytes, wanted_of}
 use Rattle.launcher.specs.Launch.{LaunchStep, is_privileged_row}

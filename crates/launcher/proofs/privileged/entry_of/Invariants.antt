@@ -1,6 +1,6 @@
 use Rattle.std.proofs.Common.{◌≡◌, take}
 use Rattle.std.specs.Prelude.{option_copied}
-use Rattle.kern_mounts.specs.Entry.{entry_of}
+use Rattle.kernel_laws.specs.kern_mounts.Entry.{entry_of}
 use Rattle.launcher.proofs.privileged.entry_of.Given as goal
 
 abbrev pub invariant-loop-entry : goal.invariant-loop-entry

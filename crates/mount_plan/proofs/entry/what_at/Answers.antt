@@ -1,7 +1,7 @@
 use Rattle.std.proofs.Common.{◌∙◌, sym, ap, option_map}
-use Rattle.view_map.specs.Scan.{shown}
-use Rattle.view_map.proofs.Deciding.{origin_is}
-use Rattle.view_map.proofs.Lists.{all_trivial}
+use Rattle.path_settings.specs.view_map.Scan.{shown}
+use Rattle.path_settings.proofs.Deciding.{origin_is}
+use Rattle.path_settings.proofs.ViewMapLists.{all_trivial}
 use Rattle.mount_plan.proofs.entry.what_at.Goals as goal
 
 pub what_by-requires-clause-leads : goal.what_by-requires-clause-leads

@@ -1,7 +1,7 @@
 use Rattle.std.proofs.Common.{rules, tests}
 use Rattle.std.proofs.lemmas.Iterator.{YieldsList-from_slice}
 use Rattle.std.proofs.lemmas.Iterator.Consumers.{map_from_collect, YieldsList-from_filter, YieldsList-at}
-use Rattle.abs_path.specs.Prefix.{is_same}
+use Rattle.path_settings.specs.abs_path.Prefix.{is_same}
 use Rattle.mount_plan.proofs.here.at_path.Goals as goal
 
 pub returns : goal.returns

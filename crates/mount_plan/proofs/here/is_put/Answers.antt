@@ -1,7 +1,7 @@
 use Rattle.std.proofs.Common.{◌∙◌, rules, tests}
 use Rattle.std.proofs.lemmas.Iterator.Search.{any_from_yields_List}
 use Rattle.std.proofs.lemmas.Iterator.{YieldsList-from_slice}
-use Rattle.view_map.specs.Kept.{puts}
+use Rattle.path_settings.specs.view_map.Kept.{puts}
 use Rattle.mount_plan.specs.Host.{host_of}
 use Rattle.mount_plan.proofs.Keeping.{any_lent}
 use Rattle.mount_plan.proofs.here.is_put.Goals as goal

@@ -1,5 +1,5 @@
 use Rattle.std.proofs.Common.{◌≡◌, ◌++◌, map, drop}
-use Rattle.view_map.specs.Kept.{unbeaten_of}
+use Rattle.path_settings.specs.view_map.Kept.{unbeaten_of}
 use Rattle.mount_plan.proofs.here.unbeaten.Given as goal
 
 abbrev pub invariant-loop-index : goal.invariant-loop-index

@@ -1,5 +1,5 @@
 use Rattle.std.proofs.Common.{◌≡◌, ◌++◌, map, filter, drop}
-use Rattle.view_map.specs.Kept.{is_kept}
+use Rattle.path_settings.specs.view_map.Kept.{is_kept}
 use Rattle.mount_plan.specs.Host.{host_of}
 use Rattle.mount_plan.specs.Here.{fate_beside}
 use Rattle.mount_plan.proofs.kept.add.Given as goal

@@ -1,5 +1,5 @@
 use Rattle.std.proofs.Common.{◌∙◌, sym, ap, option_map}
-use Rattle.view_map.specs.Scan.{shown}
+use Rattle.path_settings.specs.view_map.Scan.{shown}
 use Rattle.mount_plan.proofs.Keeping.{above_leads}
 use Rattle.mount_plan.proofs.kept.beneath_at.Goals as goal
 

@@ -1,6 +1,6 @@
 use Rattle.std.proofs.Common.{◌∙◌, ap, subst, map, List, Result}
 use Rattle.path_settings.specs.declared.mentions.Mention.{Mention}
-use Rattle.view_map.specs.Kept.{Refusal, kept_among, beneath_at, unbeaten}
+use Rattle.path_settings.specs.view_map.Kept.{Refusal, kept_among, beneath_at, unbeaten}
 use Rattle.mount_plan.specs.Host.{host_of}
 use Rattle.mount_plan.specs.Answers.{AddsKept}
 use Rattle.mount_plan.proofs.kept.keep_at.Goals as goal

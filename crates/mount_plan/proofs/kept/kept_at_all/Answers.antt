@@ -1,7 +1,7 @@
 use Rattle.std.proofs.Common.{◌+◌, ◌∙◌, ap, subst, sym, drop, List, Result, Err}
 use Rattle.std.proofs.lemmas.Result.{err_from_is_err_and}
 use Rattle.path_settings.specs.declared.mentions.Mention.{Mention}
-use Rattle.view_map.specs.Kept.{Refusal, kept_from}
+use Rattle.path_settings.specs.view_map.Kept.{Refusal, kept_from}
 use Rattle.mount_plan.specs.Host.{host_of}
 use Rattle.mount_plan.specs.Answers.{Keeps}
 use Rattle.mount_plan.proofs.Keeping.{from_refused, from_goes, drop_item}

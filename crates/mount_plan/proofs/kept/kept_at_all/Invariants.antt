@@ -1,5 +1,5 @@
 use Rattle.std.proofs.Common.{◌≡◌, drop, []}
-use Rattle.view_map.specs.Kept.{kept_from}
+use Rattle.path_settings.specs.view_map.Kept.{kept_from}
 use Rattle.mount_plan.specs.Host.{host_of}
 use Rattle.mount_plan.proofs.kept.kept_at_all.Given as goal
 

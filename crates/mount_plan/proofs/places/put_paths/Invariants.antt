@@ -1,5 +1,5 @@
 use Rattle.std.proofs.Common.{◌≡◌, map, drop}
-use Rattle.abs_path.specs.ByteOrder.{with_placed}
+use Rattle.path_settings.specs.abs_path.ByteOrder.{with_placed}
 use Rattle.mount_plan.proofs.places.put_paths.Given as goal
 
 abbrev pub invariant-loop-mention : goal.invariant-loop-mention

@@ -1,6 +1,6 @@
 use Rattle.std.proofs.Common.{◌≡◌, sym, ap, ◌∙◌, subst}
 use Rattle.std.specs.List.{filter_map}
-use Rattle.unit_values.proofs.Found.{added_more}
+use Rattle.dropin_merge.proofs.Found.{added_more}
 use Rattle.mount_settings.specs.Assigned.{assigned_by, assigned_of}
 use Rattle.mount_settings.specs.Written.{written, unit_written}
 use Rattle.mount_settings.specs.Notes.{notes_by}

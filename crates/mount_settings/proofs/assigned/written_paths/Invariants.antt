@@ -1,8 +1,8 @@
 use Rattle.std.proofs.Common.{◌≡◌, [], ◌++◌}
 use Rattle.std.specs.Prelude.{flat_map}
 use Rattle.std.specs.List.{filter_map}
-use Rattle.unit_values.specs.Assignments.{service_assignments}
-use Rattle.unit_values.specs.Walk.{assignments_left}
+use Rattle.dropin_merge.specs.unit_values.Assignments.{service_assignments}
+use Rattle.dropin_merge.specs.unit_values.Walk.{assignments_left}
 use Rattle.mount_settings.specs.Assigned.{assigned_by, assigned_of}
 use Rattle.mount_settings.specs.Notes.{notes_by}
 use Rattle.mount_settings.specs.Steps.{after}

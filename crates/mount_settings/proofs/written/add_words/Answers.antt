@@ -1,6 +1,6 @@
 use Rattle.std.proofs.Common.{[], ap, ◌∙◌, ◌++◌}
 use Rattle.std.specs.List.{cons_option}
-use Rattle.unit_values.proofs.OneMore.{added_by_all, added_by_some}
+use Rattle.dropin_merge.proofs.OneMore.{added_by_all, added_by_some}
 use Rattle.mount_settings.specs.Written.{path_in}
 use Rattle.mount_settings.specs.Notes.{word_notes}
 use Rattle.mount_settings.proofs.written.add_words.Goals as goal

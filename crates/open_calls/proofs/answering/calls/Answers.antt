@@ -1,11 +1,11 @@
 use Rattle.std.proofs.Common.{◌∙◌, ◌++◌, ap, sym, subst, List}
-use Rattle.kernel_calls.specs.declared.call.Call.{Call}
-use Rattle.chosen_calls.specs.Chosen.{calls_for}
-use Rattle.chosen_calls.specs.Makers.{AreMadeByService}
-use Rattle.chosen_calls.proofs.Makers.{choice_is_made}
-use Rattle.chosen_calls.proofs.Shown.{choice_shows}
-use Rattle.kernel_laws.specs.Denied.{Shows}
-use Rattle.kernel_laws.specs.Launched.{launch_of}
+use Rattle.ceilings.specs.kernel_model.declared.kernel_calls.call.Call.{Call}
+use Rattle.open_calls.specs.chosen_calls.Chosen.{calls_for}
+use Rattle.open_calls.specs.chosen_calls.Makers.{AreMadeByService}
+use Rattle.open_calls.proofs.Makers.{choice_is_made}
+use Rattle.open_calls.proofs.Shown.{choice_shows}
+use Rattle.ceilings.specs.kernel_laws.Denied.{Shows}
+use Rattle.ceilings.specs.kernel_laws.Launched.{launch_of}
 use Rattle.open_calls.proofs.Listed.{fit}
 use Rattle.open_calls.proofs.answering.calls.Goals as goal
 

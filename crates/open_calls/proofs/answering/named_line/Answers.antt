@@ -1,9 +1,9 @@
 use Rattle.std.proofs.Common.{◌≡◌, ◌∙◌, Option, Some, None}
-use Rattle.call_table.specs.Table.{every_call}
-use Rattle.call_table.specs.declared.listed.CallLine.{CallLine}
-use Rattle.chosen_calls.specs.Chosen.{is_called}
-use Rattle.chosen_calls.proofs.Lists.{any_found}
-use Rattle.kernel_laws.specs.Launched.{launch_of}
+use Rattle.ceilings.specs.call_table.Table.{every_call}
+use Rattle.ceilings.specs.call_table.declared.listed.CallLine.{CallLine}
+use Rattle.open_calls.specs.chosen_calls.Chosen.{is_called}
+use Rattle.open_calls.proofs.Lists.{any_found}
+use Rattle.ceilings.specs.kernel_laws.Launched.{launch_of}
 use Rattle.open_calls.proofs.answering.named_line.Goals as goal
 
 pub unreachable-requires : goal.unreachable-requires

@@ -1,7 +1,7 @@
 use Rattle.std.proofs.Common.{◌≡◌, ◌∙◌, sym, arith, ap, ◌-◌, ◌+◌, ◌++◌, ◌∷◌, []}
-use Rattle.kernel_calls.specs.declared.call.Call.{Call}
-use Rattle.kern_mounts.specs.Mounts.{steps_of}
-use Rattle.kern_mounts.proofs.Mounts.{steps_long}
+use Rattle.ceilings.specs.kernel_model.declared.kernel_calls.call.Call.{Call}
+use Rattle.ceilings.specs.kern_mounts.Mounts.{steps_of}
+use Rattle.ceilings.proofs.KernMounts.Mounts.{steps_long}
 use Rattle.open_calls.specs.Firsts.{place_in}
 use Rattle.open_calls.proofs.Uncovering.{calls_from, covers_here, passes_here, none_left}
 use Rattle.open_calls.proofs.exposing.push_uncovering.Goals as goal

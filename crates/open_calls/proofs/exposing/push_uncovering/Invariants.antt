@@ -1,5 +1,5 @@
 use Rattle.std.proofs.Common.{◌≡◌, ◌≤◌, ◌++◌}
-use Rattle.kern_mounts.specs.Mounts.{steps_of}
+use Rattle.ceilings.specs.kern_mounts.Mounts.{steps_of}
 use Rattle.open_calls.specs.Firsts.{place_in}
 use Rattle.open_calls.proofs.Uncovering.{calls_from}
 use Rattle.open_calls.proofs.exposing.push_uncovering.Given as goal

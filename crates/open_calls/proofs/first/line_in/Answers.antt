@@ -1,9 +1,9 @@
 use Rattle.std.proofs.Common.{◌∙◌, ap, sym}
 use Rattle.std.specs.Prelude.{option_copied, option_and_then}
-use Rattle.call_table.specs.Lookups.{named}
-use Rattle.call_table.specs.Table.{calls_in}
-use Rattle.chosen_calls.specs.First.{lets_name, names_of}
-use Rattle.kernel_laws.specs.Launched.{launch_of}
+use Rattle.ceilings.specs.call_table.Lookups.{named}
+use Rattle.ceilings.specs.call_table.Table.{calls_in}
+use Rattle.open_calls.specs.chosen_calls.First.{lets_name, names_of}
+use Rattle.ceilings.specs.kernel_laws.Launched.{launch_of}
 use Rattle.open_calls.proofs.Finding.{found_name}
 use Rattle.open_calls.proofs.first.line_in.Goals as goal
 

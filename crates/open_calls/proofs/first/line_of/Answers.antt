@@ -1,7 +1,7 @@
 use Rattle.std.proofs.Common.{◌≡◌, ◌∙◌, Option, Some, None}
-use Rattle.call_table.specs.declared.listed.CallLine.{CallLine}
-use Rattle.chosen_calls.proofs.FirstLines.{first_is}
-use Rattle.kernel_laws.specs.Launched.{launch_of}
+use Rattle.ceilings.specs.call_table.declared.listed.CallLine.{CallLine}
+use Rattle.open_calls.proofs.FirstLines.{first_is}
+use Rattle.ceilings.specs.kernel_laws.Launched.{launch_of}
 use Rattle.open_calls.proofs.first.line_of.Goals as goal
 
 pub unreachable-requires : goal.unreachable-requires

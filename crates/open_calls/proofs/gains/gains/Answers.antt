@@ -1,5 +1,5 @@
 use Rattle.std.proofs.Common.{◌≡◌, ◌+◌, ◌∙◌, ap, arith, sym, subst, length, List}
-use Rattle.kernel_laws.specs.Launched.{launch_of}
+use Rattle.ceilings.specs.kernel_laws.Launched.{launch_of}
 use Rattle.open_calls.specs.Firsts.{IsGained}
 use Rattle.open_calls.specs.declared.gains.Gained.{Gained}
 use Rattle.open_calls.proofs.Keeping.{GainedFrom, kept_each, kept_more, long_more}

@@ -1,12 +1,12 @@
 use Rattle.std.proofs.Common.{ap, ◌∙◌}
-use Rattle.command_answers.specs.Laws.{IsAdmitted, laws_over}
-use Rattle.command_answers.proofs.FileCommands.{at_stop}
+use Rattle.unit_inputs.specs.command_answers.Laws.{IsAdmitted, laws_over}
+use Rattle.unit_inputs.proofs.FileCommands.{at_stop}
 use Rattle.plan_command.specs.Prints.{ending_of, mounts_text, plan_laws}
 use Rattle.unit_inputs.proofs.Reading.{read_then_stopped}
 use Rattle.plan_command.proofs.Prepared.{ready, stops_at_paths, stops_before_paths}
 use Rattle.unit_inputs.specs.Asking.{input_asks}
 use Rattle.unit_inputs.proofs.Ordering.{order_quiet_stopped}
-use Rattle.kern_mounts.specs.declared.step.MountStep.{MountStep}
+use Rattle.mount_plan.specs.kern_mounts.declared.step.MountStep.{MountStep}
 use Rattle.std.proofs.Common.{List}
 use Rattle.plan_command.proofs.command.prepare.Goals as goal
 

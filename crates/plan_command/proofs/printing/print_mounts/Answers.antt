@@ -1,5 +1,5 @@
 use Rattle.std.proofs.Common.{arith, ◌∙◌}
-use Rattle.command_answers.proofs.Texts.{items_cut, items_more, text_at_error}
+use Rattle.unit_inputs.proofs.Texts.{items_cut, items_more, text_at_error}
 use Rattle.plan_command.specs.Lines.{mount_line}
 use Rattle.plan_command.proofs.printing.print_mounts.Goals as goal
 

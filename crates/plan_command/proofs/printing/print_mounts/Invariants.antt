@@ -1,6 +1,6 @@
 use Rattle.std.proofs.Common.{◌≡◌, take}
 use Rattle.std.specs.Prelude.{flat_map}
-use Rattle.host_io.specs.Writing.{Grew}
+use Rattle.unit_inputs.specs.host_io.Writing.{Grew}
 use Rattle.plan_command.specs.Lines.{mount_line}
 use Rattle.plan_command.proofs.printing.print_mounts.Given as goal
 

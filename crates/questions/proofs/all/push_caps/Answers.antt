@@ -1,6 +1,6 @@
 use Rattle.std.proofs.Common.{◌∷◌, [], ◌+◌, ◌-◌, map, arith}
 use Rattle.kernel_laws.specs.Questions.{count_from}
-use Rattle.question_types.specs.declared.question.Question.TheVariants.{Cap}
+use Rattle.kernel_laws.specs.declared.question_types.question.Question.TheVariants.{Cap}
 use Rattle.questions.proofs.Pushing.{piece_more, caps_left}
 use Rattle.questions.proofs.all.push_caps.Goals as goal
 

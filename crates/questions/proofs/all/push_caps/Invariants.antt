@@ -1,6 +1,6 @@
 use Rattle.std.proofs.Common.{◌≡◌, ◌++◌, ◌-◌, map}
 use Rattle.kernel_laws.specs.Questions.{count_from}
-use Rattle.question_types.specs.declared.question.Question.TheVariants.{Cap}
+use Rattle.kernel_laws.specs.declared.question_types.question.Question.TheVariants.{Cap}
 use Rattle.questions.proofs.all.push_caps.Given as goal
 
 -- what was added, and what is left to add

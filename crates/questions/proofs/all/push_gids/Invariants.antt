@@ -1,5 +1,5 @@
 use Rattle.std.proofs.Common.{◌≡◌, ◌++◌, take, map}
-use Rattle.question_types.specs.declared.question.Question.TheVariants.{Gid}
+use Rattle.kernel_laws.specs.declared.question_types.question.Question.TheVariants.{Gid}
 use Rattle.questions.proofs.all.push_gids.Given as goal
 
 abbrev pub invariant-loop-gid : goal.invariant-loop-gid

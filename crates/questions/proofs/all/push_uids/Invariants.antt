@@ -1,5 +1,5 @@
 use Rattle.std.proofs.Common.{◌≡◌, ◌++◌, take, map}
-use Rattle.question_types.specs.declared.question.Question.TheVariants.{Uid}
+use Rattle.kernel_laws.specs.declared.question_types.question.Question.TheVariants.{Uid}
 use Rattle.questions.proofs.all.push_uids.Given as goal
 
 abbrev pub invariant-loop-uid : goal.invariant-loop-uid

@@ -1,7 +1,7 @@
 use Rattle.std.proofs.Common.{◌++◌, ◌∙◌, ap, map}
 use Rattle.kernel_laws.specs.Questions.{of_rows, of_calls, of_families, count_from, uids_of, gids_of, other_questions}
-use Rattle.call_table.specs.Table.{every_call}
-use Rattle.question_types.specs.declared.question.Question.TheVariants.{Cap, Uid, Gid}
+use Rattle.kernel_laws.specs.call_table.Table.{every_call}
+use Rattle.kernel_laws.specs.declared.question_types.question.Question.TheVariants.{Cap, Uid, Gid}
 use Rattle.questions.proofs.Pushing.{seven_parts}
 use Rattle.questions.proofs.all.questions.Goals as goal
 

@@ -1,6 +1,6 @@
 use Rattle.std.proofs.Common.{ap, ◌∙◌}
 use Rattle.std.specs.Prelude.{not}
-use Rattle.call_names.specs.Known.{is_known}
+use Rattle.kernel_laws.specs.call_table.call_names.Known.{is_known}
 use Rattle.questions.proofs.Plain.{unknown_is_plain}
 use Rattle.questions.proofs.tables.is_plain.Goals as goal
 

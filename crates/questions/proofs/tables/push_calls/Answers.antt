@@ -1,8 +1,8 @@
 use Rattle.std.proofs.Common.{◌+◌, refl, map, drop, arith}
 use Rattle.std.specs.Prelude.{slice_get}
-use Rattle.call_table.specs.Table.{every_call}
+use Rattle.kernel_laws.specs.call_table.Table.{every_call}
 use Rattle.kernel_laws.specs.Questions.{if_so, of_calls}
-use Rattle.question_types.specs.declared.question.Question.TheVariants.{Call}
+use Rattle.kernel_laws.specs.declared.question_types.question.Question.TheVariants.{Call}
 use Rattle.questions.proofs.AllCalls.{is_asked_at, calls_left}
 use Rattle.questions.proofs.Pushing.{piece_more}
 use Rattle.questions.proofs.tables.push_calls.Goals as goal

@@ -1,5 +1,5 @@
 use Rattle.std.proofs.Common.{◌≡◌, ◌++◌, drop, map}
-use Rattle.call_table.specs.Table.{every_call}
+use Rattle.kernel_laws.specs.call_table.Table.{every_call}
 use Rattle.kernel_laws.specs.Questions.{of_calls}
 use Rattle.questions.proofs.tables.push_calls.Given as goal
 

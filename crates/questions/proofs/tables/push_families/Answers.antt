@@ -1,6 +1,6 @@
 use Rattle.std.proofs.Common.{◌∷◌, [], ◌+◌, map, drop, arith}
 use Rattle.kernel_laws.specs.Questions.{of_families}
-use Rattle.question_types.specs.declared.question.Question.TheVariants.{Socket}
+use Rattle.kernel_laws.specs.declared.question_types.question.Question.TheVariants.{Socket}
 use Rattle.questions.proofs.Pushing.{piece_more, families_left}
 use Rattle.questions.proofs.tables.push_families.Goals as goal
 

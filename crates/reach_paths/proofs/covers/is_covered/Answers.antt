@@ -1,7 +1,7 @@
 use Rattle.std.proofs.Common.{◌++◌, sym, ◌∙◌}
-use Rattle.abs_path.specs.Paths.{parts_of}
-use Rattle.kern_mounts.specs.Entry.{leads_to}
-use Rattle.kern_mounts.specs.Mounts.{steps_of}
+use Rattle.kernel_laws.specs.abs_path.Paths.{parts_of}
+use Rattle.kernel_laws.specs.kern_mounts.Entry.{leads_to}
+use Rattle.kernel_laws.specs.kern_mounts.Mounts.{steps_of}
 use Rattle.reach_paths.proofs.Looping.{any_here, any_not_here}
 use Rattle.reach_paths.proofs.covers.is_covered.Goals as goal
 

@@ -1,8 +1,8 @@
 use Rattle.std.proofs.Common.{◌≡◌, ◌++◌, drop}
 use Rattle.std.specs.List.{list_any}
-use Rattle.abs_path.specs.Paths.{parts_of}
-use Rattle.kern_mounts.specs.Entry.{leads_to}
-use Rattle.kern_mounts.specs.Mounts.{steps_of}
+use Rattle.kernel_laws.specs.abs_path.Paths.{parts_of}
+use Rattle.kernel_laws.specs.kern_mounts.Entry.{leads_to}
+use Rattle.kernel_laws.specs.kern_mounts.Mounts.{steps_of}
 use Rattle.reach_paths.proofs.covers.is_covered.Given as goal
 
 -- none of the entries so far leads there

@@ -1,5 +1,5 @@
 use Rattle.std.proofs.Common.{sym, ◌∙◌}
-use Rattle.kern_mounts.specs.Mounts.{steps_of}
+use Rattle.kernel_laws.specs.kern_mounts.Mounts.{steps_of}
 use Rattle.reach_paths.proofs.Looping.{serves_here, forbids_here, hides_here}
 use Rattle.reach_paths.proofs.first.first_that_serves.Goals as goal
 use Rattle.reach_paths.proofs.first.first_that_serves.Goals.{else-allows-via-then-allows+else-shows, else-allows-via-else-allows}

@@ -1,6 +1,6 @@
 use Rattle.std.proofs.Common.{◌≡◌, drop}
 use Rattle.kernel_laws.specs.Reach.{reach_from}
-use Rattle.kern_mounts.specs.Mounts.{steps_of}
+use Rattle.kernel_laws.specs.kern_mounts.Mounts.{steps_of}
 use Rattle.reach_paths.proofs.first.first_that_serves.Given as goal
 
 -- what is looked for stands from here on

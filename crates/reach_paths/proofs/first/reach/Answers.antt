@@ -1,6 +1,6 @@
 use Rattle.std.proofs.Common.{ap, ◌∙◌, sym, Some}
 use Rattle.kernel_laws.specs.Reach.{reach}
-use Rattle.kern_mounts.specs.Mounts.{steps_of}
+use Rattle.kernel_laws.specs.kern_mounts.Mounts.{steps_of}
 use Rattle.reach_paths.proofs.Found.{exactly_answered}
 use Rattle.reach_paths.proofs.Serving.{first_answered}
 use Rattle.reach_paths.proofs.first.reach.Goals as goal

@@ -1,6 +1,6 @@
 use Rattle.std.proofs.Common.{ap, ◌∙◌, sym, drop, ◌+◌}
 use Rattle.kernel_laws.specs.Reach.{shows_row}
-use Rattle.kern_mounts.specs.Mounts.{steps_of}
+use Rattle.kernel_laws.specs.kern_mounts.Mounts.{steps_of}
 use Rattle.reach_paths.proofs.Looping.{shows_behind}
 use Rattle.reach_paths.proofs.first.shows.Goals as goal
 

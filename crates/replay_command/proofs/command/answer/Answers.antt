@@ -1,10 +1,10 @@
-use Rattle.command_answers.proofs.Stopped.{ran_stopped}
+use Rattle.asked_service.proofs.UnitInputs.Stopped.{ran_stopped}
 use Rattle.replay_command.proofs.Runs.{ran_prepared, together}
 use Rattle.replay_command.specs.Prepared.{IsPrepared}
 use Rattle.replay_command.specs.Prints.{replay_laws}
-use Rattle.unit_inputs.specs.Asking.{asks_with_file}
+use Rattle.asked_service.specs.unit_inputs.Asking.{asks_with_file}
 use Rattle.replay_command.specs.declared.preparing.Prepared.{Prepared}
-use Rattle.unit_inputs.proofs.Ended.{order_stop}
+use Rattle.asked_service.proofs.UnitInputs.Ended.{order_stop}
 use Rattle.replay_command.proofs.InOrder.{order_started}
 use Rattle.replay_command.proofs.command.answer.Goals as goal
 

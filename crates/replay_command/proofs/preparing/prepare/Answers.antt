@@ -1,18 +1,18 @@
 use Rattle.std.proofs.Common.{ap, ◌∙◌}
 use Rattle.std.specs.Prelude.{IfSome}
-use Rattle.command_answers.specs.Stops.{Prepares}
-use Rattle.command_answers.proofs.FileCommands.{at_stop}
-use Rattle.mount_plan.specs.Host.{host_of}
-use Rattle.plan_command.specs.Planned.{IsPlan}
+use Rattle.asked_service.specs.unit_inputs.command_answers.Stops.{Prepares}
+use Rattle.asked_service.proofs.UnitInputs.FileCommands.{at_stop}
+use Rattle.asked_service.specs.mount_plan.Host.{host_of}
+use Rattle.asked_service.specs.plan_command.Planned.{IsPlan}
 use Rattle.replay_command.specs.Prepared.{IsPrepared, replay_refusals}
 use Rattle.replay_command.proofs.Steps.{can_start, is_prepared, script_is, stops_at_inputs, stops_at_paths, stops_at_script, stops_at_settings}
-use Rattle.unit_inputs.specs.Asking.{asks_with_file}
-use Rattle.host_io.specs.Calls.{Whole}
-use Rattle.unit_inputs.specs.declared.settling.SettledUnit.{SettledUnit}
-use Rattle.kernel_calls.specs.declared.call.Call.{Call}
-use Rattle.kern_mounts.specs.declared.step.MountStep.{MountStep}
+use Rattle.asked_service.specs.unit_inputs.Asking.{asks_with_file}
+use Rattle.asked_service.specs.host_io.Calls.{Whole}
+use Rattle.asked_service.specs.unit_inputs.declared.settling.SettledUnit.{SettledUnit}
+use Rattle.asked_service.specs.kernel_model.declared.kernel_calls.call.Call.{Call}
+use Rattle.asked_service.specs.kern_mounts.declared.step.MountStep.{MountStep}
 use Rattle.std.proofs.Common.{List}
-use Rattle.unit_inputs.proofs.Ordering.{order_quiet_stopped, stops_at_file, stops_before_file, with_file}
+use Rattle.asked_service.proofs.UnitInputs.Ordering.{order_quiet_stopped, stops_at_file, stops_before_file, with_file}
 use Rattle.replay_command.proofs.preparing.prepare.Goals as goal
 
 pub returns-in_err-plan-clause-prepares : goal.returns-in_err-plan-clause-prepares

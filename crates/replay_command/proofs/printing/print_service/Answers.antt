@@ -1,9 +1,9 @@
 use Rattle.std.proofs.Common.{◌≡◌, ◌++◌, Err, length, subst}
 use Rattle.std.specs.Prelude.{IfOk}
-use Rattle.command_answers.proofs.Texts.{text_at_error, text_cut, text_then}
+use Rattle.asked_service.proofs.UnitInputs.Texts.{text_at_error, text_cut, text_then}
 use Rattle.replay_command.specs.Lines.{run_text}
-use Rattle.report_text.specs.Launches.{launched_line}
-use Rattle.unit_launch.specs.Told.{told_of}
+use Rattle.asked_service.specs.report_text.Launches.{launched_line}
+use Rattle.asked_service.specs.unit_launch.Told.{told_of}
 use Rattle.replay_command.specs.Texts.{count_line}
 use Rattle.replay_command.proofs.printing.print_service.Goals as goal
 

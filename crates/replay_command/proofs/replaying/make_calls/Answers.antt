@@ -1,5 +1,5 @@
 use Rattle.std.proofs.Common.{arith, ◌∙◌}
-use Rattle.command_answers.proofs.Texts.{text_at_error}
+use Rattle.asked_service.proofs.UnitInputs.Texts.{text_at_error}
 use Rattle.replay_command.proofs.RunTexts.{more_made, more_taken, performed_till, taken_till}
 use Rattle.replay_command.proofs.replaying.make_calls.Goals as goal
 

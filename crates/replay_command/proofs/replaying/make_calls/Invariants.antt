@@ -1,6 +1,6 @@
 use Rattle.std.proofs.Common.{◌≡◌, take}
-use Rattle.host_io.specs.Writing.{Grew}
-use Rattle.kernel_model.specs.Runs.{run}
+use Rattle.asked_service.specs.host_io.Writing.{Grew}
+use Rattle.asked_service.specs.kernel_model.Runs.{run}
 use Rattle.replay_command.specs.Lines.{run_text}
 use Rattle.replay_command.proofs.replaying.make_calls.Given as goal
 

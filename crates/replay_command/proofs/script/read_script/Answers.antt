@@ -1,5 +1,5 @@
-use Rattle.command_answers.proofs.Asking.{went_quiet}
-use Rattle.command_answers.specs.Asking.{input_file}
+use Rattle.asked_service.proofs.UnitInputs.Asking.{went_quiet}
+use Rattle.asked_service.specs.unit_inputs.command_answers.Asking.{input_file}
 use Rattle.std.proofs.Common.{[], ◌∷◌}
 use Rattle.replay_command.proofs.script.read_script.Goals as goal
 

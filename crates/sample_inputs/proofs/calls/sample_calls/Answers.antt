@@ -1,5 +1,5 @@
 use Rattle.std.proofs.Common.{◌≡◌, Ok, ap, ◌∙◌}
-use Rattle.call_table.specs.Reading.{table_of}
+use Rattle.launcher.specs.call_table.Reading.{table_of}
 use Rattle.sample_inputs.specs.CallTable.{sample_table}
 use Rattle.sample_inputs.proofs.CallsRead.{calls_read}
 use Rattle.sample_inputs.proofs.Refusals.{memory_of_calls}

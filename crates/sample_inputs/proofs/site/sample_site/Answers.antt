@@ -1,8 +1,8 @@
 use Rattle.std.proofs.Common.{Ok, sym, ap, ◌∙◌, subst}
 use Rattle.toml.specs.Data.{table}
 use Rattle.toml.specs.Parse.{parse_document}
-use Rattle.site_table.specs.Reading.{site_in, site_of}
-use Rattle.site_table.specs.Table.{Site}
+use Rattle.launcher.specs.site_table.Reading.{site_in, site_of}
+use Rattle.launcher.specs.site_table.Table.{Site}
 use Rattle.sample_inputs.specs.Facts.{HasSampleRows}
 use Rattle.sample_inputs.specs.Site.{site_tree}
 use Rattle.sample_inputs.proofs.Refusals.{memory_of_site}

@@ -1,5 +1,5 @@
 use Rattle.std.proofs.Common.{◌≡◌, Ok, ap, ◌∙◌}
-use Rattle.unit_grammar.specs.Reading.{unit_of}
+use Rattle.launcher.specs.unit_grammar.Reading.{unit_of}
 use Rattle.sample_inputs.specs.Unit.{unit_said}
 use Rattle.sample_inputs.proofs.Refusals.{memory_of_unit}
 use Rattle.sample_inputs.proofs.UnitRead.{unit_reads}

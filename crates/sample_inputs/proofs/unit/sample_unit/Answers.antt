@@ -1,5 +1,5 @@
 use Rattle.std.proofs.Common.{◌≡◌, Some, [], ◌∷◌, sym, ap, ◌∙◌}
-use Rattle.dropin_merge.specs.declared.resolved.Resolved.{Resolved}
+use Rattle.launcher.specs.dropin_merge.declared.resolved.Resolved.{Resolved}
 use Rattle.sample_inputs.specs.Unit.{sample_name, unit_path, unit_said}
 use Rattle.sample_inputs.proofs.UnitRead.{name_reads, unit_reads}
 use Rattle.sample_inputs.proofs.unit.sample_unit.Goals as goal

@@ -1,12 +1,12 @@
-use Rattle.exposure_score.specs.StoredTests.{stored_by}
-use Rattle.command_answers.specs.Laws.{IsAdmitted, laws_over}
-use Rattle.command_answers.proofs.FileCommands.{at_stop}
+use Rattle.report_text.specs.exposure_score.StoredTests.{stored_by}
+use Rattle.unit_inputs.specs.command_answers.Laws.{IsAdmitted, laws_over}
+use Rattle.unit_inputs.proofs.FileCommands.{at_stop}
 use Rattle.score_command.specs.Prints.{ending_of, score_laws, scored_text}
 use Rattle.score_command.specs.Weighed.{IsScoreOf}
 use Rattle.unit_inputs.proofs.Reading.{read_then_stopped}
 use Rattle.score_command.proofs.Prepared.{ready, stops_at_weights, stops_before_weighing}
 use Rattle.unit_inputs.specs.Asking.{asks_with_file}
-use Rattle.exposure_score.specs.declared.rows.Score.{Score}
+use Rattle.report_text.specs.exposure_score.declared.rows.Score.{Score}
 use Rattle.unit_inputs.proofs.Ordering.{order_cut, order_quiet_stopped}
 use Rattle.std.proofs.lemmas.Result.{err_from_is_err_and}
 use Rattle.score_command.proofs.command.prepare.Goals as goal

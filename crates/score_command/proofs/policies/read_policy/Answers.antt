@@ -1,5 +1,5 @@
-use Rattle.command_answers.proofs.Asking.{went_quiet}
-use Rattle.command_answers.specs.Asking.{input_file}
+use Rattle.unit_inputs.proofs.Asking.{went_quiet}
+use Rattle.unit_inputs.specs.command_answers.Asking.{input_file}
 use Rattle.std.proofs.Common.{[], ◌∷◌}
 use Rattle.score_command.proofs.policies.read_policy.Goals as goal
 

@@ -1,13 +1,13 @@
 use Rattle.score_command.proofs.Steps.{can_weigh, is_prepared, policy_is, stops_at_inputs, stops_at_policy, stops_at_settings}
 use Rattle.unit_inputs.specs.Asking.{asks_with_file}
-use Rattle.host_io.specs.Calls.{Whole}
+use Rattle.unit_inputs.specs.host_io.Calls.{Whole}
 use Rattle.unit_inputs.specs.declared.settling.SettledUnit.{SettledUnit}
-use Rattle.policy_file.specs.declared.policy.PolicyTest.{PolicyTest}
+use Rattle.report_text.specs.exposure_score.declared.policy_file.policy.PolicyTest.{PolicyTest}
 use Rattle.std.proofs.Common.{List}
 use Rattle.unit_inputs.proofs.Ordering.{order_quiet_stopped, stops_at_file, stops_before_file, with_file}
 use Rattle.std.specs.Prelude.{IfSome}
-use Rattle.command_answers.specs.Stops.{Prepares}
-use Rattle.command_answers.proofs.FileCommands.{at_stop}
+use Rattle.unit_inputs.specs.command_answers.Stops.{Prepares}
+use Rattle.unit_inputs.proofs.FileCommands.{at_stop}
 use Rattle.score_command.specs.Prepared.{IsPrepared}
 use Rattle.score_command.specs.Refusals.{read_refusals}
 use Rattle.score_command.proofs.preparing.read_all.Goals as goal

@@ -1,5 +1,5 @@
 use Rattle.std.proofs.Common.{◌∙◌}
-use Rattle.command_answers.proofs.Texts.{items_cut, items_more, text_at_error}
+use Rattle.unit_inputs.proofs.Texts.{items_cut, items_more, text_at_error}
 use Rattle.report_text.specs.Scores.{score_line}
 use Rattle.score_command.proofs.printing.print_rows.Goals as goal
 

@@ -1,6 +1,6 @@
 use Rattle.std.proofs.Common.{◌≡◌, take}
 use Rattle.std.specs.Prelude.{flat_map}
-use Rattle.host_io.specs.Writing.{Grew}
+use Rattle.unit_inputs.specs.host_io.Writing.{Grew}
 use Rattle.report_text.specs.Scores.{score_line}
 use Rattle.score_command.proofs.printing.print_rows.Given as goal
 

@@ -1,8 +1,8 @@
 use Rattle.std.proofs.Common.{Err, subst}
 use Rattle.std.specs.Prelude.{flat_map}
-use Rattle.host_io.specs.Writing.{Grew}
-use Rattle.command_answers.specs.Printing.{TakesText}
-use Rattle.command_answers.proofs.Texts.{text_at_error, text_cut, text_then}
+use Rattle.unit_inputs.specs.host_io.Writing.{Grew}
+use Rattle.unit_inputs.specs.command_answers.Printing.{TakesText}
+use Rattle.unit_inputs.proofs.Texts.{text_at_error, text_cut, text_then}
 use Rattle.report_text.specs.Scores.{exposure_line, score_line}
 use Rattle.score_command.proofs.printing.print_score.Goals as goal
 

@@ -1,5 +1,5 @@
 use Rattle.std.proofs.Common.{ℕ, List, [], sym, refl}
-use Rattle.text_forms.specs.Numbers.{number_value}
+use Rattle.kernel_model.specs.text_forms.Numbers.{number_value}
 use Rattle.script_text.proofs.AllRead.{stops_at, goes_on}
 use Rattle.script_text.proofs.arguments.read_numbers.Goals as goal
 use denote.Ref.{Bor}

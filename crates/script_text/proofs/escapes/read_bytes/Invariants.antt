@@ -1,5 +1,5 @@
 use Rattle.std.proofs.Common.{◌≡◌, length}
-use Rattle.text_forms.specs.Escaped.{word_read}
+use Rattle.kernel_model.specs.text_forms.Escaped.{word_read}
 use Rattle.script_text.proofs.WordsRead.{behind}
 use Rattle.script_text.proofs.escapes.read_bytes.Given as goal
 

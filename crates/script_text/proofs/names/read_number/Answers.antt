@@ -1,5 +1,5 @@
 use Rattle.std.proofs.Common.{rules}
-use Rattle.call_table.specs.Numbers.{number_of}
+use Rattle.kernel_model.specs.call_table.Numbers.{number_of}
 use Rattle.script_text.proofs.names.read_number.Goals as goal
 
 pub returns-in_err-read_decimal : goal.returns-in_err-read_decimal

@@ -1,5 +1,5 @@
 use Rattle.std.proofs.Common.{ℕ, List, [], sym, refl}
-use Rattle.call_table.specs.Numbers.{number_of}
+use Rattle.kernel_model.specs.call_table.Numbers.{number_of}
 use Rattle.script_text.proofs.AllRead.{stops_at, goes_on}
 use Rattle.script_text.proofs.payloads.read_each.Goals as goal
 use denote.Ref.{Bor}

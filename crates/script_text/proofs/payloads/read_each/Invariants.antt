@@ -1,5 +1,5 @@
 use Rattle.std.proofs.Common.{◌≡◌, Some, map, take}
-use Rattle.call_table.specs.Numbers.{number_of}
+use Rattle.kernel_model.specs.call_table.Numbers.{number_of}
 use Rattle.script_text.specs.Numbers.{all_read}
 use Rattle.script_text.proofs.payloads.read_each.Given as goal
 

@@ -1,5 +1,5 @@
 use Rattle.std.proofs.Common.{ap, ◌∙◌, map}
-use Rattle.line_text.specs.Views.{line_view}
+use Rattle.kernel_model.specs.text_forms.line_text.Views.{line_view}
 use Rattle.script_text.proofs.Bytes.{no_text, of_text}
 use Rattle.script_text.proofs.reader.read_bytes.Goals as goal
 

@@ -1,5 +1,5 @@
 use Rattle.std.proofs.Common.{map, take}
-use Rattle.line_text.specs.Views.{line_view}
+use Rattle.kernel_model.specs.text_forms.line_text.Views.{line_view}
 use Rattle.script_text.specs.Progress.{HasRead}
 use Rattle.script_text.proofs.reader.read_calls.Given as goal
 

@@ -1,5 +1,5 @@
 use Rattle.std.proofs.Common.{sym, ◌∙◌, subst, ap, length, arith}
-use Rattle.bpf_code.specs.Reading.{IsProgram}
+use Rattle.call_rules.specs.bpf_code.Reading.{IsProgram}
 use Rattle.seccomp_compile.specs.Compiled.{Decides, DecidesWithin, longest_path}
 use Rattle.seccomp_compile.specs.Decisions.{decision_of}
 use Rattle.seccomp_compile.specs.Placed.{Placed}

@@ -5,4 +5,4 @@ use Rattle.site_table.proofs.OwnersRead.{OwnersRead}
 use Rattle.site_table.proofs.owners.read_owners.Given as goal
 
 abbrev pub invariant-loop-at : goal.invariant-loop-at
-invariant-loop-at g l = OwnersRead (is_wrong l.fn.kind) (refusal_of l.fn.kind) g.O.Owner.said_of (map view l.owners) l.at l.read
+invariant-loop-at g l = OwnersRead (is_wrong l.fn.kind) (refusal_of l.fn.kind) g.T.Telling.said_of (map view l.owners) l.at l.read

@@ -29,5 +29,5 @@ returns c =
     record {
       reads_the_rows =
           ap (λ faults. unless_fault faults (rows_in_order (with_fixed (map row_of rows)))) said.0
-          ∙ ap Ok (sym (fixed_is (map row_of rows) (listed_normal rows said.0)) ∙ ap fixed_placed said.1 ∙ sym c.in_ok-complete.ensures.with_fixed);
+          ∙ ap Ok (sym (fixed_is (map row_of rows) (listed_normal rows said.0)) ∙ ap fixed_placed said.1 ∙ sym c.in_ok-complete.ensures);
     }

@@ -1,7 +1,7 @@
 use Rattle.std.proofs.Common.{◌≡◌}
-use Rattle.command_answers.specs.declared.ending.Ending.TheVariants.{Done}
-use Rattle.tighten.specs.Tried.{tried_with}
-use Rattle.tighten.specs.Wishes.{wishes_by}
+use Rattle.asked_service.specs.unit_inputs.declared.command_answers.ending.Ending.TheVariants.{Done}
+use Rattle.tighten_command.specs.tightening.Tried.{tried_with}
+use Rattle.tighten_command.specs.tightening.Wishes.{wishes_by}
 use Rattle.tighten_command.specs.Lines.{tight_text}
 use Rattle.tighten_command.specs.Telling.{TellsError, TellsTight}
 use Rattle.tighten_command.proofs.Telling.{tells_error, tells_tight, told_as, told_reads_nothing}

@@ -1,16 +1,16 @@
 use Rattle.std.proofs.Common.{◌≡◌, ◌∙◌, Some, sym}
 use Rattle.std.specs.Prelude.{List}
-use Rattle.host_io.specs.Calls.{Whole}
-use Rattle.command_answers.specs.Laws.{IsAdmitted}
-use Rattle.command_answers.proofs.FileCommands.{at_stop}
-use Rattle.question_types.specs.declared.question.Question.{Question}
-use Rattle.tighten.specs.Wishes.{wishes_by}
-use Rattle.unit_names.specs.Cutting.{name_of}
-use Rattle.unit_inputs.specs.Asking.{asks_with_file}
-use Rattle.unit_inputs.specs.Inputs.{inputs_of, inputs_view}
-use Rattle.unit_inputs.proofs.Ordering.{order_quiet, stops_at_file, stops_before_file, with_file}
-use Rattle.unit_inputs.proofs.Reading.{named, read_behind}
-use Rattle.command_answers.specs.ReadyTexts.{ending_of, text_of}
+use Rattle.asked_service.specs.host_io.Calls.{Whole}
+use Rattle.asked_service.specs.unit_inputs.command_answers.Laws.{IsAdmitted}
+use Rattle.asked_service.proofs.UnitInputs.FileCommands.{at_stop}
+use Rattle.asked_service.specs.kernel_laws.declared.question_types.question.Question.{Question}
+use Rattle.tighten_command.specs.tightening.Wishes.{wishes_by}
+use Rattle.asked_service.specs.unit_names.Cutting.{name_of}
+use Rattle.asked_service.specs.unit_inputs.Asking.{asks_with_file}
+use Rattle.asked_service.specs.unit_inputs.Inputs.{inputs_of, inputs_view}
+use Rattle.asked_service.proofs.UnitInputs.Ordering.{order_quiet, stops_at_file, stops_before_file, with_file}
+use Rattle.asked_service.proofs.UnitInputs.Reading.{named, read_behind}
+use Rattle.asked_service.specs.unit_inputs.command_answers.ReadyTexts.{ending_of, text_of}
 use Rattle.tighten_command.specs.Prints.{tighten_laws}
 use Rattle.tighten_command.proofs.Prepared.{answered_as, lent_listed, stops_at_inputs, stops_at_keep}
 use Rattle.tighten_command.proofs.command.prepare.Goals as goal

@@ -1,7 +1,7 @@
 use Rattle.std.proofs.Common.{rules}
 use Rattle.std.specs.Prelude.{◌≢◌, List}
-use Rattle.question_types.specs.declared.question.Question.{Question}
-use Rattle.command_answers.proofs.Said.{said_refused}
+use Rattle.asked_service.specs.kernel_laws.declared.question_types.question.Question.{Question}
+use Rattle.asked_service.proofs.UnitInputs.Said.{said_refused}
 use Rattle.tighten_command.specs.KeepFiles.{IsKeepOf, a_keep, keep_line, no_keep}
 use Rattle.tighten_command.specs.declared.keeping.KeepError.TheVariants.{Memory}
 use Rattle.tighten_command.proofs.Reading.{listed_keep}

@@ -1,11 +1,11 @@
 use Rattle.std.proofs.Common.{ℕ, subst, [], ◌∷◌}
 use Rattle.std.specs.Prelude.{IfSome, List, Vec}
 use Rattle.std.specs.declared.alloc.Global.{Global}
-use Rattle.command_answers.specs.Asking.{input_file}
-use Rattle.command_answers.proofs.Asking.{went_quiet}
-use Rattle.command_answers.proofs.FileCommands.{at_stop}
-use Rattle.command_answers.specs.Said.{IsSaid}
-use Rattle.question_types.specs.declared.question.Question.{Question}
+use Rattle.asked_service.specs.unit_inputs.command_answers.Asking.{input_file}
+use Rattle.asked_service.proofs.UnitInputs.Asking.{went_quiet}
+use Rattle.asked_service.proofs.UnitInputs.FileCommands.{at_stop}
+use Rattle.asked_service.specs.unit_inputs.command_answers.Said.{IsSaid}
+use Rattle.asked_service.specs.kernel_laws.declared.question_types.question.Question.{Question}
 use Rattle.tighten_command.specs.KeepFiles.{IsKeepIn, IsKeepOf}
 use Rattle.tighten_command.proofs.Prepared.{no_bytes, some_bytes}
 use Rattle.tighten_command.proofs.keep_file.read_keep.Goals as goal

@@ -1,5 +1,5 @@
 use Rattle.std.proofs.Common.{arith, map}
-use Rattle.line_text.specs.Views.{line_view}
+use Rattle.asked_service.specs.text_forms.line_text.Views.{line_view}
 use Rattle.tighten_command.specs.Keeping.{ReadsLines, no_memory, other_line, too_many}
 use Rattle.tighten_command.proofs.Reading.{all_read, at_memory, lent_printed, one_longer, one_more_at, other_at, too_many_at}
 use Rattle.tighten_command.proofs.keeping.keep_of_lines.Goals as goal

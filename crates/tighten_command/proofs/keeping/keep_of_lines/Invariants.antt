@@ -1,5 +1,5 @@
 use Rattle.std.proofs.Common.{◌≡◌, ◌≤◌, length, map, take}
-use Rattle.line_text.specs.Views.{line_view}
+use Rattle.asked_service.specs.text_forms.line_text.Views.{line_view}
 use Rattle.tighten_command.specs.Keeping.{AreOf}
 use Rattle.tighten_command.proofs.keeping.keep_of_lines.Given as goal
 

@@ -1,6 +1,6 @@
 use Rattle.std.proofs.Common.{◌∙◌, ap, map, subst}
-use Rattle.line_text.specs.Lines.{lines_of}
-use Rattle.line_text.specs.Views.{line_view}
+use Rattle.asked_service.specs.text_forms.line_text.Lines.{lines_of}
+use Rattle.asked_service.specs.text_forms.line_text.Views.{line_view}
 use Rattle.tighten_command.specs.Keeping.{ReadsKeep, ReadsLines, no_memory, not_text, text_lines}
 use Rattle.tighten_command.proofs.Reading.{at_memory, no_text, some_text}
 use Rattle.tighten_command.proofs.keeping.read_questions.Goals as goal

@@ -1,5 +1,5 @@
 use Rattle.std.proofs.Common.{refl}
-use Rattle.command_answers.specs.declared.ending.Ending.TheVariants.{NoCommand}
+use Rattle.derive_command.specs.unit_inputs.declared.command_answers.ending.Ending.TheVariants.{NoCommand}
 use Rattle.top_call.specs.Texts.{words_line}
 use Rattle.top_call.proofs.Runs.{ran_fixed}
 use Rattle.top_call.proofs.Asked.{asked_fixed}

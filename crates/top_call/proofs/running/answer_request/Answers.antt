@@ -1,40 +1,40 @@
 use Rattle.std.proofs.Common.{[], map, refl}
-use Rattle.command_answers.specs.Laws.{laws_over}
-use Rattle.command_answers.specs.declared.ending.Ending.TheVariants.{Done}
-use Rattle.command_answers.proofs.Runs.{ran}
+use Rattle.derive_command.specs.unit_inputs.command_answers.Laws.{laws_over}
+use Rattle.derive_command.specs.unit_inputs.declared.command_answers.ending.Ending.TheVariants.{Done}
+use Rattle.derive_command.proofs.UnitInputs.Runs.{ran}
 use Rattle.filter_command.specs.Prints.{filter_laws, filters_text, ending_of as filter_ending}
 use Rattle.filter_command.proofs.Prepared.{together as filter_together}
-use Rattle.plan_command.specs.Prints.{plan_laws, mounts_text, ending_of as plan_ending}
-use Rattle.plan_command.proofs.Prepared.{together as plan_together}
-use Rattle.command_answers.specs.ReadyTexts.{ending_of as ready_ending, text_of as ready_text}
+use Rattle.derive_command.specs.plan_command.Prints.{plan_laws, mounts_text, ending_of as plan_ending}
+use Rattle.derive_command.proofs.PlanCommand.Prepared.{together as plan_together}
+use Rattle.derive_command.specs.unit_inputs.command_answers.ReadyTexts.{ending_of as ready_ending, text_of as ready_text}
 use Rattle.derive_command.specs.Prints.{derive_laws}
 use Rattle.derive_command.proofs.Prepared.{together as derive_together}
 use Rattle.effect_command.specs.Prints.{effect_laws}
 use Rattle.effect_command.proofs.Prepared.{together as effect_together}
-use Rattle.tighten.specs.Wishes.{wishes_by}
+use Rattle.tighten_command.specs.tightening.Wishes.{wishes_by}
 use Rattle.tighten_command.specs.Prints.{tighten_laws}
 use Rattle.tighten_command.proofs.Prepared.{together as tighten_together}
 use Rattle.why_command.specs.Prints.{why_laws}
 use Rattle.why_command.proofs.Prepared.{together as why_together}
-use Rattle.lines_command.specs.Prints.{lines_laws}
-use Rattle.lines_command.proofs.Prepared.{together as lines_together}
-use Rattle.exposure_score.specs.StoredTests.{stored_by}
-use Rattle.score_command.specs.Prints.{score_laws, scored_text, ending_of as score_ending}
-use Rattle.score_command.proofs.Prepared.{together as score_together}
+use Rattle.why_command.specs.lines_command.Prints.{lines_laws}
+use Rattle.why_command.proofs.LinesCommandPrepared.{together as lines_together}
+use Rattle.fleet_command.specs.exposure_score.StoredTests.{stored_by}
+use Rattle.fleet_command.specs.score_command.Prints.{score_laws, scored_text, ending_of as score_ending}
+use Rattle.fleet_command.proofs.ScoreCommand.Prepared.{together as score_together}
 use Rattle.check_command.specs.Checked.{checked_text, ending_of as check_ending}
 use Rattle.check_command.specs.Prints.{check_laws}
 use Rattle.check_command.proofs.Together.{together as check_together}
 use Rattle.fleet_command.specs.Prints.{fleet_laws, ending_of as fleet_ending, text_of as fleet_text}
 use Rattle.fleet_command.proofs.Prepared.{together as fleet_together}
-use Rattle.command_answers.proofs.Refusing.{quiet}
+use Rattle.derive_command.proofs.UnitInputs.Refusing.{quiet}
 use Rattle.sample_command.specs.Prints.{sample_laws, sampled_text, ending_of as sample_ending}
 use Rattle.sample_command.proofs.Prepared.{together as sample_together}
 use Rattle.top_call.specs.Texts.{help_text, version_text}
 use Rattle.top_call.proofs.Runs.{ran_fixed}
-use Rattle.host_io.specs.Calls.{Whole}
-use Rattle.unit_inputs.specs.Asking.{asks_with_file, input_asks}
-use Rattle.unit_inputs.proofs.Ended.{order_finished}
-use Rattle.unit_inputs.proofs.Ordering.{asked_so, order_quiet}
+use Rattle.derive_command.specs.host_io.Calls.{Whole}
+use Rattle.derive_command.specs.unit_inputs.Asking.{asks_with_file, input_asks}
+use Rattle.derive_command.proofs.UnitInputs.Ended.{order_finished}
+use Rattle.derive_command.proofs.UnitInputs.Ordering.{asked_so, order_quiet}
 use Rattle.fleet_command.specs.Asking.{fleet_asks}
 use Rattle.top_call.proofs.Asked.{asked_fixed}
 use Rattle.top_call.proofs.running.answer_request.Goals as goal

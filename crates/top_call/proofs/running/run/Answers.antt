@@ -1,7 +1,7 @@
 use Rattle.std.proofs.Common.{map}
 use Rattle.std.specs.Option.{option_map}
-use Rattle.exposure_score.specs.StoredTests.{stored_by}
-use Rattle.tighten.specs.Wishes.{wishes_by}
+use Rattle.fleet_command.specs.exposure_score.StoredTests.{stored_by}
+use Rattle.tighten_command.specs.tightening.Wishes.{wishes_by}
 use Rattle.top_call.specs.Requests.{request_of}
 use Rattle.top_call.proofs.Runs.{does_for_words}
 use Rattle.top_call.proofs.running.run.Goals as goal

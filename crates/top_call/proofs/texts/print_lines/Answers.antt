@@ -1,5 +1,5 @@
 use Rattle.std.proofs.Common.{[], Err, arith, refl}
-use Rattle.command_answers.proofs.Texts.{items_cut, text_as, text_at_error}
+use Rattle.derive_command.proofs.UnitInputs.Texts.{items_cut, text_as, text_at_error}
 use Rattle.top_call.proofs.texts.print_lines.Goals as goal
 
 pub returns-in_err-put_piece-clause-takes_the_text : goal.returns-in_err-put_piece-clause-takes_the_text

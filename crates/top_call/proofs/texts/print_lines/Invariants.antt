@@ -1,6 +1,6 @@
 use Rattle.std.proofs.Common.{◌≡◌, take}
 use Rattle.std.specs.Prelude.{flat_map}
-use Rattle.host_io.specs.Writing.{Grew}
+use Rattle.derive_command.specs.host_io.Writing.{Grew}
 use Rattle.top_call.proofs.texts.print_lines.Given as goal
 
 abbrev pub invariant-loop-line : goal.invariant-loop-line

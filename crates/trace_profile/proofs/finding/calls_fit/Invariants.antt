@@ -1,5 +1,5 @@
 use Rattle.std.specs.List.{AllWithin}
-use Rattle.kernel_calls.specs.Calls.{IsCall}
+use Rattle.asked_service.specs.kernel_model.kernel_calls.Calls.{IsCall}
 use Rattle.trace_profile.proofs.finding.calls_fit.Given as goal
 
 abbrev pub invariant-loop-call : goal.invariant-loop-call

@@ -1,6 +1,6 @@
 use Rattle.std.proofs.Common.{rules, ◌≡◌, All, None, List, subst}
-use Rattle.kernel_calls.specs.Calls.{IsCall}
-use Rattle.kernel_calls.specs.declared.call.Call.{Call}
+use Rattle.asked_service.specs.kernel_model.kernel_calls.Calls.{IsCall}
+use Rattle.asked_service.specs.kernel_model.declared.kernel_calls.call.Call.{Call}
 use Rattle.trace_profile.specs.Scripts.{first_seccomp}
 use Rattle.trace_profile.proofs.Whole.{derives_all, derives_none}
 use Rattle.trace_profile.proofs.finding.derive.Goals as goal

@@ -1,13 +1,13 @@
-use Rattle.launched_units.specs.declared.refusal.UnitRefusal.TheVariants.{Memory}
+use Rattle.asked_service.specs.declared.launched_units.refusal.UnitRefusal.TheVariants.{Memory}
 use Rattle.trace_profile.specs.Finding.{DerivesOpen}
 use Rattle.trace_profile.proofs.Tried.{at_error, derived_is, every_serve, not_opened}
 use Rattle.trace_profile.proofs.finding.derive_open.Goals as goal
 
-pub returns-in_err-service : goal.returns-in_err-service
-returns-in_err-service c =
-    at_error (DerivesOpen c.args.unit.now c.args.calls.now c.args.site.now c.args.script.now) c.from_residual-in_err-service.result c.in_err-service.field-0.0 c.from_residual-in_err-service.ensures.1
-    (not_opened c.args.unit.now c.args.calls.now c.args.site.now c.args.script.now c.in_ok-open.open c.in_ok-every.every.items c.deref.result.now c.in_ok-every.ensures.all_of_the_table c.deref.ensures.value c.in_ok-open.ensures.drop_in_stands_last
-    c.in_err-service.field-0.0 c.in_err-service.ensures.launches)
+pub returns-in_err-said : goal.returns-in_err-said
+returns-in_err-said c =
+    at_error (DerivesOpen c.args.unit.now c.args.calls.now c.args.site.now c.args.script.now) c.from_residual-in_err-said.result c.in_err-said.field-0.0 c.from_residual-in_err-said.ensures.1
+    (not_opened c.args.unit.now c.args.calls.now c.args.site.now c.args.script.now c.in_ok-every.every.items c.deref.result.now c.in_ok-every.ensures.all_of_the_table c.deref.ensures.value
+    c.in_err-said.field-0.0 c.in_err-said.ensures.refused)
 
 pub returns-in_err-names : goal.returns-in_err-names
 returns-in_err-names c =
@@ -15,11 +15,11 @@ returns-in_err-names c =
 
 pub begin-requires-clause-serving : goal.begin-requires-clause-serving
 begin-requires-clause-serving c =
-    every_serve c.args.unit.now c.args.calls.now c.args.site.now c.args.script.now c.in_ok-open.open c.in_ok-every.every.items c.deref.result.now c.in_ok-every.ensures.all_of_the_table c.deref.ensures.value c.in_ok-open.ensures.drop_in_stands_last
-    c.in_ok-service.service c.in_ok-service.ensures.launches c.in_ok-said.said.items c.deref-2.result.now c.list.result.now c.list-2.result.now c.in_ok-said.ensures.replies c.list.ensures.all_in_order c.list-2.ensures.all_in_order c.deref-2.ensures.value
+    every_serve c.args.unit.now c.args.calls.now c.args.site.now c.args.script.now c.in_ok-every.every.items c.deref.result.now c.in_ok-every.ensures.all_of_the_table c.deref.ensures.value
+    c.in_ok-said.said.items c.deref-2.result.now c.list.result.now c.list-2.result.now c.in_ok-said.ensures.replies c.list.ensures.all_in_order c.list-2.ensures.all_in_order c.deref-2.ensures.value
 
 pub returns : goal.returns
 returns c =
-    derived_is c.args.unit.now c.args.calls.now c.args.site.now c.args.script.now c.in_ok-open.open c.in_ok-every.every.items c.deref.result.now c.in_ok-every.ensures.all_of_the_table c.deref.ensures.value c.in_ok-open.ensures.drop_in_stands_last
-    c.in_ok-service.service c.in_ok-service.ensures.launches c.in_ok-said.said.items c.deref-2.result.now c.list.result.now c.list-2.result.now c.in_ok-said.ensures.replies c.list.ensures.all_in_order c.list-2.ensures.all_in_order c.deref-2.ensures.value
+    derived_is c.args.unit.now c.args.calls.now c.args.site.now c.args.script.now c.in_ok-every.every.items c.deref.result.now c.in_ok-every.ensures.all_of_the_table c.deref.ensures.value
+    c.in_ok-said.said.items c.deref-2.result.now c.list.result.now c.list-2.result.now c.in_ok-said.ensures.replies c.list.ensures.all_in_order c.list-2.ensures.all_in_order c.deref-2.ensures.value
     c.in_ok-names.names.items c.new.result c.new.ensures.holds_them c.in_ok-names.ensures.none_can_be_left_out

@@ -1,5 +1,5 @@
 use Rattle.std.proofs.Common.{◌≡◌, ◌++◌, drop, take}
-use Rattle.kernel_model.specs.Runs.{replies}
+use Rattle.asked_service.specs.kernel_model.Runs.{replies}
 use Rattle.trace_profile.proofs.replies.are_replies.Given as goal
 
 -- the replies so far are these, and the others are left

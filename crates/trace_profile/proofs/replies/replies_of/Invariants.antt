@@ -1,5 +1,5 @@
 use Rattle.std.proofs.Common.{◌≡◌, ◌++◌, drop, length}
-use Rattle.kernel_model.specs.Runs.{replies}
+use Rattle.asked_service.specs.kernel_model.Runs.{replies}
 use Rattle.trace_profile.proofs.replies.replies_of.Given as goal
 
 -- what was said, and what is left to say

@@ -1,4 +1,4 @@
-use Rattle.command_answers.proofs.Asking.{went_quiet}
+use Rattle.unit_inputs.proofs.Asking.{went_quiet}
 use Rattle.unit_inputs.specs.Asking.{table_asks}
 use Rattle.unit_inputs.proofs.calls.read_table.Goals as goal
 

@@ -1,6 +1,6 @@
 use Rattle.std.proofs.Common.{[], ◌∷◌, Err, ℕ, Vec, Global}
-use Rattle.command_answers.specs.Asking.{input_file}
-use Rattle.command_answers.proofs.Asking.{told_line, went_quiet}
+use Rattle.unit_inputs.specs.command_answers.Asking.{input_file}
+use Rattle.unit_inputs.proofs.Asking.{told_line, went_quiet}
 use Rattle.unit_inputs.proofs.files.read_input.Goals as goal
 
 pub returns-in-Ok-Missing-clause-asks_for_it : goal.returns-in-Ok-Missing-clause-asks_for_it

@@ -1,7 +1,7 @@
-use Rattle.call_table.specs.Table.{Table}
-use Rattle.dropin_merge.specs.declared.resolved.Resolved.{Resolved}
-use Rattle.host_io.specs.Calls.{Whole}
-use Rattle.site_table.specs.Table.{Site}
+use Rattle.exec_settings.specs.call_table.Table.{Table}
+use Rattle.exec_settings.specs.dropin_merge.declared.resolved.Resolved.{Resolved}
+use Rattle.exec_settings.specs.host_io.Calls.{Whole}
+use Rattle.exec_settings.specs.site_table.Table.{Site}
 use Rattle.std.proofs.Common.{Box, Global}
 use Rattle.unit_inputs.proofs.Ordering.{behind_table, behind_unit, order_stopped, stops_at_table, stops_at_unit}
 use Rattle.unit_inputs.specs.Asking.{input_asks}

@@ -1,4 +1,4 @@
-use Rattle.command_answers.proofs.Asking.{went_quiet}
+use Rattle.unit_inputs.proofs.Asking.{went_quiet}
 use Rattle.unit_inputs.specs.Asking.{site_asks}
 use Rattle.unit_inputs.proofs.site.read_site.Goals as goal
 

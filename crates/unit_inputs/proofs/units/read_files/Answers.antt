@@ -1,4 +1,4 @@
-use Rattle.dropin_merge.specs.Asking.{resolve_asks}
+use Rattle.exec_settings.specs.dropin_merge.Asking.{resolve_asks}
 use Rattle.unit_inputs.proofs.Ordering.{order_quiet}
 use Rattle.unit_inputs.proofs.units.read_files.Goals as goal
 

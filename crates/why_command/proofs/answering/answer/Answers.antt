@@ -1,10 +1,10 @@
-use Rattle.command_answers.specs.Stops.{Prepares}
-use Rattle.command_answers.proofs.FileCommands.{at_stop}
+use Rattle.judge_command.specs.unit_inputs.command_answers.Stops.{Prepares}
+use Rattle.judge_command.proofs.UnitInputs.FileCommands.{at_stop}
 use Rattle.deciding_lines.specs.Tried.{tried_of}
-use Rattle.started_units.specs.Starting.{start_refusals}
-use Rattle.command_answers.specs.ReadyTexts.{ending_of, text_of}
+use Rattle.judge_command.specs.asked_service.started_units.Starting.{start_refusals}
+use Rattle.judge_command.specs.unit_inputs.command_answers.ReadyTexts.{ending_of, text_of}
 use Rattle.why_command.specs.Prints.{TellsLaunch, TellsWhy}
-use Rattle.command_answers.proofs.ReadyTexts.{ready_reads_nothing}
+use Rattle.judge_command.proofs.UnitInputs.ReadyTexts.{ready_reads_nothing}
 use Rattle.why_command.proofs.Told.{answers_launch, answers_stop}
 use Rattle.why_command.proofs.answering.answer.Goals as goal
 

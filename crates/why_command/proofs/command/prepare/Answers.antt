@@ -1,16 +1,16 @@
 use Rattle.std.proofs.Common.{map, sym, ◌≡◌, ◌∙◌, Some}
 use Rattle.std.specs.Prelude.{IsErrOf}
-use Rattle.command_answers.specs.declared.stop.Stop.TheVariants.{ReadFault}
-use Rattle.command_answers.specs.Laws.{IsAdmitted, laws_over}
-use Rattle.command_answers.proofs.FileCommands.{at_stop}
-use Rattle.question_types.specs.declared.question.Question.{Question}
-use Rattle.started_units.specs.Starting.{given}
-use Rattle.unit_inputs.specs.Asking.{input_asks}
-use Rattle.unit_inputs.specs.Inputs.{inputs_of, inputs_view}
-use Rattle.unit_inputs.proofs.Ordering.{order_quiet, order_quiet_stopped}
-use Rattle.started_units.proofs.Given.{same_inputs}
-use Rattle.unit_inputs.proofs.Reading.{read_then}
-use Rattle.command_answers.specs.ReadyTexts.{ending_of, text_of}
+use Rattle.judge_command.specs.unit_inputs.declared.command_answers.stop.Stop.TheVariants.{ReadFault}
+use Rattle.judge_command.specs.unit_inputs.command_answers.Laws.{IsAdmitted, laws_over}
+use Rattle.judge_command.proofs.UnitInputs.FileCommands.{at_stop}
+use Rattle.judge_command.specs.kernel_laws.declared.question_types.question.Question.{Question}
+use Rattle.judge_command.specs.asked_service.started_units.Starting.{given}
+use Rattle.judge_command.specs.unit_inputs.Asking.{input_asks}
+use Rattle.judge_command.specs.unit_inputs.Inputs.{inputs_of, inputs_view}
+use Rattle.judge_command.proofs.UnitInputs.Ordering.{order_quiet, order_quiet_stopped}
+use Rattle.judge_command.proofs.AskedService.Given.{same_inputs}
+use Rattle.judge_command.proofs.UnitInputs.Reading.{read_then}
+use Rattle.judge_command.specs.unit_inputs.command_answers.ReadyTexts.{ending_of, text_of}
 use Rattle.why_command.specs.Prints.{why_laws}
 use Rattle.why_command.proofs.Prepared.{admitted_as, as_any, listed_as, stops_at_inputs, stops_at_question}
 use Rattle.why_command.proofs.command.prepare.Goals as goal

@@ -1,4 +1,4 @@
-use Rattle.kernel_laws.specs.Launched.{launch_of}
+use Rattle.kernel_ways.specs.kernel_laws.Launched.{launch_of}
 use Rattle.ceilings.proofs.Ruling.{by_native, by_second}
 use Rattle.ceilings.proofs.ruled.LineRules.let_through.Goals as goal
 

@@ -1,6 +1,6 @@
 use Rattle.std.proofs.Common.{ap, subst, ◌∙◌}
 use Rattle.std.specs.Prelude.{IfOk}
-use Rattle.unit_lines.specs.Without.{without}
+use Rattle.deciding_lines.specs.unit_lines.Without.{without}
 use Rattle.deciding_lines.specs.Deciding.{IsReasonAt}
 use Rattle.deciding_lines.specs.Tried.{tried_of}
 use Rattle.deciding_lines.proofs.Asked.{reason_of_stop, starts_without}

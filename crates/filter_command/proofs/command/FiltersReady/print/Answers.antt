@@ -1,6 +1,6 @@
 use Rattle.std.proofs.Common.{ap, length}
 use Rattle.std.specs.Prelude.{flat_map}
-use Rattle.command_answers.proofs.Texts.{text_as, text_short, text_then}
+use Rattle.unit_inputs.proofs.Texts.{text_as, text_short, text_then}
 use Rattle.filter_command.specs.Lines.{count_line, filter_text, text_of}
 use Rattle.filter_command.proofs.command.FiltersReady.print.Goals as goal
 

@@ -1,5 +1,5 @@
 use Rattle.std.proofs.Common.{subst, refl, Some}
-use Rattle.place_tree.specs.Places.{IsLastLeading}
+use Rattle.abs_path.specs.place_tree.Places.{IsLastLeading}
 use Rattle.kern_mounts.specs.Entry.{Belongs}
 use Rattle.kern_mounts.specs.Mounts.{Mounts, steps_of}
 use Rattle.kern_mounts.specs.Table.{places_of}

@@ -1,4 +1,4 @@
-use Rattle.kernel_calls.specs.Seen.{seen}
+use Rattle.kernel_model.specs.kernel_calls.Seen.{seen}
 use Rattle.kernel_model.proofs.Lifts.{effect_at, replied_there, child_made, table_made, child_ready, table_ready, child_same, table_same, there_too, spaces_too, stays_too, owned_too, user_child_made, own_user_made, user_child_ready, own_user_ready, user_child_same, own_user_same}
 use Rattle.kernel_model.proofs.state.State.perform.Goals as goal
 

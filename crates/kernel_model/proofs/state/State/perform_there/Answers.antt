@@ -1,5 +1,5 @@
 use Rattle.std.proofs.Common.{◌==◌}
-use Rattle.kernel_calls.specs.Seen.{seen}
+use Rattle.kernel_model.specs.kernel_calls.Seen.{seen}
 use Rattle.kernel_model.proofs.Apart.{owns_here}
 use Rattle.kernel_model.proofs.Lifts.{performed_there, stays_there}
 use Rattle.kernel_model.proofs.state.State.perform_there.Goals as goal

@@ -1,5 +1,5 @@
 use Rattle.std.proofs.Common.{sym, arith}
-use Rattle.kernel_calls.specs.Seen.{seen}
+use Rattle.kernel_model.specs.kernel_calls.Seen.{seen}
 use Rattle.kernel_model.proofs.Owners.{owned_ended, owned_after}
 use Rattle.kernel_model.proofs.Lifts.{step_is, kernel_after, kernel_ended, decides_here, step_seen, ready_seen}
 use Rattle.kernel_model.proofs.world.World.step.Goals as goal

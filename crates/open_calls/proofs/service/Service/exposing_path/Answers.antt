@@ -1,6 +1,6 @@
 use Rattle.std.proofs.Common.{◌≡◌, ◌⊎◌, arith}
-use Rattle.question_types.specs.declared.power.Power.TheVariants.{None as Nowise, Unmount as Unmounting}
-use Rattle.kern_mounts.specs.Mounts.{steps_of}
+use Rattle.ceilings.specs.kernel_laws.declared.question_types.power.Power.TheVariants.{None as Nowise, Unmount as Unmounting}
+use Rattle.ceilings.specs.kern_mounts.Mounts.{steps_of}
 use Rattle.open_calls.proofs.Leading.{below_proc, leads_by}
 use Rattle.open_calls.proofs.service.Service.exposing_path.Goals as goal
 

@@ -1,5 +1,5 @@
 use Rattle.std.proofs.Common.{sym}
-use Rattle.kernel_laws.specs.Launched.{launch_of}
+use Rattle.ceilings.specs.kernel_laws.Launched.{launch_of}
 use Rattle.open_calls.specs.Meanings.{gives}
 use Rattle.open_calls.proofs.Opening.{runs}
 use Rattle.open_calls.proofs.service.Service.push_at_power.Goals as goal

@@ -1,5 +1,5 @@
 use Rattle.std.proofs.Common.{sym}
-use Rattle.kernel_laws.specs.Launched.{launch_of}
+use Rattle.ceilings.specs.kernel_laws.Launched.{launch_of}
 use Rattle.open_calls.specs.Meanings.{meant_cap, meant_kind, meant_number}
 use Rattle.open_calls.proofs.Opening.{serves}
 use Rattle.open_calls.proofs.service.Service.push_by_cap.Goals as goal

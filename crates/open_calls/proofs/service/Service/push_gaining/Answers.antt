@@ -1,6 +1,6 @@
 use Rattle.std.proofs.Common.{sym}
-use Rattle.chosen_calls.proofs.Gained.{gain_can_be_made}
-use Rattle.kernel_laws.specs.Launched.{launch_of}
+use Rattle.open_calls.proofs.Gained.{gain_can_be_made}
+use Rattle.ceilings.specs.kernel_laws.Launched.{launch_of}
 use Rattle.open_calls.specs.Meanings.{meant_gain}
 use Rattle.open_calls.proofs.service.Service.push_gaining.Goals as goal
 

@@ -1,6 +1,6 @@
 use Rattle.std.proofs.Common.{◌∙◌, sym}
-use Rattle.kernel_laws.specs.Launched.{launch_of}
-use Rattle.question_types.specs.declared.power.Power.TheVariants.{None as Nowise}
+use Rattle.ceilings.specs.kernel_laws.Launched.{launch_of}
+use Rattle.ceilings.specs.kernel_laws.declared.question_types.power.Power.TheVariants.{None as Nowise}
 use Rattle.open_calls.specs.Meanings.{gives}
 use Rattle.open_calls.proofs.Opening.{id_is_open, runs}
 use Rattle.open_calls.proofs.service.Service.push_id.Goals as goal

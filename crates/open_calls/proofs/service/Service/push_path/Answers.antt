@@ -1,8 +1,8 @@
 use Rattle.std.proofs.Common.{◌≡◌, ◌++◌, sym, subst, List}
 use Rattle.std.specs.Prelude.{OnOk}
-use Rattle.kernel_calls.specs.declared.call.Call.{Call}
-use Rattle.kernel_laws.specs.Launched.{launch_of}
-use Rattle.kernel_ways.proofs.Rows.{known_at}
+use Rattle.ceilings.specs.kernel_model.declared.kernel_calls.call.Call.{Call}
+use Rattle.ceilings.specs.kernel_laws.Launched.{launch_of}
+use Rattle.ceilings.proofs.KernelWays.Rows.{known_at}
 use Rattle.open_calls.proofs.Listed.{row_is}
 use Rattle.open_calls.proofs.service.Service.push_path.Goals as goal
 

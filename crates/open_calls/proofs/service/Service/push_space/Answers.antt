@@ -1,5 +1,5 @@
 use Rattle.std.proofs.Common.{◌∙◌, sym}
-use Rattle.kernel_laws.specs.Launched.{launch_of}
+use Rattle.ceilings.specs.kernel_laws.Launched.{launch_of}
 use Rattle.open_calls.proofs.Inside.{made_inside, not_user}
 use Rattle.open_calls.proofs.service.Service.push_space.Goals as goal
 

@@ -1,7 +1,7 @@
 use Rattle.std.proofs.Common.{sym, arith, refl, inr, subst, ◌≤◌, length}
-use Rattle.kern_mounts.specs.Split.{Table}
-use Rattle.question_types.specs.declared.power.Power.TheVariants.{Unmount as Unmounting}
-use Rattle.kern_mounts.specs.Mounts.{steps_of}
+use Rattle.ceilings.specs.kern_mounts.Split.{Table}
+use Rattle.ceilings.specs.kernel_laws.declared.question_types.power.Power.TheVariants.{Unmount as Unmounting}
+use Rattle.ceilings.specs.kern_mounts.Mounts.{steps_of}
 use Rattle.open_calls.proofs.Leading.{leads_by}
 use Rattle.open_calls.proofs.service.Service.push_unmounts.Goals as goal
 

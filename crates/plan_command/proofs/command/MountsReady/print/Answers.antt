@@ -1,6 +1,6 @@
 use Rattle.std.proofs.Common.{ap, length}
 use Rattle.std.specs.Prelude.{flat_map}
-use Rattle.command_answers.proofs.Texts.{text_as, text_short, text_then}
+use Rattle.unit_inputs.proofs.Texts.{text_as, text_short, text_then}
 use Rattle.plan_command.specs.Lines.{count_line, mount_line, text_of}
 use Rattle.plan_command.proofs.command.MountsReady.print.Goals as goal
 

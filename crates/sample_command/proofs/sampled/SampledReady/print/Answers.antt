@@ -1,6 +1,6 @@
 use Rattle.std.proofs.Common.{◌++◌, Err}
 use Rattle.std.specs.Prelude.{codes}
-use Rattle.command_answers.proofs.Texts.{text_at_error, text_cut, text_then}
+use Rattle.judge_command.proofs.UnitInputs.Texts.{text_at_error, text_cut, text_then}
 use Rattle.sample_command.specs.Prints.{count_line}
 use Rattle.sample_command.proofs.sampled.SampledReady.print.Goals as goal
 

@@ -1,0 +1,43 @@
+//! The launch of a unit, or the line of the first of its settings and paths that is refused.
+ghost use Rattle.std.specs.Prelude.{IsErrOf};
+ghost use Rattle.plan_command.specs.unit_inputs.command_answers.Stops.{Prepares};
+ghost use Rattle.asked_service.specs.started_units.Starting.{StartsAs, TellsRefusal, given, start_refusals};
+
+use crate::launched_units::{UnitRefusal, launch_whole};
+use crate::unit_launch::{LaunchRefusal, UnitLaunch};
+use judge::call_table::CallTable;
+use judge::dropin_merge::Resolved;
+use judge::site_table::SiteTable;
+use plan_command::plan_line;
+use plan_command::unit_inputs::command_answers::{Stop, refuse};
+use plan_command::unit_inputs::settings_line;
+use std::alloc::Global;
+
+// The launch that is refused, or the line of the setting or the path that is.
+fn tell(alloc: Global, name: &str, refusal: UnitRefusal) -> Result<LaunchRefusal, Stop>
+    ensures { TellsRefusal name.now refusal result }
+{
+    match refusal {
+        UnitRefusal::Settings(error) => Err(refuse(settings_line(alloc, name, &error))),
+        UnitRefusal::Plan(error) => Err(refuse(plan_line(alloc, name, &error))),
+        UnitRefusal::Launch(refused) => Ok(refused),
+        UnitRefusal::Memory => Err(Stop::Memory),
+    }
+}
+
+/// Launches a unit by its name. A launch that is refused is an answer; a setting and a path stop with their lines.
+pub fn start<'a>(
+    alloc: Global,
+    name: &str,
+    unit: &Resolved,
+    calls: &'a CallTable,
+    site: &'a SiteTable,
+) -> Result<UnitLaunch<'a>, Stop>
+    ensures starts { Prepares (StartsAs (given unit.now calls.now site.now)) (start_refusals name.now (given unit.now calls.now site.now)) result }
+    ensures reads_nothing { IsErrOf result Stop.ReadFault → ⊥ }
+{
+    match launch_whole(alloc, unit, calls, site) {
+        Ok(service) => Ok(UnitLaunch::Launched(service)),
+        Err(refusal) => Ok(UnitLaunch::Refused(tell(alloc, name, refusal)?)),
+    }
+}

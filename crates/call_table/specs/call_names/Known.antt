@@ -1,0 +1,122 @@
+-- The system calls that the modelled kernel knows by name, syscalls(2): the rule of each, or that the kernel lacks it.
+use Rattle.std.specs.Prelude.{ℕ, Bool, List, [], ◌∷◌, codes, Option, is_some}
+use Rattle.std.specs.Map.{lookup}
+use Rattle.std.specs.Str.{bytes_eq}
+use Rattle.call_table.specs.declared.call_names.payload.PayloadForm.{PayloadForm}
+use Rattle.call_table.specs.declared.call_names.payload.PayloadForm.TheVariants.{Nothing, OnePath, TwoPaths, Sets, Ids, Family, Program}
+use Rattle.call_table.specs.declared.call_names.known.KnownCall.{KnownCall}
+use Rattle.call_table.specs.declared.call_names.known.KnownCall.TheVariants.{Modelled, Absent}
+use Rattle.call_table.specs.declared.call_names.rule.Argument.{Argument}
+use Rattle.call_table.specs.declared.call_names.rule.Argument.TheVariants.{Second, Third}
+use Rattle.call_table.specs.declared.call_names.rule.CallRule.{CallRule}
+use Rattle.call_table.specs.declared.call_names.rule.CallRule.TheVariants.{See, Open, Create, Truncate, Execve, SetMode, Map, Protect, Attach, Schedule, Personality, Socket, Socketcall, Enter, Fork, Clone, Unshare, Exit, Mount, Umount, Setuid, Setgid, Setresuid, Setresgid, Setgroups, Capset, Prctl, Seccomp}
+
+-- arguments are counted from 0
+abbrev pub place_of : Argument → ℕ
+place_of Second = 1
+place_of Third = 2
+
+-- what each known name is
+abbrev pub known_calls : List (List ℕ × KnownCall)
+known_calls =
+    (codes "stat", Modelled See) ∷
+    (codes "lstat", Modelled See) ∷
+    (codes "newfstatat", Modelled See) ∷
+    (codes "statx", Modelled See) ∷
+    (codes "access", Modelled See) ∷
+    (codes "faccessat", Modelled See) ∷
+    (codes "faccessat2", Modelled See) ∷
+    (codes "open", Modelled (Open Second)) ∷
+    (codes "openat", Modelled (Open Third)) ∷
+    (codes "openat2", Absent) ∷
+    (codes "creat", Modelled Create) ∷
+    (codes "truncate", Modelled Truncate) ∷
+    (codes "execve", Modelled Execve) ∷
+    (codes "execveat", Absent) ∷
+    (codes "chmod", Modelled (SetMode Second)) ∷
+    (codes "fchmod", Modelled (SetMode Second)) ∷
+    (codes "mkdir", Modelled (SetMode Second)) ∷
+    (codes "mknod", Modelled (SetMode Second)) ∷
+    (codes "fchmodat", Modelled (SetMode Third)) ∷
+    (codes "fchmodat2", Absent) ∷
+    (codes "mkdirat", Modelled (SetMode Third)) ∷
+    (codes "mknodat", Modelled (SetMode Third)) ∷
+    (codes "mmap", Modelled Map) ∷
+    (codes "mprotect", Modelled Protect) ∷
+    (codes "pkey_mprotect", Modelled Protect) ∷
+    (codes "shmat", Modelled Attach) ∷
+    (codes "sched_setscheduler", Modelled Schedule) ∷
+    (codes "sched_setattr", Absent) ∷
+    (codes "personality", Modelled Personality) ∷
+    (codes "socket", Modelled Socket) ∷
+    (codes "socketcall", Modelled Socketcall) ∷
+    (codes "setns", Modelled Enter) ∷
+    (codes "chroot", Absent) ∷
+    (codes "pivot_root", Absent) ∷
+    (codes "fork", Modelled Fork) ∷
+    (codes "vfork", Modelled Fork) ∷
+    (codes "clone", Modelled Clone) ∷
+    (codes "clone3", Absent) ∷
+    (codes "unshare", Modelled Unshare) ∷
+    (codes "exit", Modelled Exit) ∷
+    (codes "exit_group", Modelled Exit) ∷
+    (codes "mount", Modelled Mount) ∷
+    (codes "umount2", Modelled Umount) ∷
+    (codes "fsopen", Absent) ∷
+    (codes "fsconfig", Absent) ∷
+    (codes "fsmount", Absent) ∷
+    (codes "fspick", Absent) ∷
+    (codes "open_tree", Absent) ∷
+    (codes "move_mount", Absent) ∷
+    (codes "mount_setattr", Absent) ∷
+    (codes "setuid", Modelled Setuid) ∷
+    (codes "setgid", Modelled Setgid) ∷
+    (codes "setreuid", Absent) ∷
+    (codes "setregid", Absent) ∷
+    (codes "setresuid", Modelled Setresuid) ∷
+    (codes "setresgid", Modelled Setresgid) ∷
+    (codes "setfsuid", Absent) ∷
+    (codes "setfsgid", Absent) ∷
+    (codes "setgroups", Modelled Setgroups) ∷
+    (codes "capset", Modelled Capset) ∷
+    (codes "prctl", Modelled Prctl) ∷
+    (codes "seccomp", Modelled Seccomp) ∷ []
+
+-- what is known of a name, or nothing
+unfoldable pub known_call : List ℕ → Option KnownCall
+known_call name = lookup (bytes_eq name) known_calls
+
+-- a call that the kernel has a rule for or lacks
+abbrev pub is_known : List ℕ → Bool
+is_known name = is_some (known_call name)
+
+-- what a call of the rule carries beside its words
+abbrev pub form_of : CallRule → PayloadForm
+form_of See = OnePath
+form_of (Open flags) = OnePath
+form_of Create = OnePath
+form_of Truncate = OnePath
+form_of Execve = OnePath
+form_of Umount = OnePath
+form_of Mount = TwoPaths
+form_of Capset = Sets
+form_of Setgroups = Ids
+form_of Socketcall = Family
+form_of Seccomp = Program
+form_of (SetMode mode) = Nothing
+form_of Map = Nothing
+form_of Protect = Nothing
+form_of Attach = Nothing
+form_of Schedule = Nothing
+form_of Personality = Nothing
+form_of Socket = Nothing
+form_of Enter = Nothing
+form_of Fork = Nothing
+form_of Clone = Nothing
+form_of Unshare = Nothing
+form_of Exit = Nothing
+form_of Setuid = Nothing
+form_of Setgid = Nothing
+form_of Setresuid = Nothing
+form_of Setresgid = Nothing
+form_of Prctl = Nothing

@@ -1,0 +1,14 @@
+//! Laws of the table, each the contract of a function that does nothing.
+
+ghost use Rattle.std.specs.Prelude.{◌≡◌, ℕ, List, Some, map, slice_get};
+ghost use Rattle.std.specs.Str.{bytes_eq};
+ghost use Rattle.std.specs.List.{IsDistinct};
+ghost use Rattle.call_table.specs.call_names.Known.{known_calls, known_call};
+ghost use Rattle.call_table.specs.declared.call_names.known.KnownCall.{KnownCall};
+
+/// No name stands twice, so what is known of a name is its own line.
+pub fn names_stand_once()
+    ensures once { IsDistinct bytes_eq (map (λ line. line.0) known_calls) }
+    ensures each_line_is_found { (place : ℕ) (name : List ℕ) (call : KnownCall)
+        → slice_get known_calls place ≡ Some (name, call) → known_call name ≡ Some call }
+{}

@@ -1,0 +1,61 @@
+//! What the pointers among a call's arguments point to, as far as a rule looks at it.
+
+ghost use Rattle.std.specs.Prelude.{◌≡◌};
+ghost use Rattle.call_table.specs.call_names.Known.{form_of};
+
+use crate::call_names::rule::CallRule;
+
+/// What a call carries beside its six words.
+#[derive(Clone, Copy)]
+pub enum PayloadForm {
+    /// Nothing.
+    Nothing,
+    /// One path.
+    OnePath,
+    /// Two paths, source and target.
+    TwoPaths,
+    /// Three sets of capabilities: permitted, effective and inheritable.
+    Sets,
+    /// A list of ids.
+    Ids,
+    /// The family of a socket, the first of the words that socketcall(2) points to.
+    Family,
+    /// The bytes of a program, seccomp(2).
+    Program,
+}
+
+/// The form of the payload of the calls of a rule.
+pub fn form_of(rule: CallRule) -> PayloadForm
+    ensures form_of_the_rule { result ≡ form_of rule }
+{
+    match rule {
+        CallRule::See
+        | CallRule::Open(_)
+        | CallRule::Create
+        | CallRule::Truncate
+        | CallRule::Execve
+        | CallRule::Umount => PayloadForm::OnePath,
+        CallRule::Mount => PayloadForm::TwoPaths,
+        CallRule::Capset => PayloadForm::Sets,
+        CallRule::Setgroups => PayloadForm::Ids,
+        CallRule::Socketcall => PayloadForm::Family,
+        CallRule::Seccomp => PayloadForm::Program,
+        CallRule::SetMode(_)
+        | CallRule::Map
+        | CallRule::Protect
+        | CallRule::Attach
+        | CallRule::Schedule
+        | CallRule::Personality
+        | CallRule::Socket
+        | CallRule::Enter
+        | CallRule::Fork
+        | CallRule::Clone
+        | CallRule::Unshare
+        | CallRule::Exit
+        | CallRule::Setuid
+        | CallRule::Setgid
+        | CallRule::Setresuid
+        | CallRule::Setresgid
+        | CallRule::Prctl => PayloadForm::Nothing,
+    }
+}

@@ -1,0 +1,88 @@
+//! The rules of the modelled kernel, and which argument of a call a rule looks at.
+
+ghost use Rattle.std.specs.Prelude.{◌≡◌, ◌<◌};
+ghost use Rattle.call_table.specs.call_names.Known.{place_of};
+
+/// An argument of a call, syscall(2): of calls of one rule, some have their flags or mode one further.
+#[derive(Clone, Copy)]
+pub enum Argument {
+    /// Argument 1, behind one path or descriptor.
+    Second,
+    /// Argument 2, behind a folder's descriptor and a path.
+    Third,
+}
+
+impl Argument {
+    /// Its place among the six words of a call.
+    pub fn place(self) -> usize
+        ensures place { result ≡ place_of self }
+        ensures in_range { result < 6 }
+    {
+        match self {
+            Argument::Second => 1,
+            Argument::Third => 2,
+        }
+    }
+}
+
+/// A rule of the modelled kernel: what it does for the calls of one line of its table, and what is asked of them.
+#[derive(Clone, Copy)]
+pub enum CallRule {
+    /// stat(2), access(2) and their like find a path. Asked: which rows are seen.
+    See,
+    /// open(2) and openat(2), with their flags. Asked: which rows are read, and written.
+    Open(Argument),
+    /// creat(2) opens for writing. Asked: which rows are written.
+    Create,
+    /// truncate(2) writes. Asked: which rows are written.
+    Truncate,
+    /// execve(2). Asked: which rows are executed.
+    Execve,
+    /// chmod(2), mkdir(2), mknod(2) and their like, with the mode. Asked: whether a set-id bit is given.
+    SetMode(Argument),
+    /// mmap(2). Asked: whether memory is mapped writable and executable.
+    Map,
+    /// mprotect(2) and pkey_mprotect(2). Asked: whether memory becomes executable.
+    Protect,
+    /// shmat(2). Asked: whether shared memory is attached executable.
+    Attach,
+    /// sched_setscheduler(2). Asked: whether a realtime policy is taken.
+    Schedule,
+    /// personality(2). Asked: whether another personality is taken.
+    Personality,
+    /// socket(2). Asked: which families have sockets.
+    Socket,
+    /// socketcall(2), whose operation 1 is socket(2) with the family that it points to. Asked: which families have
+    /// sockets.
+    Socketcall,
+    /// setns(2), which is refused.
+    Enter,
+    /// fork(2) and vfork(2) copy the process.
+    Fork,
+    /// clone(2) copies the process, with flags. Asked: which namespaces are made.
+    Clone,
+    /// unshare(2). Asked: which namespaces are made.
+    Unshare,
+    /// exit(2) and exit_group(2) end the process.
+    Exit,
+    /// mount(2).
+    Mount,
+    /// umount2(2).
+    Umount,
+    /// setuid(2). Asked: which uids are taken.
+    Setuid,
+    /// setgid(2). Asked: which gids are taken.
+    Setgid,
+    /// setresuid(2). Asked: which uids are taken.
+    Setresuid,
+    /// setresgid(2). Asked: which gids are taken.
+    Setresgid,
+    /// setgroups(2). Asked: which gids are taken.
+    Setgroups,
+    /// capset(2). Asked: which capabilities are effective.
+    Capset,
+    /// prctl(2).
+    Prctl,
+    /// seccomp(2) installs a filter.
+    Seccomp,
+}

@@ -1,6 +1,0 @@
-use Rattle.std.proofs.Common.{arith}
-use Rattle.call_words.proofs.Cuts.{cut_char}
-use Rattle.call_words.proofs.last_cut.Goals as goal
-
-pub returns : goal.returns
-returns c = cut_char 58 c.args.word.now _ c.rsplit_once.ensures.cases (omega arith)

@@ -1,6 +1,0 @@
-use Rattle.chosen_calls.proofs.Makers.{choice_is_made}
-use Rattle.chosen_calls.proofs.Shown.{choice_shows}
-use Rattle.chosen_calls.proofs.choices.Goals as goal
-
-pub returns : goal.returns
-returns c = record { shown = choice_shows; made = choice_is_made }

@@ -1,0 +1,42 @@
+//! The assignments in force of a unit, listed.
+ghost use Rattle.std.specs.Prelude.{◌≡◌, ◌++◌, [], IfOk, OnOk};
+ghost use Rattle.std.specs.List.{cons_option};
+ghost use Rattle.deciding_lines.specs.unit_lines.Lines.{line_at, lines_of};
+
+use crate::unit_lines::line::UnitLine;
+use asked_service::dropin_merge::Resolved;
+use asked_service::dropin_merge::unit_values::{Place, service_assignments};
+use asked_service::exec_settings::is_judged;
+use asked_service::unit_grammar::{Assignment, Text};
+use std::alloc::{AllocError, Global};
+
+// Lists an assignment of the service, if its key is read.
+fn push_if_read(
+    alloc: Global,
+    lines: &mut Vec<UnitLine>,
+    place: Place,
+    assignment: &Assignment,
+) -> Result<(), AllocError>
+    ensures { OnOk result (lines.new.items ≡ lines.old.items ++ cons_option (line_at (place, assignment.now)) []) }
+{
+    if is_judged(assignment.key.as_str()) {
+        lines.push(UnitLine {
+            place,
+            key: Text::new(alloc, assignment.key.as_str())?,
+            value: Text::new(alloc, assignment.value.as_str())?,
+        })?;
+    }
+    Ok(())
+}
+
+/// The assignments in force of a unit: those of `[Service]` whose key is read, in the order of files and lines.
+#[tactic(auto, unfolding(crate::specs::unit_lines::Lines::lines_of))]
+pub fn lines(alloc: Global, unit: &Resolved) -> Result<Vec<UnitLine>, AllocError>
+    ensures all_in_order { IfOk result (λ lines. lines.items ≡ lines_of unit.now) }
+{
+    let mut lines = Vec::new(alloc);
+    for (place, assignment) in service_assignments(unit) {
+        push_if_read(alloc, &mut lines, place, assignment)?;
+    }
+    Ok(lines)
+}

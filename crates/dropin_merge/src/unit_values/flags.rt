@@ -1,0 +1,31 @@
+//! Boolean keys (systemd.syntax(7)).
+ghost use Rattle.std.specs.Prelude.{◌≡◌, IfOk};
+ghost use Rattle.dropin_merge.specs.unit_values.Flags.{flag_value, unit_flag, unit_flag_notes};
+
+use crate::Resolved;
+use crate::unit_values::lasting::{KeyValue, last_of_key};
+use crate::unit_values::value::Said;
+use std::alloc::{AllocError, Global};
+use unit_grammar::text_forms::read_bool;
+
+/// A boolean; an empty text is false.
+impl KeyValue for bool {
+    ghost reads = { flag_value };
+
+    fn read(text: &str) -> Option<bool> {
+        if text.is_empty() {
+            Some(false)
+        } else {
+            read_bool(text)
+        }
+    }
+}
+
+/// What the files of a unit say of a boolean key: the last value that can be read decides, and an empty one or none
+/// is false. Values that cannot be expanded are noted, and then those that cannot be read.
+pub fn flag_of_key(alloc: Global, unit: &Resolved, key: &str) -> Result<Said<bool>, AllocError>
+    ensures last_value_decides { IfOk result (λ said. said.what ≡ unit_flag unit.now key.now) }
+    ensures notes_the_unread { IfOk result (λ said. said.notes.items ≡ unit_flag_notes unit.now key.now) }
+{
+    last_of_key(alloc, unit, key, false)
+}

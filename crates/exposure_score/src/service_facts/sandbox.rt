@@ -1,0 +1,18 @@
+//! What the tests look at.
+
+use exec_settings::cap_sets::CapSet;
+use exec_settings::filter_settings::filter_rules::FilterSettings;
+use exec_settings::mount_settings::Protections;
+
+/// The settings of a service that tests look at, as they are in effect.
+#[derive(Drop)]
+pub struct Sandbox {
+    pub uid: u32,
+    /// Whether SupplementaryGroups= names a group.
+    pub names_groups: bool,
+    pub no_new_privs: bool,
+    pub bounding: CapSet,
+    pub ambient: CapSet,
+    pub filters: FilterSettings,
+    pub protections: Protections,
+}

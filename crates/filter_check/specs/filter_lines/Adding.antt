@@ -1,0 +1,18 @@
+-- One line of instructions after another.
+use Rattle.std.specs.Prelude.{◌≡◌, ℕ, Bool, true, false, List, ◌++◌}
+use Rattle.seccomp_compile.specs.bpf_code.declared.program.ProgramError.{ProgramError}
+use Rattle.filter_check.specs.filter_lines.Lines.{IsFirstOther, IsLine}
+use Rattle.filter_check.specs.declared.filter_lines.error.FileError.{FileError}
+use Rattle.filter_check.specs.declared.filter_lines.error.FileError.TheVariants.{NotText, Digits, Program, Memory}
+
+-- the bytes of the line are added, or it is no instruction
+abbrev pub AddsLine : List ℕ → List ℕ → List ℕ → Bool → Type 0
+AddsLine line old new true = (own : List ℕ) × IsLine line own × (new ≡ old ++ own)
+AddsLine line old new false = (own : List ℕ) → IsLine line own → ⊥
+
+-- the line that is told is the first that is no instruction
+abbrev pub IsRefusedLine : List (List ℕ) → FileError → Type 0
+IsRefusedLine lines NotText = ⊥
+IsRefusedLine lines (Digits number) = IsFirstOther lines number
+IsRefusedLine lines (Program error) = ⊥
+IsRefusedLine lines Memory = Unit {0}

@@ -1,0 +1,11 @@
+//! Programs of seccomp(2) as files: one instruction of sixteen lower-case hex digits a line.
+//!
+//! Each line is the eight bytes of a `struct sock_filter`, little endian, and ends in a line feed. It stands on `line_text` for
+//! texts and on `bpf_code` for programs: `read_program(alloc, b"060000000000ff7f\n")?` lets every call pass.
+
+mod error;
+mod lines;
+mod reading;
+
+pub use error::FileError;
+pub use reading::read_program;

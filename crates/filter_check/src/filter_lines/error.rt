@@ -1,0 +1,32 @@
+//! Why a file is no program.
+ghost use Rattle.std.specs.Prelude.{◌≡◌};
+ghost use Rattle.filter_check.specs.declared.filter_lines.error.FileError.TheVariants.{Memory};
+
+use seccomp_compile::bpf_code::ProgramError;
+use std::alloc::AllocError;
+use thiserror::Error;
+
+/// Why a file is no program.
+#[derive(Clone, Copy, Debug, PartialEq, Eq, Error)]
+pub enum FileError {
+    /// The bytes are no text.
+    #[error("not text")]
+    NotText,
+    /// The line of this number, from 1, is the first that is not sixteen lower-case hex digits.
+    #[error("line {0}: not sixteen hex digits")]
+    Digits(u64),
+    /// The instructions are no program; it is never want of memory.
+    #[error("no program: {0}")]
+    Program(ProgramError),
+    /// Memory ran out.
+    #[error("out of memory")]
+    Memory,
+}
+
+impl From<AllocError> for FileError {
+    ghost from_gives = { λ _ e. e ≡ Memory };
+
+    fn from(_: AllocError) -> Self {
+        FileError::Memory
+    }
+}

@@ -1,0 +1,50 @@
+//! The program that the bytes of a file are.
+ghost use Rattle.std.specs.Prelude.{List, map};
+ghost use Rattle.filter_check.specs.filter_lines.Lines.{lines_in};
+ghost use Rattle.filter_check.specs.filter_lines.Reading.{Reads, ReadsCode, ReadsLines};
+
+use crate::filter_lines::error::FileError;
+use crate::filter_lines::lines::{code_of_lines, lines_in};
+use seccomp_compile::bpf_code::{Program, ProgramError};
+use seccomp_compile::text_forms::line_text::read_text;
+use std::alloc::Global;
+
+// The program that the bytes of instructions are.
+fn program_of_code(alloc: Global, code: &[u8]) -> Result<Program, FileError>
+    ensures reads { ReadsCode code.now result }
+{
+    match Program::read(alloc, code) {
+        Ok(program) => Ok(program),
+        Err(ProgramError::Memory) => Err(FileError::Memory),
+        Err(error) => Err(FileError::Program(error)),
+    }
+}
+
+// The program that some lines are.
+fn program_of_lines(alloc: Global, lines: &[&str]) -> Result<Program, FileError>
+    ensures reads { ReadsLines (map (λ line. line.now) lines.now) result }
+{
+    let code = code_of_lines(alloc, lines)?;
+    program_of_code(alloc, code.as_slice())
+}
+
+// The program that a text is.
+fn program_of_text(alloc: Global, text: &str) -> Result<Program, FileError>
+    ensures reads { ReadsLines (lines_in text.now) result }
+{
+    let lines = lines_in(alloc, text)?;
+    program_of_lines(alloc, lines.as_slice())
+}
+
+/// The program that the bytes of a file are.
+///
+/// `NotText` comes exactly where they are not UTF-8 or have a NUL; `Digits` tells the first line that is no instruction; and
+/// `Program` says why the instructions are no program, as `Program::read` does. What follows the last line feed is no line.
+pub fn read_program(alloc: Global, bytes: &[u8]) -> Result<Program, FileError>
+    ensures reads { Reads bytes.now result }
+{
+    match read_text(bytes) {
+        Some(text) => program_of_text(alloc, text),
+        None => Err(FileError::NotText),
+    }
+}

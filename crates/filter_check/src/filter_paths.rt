@@ -1,0 +1,21 @@
+//! The paths of a program of seccomp(2), and the call data that take each of them.
+//!
+//! A program of the form only loads words of the data, masks them, and compares them with numbers. So all that a path asks of
+//! the data is conditions on single words, and the data that take it are those whose sixteen words are each in a set of its
+//! own. [`all_ends`] finds all paths with their data; a [`Region`] is such a set of data. It rests on `bpf_code`,
+//! `seccomp_compile` for the form, and `word_sets`.
+
+mod comparing;
+mod ends;
+mod form;
+mod held;
+mod region;
+mod regions;
+mod states;
+mod stepping;
+mod walks;
+
+pub use form::first_foreign;
+pub use region::Region;
+pub use states::End;
+pub use walks::{all_ends, ends_within};

@@ -1,0 +1,33 @@
+//! Where a walk through a program stands.
+ghost use Rattle.std.specs.Prelude.{◌≡◌};
+
+use crate::filter_paths::held::Held;
+use crate::filter_paths::region::Region;
+use seccomp_compile::bpf_code::CallData;
+
+/// A position of a program, what the accumulator holds there, and the call data that come there so.
+#[derive(Drop)]
+pub struct State {
+    pub at: usize,
+    pub held: Held,
+    pub region: Region,
+}
+
+/// The end of a path: the data that take it, the least of them, and the program's answer.
+#[derive(Drop)]
+pub struct End {
+    pub region: Region,
+    pub least: CallData,
+    pub answer: u32,
+}
+
+/// Where an instruction leads the data of a state.
+#[derive(Drop)]
+pub enum Next {
+    /// The program ends there.
+    End(End),
+    /// All go on at one position.
+    One(State),
+    /// Some go on at the one position, and the others at the other one.
+    Two(State, State),
+}

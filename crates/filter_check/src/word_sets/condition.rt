@@ -1,0 +1,45 @@
+//! Conditions on a word: how it stands, under a mask, to a number.
+ghost use Rattle.std.specs.Prelude.{◌≡◌, ◌<◌, ℕ, not, ◌^◌};
+ghost use Rattle.filter_check.specs.word_sets.Words.{meets, wants};
+
+/// Which orders of a masked word and a number meet a condition.
+#[derive(Clone, Copy)]
+pub struct Orders {
+    pub below: bool,
+    pub equal: bool,
+    pub above: bool,
+}
+
+/// A word under the mask stands to the number in one of these orders.
+#[derive(Clone, Copy)]
+pub struct Condition {
+    pub mask: u32,
+    pub number: u32,
+    pub orders: Orders,
+}
+
+impl Orders {
+    /// Exactly the other ones.
+    pub fn others(self) -> Self
+        ensures opposite { (a b : ℕ) → wants result a b ≡ not (wants self a b) }
+    {
+        Orders {
+            below: !self.below,
+            equal: !self.equal,
+            above: !self.above,
+        }
+    }
+}
+
+impl Condition {
+    /// The condition that is met exactly where this one is not.
+    pub fn failing(self) -> Self
+        ensures opposite { (word : ℕ) → meets result word ≡ not (meets self word) }
+    {
+        Condition {
+            mask: self.mask,
+            number: self.number,
+            orders: self.orders.others(),
+        }
+    }
+}

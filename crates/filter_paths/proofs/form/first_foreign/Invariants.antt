@@ -1,8 +1,0 @@
-use Rattle.std.proofs.Common.{◌≡◌, ◌<◌, ℕ, true}
-use Rattle.std.specs.Prelude.{slice_get, Some}
-use Rattle.bpf_code.specs.declared.machine.Insn.{Insn}
-use Rattle.seccomp_compile.specs.Form.{is_of_form}
-use Rattle.filter_paths.proofs.form.first_foreign.Given as goal
-
-abbrev pub invariant-loop-place : goal.invariant-loop-place
-invariant-loop-place l = (before : ℕ) (other : Insn) → before < l.place → slice_get l.insns before ≡ Some other → is_of_form other ≡ true

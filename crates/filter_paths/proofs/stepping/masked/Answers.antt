@@ -1,6 +1,0 @@
-use Rattle.std.proofs.Common.{refl}
-use Rattle.filter_paths.proofs.Steps.{mask_leads}
-use Rattle.filter_paths.proofs.stepping.masked.Goals as goal
-
-pub returns : goal.returns
-returns c = mask_leads c.args.insns.now c.requires.program c.args.state c.args.insn c.requires.found _ c.requires.code refl refl refl refl

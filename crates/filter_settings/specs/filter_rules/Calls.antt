@@ -1,0 +1,54 @@
+-- systemd.exec(5), SystemCallFilter= and SystemCallErrorNumber=: which calls are listed, and what is done to them.
+use Rattle.std.specs.Prelude.{ℕ, Bool, true, false, if◌then◌else◌, Option, Some, None, List, find, reverse, unwrap_or, option_and_then}
+use Rattle.std.specs.Option.{option_map_or}
+use Rattle.call_rules.specs.declared.actions.Action.{Action}
+use Rattle.call_rules.specs.declared.actions.Action.TheVariants as action
+use Rattle.call_table.specs.Table.{Table}
+use Rattle.filter_settings.specs.declared.filter_rules.mentions.Mode.{Mode}
+use Rattle.filter_settings.specs.declared.filter_rules.mentions.Mode.TheVariants.{Allow, Deny}
+use Rattle.filter_settings.specs.declared.filter_rules.mentions.Mention.{Mention}
+use Rattle.filter_settings.specs.declared.filter_rules.mentions.CallList.{CallList}
+use Rattle.filter_settings.specs.declared.filter_rules.settings.FilterSettings.{FilterSettings}
+use Rattle.filter_settings.specs.filter_rules.Covers.{covers}
+
+-- the last word that covers the name
+abbrev pub last_mention : Table → List Mention → List ℕ → Option Mention
+last_mention table mentions name = find (λ mention. covers table mention.name name) (reverse mentions)
+
+-- a word puts on the list what it covers, or takes it off
+abbrev pub if_adds : Mention → Option Mention
+if_adds mention = if mention.adds then Some mention else None
+
+-- the word by which the name is on the list
+abbrev pub listed_by : Table → List Mention → List ℕ → Option Mention
+listed_by table mentions name = option_and_then if_adds (last_mention table mentions name)
+
+-- what is listed is allowed, or gets the action of its word and without one the default action
+abbrev pub listed_action : Mode → Action → Mention → Action
+listed_action Allow default mention = action.Allow
+listed_action Deny default mention = unwrap_or mention.action default
+
+-- every other call, and every number without a name, gets the default action, or is allowed
+abbrev pub unlisted_action : Mode → Action → Action
+unlisted_action Allow default = default
+unlisted_action Deny default = action.Allow
+
+abbrev pub list_action : Table → Action → List ℕ → CallList → Action
+list_action table default name list = option_map_or (listed_action list.mode default) (listed_by table list.mentions name) (unlisted_action list.mode default)
+
+-- to a call of this name; where the setting is not set, each call is allowed
+abbrev pub call_action : Table → Option CallList → Action → List ℕ → Action
+call_action table calls default name = option_map_or (list_action table default name) calls action.Allow
+
+-- to a number without a name
+abbrev pub rest_action : Option CallList → Action → Action
+rest_action calls default = option_map_or (λ list. unlisted_action list.mode default) calls action.Allow
+
+-- the calls of a name are let through
+abbrev pub is_allowed : Action → Bool
+is_allowed action.KillProcess = false
+is_allowed (action.Errno number) = false
+is_allowed action.Allow = true
+
+abbrev pub allows_call : Table → FilterSettings → List ℕ → Bool
+allows_call table settings name = is_allowed (call_action table settings.calls settings.default_action name)

@@ -1,0 +1,53 @@
+-- How large the rules of a filter may be.
+use Rattle.std.specs.Prelude.{◌≡◌, ℕ, ◌+◌, ◌≤◌, ◌⊎◌, List, [], ◌∷◌, length, sum_by}
+use Rattle.std.specs.List.{All}
+use Rattle.call_rules.specs.declared.rules.Case.{Case}
+use Rattle.call_rules.specs.declared.rules.CallRule.{CallRule}
+use Rattle.call_rules.specs.declared.rules.RuleSet.{RuleSet}
+use Rattle.call_rules.specs.Sizes.{case_count, test_count, most_insns}
+use Rattle.filter_settings.specs.filter_rules.Choices.{whole}
+use Rattle.filter_settings.specs.declared.filter_rules.installed.Filter.{Filter}
+use Rattle.filter_settings.specs.declared.filter_rules.names.FilterName.{FilterName}
+use Rattle.filter_settings.specs.declared.filter_rules.names.FilterName.TheVariants.{Families, MemoryDenyWriteExecute, Realtime, Suid, Namespaces, Hostname, Modules, Logs, Clock, Devices, Personality, Calls, Archs}
+
+-- calls with a rule, cases over all of them, tests over all cases
+pub record Costs : Type 0 where
+  pub calls : ℕ
+  pub cases : ℕ
+  pub tests : ℕ
+
+abbrev pub costs : ℕ → ℕ → ℕ → Costs
+costs calls cases tests = record { calls = calls; cases = cases; tests = tests }
+
+-- the most that the rules of a filter cost: a table has at most 512 calls and 128 families
+abbrev pub most_costs : FilterName → Costs
+most_costs Families = costs 1 128 128
+most_costs MemoryDenyWriteExecute = costs 4 4 4
+most_costs Realtime = costs 1 3 3
+most_costs Suid = costs 10 20 40
+most_costs Namespaces = costs 3 24 24
+most_costs Hostname = costs 2 0 0
+most_costs Modules = costs 512 0 0
+most_costs Logs = costs 1 0 0
+most_costs Clock = costs 512 0 0
+most_costs Devices = costs 512 0 0
+most_costs Personality = costs 1 2 2
+most_costs Calls = costs 512 0 0
+most_costs Archs = costs 0 0 0
+
+pub record KeepsWithin (most : Costs) (rules : RuleSet) : Type 0 where
+  pub calls : length rules.calls ≤ most.calls
+  pub cases : case_count rules ≤ most.cases
+  pub tests : test_count rules ≤ most.tests
+
+-- the room that programs of these filters take at most in a stack: each takes 4 beside its instructions (seccomp(2), ENOMEM)
+abbrev pub most_room : List Filter → ℕ
+most_room filters = sum_by (λ made. most_insns made.rules + 4) filters
+
+-- each case has one test, of all of the low 32 bits of this argument
+abbrev pub AreWhole : ℕ → List Case → Type 0
+AreWhole at cases = All (λ case. (value : ℕ) × (case.tests ≡ whole at value ∷ [])) cases
+
+-- few cases, or one value of one argument for each
+abbrev pub HasShortCases : CallRule → Type 0
+HasShortCases call = (length call.cases ≤ 8) ⊎ ((at : ℕ) × AreWhole at call.cases)

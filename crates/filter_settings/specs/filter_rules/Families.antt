@@ -1,0 +1,34 @@
+-- systemd.exec(5), RestrictAddressFamilies=: which address families socket(2) may be asked for.
+use Rattle.std.specs.Prelude.{ℕ, ◌==◌, ◌&&◌, not, Bool, false, Option, List, find, reverse, codes}
+use Rattle.std.specs.Option.{option_map_or}
+use Rattle.std.specs.Str.{bytes_eq}
+use Rattle.call_rules.specs.bpf_code.declared.machine.CallData.{CallData}
+use Rattle.filter_settings.specs.declared.filter_rules.mentions.Mode.{Mode}
+use Rattle.filter_settings.specs.declared.filter_rules.mentions.Mode.TheVariants.{Allow, Deny}
+use Rattle.filter_settings.specs.declared.filter_rules.mentions.FamilyMention.{FamilyMention}
+use Rattle.filter_settings.specs.declared.filter_rules.mentions.FamilyList.{FamilyList}
+use Rattle.filter_settings.specs.filter_rules.Actions.{low}
+
+-- the last word that mentions the family
+abbrev pub last_family : List FamilyMention → ℕ → Option FamilyMention
+last_family mentions number = find (λ mention. mention.number == number) (reverse mentions)
+
+-- it puts the family on the list, or takes it off
+abbrev pub is_listed_family : List FamilyMention → ℕ → Bool
+is_listed_family mentions number = option_map_or (λ mention. mention.adds) (last_family mentions number) false
+
+-- a list that allows refuses every other family, whether the table has it or not; one that denies refuses those on it
+abbrev pub is_refused_by : Mode → Bool → Bool
+is_refused_by Allow listed = not listed
+is_refused_by Deny listed = listed
+
+abbrev pub is_refused_family : FamilyList → ℕ → Bool
+is_refused_family list number = is_refused_by list.mode (is_listed_family list.mentions number)
+
+-- socket(2) with a refused family, which is argument 0
+abbrev pub refuses_family : Option FamilyList → List ℕ → CallData → Bool
+refuses_family families name input = bytes_eq name (codes "socket") && option_map_or (λ list. is_refused_family list (low input 0)) families false
+
+-- socket(2) may be asked for the family of this number
+abbrev pub permits_family : Option FamilyList → ℕ → Bool
+permits_family families number = not (option_map_or (λ list. is_refused_family list number) families false)

@@ -1,0 +1,31 @@
+-- systemd.exec(5), RestrictNamespaces=: which types of namespaces may be made and entered (namespaces(7)).
+use Rattle.std.specs.Prelude.{ℕ, ◌==◌, ◌&&◌, ◌||◌, not, if◌then◌else◌, Bool, false, Option, Some, None, List, [], ◌∷◌, codes, filter}
+use Rattle.std.specs.Option.{option_map_or}
+use Rattle.std.specs.List.{list_any}
+use Rattle.std.specs.Str.{bytes_eq}
+use Rattle.call_rules.specs.bpf_code.declared.machine.CallData.{CallData}
+use Rattle.filter_settings.specs.declared.filter_rules.namespace_types.NamespaceType.{NamespaceType}
+use Rattle.filter_settings.specs.declared.filter_rules.namespace_types.NamespaceTypes.{NamespaceTypes}
+use Rattle.filter_settings.specs.filter_rules.NamespaceTypes.{all_types, flag_of, permits}
+use Rattle.filter_settings.specs.filter_rules.Actions.{low, has_bits, is_one_of}
+
+abbrev pub forbidden_types : NamespaceTypes → List NamespaceType
+forbidden_types types = filter (λ kind. not (permits types kind)) all_types
+
+-- which argument is the flags: of unshare(2) and clone(2), and the type of setns(2)
+abbrev pub types_argument : List ℕ → Option ℕ
+types_argument name =
+    if is_one_of name (codes "unshare" ∷ codes "clone" ∷ []) then Some 0
+    else if bytes_eq name (codes "setns") then Some 1
+    else None
+
+-- the flag of a type that is not permitted is set
+abbrev pub has_forbidden : NamespaceTypes → ℕ → Bool
+has_forbidden types flags = list_any (λ kind. has_bits flags (flag_of kind)) (forbidden_types types)
+
+-- setns(2) enters a namespace of any type where its type is 0
+abbrev pub enters_any : List ℕ → CallData → Bool
+enters_any name input = bytes_eq name (codes "setns") && low input 1 == 0
+
+abbrev pub refuses_namespace : NamespaceTypes → List ℕ → CallData → Bool
+refuses_namespace types name input = enters_any name input || option_map_or (λ at. has_forbidden types (low input at)) (types_argument name) false

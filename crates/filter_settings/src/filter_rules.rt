@@ -1,0 +1,35 @@
+//! The filters that a unit's settings ask for, as rules by number.
+//!
+//! A setting speaks of the names of system calls, of address families and of types of namespaces; a filter
+//! tests numbers. [`filters`] makes for each setting that is on the rules that decide every call as the setting
+//! says (systemd.exec(5)). It stands on `call_table` for names and numbers, and on `call_rules` for what rules
+//! mean; the readers of unit files fill [`FilterSettings`].
+//!
+//! `filters(alloc, &table, &settings)?` has one [`Filter`] for each setting that is on, in the order in which
+//! filters are installed. [`permits_family`] and [`allows_call`] say what two of the settings let through.
+
+mod blocked;
+mod calls;
+mod choice;
+mod covers;
+mod families;
+mod installed;
+mod mapping;
+mod mentions;
+mod names;
+mod namespace_types;
+mod namespaces;
+mod order;
+mod personality;
+mod realtime;
+mod rules;
+mod settings;
+mod suid;
+
+pub use calls::allows_call;
+pub use families::permits_family;
+pub use installed::{Filter, filters};
+pub use mentions::{CallList, FamilyList, FamilyMention, FamilyMentions, Mention, Mentions, Mode};
+pub use names::{FilterName, FilterPlace};
+pub use namespace_types::{NamespaceType, NamespaceTypes, all_types};
+pub use settings::FilterSettings;

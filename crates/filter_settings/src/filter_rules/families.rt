@@ -1,0 +1,103 @@
+//! RestrictAddressFamilies=: which address families socket(2) may be asked for.
+ghost use Rattle.std.specs.Prelude.{◌≡◌, IfOk};
+ghost use Rattle.std.specs.Option.{option_copied};
+ghost use Rattle.filter_settings.specs.filter_rules.Families.{last_family, is_listed_family, is_refused_by, permits_family};
+ghost use Rattle.filter_settings.specs.filter_rules.FamiliesChoice.{family_tests, family_choice, socket_choice, families_choice};
+
+use crate::filter_rules::choice::{Choice, whole};
+use crate::filter_rules::mentions::{FamilyList, FamilyMention, Mode};
+use call_rules::{Action, Tests};
+use call_table::{CallLine, CallTable};
+use dropin_merge::linux_numbers::errnos::EAFNOSUPPORT;
+use std::alloc::{AllocError, Global};
+
+/// The address family is not supported (errno(3)).
+const FAMILY_NOT_SUPPORTED: Action = Action::Errno(EAFNOSUPPORT as u16);
+
+// The last word that mentions the family.
+fn last_family(mentions: &[FamilyMention], number: u32) -> Option<&FamilyMention>
+    ensures { option_copied result ≡ last_family mentions.now number }
+{
+    mentions
+        .iter()
+        .rev()
+        .find(|mention| mention.number == number)
+}
+
+fn is_listed(mentions: &[FamilyMention], number: u32) -> bool
+    ensures { result ≡ is_listed_family mentions.now number }
+{
+    last_family(mentions, number).is_some_and(|mention| mention.adds)
+}
+
+fn is_refused_by(mode: Mode, is_listed: bool) -> bool
+    ensures { result ≡ is_refused_by mode is_listed }
+{
+    match mode {
+        Mode::Allow => !is_listed,
+        Mode::Deny => is_listed,
+    }
+}
+
+/// Whether socket(2) may be asked for the family of this number, AF_* of socket(2).
+pub fn permits_family(families: &Option<FamilyList>, number: u32) -> bool
+    ensures by_the_list { result ≡ permits_family families.now number }
+{
+    match families {
+        Some(list) => !is_refused_by(list.mode, is_listed(list.mentions.list(), number)),
+        None => true,
+    }
+}
+
+fn family_tests(
+    alloc: Global,
+    mentions: &[FamilyMention],
+    families: &[CallLine],
+) -> Result<Tests, AllocError>
+    ensures { IfOk result (λ tests. tests ≡ family_tests mentions.now families.now) }
+{
+    let mut tests = Vec::new(alloc);
+    for family in families {
+        if is_listed(mentions, family.number) {
+            tests.push(whole(0, family.number))?;
+        }
+    }
+    Ok(Tests::new(tests))
+}
+
+fn choice_by(mode: Mode, any: Tests) -> Choice
+    ensures { result ≡ family_choice mode any }
+{
+    let (action, rest) = match mode {
+        Mode::Allow => (Action::Allow, FAMILY_NOT_SUPPORTED),
+        Mode::Deny => (FAMILY_NOT_SUPPORTED, Action::Allow),
+    };
+    Choice {
+        given: None,
+        any,
+        action,
+        rest,
+    }
+}
+
+fn socket_choice(alloc: Global, table: &CallTable, list: &FamilyList) -> Result<Choice, AllocError>
+    ensures { IfOk result (λ choice. choice ≡ socket_choice table.now list.now) }
+{
+    let tests = family_tests(alloc, list.mentions.list(), table.families())?;
+    Ok(choice_by(list.mode, tests))
+}
+
+/// What is done to a call of this name, where it is socket(2): a test for each family of the table that is listed.
+pub fn families_choice(
+    alloc: Global,
+    table: &CallTable,
+    families: &Option<FamilyList>,
+    name: &str,
+) -> Result<Option<Choice>, AllocError>
+    ensures by_the_families { IfOk result (λ choice. choice ≡ families_choice table.now families.now name.now) }
+{
+    match families {
+        Some(list) if name == "socket" => Ok(Some(socket_choice(alloc, table, list)?)),
+        _ => Ok(None),
+    }
+}

@@ -1,0 +1,28 @@
+//! What the settings of a unit ask of its filters.
+use crate::filter_rules::mentions::{CallList, FamilyList};
+use crate::filter_rules::namespace_types::NamespaceTypes;
+use call_rules::Action;
+
+/// What the settings of a unit come to, as far as filters go (systemd.exec(5)).
+#[derive(Drop)]
+pub struct FilterSettings {
+    /// SystemCallFilter=, where it is set.
+    pub calls: Option<CallList>,
+    /// SystemCallErrorNumber=: what is done to the calls that SystemCallFilter= refuses.
+    pub default_action: Action,
+    /// RestrictAddressFamilies=, where it is set.
+    pub families: Option<FamilyList>,
+    /// RestrictNamespaces=
+    pub namespaces: NamespaceTypes,
+    pub memory_deny_write_execute: bool,
+    pub restrict_realtime: bool,
+    pub restrict_suid_sgid: bool,
+    pub lock_personality: bool,
+    pub protect_hostname: bool,
+    pub protect_kernel_modules: bool,
+    pub protect_kernel_logs: bool,
+    pub protect_clock: bool,
+    pub private_devices: bool,
+    /// SystemCallArchitectures= is set, and does not permit the second ABI.
+    pub second_abi_refused: bool,
+}

@@ -1,0 +1,25 @@
+-- The calls by which the units of a report are read: unit by unit, whatever comes of each.
+use Rattle.std.specs.Prelude.{ℕ, ◌==◌, cond, List, [], flat_map, Result, Ok, Err}
+use Rattle.score_command.specs.host_io.Calls.{Ask, Course, Whole, Faulted, Cut}
+use Rattle.score_command.specs.host_io.Files.{Files}
+use Rattle.score_command.specs.dropin_merge.Asking.{resolve_asks}
+use Rattle.score_command.specs.unit_names.Names.{Name, text_of}
+use Rattle.fleet_command.specs.declared.fleet_report.errors.FleetError.{FleetError}
+use Rattle.fleet_command.specs.declared.fleet_report.errors.FleetError.TheVariants.{NoWeight, ReadFault, Memory}
+
+abbrev pub row_asks : Files → Name → List Ask
+row_asks files name = resolve_asks files (text_of name)
+
+abbrev pub rows_asks : Files → List Name → List Ask
+rows_asks files names = flat_map (row_asks files) names
+
+-- nothing is read for a policy that weighs nothing
+abbrev pub unless_weightless : ℕ → List Ask → List Ask
+unless_weightless weight asks = cond (weight == 0) [] asks
+
+-- how a report ended that was answered so
+abbrev pub course : {T : Type 0} → Result T FleetError → Course
+course (Ok value) = Whole
+course (Err NoWeight) = Whole
+course (Err ReadFault) = Faulted
+course (Err Memory) = Cut

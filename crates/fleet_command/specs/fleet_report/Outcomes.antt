@@ -1,0 +1,74 @@
+-- What comes of a unit by its own files: an exposure, or why there is none.
+use Rattle.std.specs.Prelude.{◌≡◌, ℕ, List, Some, None, Result, Ok, Err}
+use Rattle.score_command.specs.host_io.Files.{Files}
+use Rattle.score_command.specs.unit_names.Names.{text_of}
+use Rattle.score_command.specs.dropin_merge.Resolving.{resolved_of}
+use Rattle.score_command.specs.dropin_merge.declared.errors.ResolveError.{ResolveError}
+use Rattle.score_command.specs.dropin_merge.declared.errors.ResolveError.TheVariants as resolving
+use Rattle.score_command.specs.dropin_merge.declared.resolved.Resolved.{Resolved}
+use Rattle.score_command.specs.call_table.Table.{Table}
+use Rattle.score_command.specs.site_table.Table.{Site}
+use Rattle.score_command.specs.exec_settings.AreSettings.{AreSettings}
+use Rattle.score_command.specs.exec_settings.Refusals.{refusal_of}
+use Rattle.score_command.specs.exec_settings.declared.errors.SettingsError.{SettingsError}
+use Rattle.score_command.specs.exec_settings.declared.errors.SettingsError.TheVariants as setting
+use Rattle.score_command.specs.exec_settings.declared.service.Settings.{Settings}
+use Rattle.score_command.specs.exposure_score.Rows.{IsScore}
+use Rattle.score_command.specs.exposure_score.StoredTests.{StoredTests}
+use Rattle.score_command.specs.exposure_score.declared.facts.Facts.{Facts}
+use Rattle.score_command.specs.exposure_score.declared.rows.Score.{Score}
+use Rattle.score_command.specs.exposure_score.declared.policy_file.policy.PolicyTest.{PolicyTest}
+use Rattle.score_command.specs.exposure_score.service_facts.Facts.{AreFacts}
+use Rattle.fleet_command.specs.declared.fleet_report.rows.FleetOutcome.{FleetOutcome}
+use Rattle.fleet_command.specs.declared.fleet_report.rows.FleetOutcome.TheVariants.{Scored, Unresolved, Unset}
+use Rattle.fleet_command.specs.declared.fleet_report.rows.FleetRow.{FleetRow}
+
+-- the settings of the unit are accepted, and the policy gives the exposure for their facts, from answers of the stored tests
+pub record HasExposure (table : Table) (site : Site) (policy : List PolicyTest) (stored : StoredTests) (unit : Resolved) (exposure : ℕ) : Type 0 where
+  pub accepted : refusal_of unit table site ≡ None
+  pub settings : Settings
+  pub are_settings : AreSettings unit table site settings
+  pub facts : Facts
+  pub are_facts : AreFacts unit table settings facts
+  pub score : Score
+  pub is_score : IsScore stored.id_of (stored.Answers facts) facts.tests stored.tests policy score
+  pub is_its_exposure : score.exposure ≡ exposure
+
+-- what comes of a unit that is resolved, or is not
+abbrev pub IsOutcome : Table → Site → List PolicyTest → StoredTests → Result Resolved ResolveError → FleetOutcome → Type 0
+IsOutcome table site policy stored (Ok unit) (Scored exposure) = HasExposure table site policy stored unit exposure
+IsOutcome table site policy stored (Ok unit) (Unset refusal) = refusal_of unit table site ≡ Some refusal
+IsOutcome table site policy stored (Ok unit) (Unresolved refusal) = ⊥
+IsOutcome table site policy stored (Err refusal) (Unresolved told) = told ≡ refusal
+IsOutcome table site policy stored (Err refusal) (Scored exposure) = ⊥
+IsOutcome table site policy stored (Err refusal) (Unset told) = ⊥
+
+-- the row of a unit, which rests on the files of no other
+abbrev pub IsRowOf : Files → Table → Site → List PolicyTest → StoredTests → FleetRow → Type 0
+IsRowOf files table site policy stored row = IsOutcome table site policy stored (resolved_of files (text_of row.name)) row.outcome
+
+-- a refusal is no fault and no want of memory
+abbrev pub IsNoFault : ResolveError → Type 0
+IsNoFault resolving.BadName = Unit {0}
+IsNoFault resolving.NotFound = Unit {0}
+IsNoFault resolving.Masked = Unit {0}
+IsNoFault resolving.DropIns = Unit {0}
+IsNoFault (resolving.TooLarge path) = Unit {0}
+IsNoFault (resolving.Text path fault) = Unit {0}
+IsNoFault resolving.ReadFault = ⊥
+IsNoFault resolving.Memory = ⊥
+
+abbrev pub IsNoWant : SettingsError → Type 0
+IsNoWant setting.NoCommand = Unit {0}
+IsNoWant setting.PrivilegedCommand = Unit {0}
+IsNoWant (setting.OutsideProfile key) = Unit {0}
+IsNoWant (setting.NoSuchUser word) = Unit {0}
+IsNoWant (setting.NoSuchGroup word) = Unit {0}
+IsNoWant (setting.MissingGroup name) = Unit {0}
+IsNoWant setting.TooManyPaths = Unit {0}
+IsNoWant setting.Memory = ⊥
+
+abbrev pub TellsNoFault : FleetOutcome → Type 0
+TellsNoFault (Scored exposure) = Unit {0}
+TellsNoFault (Unresolved refusal) = IsNoFault refusal
+TellsNoFault (Unset refusal) = IsNoWant refusal

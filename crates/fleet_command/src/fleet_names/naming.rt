@@ -1,0 +1,33 @@
+//! The units of a host.
+ghost use Rattle.std.specs.Prelude.{◌≡◌, IfSome};
+ghost use Rattle.score_command.specs.host_io.Calls.{Went};
+ghost use Rattle.fleet_command.specs.fleet_names.Answers.{AreNamed, HasCause};
+ghost use Rattle.fleet_command.specs.fleet_names.Asking.{course, names_asks};
+
+use crate::fleet_names::collecting::{collect_all, in_byte_order};
+use crate::fleet_names::errors::NamesError;
+use score_command::host_io::Shelf;
+use score_command::unit_names::UnitName;
+use std::alloc::Global;
+
+/// The most units of a host.
+const MOST_UNITS: usize = 1024;
+
+/// The names of the units of a host, each once, in byte order: those that files have directly in `etc/systemd/system`,
+/// `run/systemd/system` and `usr/lib/systemd/system`, and that are names of services. A folder that is missing has none.
+///
+/// `TooMany` comes exactly where one of the folders has more than 4,096 files, or there are more than 1,024 units. `ReadFault`
+/// comes where the shelf's count of faults rose, and any other answer leaves it. A folder is judged before the next is listed, so that
+/// over files that are told the folders up to the first that has too many files are listed, in this order, and no others.
+pub fn fleet_names<S: Shelf>(alloc: Global, shelf: &mut S) -> Result<Vec<UnitName>, NamesError>
+    ensures names_the_units { IfSome (S.told shelf.old) (λ files. AreNamed files result) }
+    ensures asks_in_order { IfSome (S.told shelf.old) (λ files. Went S.asks shelf.old shelf.new (names_asks files) (course result)) }
+    ensures map_stays { S.told shelf.new ≡ S.told shelf.old }
+    ensures fault_rose { HasCause (S.faults shelf.old) (S.faults shelf.new) result }
+{
+    let units = collect_all(alloc, shelf)?;
+    if units.len() > MOST_UNITS {
+        return Err(NamesError::TooMany);
+    }
+    Ok(in_byte_order(alloc, units)?)
+}

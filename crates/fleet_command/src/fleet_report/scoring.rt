@@ -1,0 +1,123 @@
+//! What comes of a unit, by its own files.
+ghost use Rattle.std.specs.Prelude.{◌≡◌, ◌<◌, IfErr, IfOk, IfSome, IsErrOf, None, Ok};
+ghost use Rattle.score_command.specs.exec_settings.AreSettings.{AreSettings};
+ghost use Rattle.score_command.specs.exec_settings.Refusals.{refusal_of};
+ghost use Rattle.score_command.specs.exposure_score.policy_weights.Weights.{weight_of};
+ghost use Rattle.score_command.specs.dropin_merge.Resolving.{resolved_of};
+ghost use Rattle.score_command.specs.unit_names.Names.{text_of};
+ghost use Rattle.score_command.specs.host_io.Calls.{Went};
+ghost use Rattle.fleet_command.specs.fleet_report.Answers.{HasCause};
+ghost use Rattle.fleet_command.specs.fleet_report.Asking.{course, row_asks};
+ghost use Rattle.fleet_command.specs.fleet_report.Outcomes.{HasExposure, IsOutcome, IsRowOf, TellsNoFault};
+ghost use Rattle.fleet_command.specs.declared.fleet_report.errors.FleetError.TheVariants.{Memory};
+
+use crate::fleet_report::errors::FleetError;
+use crate::fleet_report::rows::{FleetOutcome, FleetRow};
+use score_command::call_table::CallTable;
+use score_command::dropin_merge::{ResolveError, Resolved, resolve};
+use score_command::exec_settings::{Settings, SettingsError, settings};
+use score_command::exposure_score::policy_file::Policy;
+use score_command::exposure_score::service_facts::facts;
+use score_command::exposure_score::{CustomTest, ScoreError, Stored, score};
+use score_command::host_io::Shelf;
+use score_command::site_table::SiteTable;
+use score_command::unit_names::UnitName;
+use std::alloc::Global;
+
+// The exposure of a unit by its settings, which are accepted, and a policy that weighs something.
+fn exposure_of(
+    alloc: Global,
+    unit: &Resolved,
+    calls: &CallTable,
+    site: &SiteTable,
+    policy: &Policy,
+    tests: &[CustomTest],
+    made: &Settings,
+) -> Result<u32, FleetError>
+    requires accepted { refusal_of unit.now calls.now site.now ≡ None }
+    requires are_settings { AreSettings unit.now calls.now site.now made.now }
+    requires weighs { 0 < weight_of calls.now (⟦<CustomTest as Stored>⟧.stored tests.now) policy.now }
+    ensures exposes { IfOk result (HasExposure calls.now site.now policy.now (⟦<CustomTest as Stored>⟧.stored tests.now) unit.now) }
+    ensures only_memory_fails { IfErr result (λ error. error ≡ Memory) }
+{
+    let known = facts(alloc, unit, calls, site, made)?;
+    match score(alloc, policy, &known, tests) {
+        Ok(score) => Ok(score.exposure),
+        Err(ScoreError::NoWeight) => unreachable!(),
+        Err(ScoreError::Memory) => Err(FleetError::Memory),
+    }
+}
+
+// What comes of a unit that is resolved.
+fn outcome_of(
+    alloc: Global,
+    unit: &Resolved,
+    calls: &CallTable,
+    site: &SiteTable,
+    policy: &Policy,
+    tests: &[CustomTest],
+) -> Result<FleetOutcome, FleetError>
+    requires weighs { 0 < weight_of calls.now (⟦<CustomTest as Stored>⟧.stored tests.now) policy.now }
+    ensures comes_of_it { IfOk result (IsOutcome calls.now site.now policy.now (⟦<CustomTest as Stored>⟧.stored tests.now) (Ok unit.now)) }
+    ensures tells_no_fault { IfOk result TellsNoFault }
+    ensures only_memory_fails { IfErr result (λ error. error ≡ Memory) }
+{
+    match settings(alloc, unit, calls, site) {
+        Ok(made) => {
+            let exposure = exposure_of(alloc, unit, calls, site, policy, tests, &made)?;
+            Ok(FleetOutcome::Scored(exposure))
+        }
+        Err(SettingsError::Memory) => Err(FleetError::Memory),
+        Err(refusal) => Ok(FleetOutcome::Unset(refusal)),
+    }
+}
+
+// What comes of the unit of a name.
+fn outcome_by_files<S: Shelf>(
+    alloc: Global,
+    shelf: &mut S,
+    name: &UnitName,
+    calls: &CallTable,
+    site: &SiteTable,
+    policy: &Policy,
+    tests: &[CustomTest],
+) -> Result<FleetOutcome, FleetError>
+    requires weighs { 0 < weight_of calls.now (⟦<CustomTest as Stored>⟧.stored tests.now) policy.now }
+    ensures comes_of_its_files { IfSome (S.told shelf.old) (λ files. IfOk result (IsOutcome calls.now site.now policy.now (⟦<CustomTest as Stored>⟧.stored tests.now) (resolved_of files (text_of name.now)))) }
+    ensures tells_no_fault { IfOk result TellsNoFault }
+    ensures asks_in_order { IfSome (S.told shelf.old) (λ files. Went S.asks shelf.old shelf.new (row_asks files name.now) (course result)) }
+    ensures map_stays { S.told shelf.new ≡ S.told shelf.old }
+    ensures fault_rose { HasCause (S.faults shelf.old) (S.faults shelf.new) result }
+    ensures never_weightless { IsErrOf result FleetError.NoWeight → ⊥ }
+{
+    match resolve(alloc, shelf, name.text()) {
+        Ok(unit) => outcome_of(alloc, &unit, calls, site, policy, tests),
+        Err(ResolveError::ReadFault) => Err(FleetError::ReadFault),
+        Err(ResolveError::Memory) => Err(FleetError::Memory),
+        Err(refusal) => Ok(FleetOutcome::Unresolved(refusal)),
+    }
+}
+
+/// The row of a name, by the files of its unit, which is let go. The policy weighs something.
+pub fn row_of<S: Shelf>(
+    alloc: Global,
+    shelf: &mut S,
+    name: &UnitName,
+    calls: &CallTable,
+    site: &SiteTable,
+    policy: &Policy,
+    tests: &[CustomTest],
+) -> Result<FleetRow, FleetError>
+    requires weighs { 0 < weight_of calls.now (⟦<CustomTest as Stored>⟧.stored tests.now) policy.now }
+    ensures same_name { IfOk result (λ row. row.name ≡ name.now) }
+    ensures is_the_row { IfSome (S.told shelf.old) (λ files. IfOk result (IsRowOf files calls.now site.now policy.now (⟦<CustomTest as Stored>⟧.stored tests.now))) }
+    ensures tells_no_fault { IfOk result (λ row. TellsNoFault row.outcome) }
+    ensures asks_in_order { IfSome (S.told shelf.old) (λ files. Went S.asks shelf.old shelf.new (row_asks files name.now) (course result)) }
+    ensures map_stays { S.told shelf.new ≡ S.told shelf.old }
+    ensures fault_rose { HasCause (S.faults shelf.old) (S.faults shelf.new) result }
+    ensures never_weightless { IsErrOf result FleetError.NoWeight → ⊥ }
+{
+    let outcome = outcome_by_files(alloc, shelf, name, calls, site, policy, tests)?;
+    let name = name.copy(alloc)?;
+    Ok(FleetRow { name, outcome })
+}

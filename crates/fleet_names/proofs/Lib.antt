@@ -1,4 +1,0 @@
-pub mod Taking
-pub mod Keyed
-pub mod Named
-pub mod Asked

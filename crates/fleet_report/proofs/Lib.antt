@@ -1,4 +1,0 @@
-pub mod Came
-pub mod Ordered
-pub mod Gathered
-pub mod Asked

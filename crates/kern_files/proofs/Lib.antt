@@ -1,5 +1,0 @@
-mod CanBind
-mod Seeing
-mod Mounted
-mod Unmounted
-pub mod MountsCall

@@ -1,0 +1,113 @@
+-- The form of a payload decides, and of the words the low halves.
+use Rattle.std.proofs.Common.{◌≡◌, ◌↔◌, ℕ, ◌<◌, List, IsSome, refl, ap, ◌∙◌, arith}
+use Rattle.site_table.specs.abs_path.Paths.{Path}
+use Rattle.call_table.specs.call_names.Known.{place_of, form_of}
+use Rattle.call_table.specs.declared.call_names.rule.Argument.{Argument}
+use Rattle.call_table.specs.declared.call_names.rule.Argument.TheVariants.{Second, Third}
+use Rattle.call_table.specs.declared.call_names.rule.CallRule.{CallRule}
+use Rattle.call_table.specs.declared.call_names.rule.CallRule.TheVariants as known
+use Rattle.call_table.specs.declared.call_names.payload.PayloadForm.TheVariants as form
+use Rattle.kernel_model.specs.declared.kernel_calls.payload.Payload.{Payload}
+use Rattle.kernel_model.specs.declared.kernel_calls.payload.Payload.TheVariants.{Nothing, OnePath, TwoPaths, Sets, Ids, Family, Code}
+use Rattle.kernel_model.specs.declared.kernel_calls.rule.Rule.{Rule}
+use Rattle.kernel_model.specs.declared.kernel_calls.rule.Rule.TheVariants as rule
+use Rattle.kernel_model.specs.kernel_calls.Calls.{form_of_payload}
+use Rattle.kernel_model.specs.kernel_calls.Doing.{Doing, See, Open, Create, Truncate, Execve, SetMode, Map, Protect, Attach, Schedule, Personality, Socket, Socketcall, Enter, Fork, Clone, Unshare, Exit, Mount, Umount, Setuid, Setgid, Setresuid, Setresgid, Setgroups, Capset, Prctl, Seccomp, Plain, bare, by_path, by_paths, by_sets, by_ids, by_family, by_code, known_doing, doing_by}
+use Rattle.kernel_model.specs.kernel_calls.Rules.{form_of_rule}
+use Rattle.kernel_model.specs.kernel_calls.Words.{low_word}
+
+bare_form : (doing : Doing) (payload : Payload) → (form_of_payload payload ≡ form.Nothing) ↔ IsSome (bare doing payload)
+bare_form doing Nothing = (λ h. refl, λ h. refl)
+bare_form doing payload = (λ h. cc, λ h. cc)
+
+by_path_form : (doing : Path → Doing) (payload : Payload) → (form_of_payload payload ≡ form.OnePath) ↔ IsSome (by_path doing payload)
+by_path_form doing (OnePath path) = (λ h. refl, λ h. refl)
+by_path_form doing payload = (λ h. cc, λ h. cc)
+
+by_paths_form : (doing : Path → Path → Doing) (payload : Payload) → (form_of_payload payload ≡ form.TwoPaths) ↔ IsSome (by_paths doing payload)
+by_paths_form doing (TwoPaths source target) = (λ h. refl, λ h. refl)
+by_paths_form doing payload = (λ h. cc, λ h. cc)
+
+by_sets_form : (doing : ℕ → ℕ → ℕ → Doing) (payload : Payload) → (form_of_payload payload ≡ form.Sets) ↔ IsSome (by_sets doing payload)
+by_sets_form doing (Sets permitted effective inheritable) = (λ h. refl, λ h. refl)
+by_sets_form doing payload = (λ h. cc, λ h. cc)
+
+by_ids_form : (doing : List ℕ → Doing) (payload : Payload) → (form_of_payload payload ≡ form.Ids) ↔ IsSome (by_ids doing payload)
+by_ids_form doing (Ids ids) = (λ h. refl, λ h. refl)
+by_ids_form doing payload = (λ h. cc, λ h. cc)
+
+by_family_form : (doing : ℕ → Doing) (payload : Payload) → (form_of_payload payload ≡ form.Family) ↔ IsSome (by_family doing payload)
+by_family_form doing (Family family) = (λ h. refl, λ h. refl)
+by_family_form doing payload = (λ h. cc, λ h. cc)
+
+by_code_form : (doing : List ℕ → Doing) (payload : Payload) → (form_of_payload payload ≡ form.Program) ↔ IsSome (by_code doing payload)
+by_code_form doing (Code bytes) = (λ h. refl, λ h. refl)
+by_code_form doing payload = (λ h. cc, λ h. cc)
+
+known_form : (rule : CallRule) (args : List ℕ) (payload : Payload) → (form_of_payload payload ≡ form_of rule) ↔ IsSome (known_doing rule args payload)
+known_form known.See args = by_path_form See
+known_form (known.Open flags) args = by_path_form (Open (low_word args (place_of flags)))
+known_form known.Create args = by_path_form Create
+known_form known.Truncate args = by_path_form Truncate
+known_form known.Execve args = by_path_form Execve
+known_form (known.SetMode mode) args = bare_form (SetMode (low_word args (place_of mode)))
+known_form known.Map args = bare_form (Map (low_word args 2))
+known_form known.Protect args = bare_form (Protect (low_word args 2))
+known_form known.Attach args = bare_form (Attach (low_word args 2))
+known_form known.Schedule args = bare_form (Schedule (low_word args 1))
+known_form known.Personality args = bare_form (Personality (low_word args 0))
+known_form known.Socket args = bare_form (Socket (low_word args 0))
+known_form known.Socketcall args = by_family_form (Socketcall (low_word args 0))
+known_form known.Enter args = bare_form Enter
+known_form known.Fork args = bare_form Fork
+known_form known.Clone args = bare_form (Clone (low_word args 0))
+known_form known.Unshare args = bare_form (Unshare (low_word args 0))
+known_form known.Exit args = bare_form Exit
+known_form known.Mount args = by_paths_form (λ source target. Mount source target (low_word args 3))
+known_form known.Umount args = by_path_form (λ path. Umount path (low_word args 1))
+known_form known.Setuid args = bare_form (Setuid (low_word args 0))
+known_form known.Setgid args = bare_form (Setgid (low_word args 0))
+known_form known.Setresuid args = bare_form (Setresuid (low_word args 0) (low_word args 1) (low_word args 2))
+known_form known.Setresgid args = bare_form (Setresgid (low_word args 0) (low_word args 1) (low_word args 2))
+known_form known.Setgroups args = by_ids_form Setgroups
+known_form known.Capset args = by_sets_form Capset
+known_form known.Prctl args = bare_form (Prctl (low_word args 0) (low_word args 1) (low_word args 2))
+known_form known.Seccomp args = by_code_form (Seccomp (low_word args 0) (low_word args 1))
+
+pub form_decides : (rule : Rule) (args : List ℕ) (payload : Payload) → (form_of_payload payload ≡ form_of_rule rule) ↔ IsSome (doing_by rule args payload)
+form_decides (rule.Known call) args payload = known_form call args payload
+form_decides (rule.Plain cap) args payload = bare_form (Plain cap) payload
+
+within : (argument : Argument) → place_of argument < 6
+within Second = omega arith
+within Third = omega arith
+
+three_low : (doing : ℕ → ℕ → ℕ → Doing) (args other : List ℕ) (payload : Payload) → ((at : ℕ) → at < 6 → low_word args at ≡ low_word other at)
+    → bare (doing (low_word args 0) (low_word args 1) (low_word args 2)) payload ≡ bare (doing (low_word other 0) (low_word other 1) (low_word other 2)) payload
+three_low doing args other payload same = rw (same 0 (omega arith), same 1 (omega arith), same 2 (omega arith)) refl
+
+known_low : (rule : CallRule) (args other : List ℕ) (payload : Payload) → ((at : ℕ) → at < 6 → low_word args at ≡ low_word other at) → known_doing rule args payload ≡ known_doing rule other payload
+known_low (known.Open flags) args other payload same = ap (λ w. by_path (Open w) payload) (same (place_of flags) (within flags))
+known_low (known.SetMode mode) args other payload same = ap (λ w. bare (SetMode w) payload) (same (place_of mode) (within mode))
+known_low known.Map args other payload same = ap (λ w. bare (Map w) payload) (same 2 (omega arith))
+known_low known.Protect args other payload same = ap (λ w. bare (Protect w) payload) (same 2 (omega arith))
+known_low known.Attach args other payload same = ap (λ w. bare (Attach w) payload) (same 2 (omega arith))
+known_low known.Schedule args other payload same = ap (λ w. bare (Schedule w) payload) (same 1 (omega arith))
+known_low known.Personality args other payload same = ap (λ w. bare (Personality w) payload) (same 0 (omega arith))
+known_low known.Socket args other payload same = ap (λ w. bare (Socket w) payload) (same 0 (omega arith))
+known_low known.Socketcall args other payload same = ap (λ w. by_family (Socketcall w) payload) (same 0 (omega arith))
+known_low known.Clone args other payload same = ap (λ w. bare (Clone w) payload) (same 0 (omega arith))
+known_low known.Unshare args other payload same = ap (λ w. bare (Unshare w) payload) (same 0 (omega arith))
+known_low known.Mount args other payload same = ap (λ w. by_paths (λ source target. Mount source target w) payload) (same 3 (omega arith))
+known_low known.Umount args other payload same = ap (λ w. by_path (λ path. Umount path w) payload) (same 1 (omega arith))
+known_low known.Setuid args other payload same = ap (λ w. bare (Setuid w) payload) (same 0 (omega arith))
+known_low known.Setgid args other payload same = ap (λ w. bare (Setgid w) payload) (same 0 (omega arith))
+known_low known.Setresuid args other payload same = three_low Setresuid args other payload same
+known_low known.Setresgid args other payload same = three_low Setresgid args other payload same
+known_low known.Prctl args other payload same = three_low Prctl args other payload same
+known_low known.Seccomp args other payload same = ap (λ w. by_code (Seccomp w (low_word args 1)) payload) (same 0 (omega arith)) ∙ ap (λ w. by_code (Seccomp (low_word other 0) w) payload) (same 1 (omega arith))
+known_low call args other payload same = refl
+
+pub low_halves_decide : (rule : Rule) (args other : List ℕ) (payload : Payload) → ((at : ℕ) → at < 6 → low_word args at ≡ low_word other at) → doing_by rule args payload ≡ doing_by rule other payload
+low_halves_decide (rule.Known call) args other payload same = known_low call args other payload same
+low_halves_decide (rule.Plain cap) args other payload same = refl

@@ -1,0 +1,43 @@
+-- What the values of the code stand for.
+use Rattle.kernel_model.specs.kernel_calls.Doing.{Doing, See, Open, Create, Truncate, Execve, SetMode, Map, Protect, Attach, Schedule, Personality, Socket, Socketcall, Enter, Fork, Clone, Unshare, Exit, Mount, Umount, Setuid, Setgid, Setresuid, Setresgid, Setgroups, Capset, Prctl, Seccomp, Plain, Asked, Lacking, Misformed, Does}
+use Rattle.kernel_model.specs.declared.kernel_calls.doing.Doing.{Doing as Lent}
+use Rattle.kernel_model.specs.declared.kernel_calls.doing.Doing.TheVariants as lent
+use Rattle.kernel_model.specs.declared.kernel_calls.asked.Asked.{Asked as LentAsked}
+use Rattle.kernel_model.specs.declared.kernel_calls.asked.Asked.TheVariants as asked
+
+-- a call's payload is borrowed
+abbrev pub seen : Lent → Doing
+seen (lent.See path) = See path.now
+seen (lent.Open flags path) = Open flags path.now
+seen (lent.Create path) = Create path.now
+seen (lent.Truncate path) = Truncate path.now
+seen (lent.Execve path) = Execve path.now
+seen (lent.SetMode mode) = SetMode mode
+seen (lent.Map protection) = Map protection
+seen (lent.Protect protection) = Protect protection
+seen (lent.Attach flags) = Attach flags
+seen (lent.Schedule policy) = Schedule policy
+seen (lent.Personality persona) = Personality persona
+seen (lent.Socket family) = Socket family
+seen (lent.Socketcall operation family) = Socketcall operation family
+seen lent.Enter = Enter
+seen lent.Fork = Fork
+seen (lent.Clone flags) = Clone flags
+seen (lent.Unshare flags) = Unshare flags
+seen lent.Exit = Exit
+seen (lent.Mount source target flags) = Mount source.now target.now flags
+seen (lent.Umount path flags) = Umount path.now flags
+seen (lent.Setuid id) = Setuid id
+seen (lent.Setgid id) = Setgid id
+seen (lent.Setresuid real effective saved) = Setresuid real effective saved
+seen (lent.Setresgid real effective saved) = Setresgid real effective saved
+seen (lent.Setgroups ids) = Setgroups ids.now
+seen (lent.Capset permitted effective inheritable) = Capset permitted effective inheritable
+seen (lent.Prctl option value other) = Prctl option value other
+seen (lent.Seccomp operation flags code) = Seccomp operation flags code.now
+seen (lent.Plain cap) = Plain cap
+
+abbrev pub asked_seen : LentAsked → Asked
+asked_seen asked.Lacking = Lacking
+asked_seen asked.Misformed = Misformed
+asked_seen (asked.Does doing) = Does (seen doing)

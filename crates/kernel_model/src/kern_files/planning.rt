@@ -1,0 +1,148 @@
+//! What a call of mount(2) is to do, or why it is refused before the table is asked. It takes no memory.
+
+ghost use Rattle.std.specs.Prelude.{◌≡◌, IfOk, true, Ok};
+ghost use Rattle.site_table.specs.Table.{row_at};
+ghost use Rattle.kern_mounts.specs.Mounts.{steps_of};
+ghost use Rattle.kern_mounts.specs.Bind.{can_bind};
+ghost use Rattle.kern_mounts.specs.Finds.{finds};
+ghost use Rattle.kernel_model.specs.kern_files.Found.{shown};
+ghost use Rattle.kernel_model.specs.kern_files.Bits.{has_all};
+ghost use Rattle.kernel_model.specs.kern_files.MountCall.{ms_remount_bind, kind_found, hidden_kind, target_kind};
+ghost use Rattle.kernel_model.specs.kern_files.MountsCall.{mounts_onto, mounts_after_mount};
+ghost use Rattle.kernel_model.specs.kern_files.Planning.{Plans, CanPerform};
+
+use crate::kern_files::find::{Found, entry_of, find};
+use crate::kern_files::flags::{has_all, has_some};
+use crate::kern_files::looks::is_dir;
+use kern_mounts::linux_numbers::errnos::{EBUSY, EINVAL, ENOTDIR};
+use kern_mounts::{MountStep, MountTable, What};
+use site_table::SiteTable;
+use site_table::abs_path::AbsPath;
+
+// MS_REMOUNT, mount(2): a mount is given other flags.
+const MS_REMOUNT: u32 = 32;
+
+// MS_BIND, mount(2): what is seen at the source is seen at the target too.
+const MS_BIND: u32 = 4096;
+
+// MS_REC, mount(2): and what is mounted below the source.
+const MS_REC: u32 = 16384;
+
+// MS_MOVE, MS_UNBINDABLE, MS_PRIVATE, MS_SLAVE and MS_SHARED, mount(2), which are not modelled.
+const OTHER_KINDS: u32 = 0x1e_2000;
+
+/// What a call of mount(2) is to do at its target.
+#[derive(Clone, Copy)]
+pub enum Change {
+    /// The mount there is given other flags.
+    Remount,
+    /// What is seen at the source is seen there too.
+    Bind {
+        /// And what is mounted below the source, MS_REC.
+        recursive: bool,
+    },
+    /// An empty file system is mounted there.
+    Empty,
+}
+
+// Whether what is found is a directory, or the errno of what is not there.
+fn kind_found(found: Found) -> Result<bool, u32>
+    ensures { result ≡ kind_found (shown found.entry) }
+{
+    match found {
+        Found::Row(row) => Ok(is_dir(row.kind)),
+        Found::EmptyDirectory => Ok(true),
+        Found::Nothing(errno) => Err(errno),
+    }
+}
+
+// Whether a hidden entry that stands at the path is a directory.
+fn hidden_kind(entry: &MountStep, path: &AbsPath) -> Option<bool>
+    ensures { result ≡ hidden_kind entry.now.place entry.now.what path.now }
+{
+    match &entry.what {
+        What::Hidden { directory } if entry.place == *path => Some(*directory),
+        _ => None,
+    }
+}
+
+// Whether the target is a directory, or the errno of what is not there.
+fn target_kind(table: &MountTable, site: &SiteTable, target: &AbsPath) -> Result<bool, u32>
+    ensures { result ≡ target_kind (row_at site.now.rows) (steps_of table.now) target.now }
+{
+    match hidden_kind(entry_of(table, target), target) {
+        Some(directory) => Ok(directory),
+        None => kind_found(find(table, site, target)),
+    }
+}
+
+// Whether the source is a directory, or the errno of what is not there; what is there can be bound.
+fn source_kind(table: &MountTable, site: &SiteTable, source: &AbsPath) -> Result<bool, u32>
+    ensures kind { result ≡ kind_found (finds (row_at site.now.rows) (steps_of table.now) source.now) }
+    ensures can_bind { IfOk result (λ directory. can_bind (steps_of table.now) source.now ≡ true) }
+{
+    // The rows are lent with what holds of each site: their paths are short.
+    let _rows = site.rows();
+    kind_found(find(table, site, source))
+}
+
+// What a call with these flags is to do at a target that is there; where true, the target is a directory.
+fn planned_onto(
+    table: &MountTable,
+    site: &SiteTable,
+    source: &AbsPath,
+    target: &AbsPath,
+    flags: u32,
+    directory: bool,
+) -> Result<Change, u32>
+    ensures by_the_rule { Plans table.now source.now target.now flags
+        (mounts_onto (row_at site.now.rows) table.now source.now target.now flags (Ok directory)) result }
+    ensures can_perform { IfOk result (λ change. CanPerform (steps_of table.now) source.now change) }
+{
+    if has_some(MS_BIND, flags) {
+        let own = source_kind(table, site, source)?;
+        if own != directory {
+            return Err(ENOTDIR);
+        }
+        return Ok(Change::Bind {
+            recursive: has_some(MS_REC, flags),
+        });
+    }
+    if !directory {
+        return Err(ENOTDIR);
+    }
+    Ok(Change::Empty)
+}
+
+/// What a call with these flags is to do.
+///
+/// EINVAL of a kind that is not modelled, and of MS_REMOUNT without MS_BIND; EBUSY on the root; then the errno of a target
+/// that is not there, then of a source; ENOTDIR where just one of the two is a directory, and of an empty file system on
+/// what is none.
+pub fn planned(
+    table: &MountTable,
+    site: &SiteTable,
+    source: &AbsPath,
+    target: &AbsPath,
+    flags: u32,
+) -> Result<Change, u32>
+    ensures by_the_rule { Plans table.now source.now target.now flags
+        (mounts_after_mount (row_at site.now.rows) table.now source.now target.now flags) result }
+    ensures can_perform { IfOk result (λ change. CanPerform (steps_of table.now) source.now change) }
+    ensures remounts { has_all ms_remount_bind flags ≡ true → IfOk result (λ change. change ≡ Change.Remount) }
+{
+    if has_some(OTHER_KINDS, flags) {
+        return Err(EINVAL);
+    }
+    if has_all(MS_REMOUNT | MS_BIND, flags) {
+        return Ok(Change::Remount);
+    }
+    if has_some(MS_REMOUNT, flags) {
+        return Err(EINVAL);
+    }
+    if target.is_root() {
+        return Err(EBUSY);
+    }
+    let directory = target_kind(table, site, target)?;
+    planned_onto(table, site, source, target, flags, directory)
+}

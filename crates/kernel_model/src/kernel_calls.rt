@@ -1,0 +1,24 @@
+//! Calls as processes make them, and the rule that a table gives each number.
+//!
+//! A call is a number, six words and what its pointers point to, syscall(2); `Rules` says once for each call of a
+//! `CallTable` what the kernel does for it, and `asked` what a call asks for. It rests on `call_names` and `call_table`.
+//! Where a table has the line `call getpid 39`, `rules.rule(&table, 0, 39)` is `Some(Rule::Plain(None))`.
+
+mod asked;
+mod call;
+mod doing;
+mod held;
+pub mod laws;
+mod payload;
+mod rule;
+mod rules;
+mod words;
+
+pub use asked::Asked;
+pub use call::Call;
+pub use doing::{Doing, doing_of};
+pub use held::fits;
+pub use payload::{Bytes, IdList, Payload};
+pub use rule::Rule;
+pub use rules::Rules;
+pub use words::low_word;

@@ -1,0 +1,176 @@
+//! What a call asks for: its rule, the words that the rule looks at, and its payload.
+
+ghost use Rattle.std.specs.Prelude.{◌≡◌};
+ghost use Rattle.std.specs.Option.{option_map};
+ghost use Rattle.kernel_model.specs.declared.kernel_calls.payload.Payload.TheVariants.{Nothing, OnePath};
+ghost use Rattle.kernel_model.specs.kernel_calls.Doing.{known_doing, doing_by, bare, Plain};
+ghost use Rattle.kernel_model.specs.kernel_calls.Seen.{seen};
+
+use crate::kernel_calls::call::Call;
+use crate::kernel_calls::payload::Payload;
+use crate::kernel_calls::rule::Rule;
+use crate::kernel_calls::words::low_word;
+use call_table::call_names::CallRule;
+use site_table::abs_path::AbsPath;
+use site_table::cap_sets::CapSet;
+
+/// What a call asks for, with the words and the payload that its rule looks at.
+#[derive(Clone, Copy)]
+pub enum Doing<'a> {
+    /// stat(2), access(2) and their like find a path.
+    See(&'a AbsPath),
+    /// open(2) and openat(2), with the flags.
+    Open(u32, &'a AbsPath),
+    /// creat(2).
+    Create(&'a AbsPath),
+    /// truncate(2).
+    Truncate(&'a AbsPath),
+    /// execve(2).
+    Execve(&'a AbsPath),
+    /// chmod(2), mkdir(2), mknod(2) and their like, with the mode.
+    SetMode(u32),
+    /// mmap(2), with the protection.
+    Map(u32),
+    /// mprotect(2) and pkey_mprotect(2), with the protection.
+    Protect(u32),
+    /// shmat(2), with the flags.
+    Attach(u32),
+    /// sched_setscheduler(2), with the policy.
+    Schedule(u32),
+    /// personality(2), with the persona.
+    Personality(u32),
+    /// socket(2), with the address family.
+    Socket(u32),
+    /// socketcall(2), with the operation and the address family that it points to.
+    Socketcall(u32, u32),
+    /// setns(2).
+    Enter,
+    /// fork(2) and vfork(2).
+    Fork,
+    /// clone(2), with the flags.
+    Clone(u32),
+    /// unshare(2), with the flags.
+    Unshare(u32),
+    /// exit(2) and exit_group(2).
+    Exit,
+    /// mount(2), with source, target and flags.
+    Mount(&'a AbsPath, &'a AbsPath, u32),
+    /// umount2(2), with target and flags.
+    Umount(&'a AbsPath, u32),
+    /// setuid(2), with the uid.
+    Setuid(u32),
+    /// setgid(2), with the gid.
+    Setgid(u32),
+    /// setresuid(2), with the real, the effective and the saved uid.
+    Setresuid(u32, u32, u32),
+    /// setresgid(2), with the real, the effective and the saved gid.
+    Setresgid(u32, u32, u32),
+    /// setgroups(2), with the gids.
+    Setgroups(&'a [u32]),
+    /// capset(2), with the permitted, the effective and the inheritable set.
+    Capset(CapSet, CapSet, CapSet),
+    /// prctl(2), with the operation and its first two arguments.
+    Prctl(u32, u32, u32),
+    /// seccomp(2), with the operation, the flags and the bytes of the program.
+    Seccomp(u32, u32, &'a [u8]),
+    /// A plain call, with the capability of its line.
+    Plain(Option<u8>),
+}
+
+// What a call without a payload asks for.
+fn bare_doing<'a>(rule: CallRule, args: &[u64; 6]) -> Option<Doing<'a>>
+    ensures { option_map seen result ≡ known_doing rule args.now Nothing }
+{
+    let first = low_word(args, 0);
+    let second = low_word(args, 1);
+    let third = low_word(args, 2);
+    let doing = match rule {
+        CallRule::SetMode(mode) => Doing::SetMode(low_word(args, mode.place())),
+        CallRule::Map => Doing::Map(third),
+        CallRule::Protect => Doing::Protect(third),
+        CallRule::Attach => Doing::Attach(third),
+        CallRule::Schedule => Doing::Schedule(second),
+        CallRule::Personality => Doing::Personality(first),
+        CallRule::Socket => Doing::Socket(first),
+        CallRule::Enter => Doing::Enter,
+        CallRule::Fork => Doing::Fork,
+        CallRule::Clone => Doing::Clone(first),
+        CallRule::Unshare => Doing::Unshare(first),
+        CallRule::Exit => Doing::Exit,
+        CallRule::Setuid => Doing::Setuid(first),
+        CallRule::Setgid => Doing::Setgid(first),
+        CallRule::Setresuid => Doing::Setresuid(first, second, third),
+        CallRule::Setresgid => Doing::Setresgid(first, second, third),
+        CallRule::Prctl => Doing::Prctl(first, second, third),
+        _ => return None,
+    };
+    Some(doing)
+}
+
+// What a call with one path asks for.
+fn path_doing<'a>(rule: CallRule, args: &[u64; 6], path: &'a AbsPath) -> Option<Doing<'a>>
+    ensures { option_map seen result ≡ known_doing rule args.now (OnePath path.now) }
+{
+    let doing = match rule {
+        CallRule::See => Doing::See(path),
+        CallRule::Open(flags) => Doing::Open(low_word(args, flags.place()), path),
+        CallRule::Create => Doing::Create(path),
+        CallRule::Truncate => Doing::Truncate(path),
+        CallRule::Execve => Doing::Execve(path),
+        CallRule::Umount => Doing::Umount(path, low_word(args, 1)),
+        _ => return None,
+    };
+    Some(doing)
+}
+
+// What a call of a known rule asks for.
+fn known_doing<'a>(rule: CallRule, args: &[u64; 6], payload: &'a Payload) -> Option<Doing<'a>>
+    ensures { option_map seen result ≡ known_doing rule args.now payload.now }
+{
+    match payload {
+        Payload::Nothing => bare_doing(rule, args),
+        Payload::OnePath(path) => path_doing(rule, args, path),
+        Payload::TwoPaths(source, target) => match rule {
+            CallRule::Mount => Some(Doing::Mount(source, target, low_word(args, 3))),
+            _ => None,
+        },
+        Payload::Sets(permitted, effective, inheritable) => match rule {
+            CallRule::Capset => Some(Doing::Capset(*permitted, *effective, *inheritable)),
+            _ => None,
+        },
+        Payload::Ids(list) => match rule {
+            CallRule::Setgroups => Some(Doing::Setgroups(list.list())),
+            _ => None,
+        },
+        Payload::Family(family) => match rule {
+            CallRule::Socketcall => Some(Doing::Socketcall(low_word(args, 0), *family)),
+            _ => None,
+        },
+        Payload::Code(code) => match rule {
+            CallRule::Seccomp => {
+                Some(Doing::Seccomp(low_word(args, 0), low_word(args, 1), code.list()))
+            }
+            _ => None,
+        },
+    }
+}
+
+// What a plain call asks for, which carries nothing.
+fn plain_doing<'a>(cap: Option<u8>, payload: &Payload) -> Option<Doing<'a>>
+    ensures { option_map seen result ≡ bare (Plain cap) payload.now }
+{
+    match payload {
+        Payload::Nothing => Some(Doing::Plain(cap)),
+        _ => None,
+    }
+}
+
+/// What a call of this rule asks for; None where its payload is not of the rule's form. It takes no memory.
+pub fn doing_of(rule: Rule, call: &Call) -> Option<Doing<'_>>
+    ensures by_rule_words_and_payload { option_map seen result ≡ doing_by rule call.now.args call.now.payload }
+{
+    match rule {
+        Rule::Known(known) => known_doing(known, &call.args, &call.payload),
+        Rule::Plain(cap) => plain_doing(cap, &call.payload),
+    }
+}

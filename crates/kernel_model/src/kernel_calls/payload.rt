@@ -1,0 +1,51 @@
+//! What the pointers among a call's words point to.
+
+ghost use Rattle.std.specs.Prelude.{◌≡◌};
+ghost use Rattle.kernel_model.specs.kernel_calls.Calls.{form_of_payload};
+
+use call_table::call_names::PayloadForm;
+use call_table::text_forms::item_list::ItemList;
+use site_table::abs_path::AbsPath;
+use site_table::cap_sets::CapSet;
+
+/// Ids of groups, credentials(7), which contracts see as a list.
+pub type IdList = ItemList<u32>;
+
+/// The bytes of a program, seccomp(2), which contracts see as a list.
+pub type Bytes = ItemList<u8>;
+
+/// What a call carries beside its six words.
+#[derive(Drop)]
+pub enum Payload {
+    /// Nothing.
+    Nothing,
+    /// One path.
+    OnePath(AbsPath),
+    /// Two paths, source and target, mount(2).
+    TwoPaths(AbsPath, AbsPath),
+    /// Three sets of capabilities: permitted, effective and inheritable, capset(2).
+    Sets(CapSet, CapSet, CapSet),
+    /// Ids of groups, setgroups(2).
+    Ids(IdList),
+    /// The number of an address family, the first of the words that socketcall(2) points to.
+    Family(u32),
+    /// The bytes of a program, seccomp(2).
+    Code(Bytes),
+}
+
+impl Payload {
+    /// Its form, by which a rule takes it.
+    pub fn form(&self) -> PayloadForm
+        ensures form { result ≡ form_of_payload self.now }
+    {
+        match self {
+            Payload::Nothing => PayloadForm::Nothing,
+            Payload::OnePath(_) => PayloadForm::OnePath,
+            Payload::TwoPaths(_, _) => PayloadForm::TwoPaths,
+            Payload::Sets(_, _, _) => PayloadForm::Sets,
+            Payload::Ids(_) => PayloadForm::Ids,
+            Payload::Family(_) => PayloadForm::Family,
+            Payload::Code(_) => PayloadForm::Program,
+        }
+    }
+}

@@ -1,8 +1,0 @@
-use Rattle.std.proofs.Common.{◌≡◌, ◌+◌, ◌++◌, map, drop}
-use Rattle.line_text.specs.Lines.{counted_from}
-use Rattle.line_text.specs.Views.{line_view}
-use Rattle.line_text.proofs.lines.counted_lines.Given as goal
-
-abbrev pub invariant-loop-at : goal.invariant-loop-at
-invariant-loop-at l =
-    map line_view l.lines.items ++ counted_from (l.at + 1) (map (λ text. text.now) (drop l.at l.texts)) ≡ counted_from 1 (map (λ text. text.now) l.texts)

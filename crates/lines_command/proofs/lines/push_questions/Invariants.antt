@@ -1,7 +1,0 @@
-use Rattle.std.proofs.Common.{◌≡◌, ◌++◌, take}
-use Rattle.std.specs.Prelude.{codes, flat_map}
-use Rattle.effect_command.specs.Lines.{question_line}
-use Rattle.lines_command.proofs.lines.push_questions.Given as goal
-
-abbrev pub invariant-loop-question : goal.invariant-loop-question
-invariant-loop-question l = l.text.items ≡ l.initial.text.items ++ flat_map (question_line (codes "opened") l.calls l.site) (take l.question-index l.opened)

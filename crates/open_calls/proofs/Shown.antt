@@ -1,0 +1,223 @@
+-- The calls that are chosen for an open question show it.
+use Rattle.std.proofs.Common.{◌≡◌, ℕ, Bool, true, false, List, [], ◌∷◌, ◌++◌, Option, Some, None, refl, ap, ◌∙◌, sym, subst, cond, inl}
+use Rattle.std.specs.Prelude.{slice_get, nat_lt, ◌&&◌, ◌||◌, unwrap_or}
+use Rattle.std.specs.List.{list_any}
+use Rattle.std.specs.Option.{option_map_or}
+use Rattle.std.specs.Str.{bytes_eq}
+use Rattle.std.proofs.lemmas.Slice.Eq.{bytes_eq-Decides}
+use Rattle.std.proofs.lemmas.Bool.{and_parts, eq-eqb}
+use Rattle.ceilings.specs.abs_path.Paths.{Path}
+use Rattle.ceilings.specs.cap_sets.Sets.{has}
+use Rattle.ceilings.specs.call_table.declared.listed.CallLine.{CallLine}
+use Rattle.ceilings.specs.call_table.Lookups.{numbered}
+use Rattle.ceilings.specs.call_table.Table.{calls_in, every_call}
+use Rattle.ceilings.specs.kern_creds.declared.creds.Creds.{Creds}
+use Rattle.ceilings.specs.kern_mounts.Split.{Table}
+use Rattle.ceilings.specs.kernel_model.kernel_calls.Doing as d
+use Rattle.ceilings.specs.kernel_model.kernel_calls.Doing.{Doing}
+use Rattle.ceilings.specs.kernel_model.kernel_calls.Rules.{rule_of}
+use Rattle.ceilings.specs.kernel_model.declared.kernel_calls.call.Call.{Call}
+use Rattle.ceilings.specs.kernel_model.declared.kernel_calls.payload.Payload.TheVariants.{Nothing}
+use Rattle.ceilings.specs.kernel_model.declared.kernel_calls.rule.Rule.{Rule}
+use Rattle.ceilings.specs.kernel_model.World.{World}
+use Rattle.ceilings.specs.kernel_laws.Bound.{is_user, can_reach, can_have_cap, can_have_for, if_listed, power_of, ceiling, is_open, is_call_open}
+use Rattle.ceilings.specs.kernel_laws.Denied.{asks_space, asks_family, is_family, Shows}
+use Rattle.ceilings.specs.kernel_laws.Kinds as k
+use Rattle.ceilings.specs.kernel_laws.declared.question_types.kind.CallKind.{CallKind}
+use Rattle.questions.specs.filter_settings.declared.filter_rules.namespace_types.NamespaceType.{NamespaceType}
+use Rattle.ceilings.specs.kernel_laws.declared.question_types.question.Question.{Question}
+use Rattle.ceilings.specs.kernel_laws.declared.question_types.kind.CallKind.TheVariants as kinds
+use Rattle.questions.specs.filter_settings.declared.filter_rules.namespace_types.NamespaceType.TheVariants as namespace
+use Rattle.ceilings.specs.kernel_laws.declared.question_types.question.Question.TheVariants as asking
+use Rattle.ceilings.specs.kernel_laws.Launched.{Launch, IsLaunched, launch_of, lets, lets_line, can_make_user}
+use Rattle.ceilings.specs.kernel_laws.PlainCalls.{bare_call}
+use Rattle.ceilings.proofs.KernelLaws.Filters.{at_position}
+use Rattle.ceilings.specs.kernel_ways.Laws.{IsFit}
+use Rattle.ceilings.specs.kernel_ways.Offers.{Offers, RunsProgram}
+use Rattle.ceilings.specs.kernel_ways.Showing.{Answers}
+use Rattle.ceilings.specs.kernel_ways.Ways.{Way, here, IsSolo, place_of}
+use Rattle.ceilings.proofs.KernelWays.Choices as choices
+use Rattle.ceilings.proofs.KernelWays.Doings.{Performed}
+use Rattle.ceilings.proofs.KernelWays.Lines.{choice_of, first_by, low_number, line_at, of_abi, same_rule}
+use Rattle.ceilings.proofs.KernelWays.Performing as performing
+use Rattle.ceilings.proofs.KernelWays.Performing.{CapAtHand, is_free}
+use Rattle.ceilings.proofs.KernelWays.Showing.{calls_show, creds_show}
+use Rattle.ceilings.proofs.KernelWays.Starts.{starts_solo, performs}
+use Rattle.open_calls.specs.chosen_calls.Chosen.{plain_cap, row_calls, plain_calls, socket_calls, space_calls, user_call, pid_inside, call_inside, calls_for, is_called, plain_line, socket_payload}
+use Rattle.open_calls.specs.chosen_calls.First.{call_by, no_line}
+use Rattle.open_calls.proofs.ChosenCallsInside.{user_called, inside_is}
+use Rattle.ceilings.proofs.KernelWays.Entering.{calls_show_inside}
+use Rattle.ceilings.proofs.KernelWays.InUser.{enters, Inside, own_space}
+use Rattle.open_calls.specs.chosen_calls.Gaining.{gaining, gaining_if}
+use Rattle.open_calls.specs.chosen_calls.Laws.{ChoiceShows}
+use Rattle.open_calls.proofs.FirstLines.{chosen, call_is, rule_is}
+use Rattle.open_calls.proofs.ChosenCallsIds.{uid_shown, gid_shown}
+use Rattle.open_calls.proofs.Lists.{any_found, found_at}
+use Rattle.open_calls.proofs.ChosenCallsRows.{gained, row_shown}
+
+module _ (world : World) (launch : Launch) (l : IsLaunched launch) (o : Offers launch) (s : IsSolo launch launch.creds launch.table world) (program : Path) (p : RunsProgram launch program) where
+  -- a call behind a way
+  by_performed : (question : Question) (asks : Doing → Bool) {front : List Call} (creds : Creds) (now : Table) → Way launch launch.creds launch.table front creds now → {call : Call} → (x : Performed launch creds now asks call) → Answers launch now question call x.doing → Shows world question (front ++ call ∷ [])
+  by_performed question asks {front = front} creds now way {call = call} x a = calls_show launch launch.creds creds launch.table now world front question x.doing call x.effect s way x.makes x.doable a
+
+  -- the first call of a kind that every process may ask for
+  shown_free : (question : Question) (kind : CallKind) → is_free kind ≡ true → lets launch kind ≡ true → ((call : Call) (x : Performed launch launch.creds launch.table (k.asks kind) call) → Answers launch launch.table question call x.doing)
+      → Shows world question (call_by launch kind Nothing ∷ [])
+  shown_free question kind h e answers =
+      let c = chosen launch l kind e in
+      let P : Call → Type 0 = λ call. Performed launch launch.creds launch.table (k.asks kind) call in
+      let x = subst P (sym (call_is c Nothing)) (performing.free launch launch.creds launch.table kind h c.line) in
+      by_performed question (k.asks kind) launch.creds launch.table here x (answers (call_by launch kind Nothing) x)
+
+  -- a way to credentials that have the capability, if one is asked for
+  record Having (number : Option ℕ) : Type 0 where
+    creds : Creds
+    now : Table
+    way : Way launch launch.creds launch.table (gaining_if launch program number) creds now
+    can : CapAtHand creds number
+
+  having : (number : Option ℕ) → can_have_cap (ceiling launch) number ≡ true → Having number
+  having None e = record { creds = launch.creds; now = launch.table; way = here; can = tt }
+  having (Some number) e = let g = gained launch l o program p number e in record { creds = g.creds; now = g.now; way = g.way; can = g.holds }
+
+  shown_space : (space : NamespaceType) → is_user space ≡ false → lets launch (kinds.ForNamespace space) ≡ true → has (ceiling launch).effective 21 ≡ true → Shows world (asking.Namespace space) (gaining launch program 21 ++ call_by launch (kinds.ForNamespace space) Nothing ∷ [])
+  shown_space space u e h =
+      let g = gained launch l o program p 21 h in
+      let c = chosen launch l (kinds.ForNamespace space) e in
+      let P : Call → Type 0 = λ call. Performed launch g.creds g.now (asks_space space) call in
+      let x = subst P (sym (call_is c Nothing)) (performing.own_space launch g.creds g.now g.holds space u c.line) in
+      by_performed (asking.Namespace space) (asks_space space) g.creds g.now g.way x x.such
+
+  -- a user namespace by itself
+  shown_user : can_make_user launch ≡ true → Shows world (asking.Namespace namespace.User) (user_call launch ∷ [])
+  shown_user user =
+      let both = and_parts (nat_lt 0 launch.site.user_namespaces) (lets launch (kinds.ForNamespace namespace.User)) user in
+      let c = chosen launch l (kinds.ForNamespace namespace.User) both.1 in
+      let first = enters launch both.0 launch.creds launch.table c.line in
+      let call = first_by (place_of c.line.line) c.line.args Nothing in
+      let done = (first.inside world s).0 in
+      let P : Call → Type 0 = λ own. Shows world (asking.Namespace namespace.User) (own ∷ []) in
+      subst P (sym (call_is c Nothing)) (record { fit = (first.makes.fit, tt); done = (done, tt); last = inl (performs launch launch.creds launch.table world s (asks_space namespace.User) first.doing call first.effect first.makes first.such done) })
+
+  -- another one in it
+  shown_within : (space : NamespaceType) → is_user space ≡ false → lets launch (kinds.ForNamespace space) ≡ true → can_make_user launch ≡ true → Shows world (asking.Namespace space) (user_call launch ∷ call_inside launch (kinds.ForNamespace space) Nothing ∷ [])
+  shown_within space u e user =
+      let v = user_called launch l user launch.creds launch.table in
+      let c = chosen launch l (kinds.ForNamespace space) e in
+      let P : Call → Type 0 = λ call. Inside launch launch.creds launch.table (pid_inside launch) v.small (asks_space space) call in
+      let x = subst P (sym (inside_is launch c Nothing)) (own_space launch launch.creds launch.table (pid_inside launch) v.small space u c.line) in
+      calls_show_inside launch launch.creds launch.creds launch.table launch.table world [] (asking.Namespace space) (pid_inside launch) (user_call launch) (call_inside launch (kinds.ForNamespace space) Nothing) x.doing x.effect s here v.fit v.inside x.makes x.doable x.such
+
+  other_space : (space : NamespaceType) → is_user space ≡ false → (lets launch (kinds.ForNamespace space) && (has (ceiling launch).effective 21 || can_make_user launch)) ≡ true
+      → Shows world (asking.Namespace space) (cond (has (ceiling launch).effective 21) (gaining launch program 21 ++ call_by launch (kinds.ForNamespace space) Nothing ∷ []) (user_call launch ∷ call_inside launch (kinds.ForNamespace space) Nothing ∷ []))
+  other_space space u e =
+      let both = and_parts (lets launch (kinds.ForNamespace space)) (has (ceiling launch).effective 21 || can_make_user launch) e in
+      by (has (ceiling launch).effective 21) refl both.0 both.1
+    where
+      by : (b : Bool) → has (ceiling launch).effective 21 ≡ b → lets launch (kinds.ForNamespace space) ≡ true → (b || can_make_user launch) ≡ true
+          → Shows world (asking.Namespace space) (cond b (gaining launch program 21 ++ call_by launch (kinds.ForNamespace space) Nothing ∷ []) (user_call launch ∷ call_inside launch (kinds.ForNamespace space) Nothing ∷ []))
+      by true h let' more = shown_space space u let' h
+      by false h let' more = shown_within space u let' more
+
+  shown_ns : (space : NamespaceType) → is_open launch (asking.Namespace space) ≡ true → Shows world (asking.Namespace space) (space_calls launch program space)
+  shown_ns namespace.User e = shown_user e
+  shown_ns namespace.Cgroup e = other_space namespace.Cgroup refl e
+  shown_ns namespace.Ipc e = other_space namespace.Ipc refl e
+  shown_ns namespace.Net e = other_space namespace.Net refl e
+  shown_ns namespace.Mnt e = other_space namespace.Mnt refl e
+  shown_ns namespace.Pid e = other_space namespace.Pid refl e
+  shown_ns namespace.Uts e = other_space namespace.Uts refl e
+
+  -- the line whose call is made is one of the name that passes
+  record CalledLine (name : List ℕ) : Type 0 where
+    at : ℕ
+    line : CallLine
+    listed : slice_get (every_call launch.calls) at ≡ Some line
+    is : plain_line launch name ≡ line
+    same : name ≡ line.name
+    lets' : lets_line launch kinds.PlainCall line ≡ true
+
+  called_line : (name : List ℕ) → list_any (is_called launch name) (every_call launch.calls) ≡ true → CalledLine name
+  unfolding plain_line
+  called_line name e =
+      let a = any_found (is_called launch name) (every_call launch.calls) e in
+      let f = found_at (is_called launch name) (every_call launch.calls) a.0 a.1 in
+      let such = and_parts (bytes_eq name a.0.name) (lets_line launch kinds.PlainCall a.0) f.2 in
+      record { at = f.0; line = a.0; listed = f.1; is = ap (λ o. unwrap_or o no_line) a.1; same = (bytes_eq-Decides name a.0.name).0 such.0; lets' = such.1 }
+
+  bare_by : {own : Rule} {args : List ℕ} → choices.Choice kinds.PlainCall own args → args ≡ k.no_words
+  bare_by (choices.plain number) = refl
+
+  shown_call : (place : ℕ) (line : CallLine) → slice_get (every_call launch.calls) place ≡ Some line → list_any (is_called launch line.name) (every_call launch.calls) ≡ true → can_have_for (ceiling launch) (rule_of line) ≡ true → Shows world (asking.Call place) (plain_calls launch program line)
+  shown_call place line listed e h =
+      let called = called_line line.name e in
+      let other = called.line in
+      let own = line_at launch l kinds.PlainCall called.at other called.listed called.lets' in
+      let there = of_abi launch l called.at other called.listed in
+      let lines = calls_in launch.calls other.abi in
+      let found : numbered other.number lines ≡ Some other = at_position lines other.number there.at other (l.calls_once other.abi there.at other there.listed) there.listed in
+      let rule : rule_of line ≡ rule_of other = same_rule launch l place called.at line other listed called.listed called.same in
+      let r = performing.plain_rule launch launch.creds launch.table own.0 in
+      let own_rule' : rule_of own.0.line ≡ rule_of line = ap rule_of own.1 ∙ sym rule in
+      let cap' : can_have_cap (ceiling launch) r.0 ≡ true = ap (can_have_for (ceiling launch)) (sym r.1 ∙ own_rule') ∙ h in
+      let same : plain_cap (rule_of line) ≡ r.0 = ap plain_cap (sym own_rule' ∙ r.1) in
+      let w = having r.0 cap' in
+      let can = subst (performing.can_for launch w.creds w.now) (sym r.1) w.can in
+      let x = performing.plain launch w.creds w.now own.0 can in
+      let reached : numbered own.0.line.number (calls_in launch.calls own.0.line.abi) ≡ Some other = ap (λ (c : CallLine). numbered c.number (calls_in launch.calls c.abi)) own.1 ∙ found in
+      let shown = by_performed (asking.Call place) k.asks_plain w.creds w.now w.way x (line, listed, other, reached, called.same) in
+      let call_is' : first_by (place_of own.0.line) own.0.args Nothing ≡ bare_call (plain_line launch line.name).abi (plain_line launch line.name).number =
+      ap (λ (c : CallLine). first_by (place_of c) own.0.args Nothing) (own.1 ∙ sym called.is) ∙ ap (λ words. first_by (place_of (plain_line launch line.name)) words Nothing) (bare_by (choice_of own.0)) in
+      let P : List Call → Type 0 = λ calls. Shows world (asking.Call place) calls in
+      let end = bare_call (plain_line launch line.name).abi (plain_line launch line.name).number in
+      subst P (ap (λ call. gaining_if launch program r.0 ++ call ∷ []) call_is' ∙ ap (λ number. gaining_if launch program number ++ end ∷ []) (sym same)) shown
+
+  shown_socket : (place : ℕ) (line : CallLine) → slice_get launch.calls.families place ≡ Some line → lets launch (kinds.ForFamily line.number) ≡ true → can_have_cap (ceiling launch) line.cap ≡ true → Shows world (asking.Socket place) (socket_calls launch program line)
+  shown_socket place line listed e h =
+      let w = having line.cap h in
+      let found : numbered line.number launch.calls.families ≡ Some line = at_position launch.calls.families line.number place line (l.families_once place line listed) listed in
+      let asks : Doing → Bool = asks_family launch.calls.families place in
+      let such : asks (d.Socket line.number) ≡ true = ap (λ (c : Option CallLine). is_family c line.number) listed ∙ eq-eqb line.number line.number refl in
+      let c = chosen launch l (kinds.ForFamily line.number) e in
+      let payload : socket_payload launch line.number ≡ k.family_payload c.line.own line.number = ap (λ own. k.family_payload own line.number) (rule_is c) in
+      let P : Call → Type 0 = λ call. Performed launch w.creds w.now asks call in
+      let same = call_is c (socket_payload launch line.number) ∙ ap (first_by (place_of c.line.line) c.line.args) payload in
+      let x = subst P (sym same) (performing.socket launch w.creds w.now line (low_number launch.calls.families o.calls.families.in_range place line listed) c.line found w.can asks such such) in
+      by_performed (asking.Socket place) asks w.creds w.now w.way x x.such
+
+  -- ---- each question
+  listed_is : {X : Type 0} (holds : X → Bool) (c : Option X) → if_listed holds c ≡ true → (x : X) × (c ≡ Some x) × (holds x ≡ true)
+  listed_is holds None e = cc
+  listed_is holds (Some x) e = (x, refl, e)
+
+  -- of a listed thing
+  of_listed : {X : Type 0} (question : Question) (calls : X → List Call) (listed : Option X) (x : X) → listed ≡ Some x → Shows world question (calls x) → Shows world question (option_map_or calls listed [])
+  of_listed question calls listed x e h = let P : List Call → Type 0 = λ list. Shows world question list in subst P (sym (ap (λ o. option_map_or calls o []) e)) h
+
+  pub shown : (question : Question) → IsFit launch.site question → is_open launch question ≡ true → Shows world question (calls_for launch program question)
+  unfolding calls_for
+  shown (asking.Path wish place) fit e =
+      let x = listed_is (can_reach launch (power_of launch) wish) (slice_get launch.site.rows place) e in
+      of_listed (asking.Path wish place) (row_calls launch program wish) (slice_get launch.site.rows place) x.0 x.1 (row_shown world launch l o s program p place x.0 x.1 wish fit x.2)
+  shown (asking.Call place) fit e =
+      let x = listed_is (is_call_open launch (ceiling launch)) (slice_get (every_call launch.calls) place) e in
+      let both = and_parts (list_any (is_called launch x.0.name) (every_call launch.calls)) (can_have_for (ceiling launch) (rule_of x.0)) x.2 in
+      of_listed (asking.Call place) (plain_calls launch program) (slice_get (every_call launch.calls) place) x.0 x.1 (shown_call place x.0 x.1 both.0 both.1)
+  shown (asking.Socket place) fit e =
+      let x = listed_is (λ line. lets launch (kinds.ForFamily line.number) && can_have_cap (ceiling launch) line.cap) (slice_get launch.calls.families place) e in
+      let both = and_parts (lets launch (kinds.ForFamily x.0.number)) (can_have_cap (ceiling launch) x.0.cap) x.2 in
+      of_listed (asking.Socket place) (socket_calls launch program) (slice_get launch.calls.families place) x.0 x.1 (shown_socket place x.0 x.1 both.0 both.1)
+  shown (asking.Namespace space) fit e = shown_ns space e
+  shown asking.MapWx fit e = shown_free asking.MapWx kinds.MapsWx refl e (λ call x. x.such)
+  shown asking.ProtectX fit e = shown_free asking.ProtectX kinds.ProtectsX refl e (λ call x. x.such)
+  shown asking.ShmX fit e = shown_free asking.ShmX kinds.AttachesX refl e (λ call x. x.such)
+  shown asking.Realtime fit e = shown_free asking.Realtime kinds.SchedulesRealtime refl e (λ call x. x.such)
+  shown asking.Personality fit e = shown_free asking.Personality kinds.TakesPersonality refl e (λ call x. x.such)
+  shown asking.SuidBit fit e = shown_free asking.SuidBit kinds.SetsMode refl e (λ call x. x.such)
+  shown (asking.Cap number) fit e = let g = gained launch l o program p number e in creds_show launch launch.creds g.creds launch.table g.now world (gaining launch program number) (asking.Cap number) s g.way g.holds
+  shown (asking.Uid id) fit e = uid_shown world launch l o s program p id fit e
+  shown (asking.Gid id) fit e = gid_shown world launch l o s program p id fit e
+
+pub choice_shows : ChoiceShows
+choice_shows world program question served runs fit e =
+    shown world (launch_of world) served.launched.launched served.offers (starts_solo world served.launched served.few) program runs question fit e

@@ -1,0 +1,34 @@
+-- What stands at a path: the host's object at some path, nothing yet, or nothing to be seen.
+use Rattle.std.specs.Prelude.{ℕ, List, ◌++◌, Option, Some, None}
+use Rattle.abs_path.specs.Paths.{Path}
+use Rattle.abs_path.specs.Prefix.{rest_of}
+use Rattle.path_settings.specs.declared.mentions.Kind.{Kind}
+use Rattle.path_settings.specs.declared.mentions.Kind.TheVariants.{Hide, Tmp, Bind}
+use Rattle.path_settings.specs.declared.mentions.Mention.{Mention}
+use Rattle.path_settings.specs.view_map.View.{origin_of}
+
+pub data Object : Type 0 where
+  on_host : Path → Object
+  empty : Object
+  hidden : Object
+
+-- what a mention of this kind at the place gives at a path that it leads to: a bind gives its source followed by the rest
+abbrev pub object_by : Kind → Path → Path → Object
+object_by Hide place path = hidden
+object_by (Tmp read_only) place path = empty
+object_by (Bind source read_only) place path = on_host (source ++ rest_of place path)
+object_by _ place path = on_host path
+
+-- without such a mention the host itself stands there
+abbrev pub object_from : Option (ℕ × Mention) → Path → Object
+object_from None path = on_host path
+object_from (Some one) path = object_by one.1.kind one.1.path path
+
+abbrev pub object_at : List Mention → Path → Object
+object_at kept path = object_from (origin_of kept path) path
+
+-- what an object shows at a path behind it
+abbrev pub object_behind : Object → Path → Object
+object_behind (on_host path) rest = on_host (path ++ rest)
+object_behind empty rest = empty
+object_behind hidden rest = hidden

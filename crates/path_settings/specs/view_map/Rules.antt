@@ -1,0 +1,59 @@
+-- What becomes of a mention that no other at its path beats, by what the kept mentions above the path give there.
+-- The rules are this project's profile of systemd.exec(5), Sandboxing.
+use Rattle.std.specs.Prelude.{Bool, true, false, Option, Some, None, if◌then◌else◌}
+use Rattle.std.specs.Bool.{beq}
+use Rattle.path_settings.specs.declared.mentions.Kind.{Kind}
+use Rattle.path_settings.specs.declared.mentions.Kind.TheVariants.{Hide, Tmp, Bind}
+use Rattle.path_settings.specs.declared.mentions.Mention.{Mention}
+use Rattle.path_settings.specs.declared.view_map.rules.Beneath.{Beneath}
+use Rattle.path_settings.specs.declared.view_map.rules.Beneath.TheVariants as beneath
+use Rattle.path_settings.specs.declared.view_map.rules.Fate.{Fate}
+use Rattle.path_settings.specs.declared.view_map.rules.Fate.TheVariants as fate
+
+-- an optional mention is dropped where another one is refused
+abbrev pub unless_optional : Bool → Fate → Fate
+unless_optional true refusal = fate.Dropped
+unless_optional false refusal = refusal
+
+-- a bind covers a row of its source's kind only
+abbrev pub cover_fate : Bool → Beneath → Fate
+cover_fate source_is_dir (beneath.Row is_dir) = if beq source_is_dir is_dir then fate.Kept else fate.WrongKind
+cover_fate source_is_dir _ = fate.Kept
+
+-- a bind's source is a row, of the kind of the row that it covers; even an optional bind is of the right kind
+abbrev pub bind_fate : Option Bool → Beneath → Bool → Fate
+bind_fate None here optional = unless_optional optional fate.NoSource
+bind_fate (Some source_is_dir) here optional = cover_fate source_is_dir here
+
+-- an empty file system covers a directory, where it covers a row
+abbrev pub tmp_fate : Beneath → Fate
+tmp_fate (beneath.Row is_dir) = if is_dir then fate.Kept else fate.WrongKind
+tmp_fate _ = fate.Kept
+
+-- what is hidden is a row, or lies below an empty file system
+abbrev pub hide_fate : Beneath → Bool → Fate
+hide_fate beneath.NoRow optional = unless_optional optional fate.NoRow
+hide_fate _ optional = fate.Kept
+
+-- a flag is of a row: below an empty file system it is dropped
+abbrev pub bare_flag_fate : Beneath → Bool → Fate
+bare_flag_fate beneath.Empty optional = fate.Dropped
+bare_flag_fate beneath.NoRow optional = unless_optional optional fate.NoRow
+bare_flag_fate _ optional = fate.Kept
+
+-- or it is of what an empty file system or a bind that is kept puts at the path
+abbrev pub flag_fate : Beneath → Bool → Bool → Fate
+flag_fate here optional is_put = if is_put then fate.Kept else bare_flag_fate here optional
+
+abbrev pub seen_fate : Option Bool → Beneath → Bool → Bool → Kind → Fate
+seen_fate source here is_put optional (Bind at read_only) = bind_fate source here optional
+seen_fate source here is_put optional (Tmp read_only) = tmp_fate here
+seen_fate source here is_put optional Hide = hide_fate here optional
+seen_fate source here is_put optional _ = flag_fate here optional is_put
+
+-- below what is hidden each mention is dropped
+-- `source` says whether a bind's source is a row, and then whether it is a directory;
+-- `is_put` whether an empty file system or a bind is kept at the path
+abbrev pub fate_of : Option Bool → Beneath → Bool → Mention → Fate
+fate_of source beneath.Hidden is_put mention = fate.Dropped
+fate_of source here is_put mention = seen_fate source here is_put mention.optional mention.kind

@@ -1,0 +1,16 @@
+//! What a service finds at a path, by the mentions of its settings.
+//!
+//! Rules say which mentions are kept; of those the longest that leads to a path decides what stands there and how it
+//! may be used (systemd.exec(5), Sandboxing). It stands on `path_settings`; `mount_plan` makes a table of mounts of it.
+//!
+//! `view(&kept, &path).read_only` tells whether the service may not write at the path.
+
+pub mod laws;
+mod longest;
+mod rules;
+mod says;
+mod seen;
+
+pub use longest::{origin_above, origin_at};
+pub use rules::{Beneath, Fate, fate_of};
+pub use seen::{Seen, view, view_of};

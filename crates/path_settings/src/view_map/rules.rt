@@ -1,0 +1,107 @@
+//! What becomes of a mention, by what the kept mentions above its path give there.
+
+ghost use Rattle.std.specs.Prelude.{◌≡◌};
+ghost use Rattle.path_settings.specs.view_map.Rules.{unless_optional, bind_fate, tmp_fate, hide_fate, flag_fate, seen_fate, fate_of};
+
+use crate::{Kind, Mention};
+
+/// What the kept mentions above a path give at it.
+#[derive(Clone, Copy, Debug, PartialEq, Eq)]
+pub enum Beneath {
+    /// The path lies below a hidden one.
+    Hidden,
+    /// It lies below an empty file system.
+    Empty,
+    /// It is a row of the host, or lies behind a bind at one.
+    Row { is_dir: bool },
+    /// It is no row.
+    NoRow,
+}
+
+/// What becomes of a mention.
+#[derive(Clone, Copy, Debug, PartialEq, Eq)]
+pub enum Fate {
+    Kept,
+    Dropped,
+    /// It is refused: the source of the bind is no row.
+    NoSource,
+    /// It is refused: its path is no row.
+    NoRow,
+    /// It is refused: a directory would cover a file, or a file a directory.
+    WrongKind,
+}
+
+fn unless_optional(optional: bool, refusal: Fate) -> Fate
+    ensures { result ≡ unless_optional optional refusal }
+{
+    if optional { Fate::Dropped } else { refusal }
+}
+
+// A bind's source is a row, and of the kind of the row that it covers.
+fn bind_fate(source: Option<bool>, beneath: Beneath, optional: bool) -> Fate
+    ensures { result ≡ bind_fate source beneath optional }
+{
+    let Some(source_is_dir) = source else {
+        return unless_optional(optional, Fate::NoSource);
+    };
+    match beneath {
+        Beneath::Row { is_dir } if source_is_dir != is_dir => Fate::WrongKind,
+        _ => Fate::Kept,
+    }
+}
+
+// An empty file system covers no file.
+fn tmp_fate(beneath: Beneath) -> Fate
+    ensures { result ≡ tmp_fate beneath }
+{
+    match beneath {
+        Beneath::Row { is_dir: false } => Fate::WrongKind,
+        _ => Fate::Kept,
+    }
+}
+
+// What is hidden is a row, or lies below an empty file system.
+fn hide_fate(beneath: Beneath, optional: bool) -> Fate
+    ensures { result ≡ hide_fate beneath optional }
+{
+    match beneath {
+        Beneath::NoRow => unless_optional(optional, Fate::NoRow),
+        _ => Fate::Kept,
+    }
+}
+
+// A flag is of a row, or of what an empty file system or a bind puts at the path.
+fn flag_fate(beneath: Beneath, optional: bool, is_put: bool) -> Fate
+    ensures { result ≡ flag_fate beneath optional is_put }
+{
+    if is_put {
+        return Fate::Kept;
+    }
+    match beneath {
+        Beneath::Empty => Fate::Dropped,
+        Beneath::NoRow => unless_optional(optional, Fate::NoRow),
+        _ => Fate::Kept,
+    }
+}
+
+fn seen_fate(mention: &Mention, source: Option<bool>, beneath: Beneath, is_put: bool) -> Fate
+    ensures { result ≡ seen_fate source beneath is_put mention.now.optional mention.now.kind }
+{
+    match &mention.kind {
+        Kind::Bind { .. } => bind_fate(source, beneath, mention.optional),
+        Kind::Tmp { .. } => tmp_fate(beneath),
+        Kind::Hide => hide_fate(beneath, mention.optional),
+        _ => flag_fate(beneath, mention.optional, is_put),
+    }
+}
+
+/// What becomes of a mention that no other at its path beats: `source` says whether the source of a bind is a row, and
+/// then whether it is a directory; `is_put` whether an empty file system or a bind is kept at the path.
+pub fn fate_of(mention: &Mention, source: Option<bool>, beneath: Beneath, is_put: bool) -> Fate
+    ensures by_the_rules { result ≡ fate_of source beneath is_put mention.now }
+{
+    match beneath {
+        Beneath::Hidden => Fate::Dropped,
+        _ => seen_fate(mention, source, beneath, is_put),
+    }
+}

@@ -1,0 +1,51 @@
+//! What a mention says of its path, by its kind.
+
+ghost use Rattle.std.specs.Prelude.{◌≡◌};
+ghost use Rattle.path_settings.specs.view_map.View.{says_read_only, says_read_write};
+ghost use Rattle.path_settings.specs.view_map.Scan.{is_said};
+
+use crate::Kind;
+
+/// What a mention may say.
+#[derive(Clone, Copy)]
+pub(crate) enum Says {
+    /// Which object stands at the path.
+    Origin,
+    ReadOnly,
+    ReadWrite,
+    NoExec,
+    Exec,
+}
+
+fn says_read_only(kind: &Kind) -> bool
+    ensures { result ≡ says_read_only kind.now }
+{
+    match kind {
+        Kind::Ro => true,
+        Kind::Tmp { read_only } | Kind::Bind { read_only, .. } => *read_only,
+        _ => false,
+    }
+}
+
+fn says_read_write(kind: &Kind) -> bool
+    ensures { result ≡ says_read_write kind.now }
+{
+    match kind {
+        Kind::Rw => true,
+        Kind::Tmp { read_only } | Kind::Bind { read_only, .. } => !*read_only,
+        _ => false,
+    }
+}
+
+/// Whether a mention of this kind says this; an empty file system and a bind say whether they are read-only.
+pub(crate) fn is_said(says: Says, kind: &Kind) -> bool
+    ensures { result ≡ is_said says kind.now }
+{
+    match says {
+        Says::Origin => kind.is_origin(),
+        Says::ReadOnly => says_read_only(kind),
+        Says::ReadWrite => says_read_write(kind),
+        Says::NoExec => matches!(kind, Kind::NoExec),
+        Says::Exec => matches!(kind, Kind::Exec),
+    }
+}

@@ -1,5 +1,0 @@
-pub mod Pieces
-pub mod Ways
-pub mod Lasts
-pub mod Nodes
-pub mod On

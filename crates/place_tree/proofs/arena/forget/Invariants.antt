@@ -1,6 +1,0 @@
-use Rattle.std.proofs.Common.{◌≡◌, ◌<◌, ℕ, None}
-use Rattle.place_tree.specs.Arena.{HasSameWays, number_at}
-use Rattle.place_tree.proofs.arena.forget.Given as goal
-
-abbrev pub invariant-loop-node : goal.invariant-loop-node
-invariant-loop-node l = HasSameWays l.initial.nodes l.nodes × ((at : ℕ) → at < l.node-index → number_at l.nodes at ≡ None)

@@ -1,7 +1,0 @@
-use Rattle.std.proofs.Common.{take}
-use Rattle.place_tree.specs.Arena.{IsTree, HasNodes}
-use Rattle.place_tree.proofs.arena.number.Given as goal
-
--- the tree of the places so far, in which each place has its node
-abbrev pub invariant-loop-index : goal.invariant-loop-index
-invariant-loop-index l = IsTree l.nodes (take l.index l.places) × HasNodes l.nodes l.places

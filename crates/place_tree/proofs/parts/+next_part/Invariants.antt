@@ -1,5 +1,0 @@
-use Rattle.std.proofs.Common.{length}
-use Rattle.place_tree.proofs.parts.+next_part.Given as goal
-
-abbrev pub decreases-next_part : goal.decreases-next_part
-decreases-next_part l = length l.text.now

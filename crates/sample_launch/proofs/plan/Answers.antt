@@ -1,5 +1,0 @@
-use Rattle.sample_launch.proofs.Plans.{paths_are_not_refused, programs_are_found}
-use Rattle.sample_launch.proofs.plan.Goals as goal
-
-pub returns : goal.returns
-returns c = record { not_refused = paths_are_not_refused; finds_its_program = programs_are_found }

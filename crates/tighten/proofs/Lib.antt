@@ -1,4 +1,0 @@
-pub mod Sets
-pub mod Searched
-pub mod Found
-pub mod Served

@@ -1,0 +1,102 @@
+//! A unit, tightened.
+
+ghost use Rattle.std.specs.Prelude.{[], Contains, IfOk};
+ghost use Rattle.std.specs.List.{All};
+ghost use Rattle.asked_service.specs.kernel_laws.Questions.{questions};
+ghost use Rattle.tighten_command.specs.tightening.Searching.{CanBeTried, IsServing, tried_of};
+ghost use Rattle.tighten_command.specs.tightening.Tight.{IsTight, Tightens};
+ghost use Rattle.tighten_command.specs.tightening.Tried.{tried_with};
+
+use crate::tightening::items::in_order;
+use crate::tightening::searching::Held;
+use crate::tightening::tight::{Items, Tight, TightenError};
+use crate::tightening::trial::{Lack, Trial};
+use crate::tightening::wishes::{StoredWish, Wished};
+use asked_service::call_table::CallTable;
+use asked_service::dropin_merge::Resolved;
+use asked_service::kernel_laws::question_types::Question;
+use asked_service::kernel_ways::openness;
+use asked_service::launched_units::launch_whole;
+use asked_service::site_table::SiteTable;
+use asked_service::{Bounded, bound, count_open};
+use question_text::questions::questions;
+use std::alloc::{AllocError, Global};
+
+// The items that can be added to a unit whose own service lacks nothing.
+fn tight_from<'a>(
+    alloc: Global,
+    trial: &Trial<'a>,
+    wishes: &[StoredWish],
+    own: Bounded<'a>,
+) -> Result<Tight, AllocError>
+    requires can_be_tried { CanBeTried trial.now }
+    requires serves { IsServing (tried_of trial.now (⟦<StoredWish as Wished>⟧.wished wishes.now)) [] own }
+    ensures { IfOk result (IsTight (tried_of trial.now (⟦<StoredWish as Wished>⟧.wished wishes.now))) }
+{
+    // Why the counts are those of what is denied.
+    openness();
+    let all = trial.questions.len();
+    let open_before = count_open(&own, trial.questions);
+    let held = Held {
+        set: Vec::new(alloc),
+        bounded: own,
+    };
+    let most = trial.most(alloc, wishes, held)?;
+    let open_after = count_open(&most.bounded, trial.questions);
+    Ok(Tight {
+        items: Items::new(in_order(alloc, &most.set)?),
+        denied_before: (all - open_before) as u64,
+        open_before: open_before as u64,
+        denied_after: (all - open_after) as u64,
+        open_after: open_after as u64,
+    })
+}
+
+// The same, or what the unit's own service lacks.
+fn tighten_trial<'a>(
+    alloc: Global,
+    trial: &Trial<'a>,
+    wishes: &[StoredWish],
+) -> Result<Tight, TightenError>
+    requires can_be_tried { CanBeTried trial.now }
+    ensures { Tightens (tried_of trial.now (⟦<StoredWish as Wished>⟧.wished wishes.now)) result }
+{
+    let service = launch_whole(alloc, trial.unit, trial.calls, trial.site)?;
+    let own = bound(alloc, service)?;
+    match trial.lack(alloc, wishes, &own)? {
+        Some(Lack::Keep(number)) => Err(TightenError::Keep(number)),
+        Some(Lack::Wish(number)) => Err(TightenError::Wish(number)),
+        None => Ok(tight_from(alloc, trial, wishes, own)?),
+    }
+}
+
+/// Adds items to a unit as long as what is to be kept stays open and the wishes stay granted.
+///
+/// The unit with the items serves: it is launched, none of the questions in `keep` is denied, and each wish answers true on the
+/// verdicts on all questions, so that its own questions are open. With any other of the seventeen items it does not. The items
+/// outside the set are tried from the last down, as long as one was added.
+///
+/// Settings, Plan and Launch come, in this order, exactly where the unit itself is refused so; `Keep(n)` exactly where question n
+/// of `keep`, from 1, is the first that it denies; otherwise `Wish(n)` exactly where wish n is the first that answered false on
+/// its verdicts. Memory may come at any unit.
+pub fn tighten(
+    alloc: Global,
+    unit: &Resolved,
+    calls: &CallTable,
+    site: &SiteTable,
+    keep: &[Question],
+    wishes: &[StoredWish],
+) -> Result<Tight, TightenError>
+    requires listed { All (λ question. Contains (questions calls.now site.now) question) keep.now }
+    ensures tightens { Tightens (tried_with unit.now calls.now site.now keep.now (⟦<StoredWish as Wished>⟧.wished wishes.now)) result }
+{
+    let list = questions(alloc, calls, site)?;
+    let trial = Trial {
+        unit,
+        calls,
+        site,
+        keep,
+        questions: &list,
+    };
+    tighten_trial(alloc, &trial, wishes)
+}

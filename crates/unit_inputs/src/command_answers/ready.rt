@@ -1,0 +1,27 @@
+// What a command has ready for printing.
+ghost use Rattle.std.specs.Prelude.{ℕ, List, ◌≡◌};
+ghost use Rattle.unit_inputs.specs.command_answers.Printing.{HasWriteCause, TakesText};
+ghost use Rattle.unit_inputs.specs.declared.command_answers.ending.Ending.{Ending};
+
+use crate::command_answers::ending::Ending;
+use exec_settings::host_io::{Sink, SinkError};
+use std::alloc::Global;
+
+/// What a command has ready once it is prepared: all is read, nothing was refused, and nothing is printed yet.
+pub trait Ready: Drop {
+    /// The whole text.
+    ghost text: { Self → List ℕ };
+
+    /// How a run ends behind the whole text.
+    ghost ending: { Self → Ending };
+
+    /// How a run ends behind the whole text.
+    fn ending(&self) -> Ending
+        ensures ends_so { result ≡ ending self.now };
+
+    /// Prints the text, line by line. At an error a prefix of it was taken. What is ready may be used up by it: a text whose
+    /// lines come of steps that are made while it is printed is printed once.
+    fn print<K: Sink>(&mut self, alloc: Global, out: &mut K) -> Result<(), SinkError>
+        ensures takes_the_text { TakesText (K.taken out.old) (K.taken out.new) (text self.old) result }
+        ensures fault_rose { HasWriteCause (K.faults out.old) (K.faults out.new) result };
+}

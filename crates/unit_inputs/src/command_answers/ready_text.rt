@@ -1,0 +1,31 @@
+// A text that is ready as a whole.
+use crate::command_answers::ending::Ending;
+use crate::command_answers::lines::put_lines;
+use crate::command_answers::ready::Ready;
+use exec_settings::host_io::{Sink, SinkError};
+use std::alloc::Global;
+
+/// A text of lines that is ready as a whole, and how a run ends behind it. It is printed line by line.
+#[derive(Drop)]
+pub struct ReadyText {
+    /// The text.
+    pub text: Vec<u8>,
+    /// How a run ends behind it.
+    pub ending: Ending,
+}
+
+impl Ready for ReadyText {
+    ghost use Rattle.unit_inputs.specs.command_answers.ReadyTexts.{ending_of, text_of};
+
+    ghost text = { text_of };
+
+    ghost ending = { ending_of };
+
+    fn ending(&self) -> Ending {
+        self.ending
+    }
+
+    fn print<K: Sink>(&mut self, _alloc: Global, out: &mut K) -> Result<(), SinkError> {
+        put_lines(out, self.text.as_slice())
+    }
+}

@@ -1,2 +1,0 @@
-pub mod OtherPrograms
-pub mod Served

@@ -1,7 +1,0 @@
-use Rattle.std.proofs.Common.{◌≡◌, ◌++◌, drop, map}
-use Rattle.std.specs.List.{enumerate_from}
-use Rattle.unit_lines.specs.Without.{file_without}
-use Rattle.unit_lines.proofs.less.files_without.Given as goal
-
-abbrev pub invariant-loop-number : goal.invariant-loop-number
-invariant-loop-number l = l.less.items ++ map (file_without l.places) (enumerate_from l.number (drop l.number l.files)) ≡ map (file_without l.places) (enumerate_from 0 l.files)

@@ -1,7 +1,0 @@
-use Rattle.std.proofs.Common.{arith}
-use Rattle.std.proofs.lemmas.List.Sums.{suffix_len-le-length}
-use Rattle.unit_values.specs.Values.{is_filled}
-use Rattle.unit_values.proofs.force.in_force.Goals as goal
-
-pub overflow_sub-result : goal.overflow_sub-result
-overflow_sub-result c = omega (arith, c.count_in_force.ensures, suffix_len-le-length is_filled c.args.values.now)

@@ -1,7 +1,0 @@
-use Rattle.path_settings.specs.Mentions.{is_origin}
-use Rattle.view_map.specs.View.{saying, above, length_of}
-use Rattle.view_map.proofs.Largest.{walk_finds}
-use Rattle.view_map.proofs.longest.origin_above.Goals as goal
-
-pub loop-index-init : goal.loop-index-init
-loop-index-init c = walk_finds length_of (saying is_origin (above c.args.path.now c.args.kept.now))

@@ -1,0 +1,93 @@
+-- What the unit without a line comes to is what the line denies by itself.
+use Rattle.std.proofs.Common.{◌≡◌, ◌∙◌, List, [], ◌∷◌, Some, Result, Ok, Err, Vec, Global, ap, ap₂, subst, sym}
+use Rattle.std.specs.Prelude.{IfOk}
+use Rattle.std.specs.declared.alloc.AllocError.{AllocError}
+use Rattle.judge_command.specs.asked_service.declared.bounding.Bounded.{Bounded}
+use Rattle.judge_command.specs.unit_inputs.command_answers.Stops.{Prepares}
+use Rattle.judge_command.specs.unit_inputs.declared.command_answers.stop.Stop.{Stop}
+use Rattle.judge_command.specs.unit_inputs.declared.command_answers.stop.Stop.TheVariants as stop
+use Rattle.deciding_lines.proofs.Asked.{own_calls, own_site, served}
+use Rattle.deciding_lines.specs.Deciding.{launch_refused, unit_refused}
+use Rattle.deciding_lines.specs.Tried.{IsRefusal, inputs_without}
+use Rattle.judge_command.specs.dropin_merge.declared.resolved.Resolved.{Resolved}
+use Rattle.judge_command.specs.Asked.{world_in}
+use Rattle.judge_command.specs.ByRule.{AnswersAreTrue}
+use Rattle.judge_command.specs.kernel_laws.Launched.{launch_of}
+use Rattle.judge_command.specs.kernel_laws.Questions.{questions}
+use Rattle.judge_command.specs.launcher.declared.launched.Launched.{Launched as Service}
+use Rattle.judge_command.specs.kernel_laws.declared.question_types.question.Question.{Question}
+use Rattle.judge_command.specs.asked_service.started_units.Starting.{StartsAs, first_start, given, start_refusals}
+use Rattle.judge_command.specs.unit_inputs.Inputs.{Inputs}
+use Rattle.judge_command.specs.asked_service.unit_launch.Refusals.{refusal_line}
+use Rattle.judge_command.specs.asked_service.declared.unit_launch.launching.UnitLaunch.{UnitLaunch}
+use Rattle.judge_command.specs.asked_service.declared.unit_launch.launching.UnitLaunch.TheVariants.{Launched, Refused}
+use Rattle.judge_command.specs.asked_service.declared.unit_launch.refusal.LaunchRefusal.{LaunchRefusal}
+use Rattle.deciding_lines.specs.unit_lines.Without.{without}
+use Rattle.judge_command.specs.dropin_merge.declared.unit_values.value.Place.{Place}
+use Rattle.why_command.proofs.Opening.{opens_exactly}
+use Rattle.why_command.specs.opening_lines.ByRule.{opened_by}
+use Rattle.why_command.specs.opening_lines.Judging.{IsAloneOf, IsJudged, inputs_in}
+use Rattle.why_command.specs.opening_lines.Opening.{OpensOf}
+use Rattle.why_command.specs.declared.opening_lines.alone.Alone.{Alone}
+use Rattle.why_command.specs.declared.opening_lines.alone.Alone.TheVariants.{Opens, Needed}
+use Rattle.why_command.specs.declared.opening_lines.judged.Judged.{Judged}
+
+module _ (judged : Judged) (is : IsJudged judged) (place : Place) where
+  abbrev less : Inputs
+  less = inputs_without (inputs_in judged) (place ∷ [])
+
+  before_calls : (world_in judged.asked).calls ≡ judged.calls.now
+  before_calls = own_calls (inputs_in judged) judged.asked.bounded.service is.starts
+
+  before_site : (world_in judged.asked).site ≡ judged.site.now
+  before_site = own_site (inputs_in judged) judged.asked.bounded.service is.starts
+
+  -- the list that is asked is that of the tables
+  all_of : judged.asked.questions.items ≡ questions judged.calls.now judged.site.now
+  all_of = is.is_asked.questions ∙ ap₂ questions before_calls before_site
+
+  -- the unit without the line is launched
+  module _ (service : Service) (starts : StartsAs less (Launched service)) (after : Bounded) (same : after.service ≡ service) (list : List Question) (listed : list ≡ judged.asked.questions.items) where
+    pub all_before : list ≡ questions (world_in judged.asked).calls (world_in judged.asked).site
+    all_before = listed ∙ is.is_asked.questions
+
+    pub all_after : list ≡ questions after.service.world.calls after.service.world.site
+    all_after =
+        listed ∙ all_of
+        ∙ sym (ap₂ questions (ap (λ (own : Service). own.world.calls) same ∙ own_calls less service starts) (ap (λ (own : Service). own.world.site) same ∙ own_site less service starts))
+
+    opened_is : (opened : Vec Question Global) → opened.items ≡ opened_by (launch_of (world_in judged.asked)) (launch_of after.service.world) list
+        → opened.items ≡ opened_by (launch_of (world_in judged.asked)) (launch_of service.world) (questions judged.calls.now judged.site.now)
+    opened_is opened says =
+        says ∙ ap (λ (own : Service). opened_by (launch_of (world_in judged.asked)) (launch_of own.world) list) same
+        ∙ ap (λ all. opened_by (launch_of (world_in judged.asked)) (launch_of service.world) all) (listed ∙ all_of)
+
+    pub opens_it : AnswersAreTrue → (opened : Vec Question Global) → opened.items ≡ opened_by (launch_of (world_in judged.asked)) (launch_of after.service.world) list → IsAloneOf judged place (Opens opened)
+    opens_it answers opened says = record {
+      service = service;
+      starts = starts;
+      exactly = subst (OpensOf (world_in judged.asked) service.world (questions judged.calls.now judged.site.now)) (sym (opened_is opened says))
+          (opens_exactly answers judged.calls.now judged.site.now (world_in judged.asked) service.world judged.asked.bounded.service.program service.program
+          is.is_asked.bounded.served is.is_asked.program (served less service starts) starts.comes_to.runs_its_program before_calls before_site (own_calls less service starts) (own_site less service starts));
+    }
+
+  -- its launch is refused
+  pub needs_it : (refusal : LaunchRefusal) → StartsAs less (Refused refusal) → IsAloneOf judged place Needed
+  needs_it refusal starts = (refusal_line refusal, launch_refused refusal starts)
+
+  -- a setting or a path of it is
+  module _ (own : Resolved) (same : own ≡ without (place ∷ []) judged.unit.now) where
+    abbrev tried : Inputs
+    tried = given own judged.calls.now judged.site.now
+
+    pub starts_less : (launch : UnitLaunch) → Prepares (StartsAs tried) (start_refusals judged.name.now tried) (Ok launch) → StartsAs less launch
+    starts_less launch prepared = subst (λ (these : Resolved). StartsAs (given these judged.calls.now judged.site.now) launch) same prepared.1
+
+    pub stops_less : (why : Stop) → Prepares {T = UnitLaunch} (StartsAs tried) (start_refusals judged.name.now tried) (Err why)
+        → (result : Result Alone AllocError) → IfOk result (λ alone. (alone ≡ Needed) × IsRefusal why) → IfOk result (IsAloneOf judged place)
+    stops_less why refused (Err none) is = tt
+    stops_less (stop.Refused line) refused (Ok alone) is =
+        subst (IsAloneOf judged place) (sym is.0)
+        (line.items, unit_refused line.items (subst (λ (these : Resolved). first_start judged.name.now (given these judged.calls.now judged.site.now) ≡ Some line.items) same refused))
+    stops_less stop.ReadFault refused (Ok alone) is = absurd is.1
+    stops_less stop.Memory refused (Ok alone) is = absurd is.1

@@ -1,0 +1,53 @@
+-- What `why` and a unit alone print, by the files.
+use Rattle.std.specs.Prelude.{◌≡◌, ◌⊎◌, ◌++◌, ℕ, IsSome, List, Option, Some}
+use Rattle.judge_command.specs.host_io.Files.{Files}
+use Rattle.judge_command.specs.unit_inputs.command_answers.Laws.{FileLaws}
+use Rattle.judge_command.specs.unit_inputs.declared.command_answers.ending.Ending.{Ending}
+use Rattle.judge_command.specs.unit_inputs.declared.command_answers.ending.Ending.TheVariants.{Done, LaunchRefused}
+use Rattle.judge_command.specs.launcher.declared.launched.Launched.{Launched as Service}
+use Rattle.why_command.specs.opening_lines.Opening.{AreAlone}
+use Rattle.why_command.specs.declared.opening_lines.each.LineAlone.{LineAlone}
+use Rattle.judge_command.specs.asked_service.started_units.Starting.{StartsAs, start_refusals}
+use Rattle.judge_command.specs.unit_inputs.Inputs.{Inputs, input_refusals, inputs_of}
+use Rattle.judge_command.specs.asked_service.unit_launch.Refusals.{refusal_line}
+use Rattle.judge_command.specs.asked_service.declared.unit_launch.launching.UnitLaunch.{UnitLaunch}
+use Rattle.judge_command.specs.asked_service.declared.unit_launch.launching.UnitLaunch.TheVariants.{Launched, Refused}
+use Rattle.judge_command.specs.unit_names.Cutting.{name_of}
+use Rattle.judge_command.specs.unit_inputs.Settled.{refusals_by}
+use Rattle.why_command.specs.lines_command.Lines.{lines_text}
+
+-- of a launched service: each assignment in force of the unit with exactly what it denies by itself
+pub record TellsService (name : List ℕ) (inputs : Inputs) (service : Service) (text : List ℕ) : Type 0 where
+  pub told : List LineAlone
+  pub are_alone : AreAlone name inputs service.world told
+  pub is_its_text : text ≡ lines_text inputs.calls inputs.site inputs.unit.files told
+
+-- or the launch is refused
+abbrev pub TellsLaunch : List ℕ → Inputs → UnitLaunch → Ending → List ℕ → Type 0
+TellsLaunch name inputs (Refused refusal) ending text = (ending ≡ LaunchRefused) × (text ≡ refusal_line refusal)
+TellsLaunch name inputs (Launched service) ending text = (ending ≡ Done) × TellsService name inputs service text
+
+-- what the unit is launched to, and what is told of that
+pub record TellsLines (name : List ℕ) (inputs : Inputs) (ending : Ending) (text : List ℕ) : Type 0 where
+  pub launch : UnitLaunch
+  pub starts : StartsAs inputs launch
+  pub tells : TellsLaunch name inputs launch ending text
+
+-- the order of refusals: the inputs, and then the settings and paths of the unit
+abbrev pub lines_refusals : Files → List ℕ → List (Option (List ℕ))
+lines_refusals files unit = input_refusals files unit ++ refusals_by (start_refusals unit) (inputs_of files unit)
+
+-- by the inputs of the unit
+pub record PrintsLines (files : Files) (unit : List ℕ) (ending : Ending) (text : List ℕ) : Type 0 where
+  pub inputs : Inputs
+  pub inputs_are : inputs_of files unit ≡ Some inputs
+  pub tells : TellsLines unit inputs ending text
+
+-- the refusals in their order; a launch that is refused is told with status 7
+abbrev pub lines_laws : List ℕ → FileLaws
+lines_laws unit = record {
+  refusals = λ files. lines_refusals files unit;
+  prints = λ files ending text. PrintsLines files unit ending text;
+  may_end = λ ending. (ending ≡ Done) ⊎ (ending ≡ LaunchRefused);
+  reads = IsSome (name_of unit);
+}

@@ -1,0 +1,16 @@
+-- What a line opens, by the rule that decides what is open.
+use Rattle.std.specs.Prelude.{◌&&◌, not, Bool, List, [], ◌∷◌, flat_map, if◌then◌else◌}
+use Rattle.judge_command.specs.kernel_laws.Bound.{is_open}
+use Rattle.judge_command.specs.kernel_laws.Launched.{Launch}
+use Rattle.judge_command.specs.kernel_laws.declared.question_types.question.Question.{Question}
+
+-- denied of the one launched service, and open of the other
+abbrev pub is_opened : Launch → Launch → Question → Bool
+is_opened before after question = not (is_open before question) && is_open after question
+
+abbrev pub opened_at : Launch → Launch → Question → List Question
+opened_at before after question = if is_opened before after question then question ∷ [] else []
+
+-- among some questions, in their order
+abbrev pub opened_by : Launch → Launch → List Question → List Question
+opened_by before after list = flat_map (opened_at before after) list

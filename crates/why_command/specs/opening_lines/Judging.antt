@@ -1,0 +1,21 @@
+-- A unit that is launched, with all that it is asked.
+use Rattle.judge_command.specs.Asked.{IsAsked, world_in}
+use Rattle.judge_command.specs.asked_service.started_units.Starting.{StartsAs, given}
+use Rattle.judge_command.specs.unit_inputs.Inputs.{Inputs}
+use Rattle.judge_command.specs.asked_service.declared.unit_launch.launching.UnitLaunch.TheVariants.{Launched}
+use Rattle.judge_command.specs.dropin_merge.declared.unit_values.value.Place.{Place}
+use Rattle.why_command.specs.opening_lines.Opening.{IsAlone}
+use Rattle.why_command.specs.declared.opening_lines.alone.Alone.{Alone}
+use Rattle.why_command.specs.declared.opening_lines.judged.Judged.{Judged}
+
+abbrev pub inputs_in : Judged → Inputs
+inputs_in judged = given judged.unit.now judged.calls.now judged.site.now
+
+-- by its settings and the plan of its mounts it is launched to this service, which is asked all questions of the tables
+pub record IsJudged (judged : Judged) : Type 0 where
+  pub starts : StartsAs (inputs_in judged) (Launched judged.asked.bounded.service)
+  pub is_asked : IsAsked judged.asked
+
+-- what its line at a place denies by itself
+abbrev pub IsAloneOf : Judged → Place → Alone → Type 0
+IsAloneOf judged place alone = IsAlone judged.name.now (inputs_in judged) (world_in judged.asked) place alone

@@ -1,0 +1,85 @@
+//! What each line of a unit denies by itself, told.
+ghost use Rattle.std.specs.Prelude.{IfOk, IsErrOf};
+ghost use Rattle.judge_command.specs.unit_inputs.command_answers.Stops.{Prepares};
+ghost use Rattle.judge_command.specs.asked_service.started_units.Starting.{StartsAs, given, start_refusals};
+ghost use Rattle.judge_command.specs.asked_service.declared.unit_launch.launching.UnitLaunch.TheVariants.{Launched as Started};
+ghost use Rattle.judge_command.specs.unit_inputs.command_answers.ReadyTexts.{IsReadyWith, ending_of, text_of};
+ghost use Rattle.why_command.specs.lines_command.Prints.{TellsLaunch, TellsLines, TellsService};
+
+use crate::lines_command::lines::lines_text;
+use crate::opening_lines::Judged;
+use deciding_lines::unit_lines::lines;
+use judge_command::ask;
+use judge_command::asked_service::started_units::start;
+use judge_command::asked_service::unit_launch::{UnitLaunch, refusal_line};
+use judge_command::call_table::CallTable;
+use judge_command::dropin_merge::Resolved;
+use judge_command::launcher::Launched;
+use judge_command::site_table::SiteTable;
+use judge_command::unit_inputs::command_answers::{Ending, ReadyText, Stop};
+use std::alloc::{AllocError, Global};
+
+// What is told of a launched service: each line of the unit with what it denies by itself.
+fn tell_service<'a>(
+    alloc: Global,
+    name: &'a str,
+    unit: &'a Resolved,
+    calls: &'a CallTable,
+    site: &'a SiteTable,
+    service: Launched<'a>,
+) -> Result<Vec<u8>, AllocError>
+    requires starts { StartsAs (given unit.now calls.now site.now) (Started service) }
+    ensures { IfOk result (λ text. TellsService name.now (given unit.now calls.now site.now) service.entry text.items) }
+{
+    let asked = ask(alloc, service)?;
+    let judged = Judged {
+        name,
+        unit,
+        calls,
+        site,
+        asked,
+    };
+    let all = lines(alloc, unit)?;
+    let told = judged.each(alloc, all.as_slice())?;
+    lines_text(alloc, unit, told.as_slice(), calls, site)
+}
+
+// What is told of what a unit is launched to.
+fn tell_launch<'a>(
+    alloc: Global,
+    name: &'a str,
+    unit: &'a Resolved,
+    calls: &'a CallTable,
+    site: &'a SiteTable,
+    launch: UnitLaunch<'a>,
+) -> Result<ReadyText, Stop>
+    requires starts { StartsAs (given unit.now calls.now site.now) launch }
+    ensures { IsReadyWith (TellsLaunch name.now (given unit.now calls.now site.now) launch.entry) result }
+{
+    match launch {
+        UnitLaunch::Launched(service) => Ok(ReadyText {
+            text: tell_service(alloc, name, unit, calls, site, service)?,
+            ending: Ending::Done,
+        }),
+        UnitLaunch::Refused(refusal) => Ok(ReadyText {
+            text: refusal_line(alloc, &refusal)?,
+            ending: Ending::LaunchRefused,
+        }),
+    }
+}
+
+/// Launches the unit, and tells each of its lines with what it denies by itself; or finds the first refusal of its settings and
+/// paths.
+pub fn answer(
+    alloc: Global,
+    name: &str,
+    unit: &Resolved,
+    calls: &CallTable,
+    site: &SiteTable,
+) -> Result<ReadyText, Stop>
+    ensures answers { Prepares (λ made. TellsLines name.now (given unit.now calls.now site.now) (ending_of made) (text_of made)) (start_refusals name.now (given unit.now calls.now site.now)) result }
+    ensures reads_nothing { IsErrOf result Stop.ReadFault → ⊥ }
+{
+    let launch = start(alloc, name, unit, calls, site)?;
+    tell_launch(alloc, name, unit, calls, site, launch)
+}

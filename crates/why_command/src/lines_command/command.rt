@@ -1,0 +1,24 @@
+//! The command `why` and the name of a unit alone.
+ghost use Rattle.judge_command.specs.unit_inputs.command_answers.Asking.{course};
+ghost use Rattle.judge_command.specs.unit_inputs.command_answers.Laws.{IsAdmitted, laws_over};
+ghost use Rattle.judge_command.specs.unit_inputs.Asking.{AsksInOrder, input_asks};
+ghost use Rattle.judge_command.specs.unit_inputs.ReadsFor.{ReadsFor};
+ghost use Rattle.judge_command.specs.unit_inputs.command_answers.ReadyTexts.{ending_of, text_of};
+ghost use Rattle.why_command.specs.lines_command.Prints.{lines_laws};
+
+use crate::lines_command::answering::answer;
+use judge_command::host_io::Shelf;
+use judge_command::unit_inputs::command_answers::{ReadyText, Stop};
+use judge_command::unit_inputs::read_inputs;
+use std::alloc::Global;
+
+/// Prepares `why` and the name of a unit: reads the unit, calls.txt and site.toml, finds the first refusal of them and of the settings
+/// and paths of the unit, and tells each of its lines with what it denies by itself.
+pub fn prepare<S: Shelf>(alloc: Global, shelf: &mut S, unit: &str) -> Result<ReadyText, Stop>
+    ensures prepares { IsAdmitted (laws_over (S.told shelf.old) (lines_laws unit.now)) ending_of text_of result }
+    ensures asks_in_order { AsksInOrder S.asks (S.told shelf.old) (λ files. input_asks files unit.now) shelf.old shelf.new (course result) }
+    ensures reads_for_the_unit { ReadsFor S.told S.faults unit.now shelf.old shelf.new result }
+{
+    let inputs = read_inputs(alloc, shelf, unit)?;
+    answer(alloc, unit, &inputs.unit, &inputs.calls, &inputs.site)
+}

@@ -1,0 +1,60 @@
+//! The questions that are denied of one service and open of another.
+ghost use Rattle.std.specs.Prelude.{◌≡◌, ◌++◌, Contains, IfOk, OnOk};
+ghost use Rattle.judge_command.specs.asked_service.Asked.{IsBounded};
+ghost use Rattle.judge_command.specs.kernel_laws.Launched.{launch_of};
+ghost use Rattle.judge_command.specs.kernel_laws.Questions.{questions};
+ghost use Rattle.why_command.specs.opening_lines.ByRule.{is_opened, opened_at, opened_by};
+
+use judge_command::asked_service::Bounded;
+use judge_command::kernel_laws::question_types::Question;
+use std::alloc::{AllocError, Global};
+
+// Whether a question is denied of the first and open of the second: of what is open already the second is not asked.
+fn is_opened(before: &Bounded<'_>, after: &Bounded<'_>, question: &Question) -> bool
+    requires before { IsBounded before.now }
+    requires after { IsBounded after.now }
+    requires listed_before { Contains (questions before.now.service.world.calls before.now.service.world.site) question.now }
+    requires listed_after { Contains (questions after.now.service.world.calls after.now.service.world.site) question.now }
+    ensures { result ≡ is_opened (launch_of before.now.service.world) (launch_of after.now.service.world) question.now }
+{
+    !before.is_open(question) && after.is_open(question)
+}
+
+// Adds a question, if it is.
+fn push_if_opened(
+    opened: &mut Vec<Question>,
+    before: &Bounded<'_>,
+    after: &Bounded<'_>,
+    question: &Question,
+) -> Result<(), AllocError>
+    requires before { IsBounded before.now }
+    requires after { IsBounded after.now }
+    requires listed_before { Contains (questions before.now.service.world.calls before.now.service.world.site) question.now }
+    requires listed_after { Contains (questions after.now.service.world.calls after.now.service.world.site) question.now }
+    ensures { OnOk result (opened.new.items ≡ opened.old.items ++ opened_at (launch_of before.now.service.world) (launch_of after.now.service.world) question.now) }
+{
+    if is_opened(before, after, question) {
+        opened.push(*question)?;
+    }
+    Ok(())
+}
+
+/// The questions that are denied of the first service and open of the second, among all of the tables, in their order.
+pub fn opened(
+    alloc: Global,
+    before: &Bounded<'_>,
+    after: &Bounded<'_>,
+    list: &[Question],
+) -> Result<Vec<Question>, AllocError>
+    requires before { IsBounded before.now }
+    requires after { IsBounded after.now }
+    requires all_before { list.now ≡ questions before.now.service.world.calls before.now.service.world.site }
+    requires all_after { list.now ≡ questions after.now.service.world.calls after.now.service.world.site }
+    ensures by_the_rule { IfOk result (λ opened. opened.items ≡ opened_by (launch_of before.now.service.world) (launch_of after.now.service.world) list.now) }
+{
+    let mut opened = Vec::new(alloc);
+    for question in list {
+        push_if_opened(&mut opened, before, after, question)?;
+    }
+    Ok(opened)
+}

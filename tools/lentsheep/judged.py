@@ -1,0 +1,126 @@
+"""A unit as it was judged: what its text says, its report and plan, and what is known of its table of calls and its host.
+
+Partings ask it what the report says where there is one, and else what the text comes to.
+"""
+from __future__ import annotations
+
+from dataclasses import dataclass, field
+from functools import cached_property
+from typing import Iterable, Mapping, Optional
+
+from .host import Host
+from .parting_lists import ALL, capabilities_here, words_of
+from .places import is_below
+from .table import Table, read_groups
+from .unit_text import Said, forbids_namespace
+from .values import Answer, Launched, Plan, Report
+
+#: The calls by which a question of a kind is done; where a filter refuses all of them, the answer is denied whatever a mount says.
+DOING = {
+    "see": ("stat", "lstat", "newfstatat", "statx", "access", "faccessat"), "read": ("open", "openat"),
+    "write": ("open", "openat", "creat", "truncate"), "exec": ("execve",), "ns": ("unshare", "clone"),
+    "uid": ("setuid", "setresuid"), "gid": ("setgid", "setresgid", "setgroups"),
+    "suid-bit": ("chmod", "fchmod", "fchmodat", "mkdir", "mkdirat", "mknod", "mknodat"),
+}  # fmt: skip
+
+
+@dataclass(frozen=True)
+class Judged:
+    """What partings look at. Without a report they go by the text."""
+
+    said: Said
+    report: Optional[Report] = None
+    plan: Optional[Plan] = None
+    table: Table = field(default_factory=Table)
+    host: Host = field(default_factory=Host)
+
+    @cached_property
+    def _verdicts(self) -> dict[tuple[str, str], bool]:
+        answers = self.report.answers if self.report else ()
+        return {(it.question.kind, it.question.name): it.is_open for it in answers}
+
+    def is_open(self, kind: str, name: str = "") -> Optional[bool]:
+        """How the report answers a question; None where it does not ask it."""
+        return self._verdicts.get((kind, name))
+
+    @property
+    def has_answers(self) -> bool:
+        """Whether there is a report with answers."""
+        return bool(self._verdicts)
+
+    @cached_property
+    def is_root(self) -> bool:
+        """Whether the service runs as root."""
+        if self.report and isinstance(self.report.launch, Launched):
+            return self.report.launch.uid == 0
+        return self.said.last("User") in ("", "root", "0") and not self.said.is_on("DynamicUser")
+
+    def holds(self, capability: str) -> bool:
+        """Whether the service can have a capability effective."""
+        found = self.is_open("cap", capability)
+        if found is not None:
+            return found
+        bounding = capabilities_here(self.said.values.get(("Service", "CapabilityBoundingSet"), []), ALL)
+        return capability in bounding and (self.is_root or capability in self.said.words("AmbientCapabilities"))
+
+    @cached_property
+    def _groups(self) -> dict[str, frozenset[str]]:
+        built_in, own = read_groups(252 if self.host.systemd == 252 else 257), self.table.groups
+        return {name: built_in.get(name, frozenset()) | own.get(name, frozenset()) for name in {**built_in, **own}}
+
+    @cached_property
+    def _listed_calls(self) -> Optional[tuple[bool, frozenset[str]]]:
+        return self.listed_calls()
+
+    def listed_calls(self, groups: Optional[Mapping[str, frozenset[str]]] = None) -> Optional[tuple[bool, frozenset[str]]]:
+        """Whether SystemCallFilter= denies, and the calls of its list; None where there is none.
+
+        The first line fixes what the list does. Groups are those given, else those of the table with what systemd's have besides.
+        """
+        lines = self.said.lines("SystemCallFilter")
+        if not lines:
+            return None
+        groups = groups or self._groups
+        denies = lines[0].startswith("~")
+        calls: frozenset[str] = frozenset() if denies else groups.get("@default", frozenset())
+        for line in lines:
+            for word in (word.partition(":")[0] for word in words_of(line)):
+                named = groups.get(word, frozenset()) if word.startswith("@") else frozenset([word])
+                calls = calls | named if line.startswith("~") == denies else calls - named
+        return denies, calls
+
+    def passes(self, *calls: str) -> bool:
+        """Whether SystemCallFilter= lets all of these calls pass."""
+        found = self._listed_calls
+        return found is None or all((call in found[1]) != found[0] for call in calls)
+
+    def refuses_doing(self, kind: str) -> bool:
+        """Whether SystemCallFilter= refuses every call by which questions of a kind are done."""
+        return not any(self.passes(call) for call in DOING.get(kind, ())) and kind in DOING
+
+    def lacks_capability(self, answer: Answer) -> bool:
+        """Whether a call or a family asks for a capability that the service cannot have."""
+        asked = self.table.capabilities.get(answer.question.name)
+        return asked is not None and not self.holds(asked)
+
+    def forbids_namespace(self, kind: str) -> bool:
+        """Whether RestrictNamespaces= refuses a type."""
+        return forbids_namespace(self.said, kind)
+
+    @cached_property
+    def _places(self) -> list[str]:
+        mounts = self.plan.mounts if self.plan else ()
+        return sorted((mount.place for mount in mounts), key=len, reverse=True)
+
+    def place_of(self, path: str) -> str:
+        """The place of the mount that a path lies in."""
+        return next((place for place in self._places if is_below(path, place)), "/")
+
+    def is_left_to(self, path: str, tops: Iterable[str]) -> bool:
+        """Whether a path lies below one of these and no mount of the plan stands there or between."""
+        return any(is_below(path, top) and not is_below(self.place_of(path), top) for top in tops)
+
+    @property
+    def has_mounts(self) -> bool:
+        """Whether the service has mounts of its own."""
+        return bool(self.plan and len(self.plan.mounts) > 1)

@@ -1,0 +1,101 @@
+"""What a root says of its systemd and its kernel, for the first lines of a site: the views and `--root` read them."""
+import os
+import re
+
+from sites.told import shown
+
+# Where Debian and others have the library whose name has the version, and what dpkg knows of the package.
+LIBRARY = re.compile(r"libsystemd-(?:core|shared)-([0-9]+)")
+FOLDERS = (b"/usr/lib/systemd", b"/lib/systemd", b"/usr/lib64/systemd")
+PACKAGES = b"/var/lib/dpkg/status"
+RELEASE = b"/proc/sys/kernel/osrelease"
+# There where the kernel runs programs of i386 (arch/x86/entry/vdso/vdso32-setup.c).
+SECOND_ABI = b"/proc/sys/abi/vsyscall32"
+SYMBOLS = b"/proc/kallsyms"
+PROTOCOLS = b"/proc/net/protocols"
+TABLE = os.path.join(os.path.dirname(os.path.abspath(__file__)), "../../tables/x86-64/calls.txt")
+# Calls whose function in the kernel has another name.
+FUNCTIONS = {"umount2": "umount"}
+# Families by what their protocols are called in /proc/net/protocols; the others are called as they are, without AF_.
+PROTOCOLS_OF = {
+    "AF_UNIX": r"UNIX.*", "AF_INET": r"TCP|UDP|UDP-Lite|RAW|PING|MPTCP|DCCP|SCTP|L2TP.*", "AF_INET6": r"\w+v6", "AF_BLUETOOTH": r"L2CAP|HCI|SCO|RFCOMM|BNEP",
+    "AF_CAN": r"CAN_\w+|ISOTP|CAN-?J1939", "AF_APPLETALK": r"DDP", "AF_PPPOX": r"PPPO\w+", "AF_IEEE802154": r"IEEE-802.15.4.*|IEEE802154.*",
+    "AF_VSOCK": r"AF_VSOCK", "AF_SMC": r"SMC6?", "AF_NFC": r"NFC.*", "AF_CAIF": r"CAIF.*",
+}  # fmt: skip
+
+
+def systemd_version(root):
+    """The version of systemd, as 252; None where the root has none."""
+    triplets = [b"/usr/lib/" + name + b"/systemd" for name in root.names(b"/usr/lib") if name.endswith(b"-linux-gnu")]
+    for folder in (*FOLDERS, *triplets):
+        for name in root.names(folder):
+            found = LIBRARY.match(name.decode(errors="replace"))
+            if found:
+                return int(found[1])
+    return packaged_version(root)
+
+
+def packaged_version(root):
+    """The version of the package, by what dpkg knows."""
+    try:
+        text = root.read(PACKAGES).decode(errors="replace")
+    except OSError:
+        return None
+    package = next((it for it in text.split("\n\n") if it.startswith("Package: systemd\n")), "")
+    found = re.search(r"^Version: ([0-9]+)", package, re.M)
+    return int(found[1]) if found else None
+
+
+def read_text(root, path):
+    """The text of a file; empty where it cannot be read."""
+    try:
+        return root.read(path).decode(errors="replace")
+    except OSError:
+        return ""
+
+
+def heads(root):
+    """The lines that say what systemd and what kernel a root has."""
+    version, release = systemd_version(root), read_text(root, RELEASE).strip()
+    found = [f"systemd {version}"] if version else []
+    if release:
+        runs = ", which runs programs of i386" if root.stands(SECOND_ABI) else ""
+        found.append(f"kernel {shown(release.encode())}{runs}")
+    return found
+
+
+def numbers_of(table):
+    """The calls and the families of a table with their numbers, in its order."""
+    words = [line.split() for line in table.split("\n")]
+    return tuple({word[1]: word[2] for word in words if len(word) > 2 and word[0] == kind} for kind in ("call", "family"))
+
+
+def lacking_calls(symbols, names):
+    """Those of the calls that a kernel with these symbols does not have: its functions for them are weak, or not there."""
+    there = {name for kind, name in re.findall(r"^\S+ (\w) __x64_sys_(\w+)", symbols, re.M) if kind not in "Ww"}
+    return [name for name in names if FUNCTIONS.get(name, name) not in there] if there else []
+
+
+def lacking_families(protocols, modules, numbers):
+    """Those of the families that have no protocol among these, and none of these aliases of modules."""
+    there = [line.split()[0] for line in protocols.split("\n")[1:] if line.strip()]
+    loadable = set(re.findall(r"^alias net-pf-(\d+) ", modules, re.M))
+    return [name for name, number in numbers.items() if number not in loadable and not has_protocol(name, there)] if there else []
+
+
+def has_protocol(family, protocols):
+    """Whether one of these protocols is of a family."""
+    pattern = re.compile(PROTOCOLS_OF.get(family, re.escape(family[len("AF_") :])))
+    return any(map(pattern.fullmatch, protocols))
+
+
+def kernel_heads(root):
+    """The lines that say which calls and families of the table the kernel of a root lacks; none where it does not show them."""
+    with open(TABLE, encoding="utf-8") as table:
+        calls, families = numbers_of(table.read())
+    modules = read_text(root, b"/usr/lib/modules/" + read_text(root, RELEASE).strip().encode() + b"/modules.alias")
+    lacking = {
+        "calls": lacking_calls(read_text(root, SYMBOLS), calls),
+        "families": lacking_families(read_text(root, PROTOCOLS), modules, families),
+    }
+    return [f"the kernel lacks the {what}: {' '.join(names)}" for what, names in lacking.items() if names]
