@@ -1,0 +1,325 @@
+"""A run: a root is started, its units are judged and started, and the two are compared."""
+from __future__ import annotations
+
+import contextlib
+import os
+import re
+import shutil
+import struct
+import subprocess
+import sys
+import tempfile
+from pathlib import Path
+from typing import Any, Iterable, Sequence
+
+from lentsheep.causes import State, held_capabilities, state_of
+from lentsheep.partings import files_in_force, partings
+from lentsheep.program import Program
+from lentsheep.values import Launched, Plan, Report
+
+from . import compare, kernel, service, tries
+from .filters import X86_64
+from .machine import Machine, Unstarted
+from .tries import CAPABLE, PROBE, SETUID, WRITABLE, Place, Try
+
+TOP = kernel.TOP
+HERE = Path(__file__).resolve().parent
+CALLS = TOP / "tables" / "x86-64" / "calls.txt"
+CALLS32 = TOP / "tables" / "x86-64" / "calls2.txt"
+FLAGS = (
+    "-static -nostdlib -fno-pie -no-pie -O1 -fno-stack-protector -fcf-protection=none -Wall -Wextra -Werror -Wl,-z,noexecstack "
+    "-Wl,--build-id=none -Wl,--section-start=.go=0x10000000"
+).split()
+# what is put into a root, so that there is something to hide: secrets, data and a home
+FURNISHED = {
+    "/srv/lentsheep/secret": 0o644, "/srv/lentsheep/data/file": 0o666, "/home/lentsheep/key": 0o644, "/home/lentsheep/open": 0o666,
+    "/root/lentsheep": 0o600, "/opt/lentsheep/file": 0o666, "/etc/lentsheep": 0o666, "/var/lib/lentsheep/file": 0o666,
+}  # fmt: skip
+PLAIN, PEER = "reality-plain.service", "reality-peer@{}.service"
+PEER_TEXT = "[Service]\nUser=%i\nExecStart=" + PROBE + " wait\nCapabilityBoundingSet=\nStandardOutput=null\n"
+DYNAMIC = range(61184, 65520)
+
+
+class Fault(Exception):
+    """The run cannot go on; the text says why."""
+
+
+def build_probe(folder: str) -> None:
+    """Builds the probe, and the copy whose text can be written."""
+    for name, more in (("probe", []), ("wx", ["-Wl,-N"])):
+        built = subprocess.run(["gcc", *FLAGS, *more, "-o", f"{folder}/{name}", str(HERE / "probe.c")], capture_output=True, text=True, check=False)
+        if built.returncode:
+            raise Fault(f"the probe could not be built: {built.stderr.strip().splitlines()[:1]}")
+
+
+def furnish(root: str) -> None:
+    """Puts the probe, its copies with privileges, and some files into the root."""
+    with tempfile.TemporaryDirectory() as folder:
+        build_probe(folder)
+        for target, name, mode in ((PROBE, "probe", 0o755), (SETUID, "probe", 0o4755), (CAPABLE, "probe", 0o755), (WRITABLE, "wx", 0o755)):
+            path = root + target
+            with contextlib.suppress(FileNotFoundError):
+                os.unlink(path)
+            shutil.copyfile(f"{folder}/{name}", path)
+            os.chown(path, 0, 0)
+            os.chmod(path, mode)
+    # VFS_CAP_REVISION_2 without the effective bit: all capabilities permitted
+    everything = (1 << len(tries.CAPABILITIES)) - 1
+    os.setxattr(root + CAPABLE, "security.capability", struct.pack("<IIIII", 0x02000000, everything & 0xFFFFFFFF, 0, everything >> 32, 0))
+    for path, mode in FURNISHED.items():
+        os.makedirs(os.path.dirname(root + path), exist_ok=True)
+        Path(root + path).write_text("lentsheep\n")
+        os.chmod(root + path, mode)
+
+
+def calls_of(path: Path) -> tuple[dict[str, int], dict[str, list[str]], dict[str, int], dict[str, int]]:
+    """Native numbers, capabilities that a call asks for, families, and numbers of the second ABI."""
+    native: dict[str, int] = {}
+    asked: dict[str, list[str]] = {}
+    families: dict[str, int] = {}
+    other: dict[str, int] = {}
+    abis = 0
+    for line in path.read_text().splitlines():
+        words = line.split()
+        if not words or words[0].startswith("#"):
+            continue
+        if words[0] == "abi":
+            abis += 1
+        elif words[0] == "call":
+            (native if abis < 2 else other).setdefault(words[1], int(words[2]))
+            asked.setdefault(words[1], [text for text in words[3:] if text.startswith("CAP_")])
+        elif words[0] == "family":
+            families.setdefault(words[1], int(words[2]))
+    return native, asked, families, other
+
+
+def numbers32(path: Path) -> dict[str, int]:
+    """The numbers of i386 by name, of the table of two ABIs."""
+    found: dict[str, int] = {}
+    abi = ""
+    for line in path.read_text().splitlines():
+        words = line.split()
+        if words[:1] == ["abi"]:
+            abi = words[1]
+        elif words[:1] == ["call"]:
+            name, where = words[1], abi
+            if ":" in name:
+                where, name = name.split(":", 1)
+            if where.startswith("i386") and len(words) > 2 and words[2].isdigit():
+                found.setdefault(name, int(words[2]))
+    return found
+
+
+class Harness:
+    """One root with its machine, its site and what PID 1 sees."""
+
+    def __init__(self, root: str, units: Sequence[str], verbose: bool = False):
+        self.root = os.path.realpath(root)
+        self.verbose = verbose
+        self._stack = contextlib.ExitStack()
+        self._given = list(units)
+        self.units: list[str] = []
+        self.calls, self.call_capabilities, self.families, _ = calls_of(CALLS)
+        self.calls32 = numbers32(CALLS32)
+        self.names = {number: name for name, number in self.calls.items()}
+
+    def __enter__(self) -> "Harness":
+        try:
+            furnish(self.root)
+            self.machine = self._stack.enter_context(Machine(self.root))
+            self.folder = self._stack.enter_context(tempfile.TemporaryDirectory(prefix="lentsheep-here."))
+            self.version = self.machine.version()
+            self._place_units()
+            self._make_site()
+            self._look()
+        except BaseException:
+            self._stack.close()
+            raise
+        return self
+
+    def __exit__(self, *_: object) -> None:
+        self._stack.close()
+
+    def told(self, *words: str) -> Any:
+        """What ./sandbox prints of a command, as it is read for its views."""
+        run = self.program.run(*words)
+        if not run.text:
+            raise Fault(f"./sandbox {' '.join(words)}: status {run.status}")
+        return run.printed
+
+    def told_partings(self, unit: str) -> list[str]:
+        """The partings that views tell of the unit; that of files that are handed in is the harness's own doing."""
+        return [parting.name for parting in partings(files_in_force(self.folder, unit)) if parting.name != "handed-in"]
+
+    def _text_of(self, unit: str) -> str:
+        return self.machine.inside("systemctl", "cat", unit).stdout
+
+    def _place_units(self) -> None:
+        """Writes made units into the root's run/, drop-ins for all, and units of the harness's own."""
+        folder = Path(self.machine.path("systemd/system"))
+        for given in self._given:
+            if "/" in given:
+                shutil.copyfile(given, folder / os.path.basename(given))
+                given = os.path.basename(given)
+            self.units.append(given if "." in given else given + ".service")
+        (folder / PLAIN).write_text("[Service]\nExecStart=/bin/true\n")
+        (folder / PEER.format("")).write_text(PEER_TEXT)
+        self.machine.systemctl("daemon-reload")
+        for unit in [*self.units, PLAIN]:
+            service.prepare(self.machine, unit, self._text_of(unit))
+        self.machine.systemctl("daemon-reload")
+
+    def _make_site(self) -> None:
+        site = subprocess.run(
+            [str(TOP / "tools" / "make-site"), "--quiet", "--root", self.root, "--unit", *self.units, "--also", *FURNISHED],
+            capture_output=True, check=False,
+        )  # fmt: skip
+        if site.returncode:
+            raise Fault(site.stderr.decode(errors="replace").strip())
+        Path(self.folder, "site.toml").write_bytes(site.stdout)
+        for name in ("etc", "run", "usr"):
+            os.symlink(f"{self.root}/{name}", f"{self.folder}/{name}")
+        os.symlink(CALLS, f"{self.folder}/calls.txt")
+        self.program = Program(self.folder)
+        self.rows = compare.rows_of(site.stdout.decode("utf-8", "surrogateescape"))
+        self.dynamic = int(re.search(rb"^dynamic_uid\s*=\s*(\d+)", site.stdout, re.MULTILINE)[1])
+        self.capable_rows = [row for row in self.rows if self._has_capabilities(row) and row != CAPABLE]
+
+    def _has_capabilities(self, row: str) -> bool:
+        try:
+            return "security.capability" in os.listxattr(self.root + row, follow_symlinks=False)
+        except OSError:
+            return False
+
+    def _look(self) -> None:
+        """What the root of the machine can do without a sandbox: the rows as PID 1 has them."""
+        asked: dict[str, Try] = {}
+        meaning: dict[str, tuple[str, str]] = {}
+        for row in self.rows:
+            for kind, step in (("see", f"S {tries.word(row)}"), ("read", f"2 {tries.word(row)} 0x800"), ("write", f"2 {tries.word(row)} 0x801"), ("exec", f"59 {tries.word(row)} -1 0")):
+                key = f"t{len(asked)}"
+                asked[key] = Try("plain", [step])
+                meaning[key] = (kind, row)
+        asked["t999998"] = Try("plain", [f"{39 | 0x40000000}"])
+        asked["t999999"] = Try("plain", ["i20"])
+        seen = service.start(self.machine, PLAIN, asked)
+        if seen.failure or not seen.whole:
+            raise Fault(f"a service without a sandbox could not be looked at: {seen.failure}")
+        identities: dict[str, int] = {}
+        without: dict[tuple[str, str], int] = {}
+        for key, (kind, row) in meaning.items():
+            value = seen.results[key].steps.get(0, -1) if key in seen.results else -1
+            if kind == "see" and value >= 0:
+                identities[row] = value
+            without[kind, row] = 0 if value >= 0 or (kind == "exec" and value == tries.FAULT) else -value
+        steps = {key: seen.results[key].steps.get(0, -1) for key in ("t999998", "t999999") if key in seen.results}
+        own = [row for row in self.rows if os.path.islink(self.root + row) and os.readlink(self.root + row).startswith(("/proc/", "../proc/"))]
+        self.seen = compare.Machine(identities, without, seen.mounts, own, steps.get("t999998", -1) > 0, steps.get("t999999", -1) > 0, int(self.version.split(".")[0]))
+
+    def peers(self, uid: int) -> list[int]:
+        """A service of this user that runs beside, by its number in the machine."""
+        for line in Path(self.root, "etc/passwd").read_text().splitlines():
+            name, _, number = line.split(":")[:3]
+            if int(number) == uid:
+                unit = PEER.format(name)
+                self.machine.systemctl("start", "--job-mode=ignore-dependencies", unit)
+                told = self.machine.systemctl("show", "-p", "MainPID", "--value", unit).stdout.strip()
+                return [int(told)] if told.isdigit() and told != "0" else []
+        return []
+
+    def handles(self, paths: Iterable[str]) -> dict[str, bytes]:
+        """File handles of rows of the root's own file system."""
+        found: dict[str, bytes] = {}
+        device = os.stat(self.root).st_dev
+        for path in paths:
+            with contextlib.suppress(OSError):
+                if os.lstat(self.root + path).st_dev == device:
+                    found[path] = kernel.handle_of(self.root + path)
+        return found
+
+    def place(self, report: Report, plan: Plan) -> Place:
+        """What the tries of a unit rest on."""
+        launch = report.launch
+        denied = {answer.question.name for answer in report.answers if not answer.is_open and answer.question.kind in compare.PATH_KINDS}
+        writable = [mount.place for mount in plan.mounts if mount.writable]
+        folders = [path for path in ("/tmp", "/var/tmp", "/dev/shm", "/run", "/var/lib/lentsheep", "/root") if path not in writable]
+        return Place(
+            launch.uid, launch.gid, self.calls, self.calls32, self.call_capabilities, self.families, self.peers(launch.uid), self.handles(denied),
+            sorted((mount.place for mount in plan.mounts), key=len, reverse=True), self.capable_rows, [*writable[:12], *folders],
+        )  # fmt: skip
+
+    def run(self, unit: str, with_questions: bool = True) -> compare.Comparison:
+        """Judges, starts and compares a unit: all questions, or ids, mounts and filters alone."""
+        report = self.told("judge", unit)
+        if report.refusal or not isinstance(report.launch, Launched):
+            why = report.refusal.text if report.refusal else f"launch {report.launch}"
+            return compare.Comparison(unit, refusal=why, failure=service.start(self.machine, unit, None).failure)
+        plan = self.told("plan", unit)
+        made: dict[str, list[tuple[str, Try]]] = {}
+        asked: dict[str, Try] = {}
+        if with_questions:
+            place = self.place(report, plan)
+            made, asked = self._tries(report, place)
+        started = service.start(self.machine, unit, asked)
+        if started.failure:
+            return compare.Comparison(unit, failure=started.failure)
+        self._same_dynamic(started)
+        told = self.told_partings(unit)
+        found = compare.Comparison(unit)
+        if with_questions:
+            compare.Comparer(self.seen, found, told, place, started, made).compare(report.answers)
+            compare.tried_of(found, started, made, self.calls)
+        compare.plan_of(found, self.seen, plan.mounts, self.rows, started, told)
+        compare.held_of(found, report.launch, held_capabilities(report), started, told)
+        programs = [b"".join(bytes.fromhex(step.text) for step in entry.program) for entry in self.told("filter", unit).filters if entry.abi == 0]
+        compare.filters_of(found, programs, self.names, started, told)
+        return found
+
+    def _same_dynamic(self, started: service.Started) -> None:
+        """A dynamic id of the machine is the one that the site has for all."""
+        for key in ("Uid", "Gid", "Groups"):
+            numbers = [int(text) for text in started.status[key].split()]
+            started.status[key] = " ".join(str(self.dynamic if number in DYNAMIC else number) for number in numbers)
+
+    def _tries(self, report: Report, place: Place) -> tuple[dict[str, list[tuple[str, Try]]], dict[str, Try]]:
+        made: dict[str, list[tuple[str, Try]]] = {"held": []}
+        ordered: list[tuple[str, Try]] = [("held", tried) for tried in tries.held_tries(place)]
+        for answer in report.answers:
+            question, kind, name = answer.question.text, answer.question.kind, answer.question.name
+            in_steps = state_of(answer) is State.STEPS
+            attacks = not answer.is_open or in_steps
+            ordered += [(question, tried) for tried in tries.tries_of(place, kind, name, attacks)]
+            if answer.calls and kind != "cap":
+                steps = tries.printed(place, answer.calls)
+                if steps:
+                    ordered.append((question, _printed(kind, steps, in_steps)))
+        ordered.sort(key=lambda pair: pair[1].late)
+        asked: dict[str, Try] = {}
+        for question, tried in ordered:
+            key = f"t{len(asked)}"
+            asked[key] = tried
+            made.setdefault(question, []).append((key, tried))
+        return made, asked
+
+
+def _printed(kind: str, steps: list[str], in_steps: bool) -> Try:
+    """The printed calls, with what tells that the last one did what is asked."""
+    if kind in ("read", "write"):
+        return Try("printed", [*steps, f"?I @{len(steps) - 1}"], goal=len(steps) - 1, late=in_steps)
+    last = steps[-1].split()
+    if kind == "see":
+        return Try("printed", [*steps[:-1], f"S {last[1]}"], accept="same", late=in_steps)
+    if kind == "exec":
+        last[2] = "-1"
+        return Try("printed", [*steps[:-1], " ".join(last)], accept="fault", late=in_steps)
+    if kind == "call":
+        return Try("printed", [*steps[:-1], "39"], asked=(int(last[0]), (), X86_64), late=in_steps)
+    return Try("printed", steps, late=in_steps)
+
+
+def errors(text: str) -> None:
+    """A line on standard error."""
+    print(text, file=sys.stderr, flush=True)
+
+
+__all__ = ["Fault", "Harness", "Unstarted", "errors"]
