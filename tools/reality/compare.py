@@ -7,11 +7,12 @@ from dataclasses import dataclass, field
 from typing import Any, Mapping, Sequence
 
 from lentsheep.causes import State, state_of
-from lentsheep.values import Answer, Launched
+from lentsheep.partings import Parting
+from lentsheep.values import Answer, Launched, Question
 from lentsheep.values import Mount as PlannedMount
 
 from . import cover
-from .filters import I386, X86_64, Filters
+from .filters import ALLOW, I386, NEVER_FILTERED, X86_64, Filters, Verdict
 from .service import Mount, Started, covering
 from .tries import CAPABILITY, Place, Result, Try
 
@@ -27,15 +28,16 @@ _KERNEL_LACKS = (22, 38, 93, 94, 95, 97, 123, 124)
 class Found:
     """What was denied here and done there."""
 
-    kind: str
-    name: str
+    asked: Question
     way: str
     parting: str | None
+    #: partings that touch the question and do not speak of the way
+    near: tuple[str, ...] = ()
 
     @property
     def question(self) -> str:
-        """The question as the report has it."""
-        return f"{self.kind} {self.name}".strip()
+        """The question as the report has it, and what comes near."""
+        return self.asked.text + (f" ({', '.join(self.near)})" if self.near else "")
 
 
 @dataclass
@@ -77,6 +79,8 @@ class Machine:
     mounts: Sequence[Mount]
     #: rows that are links into /proc, whose target is another one for each process
     own_links: Sequence[str]
+    #: rows that are links or lie behind one
+    links: frozenset[str]
     has_x32: bool
     has_i386: bool
     version: int
@@ -85,7 +89,7 @@ class Machine:
 class Comparer:
     """Holds one report against one service."""
 
-    def __init__(self, machine: Machine, found: Comparison, told: Sequence[str], place: Place, started: Started, made: Mapping[str, list[tuple[str, Try]]]):
+    def __init__(self, machine: Machine, found: Comparison, told: Sequence[Parting], place: Place, started: Started, made: Mapping[str, list[tuple[str, Try]]]):
         self.machine, self.found, self.told, self.place, self.started, self.made = machine, found, told, place, started, made
         self.effective = started.number("CapEff")
 
@@ -93,18 +97,24 @@ class Comparer:
         """The questions."""
         for answer in answers:
             self.found.questions += 1
-            kind, name, question = answer.question.kind, answer.question.name, answer.question.text
-            ways = self._ways(kind, name, question)
-            if not ways and not self._was_tried(kind, question):
+            question = answer.question
+            ways = self._ways(question.kind, question.name, question.text)
+            if not ways and not self._was_tried(question.kind, question.text):
                 self.found.untried += 1
             elif not answer.is_open:
                 self.found.agreeing += not ways
                 self.found.done_questions += bool(ways)
-                self.found.done += [Found(kind, name, way, cover.cover(kind, name, way, self.told)) for way in ways]
+                self.found.done += [self._found(question, way) for way in ways]
             elif ways:
                 self.found.agreeing += 1
             else:
-                self._refused(kind, name, question, state_of(answer) is State.OPEN)
+                self._refused(question, state_of(answer) is State.OPEN)
+
+    def _found(self, question: Question, way: str) -> Found:
+        parting = cover.cover(question, way, self.told)
+        if parting is None and question.kind in PATH_KINDS and way == "plain" and question.name in self.machine.links:
+            parting = "links"
+        return Found(question, way, parting, () if parting else tuple(cover.near(question, self.told)))
 
     def _was_tried(self, kind: str, question: str) -> bool:
         """Whether the probe came to any way of it."""
@@ -127,9 +137,10 @@ class Comparer:
                 ways += self._held(lambda held: held["uid"] == number, None)
         for key, tried in self.made.get(question, []):
             result = self.started.results.get(key)
-            if result is not None and tried.way not in ways and (self._done(kind, name, tried, result) or self._passes(kind, tried)):
+            if result is not None and tried.way not in ways and "plain" not in ways and (self._done(kind, name, tried, result) or self._passes(kind, tried)):
                 ways.append(tried.way)
-        return list(dict.fromkeys(ways))
+        # what is done as the question says needs no way round
+        return ["plain"] if "plain" in ways else list(dict.fromkeys(ways))
 
     def _passes(self, kind: str, tried: Try) -> bool:
         """Whether the kernel refuses it for the user namespace of this machine alone."""
@@ -163,6 +174,8 @@ class Comparer:
         value = result.steps.get(goal)
         if value is None or value < 0:
             return False
+        if tried.needs and all(result.steps.get(step, -1) < 0 for step in tried.needs):
+            return False
         if tried.accept == "same":
             return self._is_row(name, value) if tried.way == "plain" else value == self.machine.identities.get(name)
         identity = result.steps.get(goal + 1)
@@ -181,12 +194,16 @@ class Comparer:
         number, arguments, arch = tried.asked
         if (tried.way == "x32" and not self.machine.has_x32) or (arch == I386 and not self.machine.has_i386):
             return False
-        if not self.started.filters.verdict(number, arguments, arch).passes or (tried.way == "plain" and result.killed == 31):
+        if not self._passes_filters(number, arguments, arch) or (tried.way == "plain" and result.killed == 31):
             return False
         return all(self.effective >> CAPABILITY[capability] & 1 for capability in self.place.call_capabilities.get(name, ()))
 
-    def _refused(self, kind: str, name: str, question: str, at_once: bool) -> None:
-        made = self.made.get(question, [])
+    def _passes_filters(self, number: int, arguments: Sequence[int], arch: int) -> bool:
+        return number in NEVER_FILTERED and arch == X86_64 or self.started.filters.verdict(number, arguments, arch).passes
+
+    def _refused(self, question: Question, at_once: bool) -> None:
+        kind, name = question.kind, question.name
+        made = self.made.get(question.text, [])
         results = [self.started.results[key] for key, tried in made if key in self.started.results and tried.way in ("plain", "printed")]
         numbers = [-value for result in results for value in result.steps.values() if -4096 < value < 0]
         number = numbers[0] if numbers else 0
@@ -196,7 +213,7 @@ class Comparer:
         elif kind in PATH_KINDS and self.machine.without.get((kind, name)):
             without = self.machine.without[kind, name]
             reason = _MACHINE_LACKS.get(without, "refused to root of this machine too")
-        elif parting := cover.closed_by(kind, name, number, self.told):
+        elif parting := cover.closed_by(question, number, self.told):
             reason = parting
         elif kind in PATH_KINDS and number in (1, 13) and not self.effective >> CAPABILITY["CAP_DAC_OVERRIDE"] & 1:
             reason = "file modes"
@@ -208,18 +225,16 @@ class Comparer:
             reason = "this kernel lacks the family"
         elif kind == "realtime" and number == 1:
             reason = "a capability in the first user namespace"
-        elif kind in PATH_KINDS and "not-judged" in self.told:
-            reason = "not-judged"
         elif kind == "call" and not all(self.effective >> CAPABILITY[it] & 1 for it in self.place.call_capabilities.get(name, ())):
             reason = "not tried to the end: several steps, or a program has to make the calls"
         else:
             reason = "unexplained"
             how = "killed" if killed else ERRNO.get(number, f"errno {number}")
-            self.found.unexplained.append(f"{question} ({how})")
+            self.found.unexplained.append(f"{question.text} ({how})")
         self.found.refused[reason] += 1
 
 
-def plan_of(comparison: Comparison, machine: Machine, mounts: Sequence[PlannedMount], rows: Mapping[str, str], started: Started, told: Sequence[str]) -> None:
+def plan_of(comparison: Comparison, machine: Machine, mounts: Sequence[PlannedMount], rows: Mapping[str, str], started: Started, told: Sequence[Parting]) -> None:
     """The plan against mountinfo, row by row: what is there, whether it can be written, whether it can be executed."""
     entries = {entry.place: entry for entry in mounts}
     order = sorted(entries, key=len, reverse=True)
@@ -256,8 +271,7 @@ def plan_of(comparison: Comparison, machine: Machine, mounts: Sequence[PlannedMo
                 differing.setdefault(key, []).append(path)
     for (what, direction), paths in sorted(differing.items()):
         for path in paths:
-            kind = "write" if "rw" in what else "exec" if "exec" in what else "see"
-            parting = cover.cover(kind, path, "plain", told) if direction == "DENIED" else "open here"
+            parting = cover.cover_plan(path, told) if direction == "DENIED" else "open here"
             comparison.plan.append((path, what, parting or "NEW"))
 
 
@@ -269,7 +283,7 @@ def _run(is_executable: bool) -> str:
     return "exec" if is_executable else "noexec"
 
 
-def held_of(comparison: Comparison, launch: Launched, held: Sequence[str], started: Started, told: Sequence[str]) -> None:
+def held_of(comparison: Comparison, launch: Launched, held: Sequence[str], started: Started, told: Sequence[Parting]) -> None:
     """Ids, effective set and no_new_privs against the status."""
     status = started.status
     pairs = [
@@ -279,13 +293,14 @@ def held_of(comparison: Comparison, launch: Launched, held: Sequence[str], start
     for what, said, seen in pairs:
         if said != seen:
             is_open = what != "no_new_privs" or seen == "0"
-            parting = "nnp-from-filters" if what == "no_new_privs" and seen == "0" else "nnp-from-more" if what == "no_new_privs" else ""
-            comparison.held.append((f"{what} {said} here, {seen} there", parting if parting in told else "NEW" if is_open else "open here"))
+            names = ("nnp-from-filters",) if seen == "0" else ("nnp-from-more",)
+            parting = cover.cover_name(names, told) if what == "no_new_privs" else None
+            comparison.held.append((f"{what} {said} here, {seen} there", parting or ("NEW" if is_open else "open here")))
     said_set = sum(1 << CAPABILITY[name] for name in held)
     seen_set = started.number("CapEff")
     more, less = seen_set & ~said_set, said_set & ~seen_set
     if more:
-        comparison.held.append((f"effective there alone: {_names(more)}", cover.cover("cap", "", "plain", told) or "NEW"))
+        comparison.held.append((f"effective there alone: {_names(more)}", cover.cover_name(("nnp-from-filters", "capability-words"), told) or "NEW"))
     if less:
         comparison.held.append((f"effective here alone: {_names(less)}", "open here"))
 
@@ -294,17 +309,18 @@ def _names(bits: int) -> str:
     return " ".join(name for name, number in CAPABILITY.items() if bits >> number & 1)
 
 
-def filters_of(comparison: Comparison, programs: Sequence[bytes], names: Mapping[int, str], started: Started, told: Sequence[str]) -> None:
+def filters_of(comparison: Comparison, programs: Sequence[bytes], names: Mapping[int, str], started: Started, told: Sequence[Parting]) -> None:
     """The verdict of each number of x86-64 by the programs here and by those there."""
-    here, there = Filters(programs).native, started.filters.native
-    for number, (said, seen) in enumerate(zip(here, there)):
+    here, there = Filters(programs).verdicts(), started.filters.verdicts()
+    for number, said in sorted(here.items()):
+        seen = there[number]
         comparison.numbers += 1
         if said != seen:
             name = names.get(number, f"#{number}")
             if said.passes == seen.passes:
                 direction = "answer"
             elif seen.passes:
-                direction = cover.cover("call", name, "plain", told) or "NEW"
+                direction = cover.cover(Question("call", name), "plain", told) or "NEW"
             else:
                 direction = "open here"
             comparison.verdicts.append((f"{name} {said.text} here, {seen.text} there", direction))
@@ -312,12 +328,13 @@ def filters_of(comparison: Comparison, programs: Sequence[bytes], names: Mapping
 
 def tried_of(comparison: Comparison, started: Started, made: Mapping[str, list[tuple[str, Try]]], numbers: Mapping[str, int]) -> None:
     """What the kernel answered to each number that was tried, against what its filters say."""
+    verdicts = started.filters.verdicts((-1,) * 6)
     for name, number in numbers.items():
         for key, tried in made.get(f"call {name}", []):
             result = started.results.get(key)
             if tried.way != "plain" or result is None or tried.asked is None or tried.steps == ["39"]:
                 continue
-            verdict = started.filters.verdict(number, (-1,) * 6, X86_64)
+            verdict = Verdict(ALLOW) if number in NEVER_FILTERED else verdicts[number]
             comparison.tried_numbers += 1
             value = result.steps.get(0)
             agrees = (result.killed == 31) if verdict.text == "killed" else value == -verdict.errno if verdict.text.startswith("errno") else result.killed != 31

@@ -1,19 +1,29 @@
-"""Which partings of docs/PROFILE.md may cover a question that is denied here and was reached there, by how it was reached."""
+"""Which parting that is told of a unit covers a question that is denied here and was reached there, by the way it was reached.
+
+A parting of `tools/lentsheep` names the answers that it touches. It covers a question of these, where its way is one that it speaks of.
+"""
 from __future__ import annotations
 
 import re
-from typing import Sequence
+from typing import Iterable, Sequence
 
+from lentsheep.partings import Direction, Parting
+from lentsheep.values import PATH_KINDS, Question
+
+#: The partings that speak of a way; all others speak of what is done as the question says.
 _BY_WAY: dict[str, tuple[str, ...]] = {
-    "i386": ("architectures",),
+    "i386": ("architectures", "i386-calls", "abi-names"),
     "x32": ("architectures",),
     "high-bits": ("families-deny-bits",),
     "socketpair": ("socketpair",),
-    "io_uring": ("io-uring", "ring"),
-    "openat2": ("newer-calls",),
-    "proc-root": ("outside-roots", "proc-root"),
-    "peer-root": ("outside-roots", "peers"),
-    "mount-namespace": ("outside-roots", "mount-calls"),
+    "io_uring": ("io-uring",),
+    "openat2": ("other-calls",),
+    "execveat": ("other-calls",),
+    "clone3": ("other-calls",),
+    "setreuid": ("other-calls",),
+    "proc-root": ("outside-roots",),
+    "peer-root": ("outside-roots",),
+    "mount-namespace": ("mount-calls", "outside-roots"),
     "handle": ("file-handles",),
     "unmount": ("mount-calls",),
     "bind": ("mount-calls",),
@@ -22,68 +32,65 @@ _BY_WAY: dict[str, tuple[str, ...]] = {
     "user-namespace": ("user-namespaces",),
     "set-id": ("nnp-from-filters",),
     "file-capabilities": ("nnp-from-filters",),
-    "tmpfile": ("tmpfile-bits", "tmpfile"),
-    "sched_setattr": ("sched-setattr", "realtime-attr"),
-    "clone3": ("clone3",),
+    "tmpfile": ("tmpfile-bits",),
+    "sched_setattr": ("sched-setattr",),
     "personality": ("wx-programs",),
     "program": ("wx-programs",),
-    "memfd": ("wx-programs",),
+    "memfd": ("wx-programs", "other-calls"),
     "shm": ("wx-programs",),
     "executable-already": ("mdwe-prctl",),
 }
+_OF_WAYS = {name for names in _BY_WAY.values() for name in names} - {"nnp-from-filters", "mdwe-prctl", "families-deny-bits"}
 
-# Of what is reached as the question says: for each kind, names with the paths that they speak of.
-_PLAIN: dict[str, tuple[tuple[str, str], ...]] = {
-    "write": (
-        ("run-writable", r"/run(/|$)"), ("strict-run", r"/run(/|$)"), ("strict-homes", r"/(home|root|run/user)(/|$)"),
-        ("tunables-cgroup", r"/sys/fs/(cgroup|selinux)(/|$)"), ("sys-writable", r"/sys(/|$)"), ("tunables-sys", r"/sys(/|$)"),
-        ("devices-read-only", r"/dev/"), ("folders-open", r""),
-    ),
-    "exec": (("nosuid-exec", r""),),
-    "call": (("newer-groups", r""), ("write-filter", r"write$"), ("architectures", r"")),
-    "socket": (("families-none", r""), ("families-deny-bits", r"")),
-    "ns": (("namespace-lines", r""),),
-    "protect-x": (("mdwe-prctl", r""),),
-    "shm-x": (("mdwe-prctl", r""),),
-    "cap": (("nnp-from-filters", r""), ("capability-words", r"")),
-    "uid": (("nnp-from-filters", r""), ("capability-words", r"")),
-    "gid": (("nnp-from-filters", r""), ("capability-words", r"")),
-}  # fmt: skip
-_ANY_PATH = (
-    ("device-folders", r"/dev(/|$)"), ("old-names-open", r""), ("flags-apart", r""), ("linked-folders", r""), ("beaten", r""), ("folders-open", r""),
-    ("shared-tmp", r"/(var/)?tmp(/|$)"), ("links", r""),
+#: Of what the plan says otherwise: the partings that may be why, with the paths that they speak of.
+_OF_PLAN = (
+    ("run-writable", r"/run(/|$)"), ("strict-homes", r"/(home|root|run/user)(/|$)"), ("tunables-cgroup", r"/sys/fs/(cgroup|selinux)(/|$)"),
+    ("sys-writable", r"/sys(/|$)"), ("memory-pressure", r"/sys/fs/cgroup(/|$)"), ("device-folders", r"/dev(/|$)"), ("old-names-open", r""), ("flags-apart", r""),
+    ("linked-folders", r""), ("beaten", r""), ("folders-open", r""), ("shared-tmp", r"/(var/)?tmp(/|$)"), ("disconnected-tmp", r"/(var/)?tmp(/|$)"), ("links", r""),
 )  # fmt: skip
+_NO_NEW_PRIVS = ("nnp-from-filters", "nnp-from-more")
 
 
-def names_for(kind: str, name: str, way: str) -> list[str]:
-    """The names that may cover it, the nearest first."""
-    if way in _BY_WAY:
-        return list(_BY_WAY[way])
-    pairs = _PLAIN.get(kind, ()) + (_ANY_PATH if kind in ("see", "read", "write", "exec") else ())
-    return [parting for parting, path in pairs if re.match(path, name)]
+def _touches(parting: Parting, question: Question) -> bool:
+    answers = getattr(parting, "answers", None)
+    return answers is not None and question in answers
 
 
-def cover(kind: str, name: str, way: str, told: Sequence[str]) -> str | None:
-    """The name of the parting that covers it and is told of the unit; None where there is none."""
-    return next((parting for parting in names_for(kind, name, way) if parting in told), None)
-
-
-# What is open here and refused there: (parting, kind, path, errno or 0 for any).
-_CLOSED = (
-    ("hostname-files", "write", r"/proc/sys/kernel/(hostname|domainname)$", 30),
-    ("tunables-more", "write", r"/proc/", 30),
-    ("families-allow-bits", "socket", r"", 0),
-    ("nnp-from-more", "cap", r"", 0),
-    ("nnp-from-more", "uid", r"", 0),
-    ("nnp-from-more", "gid", r"", 0),
-    ("suid-newer-calls", "suid-bit", r"", 0),
-    ("old-names-close", "", r"", 0),
-)  # fmt: skip
-
-
-def closed_by(kind: str, name: str, number: int, told: Sequence[str]) -> str | None:
-    """The parting that says why something open here is refused there."""
-    for parting, of_kind, path, errno in _CLOSED:
-        if parting in told and of_kind in ("", kind) and re.match(path, name) and errno in (0, number):
-            return parting
+def cover(question: Question, way: str, told: Sequence[Parting]) -> str | None:
+    """The name of the parting that covers it; None where there is none."""
+    for parting in told:
+        if parting.direction == Direction.OPEN_HERE or not _touches(parting, question):
+            continue
+        if parting.name in _BY_WAY[way] if way in _BY_WAY else parting.name not in _OF_WAYS:
+            return parting.name
     return None
+
+
+def near(question: Question, told: Sequence[Parting]) -> list[str]:
+    """The partings that touch a question without speaking of the way."""
+    return [parting.name for parting in told if parting.direction != Direction.OPEN_HERE and _touches(parting, question)]
+
+
+def cover_plan(path: str, told: Iterable[Parting]) -> str | None:
+    """The parting by which a path may be open there that the plan closes."""
+    names = {parting.name for parting in told}
+    return next((name for name, pattern in _OF_PLAN if name in names and re.match(pattern, path)), None)
+
+
+def cover_name(wanted: Iterable[str], told: Iterable[Parting]) -> str | None:
+    """The first of some names that is told."""
+    names = {parting.name for parting in told}
+    return next((name for name in wanted if name in names), None)
+
+
+def closed_by(question: Question, errno: int, told: Sequence[Parting]) -> str | None:
+    """The parting that says why something open here is refused there."""
+    for parting in told:
+        if parting.direction != Direction.DENIED_HERE and _touches(parting, question):
+            return parting.name
+    names = [parting.name for parting in told]
+    if question.kind in PATH_KINDS and errno in (1, 13) and "file-modes" in names:
+        return "file-modes"
+    if question.kind in ("cap", "uid", "gid") and "nnp-from-more" in names:
+        return "nnp-from-more"
+    return "not-judged" if question.kind in PATH_KINDS and "not-judged" in names else None

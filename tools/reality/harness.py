@@ -13,7 +13,7 @@ from pathlib import Path
 from typing import Any, Iterable, Sequence
 
 from lentsheep.causes import State, held_capabilities, state_of
-from lentsheep.partings import files_in_force, partings
+from lentsheep.gather import view_of
 from lentsheep.program import Program
 from lentsheep.values import Launched, Plan, Report
 
@@ -24,8 +24,7 @@ from .tries import CAPABLE, PROBE, SETUID, WRITABLE, Place, Try
 
 TOP = kernel.TOP
 HERE = Path(__file__).resolve().parent
-CALLS = TOP / "tables" / "x86-64" / "calls.txt"
-CALLS32 = TOP / "tables" / "x86-64" / "calls2.txt"
+TABLES = TOP / "tables" / "x86-64"
 FLAGS = (
     "-static -nostdlib -fno-pie -no-pie -O1 -fno-stack-protector -fcf-protection=none -Wall -Wextra -Werror -Wl,-z,noexecstack "
     "-Wl,--build-id=none -Wl,--section-start=.go=0x10000000"
@@ -37,6 +36,7 @@ FURNISHED = {
 }  # fmt: skip
 PLAIN, PEER = "reality-plain.service", "reality-peer@{}.service"
 PEER_TEXT = "[Service]\nUser=%i\nExecStart=" + PROBE + " wait\nCapabilityBoundingSet=\nStandardOutput=null\n"
+TWIST = "zzz-lentsheep-twist.conf"
 DYNAMIC = range(61184, 65520)
 
 
@@ -72,56 +72,41 @@ def furnish(root: str) -> None:
         os.chmod(root + path, mode)
 
 
+def table_of(site: str) -> Path:
+    """The table of calls for a site, as `./sandbox --root` takes it."""
+    heads = "".join(line + "\n" for line in site.splitlines() if line.startswith("# "))
+    folder = TABLES / "252" if re.search(r"^# systemd 252", heads, re.MULTILINE) and (TABLES / "252").is_dir() else TABLES
+    return folder / ("calls2.txt" if re.search(r"^# kernel .*which runs programs of i386", heads, re.MULTILINE) else "calls.txt")
+
+
 def calls_of(path: Path) -> tuple[dict[str, int], dict[str, list[str]], dict[str, int], dict[str, int]]:
-    """Native numbers, capabilities that a call asks for, families, and numbers of the second ABI."""
+    """Native numbers, capabilities that a call asks for, families, and numbers of i386 (where the table has them)."""
     native: dict[str, int] = {}
     asked: dict[str, list[str]] = {}
     families: dict[str, int] = {}
     other: dict[str, int] = {}
-    abis = 0
-    for line in path.read_text().splitlines():
-        words = line.split()
-        if not words or words[0].startswith("#"):
-            continue
-        if words[0] == "abi":
-            abis += 1
-        elif words[0] == "call":
-            (native if abis < 2 else other).setdefault(words[1], int(words[2]))
-            asked.setdefault(words[1], [text for text in words[3:] if text.startswith("CAP_")])
-        elif words[0] == "family":
-            families.setdefault(words[1], int(words[2]))
-    return native, asked, families, other
-
-
-def numbers32(path: Path) -> dict[str, int]:
-    """The numbers of i386 by name, of the table of two ABIs."""
-    found: dict[str, int] = {}
-    abi = ""
+    into = native
     for line in path.read_text().splitlines():
         words = line.split()
         if words[:1] == ["abi"]:
-            abi = words[1]
+            into = native if words[1] == "x86-64" else other
         elif words[:1] == ["call"]:
-            name, where = words[1], abi
-            if ":" in name:
-                where, name = name.split(":", 1)
-            if where.startswith("i386") and len(words) > 2 and words[2].isdigit():
-                found.setdefault(name, int(words[2]))
-    return found
+            into.setdefault(words[1], int(words[2]))
+            asked.setdefault(words[1], [text for text in words[3:] if text.startswith("CAP_")])
+        elif words[:1] == ["family"]:
+            families.setdefault(words[1], int(words[2]))
+    return native, asked, families, other
 
 
 class Harness:
     """One root with its machine, its site and what PID 1 sees."""
 
-    def __init__(self, root: str, units: Sequence[str], verbose: bool = False):
+    def __init__(self, root: str, units: Sequence[str], twists: Sequence[str] = ()):
         self.root = os.path.realpath(root)
-        self.verbose = verbose
+        self._twists = twists
         self._stack = contextlib.ExitStack()
         self._given = list(units)
         self.units: list[str] = []
-        self.calls, self.call_capabilities, self.families, _ = calls_of(CALLS)
-        self.calls32 = numbers32(CALLS32)
-        self.names = {number: name for name, number in self.calls.items()}
 
     def __enter__(self) -> "Harness":
         try:
@@ -147,10 +132,6 @@ class Harness:
             raise Fault(f"./sandbox {' '.join(words)}: status {run.status}")
         return run.printed
 
-    def told_partings(self, unit: str) -> list[str]:
-        """The partings that views tell of the unit; that of files that are handed in is the harness's own doing."""
-        return [parting.name for parting in partings(files_in_force(self.folder, unit)) if parting.name != "handed-in"]
-
     def _text_of(self, unit: str) -> str:
         return self.machine.inside("systemctl", "cat", unit).stdout
 
@@ -168,6 +149,10 @@ class Harness:
         for unit in [*self.units, PLAIN]:
             service.prepare(self.machine, unit, self._text_of(unit))
         self.machine.systemctl("daemon-reload")
+        # what is written now is judged, and not started
+        if self._twists:
+            for unit in self.units:
+                Path(self.machine.path(f"systemd/system/{unit}.d"), TWIST).write_text("\n".join(["[Service]", *self._twists]) + "\n")
 
     def _make_site(self) -> None:
         site = subprocess.run(
@@ -179,8 +164,13 @@ class Harness:
         Path(self.folder, "site.toml").write_bytes(site.stdout)
         for name in ("etc", "run", "usr"):
             os.symlink(f"{self.root}/{name}", f"{self.folder}/{name}")
-        os.symlink(CALLS, f"{self.folder}/calls.txt")
+        self.table = table_of(site.stdout.decode("utf-8", "replace"))
+        os.symlink(self.table, f"{self.folder}/calls.txt")
         self.program = Program(self.folder)
+        self.calls, self.call_capabilities, self.families, self.calls32 = calls_of(self.table)
+        if not self.calls32:
+            self.calls32 = calls_of(TABLES / "calls2.txt")[3]
+        self.names = {number: name for name, number in self.calls.items()}
         self.rows = compare.rows_of(site.stdout.decode("utf-8", "surrogateescape"))
         self.dynamic = int(re.search(rb"^dynamic_uid\s*=\s*(\d+)", site.stdout, re.MULTILINE)[1])
         self.capable_rows = [row for row in self.rows if self._has_capabilities(row) and row != CAPABLE]
@@ -214,7 +204,8 @@ class Harness:
             without[kind, row] = 0 if value >= 0 or (kind == "exec" and value == tries.FAULT) else -value
         steps = {key: seen.results[key].steps.get(0, -1) for key in ("t999998", "t999999") if key in seen.results}
         own = [row for row in self.rows if os.path.islink(self.root + row) and os.readlink(self.root + row).startswith(("/proc/", "../proc/"))]
-        self.seen = compare.Machine(identities, without, seen.mounts, own, steps.get("t999998", -1) > 0, steps.get("t999999", -1) > 0, int(self.version.split(".")[0]))
+        links = frozenset(row for row in self.rows if os.path.realpath(self.root + row) != self.root + row)
+        self.seen = compare.Machine(identities, without, seen.mounts, own, links, steps.get("t999998", -1) > 0, steps.get("t999999", -1) > 0, int(self.version.split(".")[0]))
 
     def peers(self, uid: int) -> list[int]:
         """A service of this user that runs beside, by its number in the machine."""
@@ -250,11 +241,17 @@ class Harness:
 
     def run(self, unit: str, with_questions: bool = True) -> compare.Comparison:
         """Judges, starts and compares a unit: all questions, or ids, mounts and filters alone."""
-        report = self.told("judge", unit)
+        run = self.program.run("judge", unit)
+        report = run.printed
+        if not isinstance(report, Report) or not run.text:
+            raise Fault(f"./sandbox judge {unit}: status {run.status}")
         if report.refusal or not isinstance(report.launch, Launched):
             why = report.refusal.text if report.refusal else f"launch {report.launch}"
             return compare.Comparison(unit, refusal=why, failure=service.start(self.machine, unit, None).failure)
-        plan = self.told("plan", unit)
+        view = view_of(self.program, run)
+        plan = view.plan
+        # files that are handed in are the harness's own doing
+        told = [parting for parting in view.partings if parting.name != "handed-in"]
         made: dict[str, list[tuple[str, Try]]] = {}
         asked: dict[str, Try] = {}
         if with_questions:
@@ -264,7 +261,6 @@ class Harness:
         if started.failure:
             return compare.Comparison(unit, failure=started.failure)
         self._same_dynamic(started)
-        told = self.told_partings(unit)
         found = compare.Comparison(unit)
         if with_questions:
             compare.Comparer(self.seen, found, told, place, started, made).compare(report.answers)

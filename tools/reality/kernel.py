@@ -42,6 +42,11 @@ def unshare(flags: int) -> None:
     _checked(_LIBC.unshare(flags), "unshare")
 
 
+def die_with_parent() -> None:
+    """Asks to be killed when the parent ends; a change of ids takes that back (prctl(2), PR_SET_PDEATHSIG)."""
+    _checked(_LIBC.prctl(1, 9, 0, 0, 0), "prctl")
+
+
 def mount(source: str | None, place: str, kind: str | None, flags: int = 0, options: str | None = None) -> None:
     """mount(2)."""
     words = [None if word is None else os.fsencode(word) for word in (source, place, kind, options)]

@@ -200,7 +200,7 @@ class Machine:
         try:
             os.close(ready[0])
             os.close(go[1])
-            os.set_inheritable(ready[1], False)
+            signal.signal(signal.SIGTERM, signal.SIG_DFL)
             kernel.unshare(kernel.NEW_USER)
             os.write(ready[1], b"1")
             if os.read(go[0], 1) != b"1":
@@ -208,12 +208,14 @@ class Machine:
             os.setresgid(0, 0, 0)
             os.setgroups([])
             os.setresuid(0, 0, 0)
+            kernel.die_with_parent()
             kernel.unshare(
                 kernel.NEW_MOUNTS | kernel.NEW_PIDS | kernel.NEW_IPC | kernel.NEW_UTS | kernel.NEW_NET | kernel.NEW_CGROUP
             )
             inner = os.fork()
             if inner == 0:
                 try:
+                    kernel.die_with_parent()
                     self._become_systemd(view)
                 except OSError as error:
                     os.write(ready[1], str(error).encode())
