@@ -7,21 +7,32 @@ from dataclasses import dataclass, field
 from typing import Any, Mapping, Sequence
 
 from lentsheep.causes import State, state_of
-from lentsheep.partings import Parting
 from lentsheep.values import Answer, Launched, Question
 from lentsheep.values import Mount as PlannedMount
 
-from . import cover
+from .cover import Told
 from .filters import ALLOW, I386, NEVER_FILTERED, X86_64, Filters, Verdict
 from .service import Mount, Started, covering
 from .tries import CAPABILITY, Place, Result, Try
 
+UNEXPLAINED = "unexplained"
+FIRST_NAMESPACE = "the kernel asks for the capability in the first user namespace"
+STEPS = "several calls, or a program that makes them: not tried to the end"
 PATH_KINDS = ("see", "read", "write", "exec")
 # kinds whose objects are the same in every mount of them
 SAME_EVERYWHERE = ("proc", "sysfs", "cgroup2", "mqueue")
-ERRNO = {1: "EPERM", 2: "ENOENT", 6: "ENXIO", 13: "EACCES", 16: "EBUSY", 19: "ENODEV", 22: "EINVAL", 26: "ETXTBSY", 30: "EROFS", 38: "ENOSYS", 93: "EPROTONOSUPPORT", 94: "ESOCKTNOSUPPORT", 97: "EAFNOSUPPORT"}
-_MACHINE_LACKS = {2: "no such file", 6: "no such device, or a socket", 19: "no such device", 20: "no such file", 26: "a program that runs"}
+ERRNO = {
+    1: "EPERM", 2: "ENOENT", 6: "ENXIO", 13: "EACCES", 16: "EBUSY", 19: "ENODEV", 22: "EINVAL", 26: "ETXTBSY", 30: "EROFS", 38: "ENOSYS",
+    93: "EPROTONOSUPPORT", 94: "ESOCKTNOSUPPORT", 97: "EAFNOSUPPORT",
+}  # fmt: skip
+_MACHINE_LACKS = {
+    2: "no such file", 6: "no such device, or a socket", 19: "no such device", 20: "no such file", 26: "a program that runs",
+}  # fmt: skip
 _KERNEL_LACKS = (22, 38, 93, 94, 95, 97, 123, 124)
+
+
+#: The tries of each question, each with its id.
+Made = Mapping[str, Sequence[tuple[str, Try]]]
 
 
 @dataclass
@@ -66,7 +77,8 @@ class Comparison:
     @property
     def new(self) -> int:
         """How much stands under no name."""
-        return sum(found.parting is None for found in self.done) + sum(1 for *_, parting in self.plan + self.held + self.verdicts if parting == "NEW") + len(self.otherwise_tried)
+        others = [parting for *_, parting in (*self.plan, *self.held, *self.verdicts)]
+        return sum(found.parting is None for found in self.done) + others.count("NEW") + len(self.otherwise_tried)
 
 
 @dataclass
@@ -83,13 +95,12 @@ class Machine:
     links: frozenset[str]
     has_x32: bool
     has_i386: bool
-    version: int
 
 
 class Comparer:
     """Holds one report against one service."""
 
-    def __init__(self, machine: Machine, found: Comparison, told: Sequence[Parting], place: Place, started: Started, made: Mapping[str, list[tuple[str, Try]]]):
+    def __init__(self, machine: Machine, found: Comparison, told: Told, place: Place, started: Started, made: Made):
         self.machine, self.found, self.told, self.place, self.started, self.made = machine, found, told, place, started, made
         self.effective = started.number("CapEff")
 
@@ -111,10 +122,10 @@ class Comparer:
                 self._refused(question, state_of(answer) is State.OPEN)
 
     def _found(self, question: Question, way: str) -> Found:
-        parting = cover.cover(question, way, self.told)
+        parting = self.told.cover(question, way)
         if parting is None and question.kind in PATH_KINDS and way == "plain" and question.name in self.machine.links:
             parting = "links"
-        return Found(question, way, parting, () if parting else tuple(cover.near(question, self.told)))
+        return Found(question, way, parting, () if parting else self.told.near(question))
 
     def _was_tried(self, kind: str, question: str) -> bool:
         """Whether the probe came to any way of it."""
@@ -137,14 +148,17 @@ class Comparer:
                 ways += self._held(lambda held: held["uid"] == number, None)
         for key, tried in self.made.get(question, []):
             result = self.started.results.get(key)
-            if result is not None and tried.way not in ways and "plain" not in ways and (self._done(kind, name, tried, result) or self._passes(kind, tried)):
+            if result is None or tried.way in ways or "plain" in ways:
+                continue
+            if self._done(kind, name, tried, result) or self._passes(kind, tried):
                 ways.append(tried.way)
         # what is done as the question says needs no way round
         return ["plain"] if "plain" in ways else list(dict.fromkeys(ways))
 
     def _passes(self, kind: str, tried: Try) -> bool:
         """Whether the kernel refuses it for the user namespace of this machine alone."""
-        return kind == "realtime" and bool(tried.asked) and bool(self.effective >> CAPABILITY["CAP_SYS_NICE"] & 1) and self.started.filters.verdict(*tried.asked).passes
+        holds = self.effective >> CAPABILITY["CAP_SYS_NICE"] & 1
+        return kind == "realtime" and tried.asked is not None and bool(holds) and self._passes_filters(*tried.asked)
 
     def _held(self, effective: Any, permitted: Any) -> list[str]:
         ways = []
@@ -201,6 +215,9 @@ class Comparer:
     def _passes_filters(self, number: int, arguments: Sequence[int], arch: int) -> bool:
         return number in NEVER_FILTERED and arch == X86_64 or self.started.filters.verdict(number, arguments, arch).passes
 
+    def _one_passes(self, made: Sequence[tuple[str, Try]]) -> bool:
+        return any(tried.asked is not None and self._passes_filters(*tried.asked) for _, tried in made)
+
     def _refused(self, question: Question, at_once: bool) -> None:
         kind, name = question.kind, question.name
         made = self.made.get(question.text, [])
@@ -209,32 +226,38 @@ class Comparer:
         number = numbers[0] if numbers else 0
         killed = any(result.killed == 31 for result in results)
         if not at_once:
-            reason = "not tried to the end: several steps, or a program has to make the calls"
+            reason = STEPS
         elif kind in PATH_KINDS and self.machine.without.get((kind, name)):
             without = self.machine.without[kind, name]
-            reason = _MACHINE_LACKS.get(without, "refused to root of this machine too")
-        elif parting := cover.closed_by(question, number, self.told):
+            reason = _MACHINE_LACKS.get(without, "refused without a sandbox too")
+        elif parting := self.told.closed_by(question, number):
             reason = parting
+        elif kind in PATH_KINDS and name in self.machine.links:
+            reason = "links"
         elif kind in PATH_KINDS and number in (1, 13) and not self.effective >> CAPABILITY["CAP_DAC_OVERRIDE"] & 1:
             reason = "file modes"
         elif kind == "cap":
-            reason = "not tried to the end: several steps, or a program has to make the calls"
-        elif kind == "socket" and number in (1, 13) and any(tried.asked and self.started.filters.verdict(*tried.asked).passes for _, tried in made):
-            reason = "a capability in the first user namespace"
-        elif kind == "socket" and number in _KERNEL_LACKS and any(tried.asked and self.started.filters.verdict(*tried.asked).passes for _, tried in made):
+            reason = STEPS
+        elif kind == "socket" and number in (1, 13) and self._one_passes(made):
+            reason = FIRST_NAMESPACE
+        elif kind == "socket" and number in _KERNEL_LACKS and self._one_passes(made):
             reason = "this kernel lacks the family"
         elif kind == "realtime" and number == 1:
-            reason = "a capability in the first user namespace"
+            reason = FIRST_NAMESPACE
+        elif kind == "call" and not self._one_passes(made):
+            reason = "the filter of this version refuses the call"
         elif kind == "call" and not all(self.effective >> CAPABILITY[it] & 1 for it in self.place.call_capabilities.get(name, ())):
-            reason = "not tried to the end: several steps, or a program has to make the calls"
+            reason = STEPS
         else:
-            reason = "unexplained"
+            reason = UNEXPLAINED
             how = "killed" if killed else ERRNO.get(number, f"errno {number}")
             self.found.unexplained.append(f"{question.text} ({how})")
         self.found.refused[reason] += 1
 
 
-def plan_of(comparison: Comparison, machine: Machine, mounts: Sequence[PlannedMount], rows: Mapping[str, str], started: Started, told: Sequence[Parting]) -> None:
+def plan_of(
+    comparison: Comparison, machine: Machine, mounts: Sequence[PlannedMount], rows: Mapping[str, str], started: Started, told: Told
+) -> None:
     """The plan against mountinfo, row by row: what is there, whether it can be written, whether it can be executed."""
     entries = {entry.place: entry for entry in mounts}
     order = sorted(entries, key=len, reverse=True)
@@ -249,11 +272,7 @@ def plan_of(comparison: Comparison, machine: Machine, mounts: Sequence[PlannedMo
         # ProcSubset=pid leaves nothing there but processes
         if "subset=pid" in there.super_options and path != there.place:
             continue
-        is_hidden = "/inaccessible/" in there.source
-        said = entry.what
-        seen = "hidden" if is_hidden else "empty" if there.kind == "tmpfs" and here.kind != "tmpfs" or (there.kind == "tmpfs" and there.device != here.device) else "host"
-        if "systemd-private" in there.source:
-            seen = "empty"
+        said, seen = entry.what, _what(here, there)
         if said != seen and not (said == "empty" and seen == "host" and path != entry.place):
             differing.setdefault((f"{said} here, {seen} there", "DENIED" if seen == "host" else "OPEN"), []).append(path)
             continue
@@ -271,8 +290,17 @@ def plan_of(comparison: Comparison, machine: Machine, mounts: Sequence[PlannedMo
                 differing.setdefault(key, []).append(path)
     for (what, direction), paths in sorted(differing.items()):
         for path in paths:
-            parting = cover.cover_plan(path, told) if direction == "DENIED" else "open here"
+            parting = told.of_plan(path) if direction == "DENIED" else "open here"
             comparison.plan.append((path, what, parting or "NEW"))
+
+
+def _what(here: Mount, there: Mount) -> str:
+    """What is at a path, by the mounts that cover it for PID 1 and for the service."""
+    if "/inaccessible/" in there.source:
+        return "hidden"
+    if "systemd-private" in there.source:
+        return "empty"
+    return "empty" if there.kind == "tmpfs" and there.device != here.device else "host"
 
 
 def _mode(is_writable: bool) -> str:
@@ -283,7 +311,7 @@ def _run(is_executable: bool) -> str:
     return "exec" if is_executable else "noexec"
 
 
-def held_of(comparison: Comparison, launch: Launched, held: Sequence[str], started: Started, told: Sequence[Parting]) -> None:
+def held_of(comparison: Comparison, launch: Launched, held: Sequence[str], started: Started, told: Told) -> None:
     """Ids, effective set and no_new_privs against the status."""
     status = started.status
     pairs = [
@@ -293,14 +321,13 @@ def held_of(comparison: Comparison, launch: Launched, held: Sequence[str], start
     for what, said, seen in pairs:
         if said != seen:
             is_open = what != "no_new_privs" or seen == "0"
-            names = ("nnp-from-filters",) if seen == "0" else ("nnp-from-more",)
-            parting = cover.cover_name(names, told) if what == "no_new_privs" else None
+            parting = told.first("nnp-from-filters" if seen == "0" else "nnp-from-more") if what == "no_new_privs" else None
             comparison.held.append((f"{what} {said} here, {seen} there", parting or ("NEW" if is_open else "open here")))
     said_set = sum(1 << CAPABILITY[name] for name in held)
     seen_set = started.number("CapEff")
     more, less = seen_set & ~said_set, said_set & ~seen_set
     if more:
-        comparison.held.append((f"effective there alone: {_names(more)}", cover.cover_name(("nnp-from-filters", "capability-words"), told) or "NEW"))
+        comparison.held.append((f"effective there alone: {_names(more)}", told.first("nnp-from-filters", "capability-words") or "NEW"))
     if less:
         comparison.held.append((f"effective here alone: {_names(less)}", "open here"))
 
@@ -309,7 +336,7 @@ def _names(bits: int) -> str:
     return " ".join(name for name, number in CAPABILITY.items() if bits >> number & 1)
 
 
-def filters_of(comparison: Comparison, programs: Sequence[bytes], names: Mapping[int, str], started: Started, told: Sequence[Parting]) -> None:
+def filters_of(comparison: Comparison, programs: Sequence[bytes], names: Mapping[int, str], started: Started, told: Told) -> None:
     """The verdict of each number of x86-64 by the programs here and by those there."""
     here, there = Filters(programs).verdicts(), started.filters.verdicts()
     for number, said in sorted(here.items()):
@@ -320,13 +347,13 @@ def filters_of(comparison: Comparison, programs: Sequence[bytes], names: Mapping
             if said.passes == seen.passes:
                 direction = "answer"
             elif seen.passes:
-                direction = cover.cover(Question("call", name), "plain", told) or "NEW"
+                direction = told.cover(Question("call", name), "plain") or "NEW"
             else:
                 direction = "open here"
             comparison.verdicts.append((f"{name} {said.text} here, {seen.text} there", direction))
 
 
-def tried_of(comparison: Comparison, started: Started, made: Mapping[str, list[tuple[str, Try]]], numbers: Mapping[str, int]) -> None:
+def tried_of(comparison: Comparison, started: Started, made: Made, numbers: Mapping[str, int]) -> None:
     """What the kernel answered to each number that was tried, against what its filters say."""
     verdicts = started.filters.verdicts((-1,) * 6)
     for name, number in numbers.items():
@@ -337,7 +364,10 @@ def tried_of(comparison: Comparison, started: Started, made: Mapping[str, list[t
             verdict = Verdict(ALLOW) if number in NEVER_FILTERED else verdicts[number]
             comparison.tried_numbers += 1
             value = result.steps.get(0)
-            agrees = (result.killed == 31) if verdict.text == "killed" else value == -verdict.errno if verdict.text.startswith("errno") else result.killed != 31
+            if verdict.passes:
+                agrees = result.killed != 31
+            else:
+                agrees = value == -verdict.errno if verdict.errno else result.killed == 31
             if not agrees:
                 comparison.otherwise_tried.append(f"{name}: {verdict.text} by the filters, {result.last} by the kernel")
 

@@ -5,7 +5,7 @@ A parting of `tools/lentsheep` names the answers that it touches. It covers a qu
 from __future__ import annotations
 
 import re
-from typing import Iterable, Sequence
+from typing import Iterable
 
 from lentsheep.partings import Direction, Parting
 from lentsheep.values import PATH_KINDS, Question
@@ -40,57 +40,55 @@ _BY_WAY: dict[str, tuple[str, ...]] = {
     "shm": ("wx-programs",),
     "executable-already": ("mdwe-prctl",),
 }
-_OF_WAYS = {name for names in _BY_WAY.values() for name in names} - {"nnp-from-filters", "mdwe-prctl", "families-deny-bits"}
+# asks-manager speaks of another process, which no try asks
+_OF_WAYS = {name for names in _BY_WAY.values() for name in names} - {"nnp-from-filters", "mdwe-prctl", "families-deny-bits"} | {"asks-manager"}
 
 #: Of what the plan says otherwise: the partings that may be why, with the paths that they speak of.
 _OF_PLAN = (
     ("run-writable", r"/run(/|$)"), ("strict-homes", r"/(home|root|run/user)(/|$)"), ("tunables-cgroup", r"/sys/fs/(cgroup|selinux)(/|$)"),
-    ("sys-writable", r"/sys(/|$)"), ("memory-pressure", r"/sys/fs/cgroup(/|$)"), ("device-folders", r"/dev(/|$)"), ("old-names-open", r""), ("flags-apart", r""),
-    ("linked-folders", r""), ("beaten", r""), ("folders-open", r""), ("shared-tmp", r"/(var/)?tmp(/|$)"), ("disconnected-tmp", r"/(var/)?tmp(/|$)"), ("links", r""),
+    ("sys-writable", r"/sys(/|$)"), ("memory-pressure", r"/sys/fs/cgroup(/|$)"), ("device-folders", r"/dev(/|$)"),
+    ("shared-tmp", r"/(var/)?tmp(/|$)"), ("disconnected-tmp", r"/(var/)?tmp(/|$)"),
+    *((name, r"") for name in ("old-names-open", "flags-apart", "linked-folders", "beaten", "folders-open", "links")),
 )  # fmt: skip
-_NO_NEW_PRIVS = ("nnp-from-filters", "nnp-from-more")
 
 
-def _touches(parting: Parting, question: Question) -> bool:
-    answers = getattr(parting, "answers", None)
-    return answers is not None and question in answers
+class Told:
+    """The partings that views tell of a unit."""
 
+    def __init__(self, partings: Iterable[Parting]):
+        self._each = [(parting.name, parting.direction, frozenset(getattr(parting, "answers", None) or ())) for parting in partings]
+        self.names = {name for name, _, _ in self._each}
 
-def cover(question: Question, way: str, told: Sequence[Parting]) -> str | None:
-    """The name of the parting that covers it; None where there is none."""
-    for parting in told:
-        if parting.direction == Direction.OPEN_HERE or not _touches(parting, question):
-            continue
-        if parting.name in _BY_WAY[way] if way in _BY_WAY else parting.name not in _OF_WAYS:
-            return parting.name
-    return None
+    def cover(self, question: Question, way: str) -> str | None:
+        """The parting that covers a question that was reached this way; None where there is none."""
+        # a capability in a user namespace of one's own
+        if way == "user-namespace" and question.kind == "cap":
+            return self.first("user-namespaces")
+        for name, direction, answers in self._each:
+            if direction != Direction.OPEN_HERE and question in answers:
+                if name in _BY_WAY[way] if way in _BY_WAY else name not in _OF_WAYS:
+                    return name
+        return None
 
+    def near(self, question: Question) -> tuple[str, ...]:
+        """The partings that touch a question without speaking of the way."""
+        return tuple(name for name, direction, answers in self._each if direction != Direction.OPEN_HERE and question in answers)
 
-def near(question: Question, told: Sequence[Parting]) -> list[str]:
-    """The partings that touch a question without speaking of the way."""
-    return [parting.name for parting in told if parting.direction != Direction.OPEN_HERE and _touches(parting, question)]
+    def of_plan(self, path: str) -> str | None:
+        """The parting by which a path may be open there that the plan closes."""
+        return next((name for name, pattern in _OF_PLAN if name in self.names and re.match(pattern, path)), None)
 
+    def first(self, *wanted: str) -> str | None:
+        """The first of some names that is told."""
+        return next((name for name in wanted if name in self.names), None)
 
-def cover_plan(path: str, told: Iterable[Parting]) -> str | None:
-    """The parting by which a path may be open there that the plan closes."""
-    names = {parting.name for parting in told}
-    return next((name for name, pattern in _OF_PLAN if name in names and re.match(pattern, path)), None)
-
-
-def cover_name(wanted: Iterable[str], told: Iterable[Parting]) -> str | None:
-    """The first of some names that is told."""
-    names = {parting.name for parting in told}
-    return next((name for name in wanted if name in names), None)
-
-
-def closed_by(question: Question, errno: int, told: Sequence[Parting]) -> str | None:
-    """The parting that says why something open here is refused there."""
-    for parting in told:
-        if parting.direction != Direction.DENIED_HERE and _touches(parting, question):
-            return parting.name
-    names = [parting.name for parting in told]
-    if question.kind in PATH_KINDS and errno in (1, 13) and "file-modes" in names:
-        return "file-modes"
-    if question.kind in ("cap", "uid", "gid") and "nnp-from-more" in names:
-        return "nnp-from-more"
-    return "not-judged" if question.kind in PATH_KINDS and "not-judged" in names else None
+    def closed_by(self, question: Question, errno: int) -> str | None:
+        """The parting that says why something open here is refused there."""
+        for name, direction, answers in self._each:
+            if direction != Direction.DENIED_HERE and question in answers:
+                return name
+        if question.kind in PATH_KINDS and errno in (1, 13) and "file-modes" in self.names:
+            return "file-modes"
+        if question.kind in ("cap", "uid", "gid") and "nnp-from-more" in self.names:
+            return "nnp-from-more"
+        return "not-judged" if question.kind in PATH_KINDS and "not-judged" in self.names else None

@@ -79,7 +79,10 @@ class Program:
                 continue
             if kind == 0:
                 mode = code & 0xE0
-                held = number if mode == 0 else (None if number == 0 else words[number // 4 - 1]) if mode == 0x20 else memory[number] if mode == 0x60 else 64
+                if mode == 0x20:
+                    held = words[number // 4 - 1] if number else None
+                else:
+                    held = number if mode == 0 else memory[number] if mode == 0x60 else 64
             elif kind == 1:
                 index = number if code & 0xE0 == 0 else memory[number] if code & 0xE0 == 0x60 else 64
             elif kind in (2, 3):
@@ -95,7 +98,11 @@ class Program:
 
 
 def _holds(test: int, held: int, operand: int) -> bool:
-    return held == operand if test == 0x10 else held > operand if test == 0x20 else held >= operand if test == 0x30 else held & operand != 0
+    if test == 0x10:
+        return held == operand
+    if test == 0x40:
+        return held & operand != 0
+    return held > operand if test == 0x20 else held >= operand
 
 
 def _those(test: int, operand: int, numbers: frozenset[int]) -> frozenset[int]:

@@ -14,11 +14,13 @@ from typing import Any, Iterable, Sequence
 
 from lentsheep.causes import State, held_capabilities, state_of
 from lentsheep.gather import view_of
-from lentsheep.program import Program
+from lentsheep.program import Program, Run
+from lentsheep.report import parse
 from lentsheep.values import Launched, Plan, Report
 
 from . import compare, kernel, service, tries
-from .filters import X86_64
+from .cover import Told
+from .filters import I386, X86_64
 from .machine import Machine, Unstarted
 from .tries import CAPABLE, PROBE, SETUID, WRITABLE, Place, Try
 
@@ -47,16 +49,21 @@ class Fault(Exception):
 def build_probe(folder: str) -> None:
     """Builds the probe, and the copy whose text can be written."""
     for name, more in (("probe", []), ("wx", ["-Wl,-N"])):
-        built = subprocess.run(["gcc", *FLAGS, *more, "-o", f"{folder}/{name}", str(HERE / "probe.c")], capture_output=True, text=True, check=False)
+        words = ["gcc", *FLAGS, *more, "-o", f"{folder}/{name}", str(HERE / "probe.c")]
+        built = subprocess.run(words, capture_output=True, text=True, check=False)
         if built.returncode:
             raise Fault(f"the probe could not be built: {built.stderr.strip().splitlines()[:1]}")
 
 
 def furnish(root: str) -> None:
-    """Puts the probe, its copies with privileges, and some files into the root."""
+    """Puts the probe, its copies with privileges, and some files into the root, where they are not there as they are now."""
+    with contextlib.suppress(FileNotFoundError):
+        if os.stat(root + WRITABLE).st_mtime > os.stat(HERE / "probe.c").st_mtime:
+            return
     with tempfile.TemporaryDirectory() as folder:
         build_probe(folder)
-        for target, name, mode in ((PROBE, "probe", 0o755), (SETUID, "probe", 0o4755), (CAPABLE, "probe", 0o755), (WRITABLE, "wx", 0o755)):
+        copies = ((PROBE, "probe", 0o755), (SETUID, "probe", 0o4755), (CAPABLE, "probe", 0o755), (WRITABLE, "wx", 0o755))
+        for target, name, mode in copies:
             path = root + target
             with contextlib.suppress(FileNotFoundError):
                 os.unlink(path)
@@ -65,7 +72,8 @@ def furnish(root: str) -> None:
             os.chmod(path, mode)
     # VFS_CAP_REVISION_2 without the effective bit: all capabilities permitted
     everything = (1 << len(tries.CAPABILITIES)) - 1
-    os.setxattr(root + CAPABLE, "security.capability", struct.pack("<IIIII", 0x02000000, everything & 0xFFFFFFFF, 0, everything >> 32, 0))
+    attribute = struct.pack("<IIIII", 0x02000000, everything & 0xFFFFFFFF, 0, everything >> 32, 0)
+    os.setxattr(root + CAPABLE, "security.capability", attribute)
     for path, mode in FURNISHED.items():
         os.makedirs(os.path.dirname(root + path), exist_ok=True)
         Path(root + path).write_text("lentsheep\n")
@@ -98,6 +106,18 @@ def calls_of(path: Path) -> tuple[dict[str, int], dict[str, list[str]], dict[str
     return native, asked, families, other
 
 
+class Runner(Program):
+    """The program in a folder; a build that LENTSHEEP_PROGRAM names is run without the shell around it."""
+
+    def run(self, *words: str) -> Run:
+        build = os.environ.get("LENTSHEEP_PROGRAM")
+        if not build:
+            return super().run(*words)
+        ended = subprocess.run([build, *words], cwd=self.folder, stdout=subprocess.PIPE, check=False)
+        text = ended.stdout.decode("utf-8", "surrogateescape")
+        return Run(words, text, parse(text, words[0]), ended.returncode)
+
+
 class Harness:
     """One root with its machine, its site and what PID 1 sees."""
 
@@ -111,10 +131,9 @@ class Harness:
     def __enter__(self) -> "Harness":
         try:
             furnish(self.root)
-            self.machine = self._stack.enter_context(Machine(self.root))
+            self.machine = self._stack.enter_context(Machine(self.root, self._place_units))
             self.folder = self._stack.enter_context(tempfile.TemporaryDirectory(prefix="lentsheep-here."))
             self.version = self.machine.version()
-            self._place_units()
             self._make_site()
             self._look()
         except BaseException:
@@ -133,11 +152,21 @@ class Harness:
         return run.printed
 
     def _text_of(self, unit: str) -> str:
-        return self.machine.inside("systemctl", "cat", unit).stdout
+        """The text of the unit's files, in no order."""
+        prefix, at, _ = unit.partition("@")
+        names = [unit, f"{prefix}@.service"] if at else [unit]
+        found = ""
+        for place in ("etc", "run", "usr/lib"):
+            for name in names:
+                file = Path(self.root, place, "systemd/system", name)
+                for path in (file, *sorted(Path(f"{file}.d").glob("*.conf"))):
+                    with contextlib.suppress(OSError):
+                        found += path.read_text(errors="replace") + "\n"
+        return found
 
     def _place_units(self) -> None:
         """Writes made units into the root's run/, drop-ins for all, and units of the harness's own."""
-        folder = Path(self.machine.path("systemd/system"))
+        folder = Path(self.root, "run/systemd/system")
         for given in self._given:
             if "/" in given:
                 shutil.copyfile(given, folder / os.path.basename(given))
@@ -145,14 +174,18 @@ class Harness:
             self.units.append(given if "." in given else given + ".service")
         (folder / PLAIN).write_text("[Service]\nExecStart=/bin/true\n")
         (folder / PEER.format("")).write_text(PEER_TEXT)
-        self.machine.systemctl("daemon-reload")
         for unit in [*self.units, PLAIN]:
-            service.prepare(self.machine, unit, self._text_of(unit))
-        self.machine.systemctl("daemon-reload")
-        # what is written now is judged, and not started
+            service.prepare(self.root, unit, self._text_of(unit))
+
+    def _link_files(self) -> None:
+        """Links what the program reads; a twist is judged and not started, so it is in a copy of run/ alone."""
+        for name in ("etc", "run", "usr"):
+            os.symlink(f"{self.root}/{name}", f"{self.folder}/{name}")
         if self._twists:
+            os.unlink(f"{self.folder}/run")
+            shutil.copytree(f"{self.root}/run/systemd/system", f"{self.folder}/run/systemd/system", symlinks=True)
             for unit in self.units:
-                Path(self.machine.path(f"systemd/system/{unit}.d"), TWIST).write_text("\n".join(["[Service]", *self._twists]) + "\n")
+                Path(self.folder, f"run/systemd/system/{unit}.d", TWIST).write_text("\n".join(["[Service]", *self._twists]) + "\n")
 
     def _make_site(self) -> None:
         site = subprocess.run(
@@ -162,11 +195,10 @@ class Harness:
         if site.returncode:
             raise Fault(site.stderr.decode(errors="replace").strip())
         Path(self.folder, "site.toml").write_bytes(site.stdout)
-        for name in ("etc", "run", "usr"):
-            os.symlink(f"{self.root}/{name}", f"{self.folder}/{name}")
+        self._link_files()
         self.table = table_of(site.stdout.decode("utf-8", "replace"))
         os.symlink(self.table, f"{self.folder}/calls.txt")
-        self.program = Program(self.folder)
+        self.program = Runner(self.folder)
         self.calls, self.call_capabilities, self.families, self.calls32 = calls_of(self.table)
         if not self.calls32:
             self.calls32 = calls_of(TABLES / "calls2.txt")[3]
@@ -186,7 +218,8 @@ class Harness:
         asked: dict[str, Try] = {}
         meaning: dict[str, tuple[str, str]] = {}
         for row in self.rows:
-            for kind, step in (("see", f"S {tries.word(row)}"), ("read", f"2 {tries.word(row)} 0x800"), ("write", f"2 {tries.word(row)} 0x801"), ("exec", f"59 {tries.word(row)} -1 0")):
+            name = tries.word(row)
+            for kind, step in (("see", f"S {name}"), ("read", f"2 {name} 0x800"), ("write", f"2 {name} 0x801"), ("exec", f"59 {name} -1 0")):
                 key = f"t{len(asked)}"
                 asked[key] = Try("plain", [step])
                 meaning[key] = (kind, row)
@@ -203,9 +236,10 @@ class Harness:
                 identities[row] = value
             without[kind, row] = 0 if value >= 0 or (kind == "exec" and value == tries.FAULT) else -value
         steps = {key: seen.results[key].steps.get(0, -1) for key in ("t999998", "t999999") if key in seen.results}
-        own = [row for row in self.rows if os.path.islink(self.root + row) and os.readlink(self.root + row).startswith(("/proc/", "../proc/"))]
+        own = [row for row in self.rows if os.path.islink(self.root + row) and _leads_to_proc(os.readlink(self.root + row))]
         links = frozenset(row for row in self.rows if os.path.realpath(self.root + row) != self.root + row)
-        self.seen = compare.Machine(identities, without, seen.mounts, own, links, steps.get("t999998", -1) > 0, steps.get("t999999", -1) > 0, int(self.version.split(".")[0]))
+        has_x32, has_i386 = (steps.get(key, -1) > 0 for key in ("t999998", "t999999"))
+        self.seen = compare.Machine(identities, without, seen.mounts, own, links, has_x32, has_i386)
 
     def peers(self, uid: int) -> list[int]:
         """A service of this user that runs beside, by its number in the machine."""
@@ -235,8 +269,8 @@ class Harness:
         writable = [mount.place for mount in plan.mounts if mount.writable]
         folders = [path for path in ("/tmp", "/var/tmp", "/dev/shm", "/run", "/var/lib/lentsheep", "/root") if path not in writable]
         return Place(
-            launch.uid, launch.gid, self.calls, self.calls32, self.call_capabilities, self.families, self.peers(launch.uid), self.handles(denied),
-            sorted((mount.place for mount in plan.mounts), key=len, reverse=True), self.capable_rows, [*writable[:12], *folders],
+            launch.uid, launch.gid, self.calls, self.calls32, self.call_capabilities, self.families, self.peers(launch.uid),
+            self.handles(denied | {"/"}), sorted((mount.place for mount in plan.mounts), key=len, reverse=True), self.capable_rows, [*writable[:12], *folders],
         )  # fmt: skip
 
     def run(self, unit: str, with_questions: bool = True) -> compare.Comparison:
@@ -251,7 +285,7 @@ class Harness:
         view = view_of(self.program, run)
         plan = view.plan
         # files that are handed in are the harness's own doing
-        told = [parting for parting in view.partings if parting.name != "handed-in"]
+        told = Told(parting for parting in view.partings if parting.name != "handed-in")
         made: dict[str, list[tuple[str, Try]]] = {}
         asked: dict[str, Try] = {}
         if with_questions:
@@ -267,7 +301,8 @@ class Harness:
             compare.tried_of(found, started, made, self.calls)
         compare.plan_of(found, self.seen, plan.mounts, self.rows, started, told)
         compare.held_of(found, report.launch, held_capabilities(report), started, told)
-        programs = [b"".join(bytes.fromhex(step.text) for step in entry.program) for entry in self.told("filter", unit).filters if entry.abi == 0]
+        native = [entry.program for entry in self.told("filter", unit).filters if entry.abi == 0]
+        programs = [b"".join(bytes.fromhex(step.text) for step in program) for program in native]
         compare.filters_of(found, programs, self.names, started, told)
         return found
 
@@ -280,15 +315,17 @@ class Harness:
     def _tries(self, report: Report, place: Place) -> tuple[dict[str, list[tuple[str, Try]]], dict[str, Try]]:
         made: dict[str, list[tuple[str, Try]]] = {"held": []}
         ordered: list[tuple[str, Try]] = [("held", tried) for tried in tries.held_tries(place)]
+        ordered += [("gates", tried) for tried in tries.gates(place)]
         for answer in report.answers:
             question, kind, name = answer.question.text, answer.question.kind, answer.question.name
             in_steps = state_of(answer) is State.STEPS
             attacks = not answer.is_open or in_steps
             ordered += [(question, tried) for tried in tries.tries_of(place, kind, name, attacks)]
             if answer.calls and kind != "cap":
-                steps = tries.printed(place, answer.calls)
-                if steps:
-                    ordered.append((question, _printed(kind, steps, in_steps)))
+                for type_ in tries.SOCKET_TYPES if kind == "socket" else (0,):
+                    steps = tries.printed(place, answer.calls, type_)
+                    if steps:
+                        ordered.append((question, _printed(kind, steps, in_steps)))
         ordered.sort(key=lambda pair: pair[1].late)
         asked: dict[str, Try] = {}
         for question, tried in ordered:
@@ -296,6 +333,10 @@ class Harness:
             asked[key] = tried
             made.setdefault(question, []).append((key, tried))
         return made, asked
+
+
+def _leads_to_proc(target: str) -> bool:
+    return target.startswith(("/proc/", "../proc/"))
 
 
 def _printed(kind: str, steps: list[str], in_steps: bool) -> Try:
@@ -309,7 +350,8 @@ def _printed(kind: str, steps: list[str], in_steps: bool) -> Try:
         last[2] = "-1"
         return Try("printed", [*steps[:-1], " ".join(last)], accept="fault", late=in_steps)
     if kind == "call":
-        return Try("printed", [*steps[:-1], "39"], asked=(int(last[0]), (), X86_64), late=in_steps)
+        asked = (int(last[0].lstrip("i")), (), I386 if last[0].startswith("i") else X86_64)
+        return Try("printed", [*steps[:-1], "39"], asked=asked, late=in_steps)
     return Try("printed", steps, late=in_steps)
 
 

@@ -1,7 +1,7 @@
 """A root folder, started: systemd is PID 1 in user, PID, mount, network, IPC, UTS and cgroup namespaces of this machine.
 
-`Machine(root)` is used with `with`. The root is written to: its `run` is emptied, and services make folders in it. Its ids are shown
-shifted (an id-mapped mount), so that its uid 0 is nobody on this machine. Nothing of this machine is mounted in it but devices such as
+`Machine(root, fill)` is used with `with`. The root is written to: its `run` is emptied, `fill()` is called, and services make folders
+in it. Its ids are shown shifted (an id-mapped mount), so that its uid 0 is nobody on this machine. Nothing of this machine is mounted in it but devices such as
 /dev/null.
 """
 from __future__ import annotations
@@ -14,18 +14,21 @@ import subprocess
 import tempfile
 import time
 from pathlib import Path
+from typing import Callable
 
 from . import kernel
 
 # ids of the root begin here on this machine
 FIRST_ID, IDS = 0x7A000000, 65536
 DEVICES = {"null": (1, 3), "zero": (1, 5), "full": (1, 7), "random": (1, 8), "urandom": (1, 9), "tty": (5, 0), "kmsg": (1, 11)}
+DEVICE_MOUNTS = (("pts", "devpts", "newinstance,ptmxmode=666,mode=620"), ("shm", "tmpfs", "mode=1777"), ("mqueue", "mqueue", None))
+ENVIRONMENT = {"container": "lentsheep", "PATH": "/usr/local/sbin:/usr/local/bin:/usr/sbin:/usr/bin", "SYSTEMD_LOG_TARGET": "null"}
 TARGET = "reality.target"
 TARGET_TEXT = """\
 [Unit]
 Description=What the harness starts first
 DefaultDependencies=no
-Wants=systemd-journald.socket systemd-journald-dev-log.socket dbus.socket
+Wants=systemd-journald.socket systemd-journald-dev-log.socket
 AllowIsolate=yes
 """
 RUN_FOLDERS = ("user", "lock", "systemd/system", "reality")
@@ -39,8 +42,9 @@ class Unstarted(Exception):
 class Machine:
     """One root that runs."""
 
-    def __init__(self, root: str):
+    def __init__(self, root: str, fill: Callable[[], None] = lambda: None):
         self.root = os.path.realpath(root)
+        self._fill = fill
         self.pid = 0
         self._outer = 0
         self._folder = ""
@@ -157,6 +161,7 @@ class Machine:
         for name in RUN_FOLDERS:
             os.makedirs(f"{run}/{name}", exist_ok=True)
         Path(f"{run}/systemd/system/{TARGET}").write_text(TARGET_TEXT)
+        self._fill()
 
     def _make_cgroup(self) -> str:
         for line in Path("/proc/self/mounts").read_text().splitlines():
@@ -237,12 +242,13 @@ class Machine:
         for name in DEVICES:
             Path(f"{view}/dev/{name}").touch()
             kernel.mount(f"/dev/{name}", f"{view}/dev/{name}", None, kernel.BIND)
-        for name, kind, options in (("pts", "devpts", "newinstance,ptmxmode=666,mode=620"), ("shm", "tmpfs", "mode=1777"), ("mqueue", "mqueue", None)):
+        for name, kind, options in DEVICE_MOUNTS:
             os.mkdir(f"{view}/dev/{name}")
             kernel.mount(name, f"{view}/dev/{name}", kind, 6, options)
         os.symlink("pts/ptmx", f"{view}/dev/ptmx")
-        for name, target in (("fd", "/proc/self/fd"), ("stdin", "/proc/self/fd/0"), ("stdout", "/proc/self/fd/1"), ("stderr", "/proc/self/fd/2")):
-            os.symlink(target, f"{view}/dev/{name}")
+        os.symlink("/proc/self/fd", f"{view}/dev/fd")
+        for number, name in enumerate(("stdin", "stdout", "stderr")):
+            os.symlink(f"/proc/self/fd/{number}", f"{view}/dev/{name}")
         kernel.pivot_into(view)
         os.setsid()
         null = os.open("/dev/null", os.O_RDWR)
@@ -252,5 +258,4 @@ class Machine:
         signal.pthread_sigmask(signal.SIG_SETMASK, ())
         for number in (signal.SIGPIPE, signal.SIGINT):
             signal.signal(number, signal.SIG_DFL)
-        environment = {"container": "lentsheep", "PATH": "/usr/local/sbin:/usr/local/bin:/usr/sbin:/usr/bin:/sbin:/bin", "SYSTEMD_LOG_TARGET": "null"}
-        os.execve("/usr/lib/systemd/systemd", ["/usr/lib/systemd/systemd", f"--unit={TARGET}", "--show-status=no"], environment)
+        os.execve("/usr/lib/systemd/systemd", ["/usr/lib/systemd/systemd", f"--unit={TARGET}", "--show-status=no"], ENVIRONMENT)

@@ -20,10 +20,12 @@ QUIET_SECONDS, WHOLE_SECONDS = 4.0, 180.0
 
 def dropin(unit: str, text: str) -> str:
     """The drop-in of a unit whose files say `text`: the probe in place of all commands, its input and its output."""
-    lines = ["[Unit]", "ConditionPathExists=", "AssertPathExists=", "RefuseManualStart=no", "[Service]", "Type=exec", "Restart=no", "WatchdogSec=0", "RemainAfterExit=no", "PIDFile=", "Sockets=", "TasksMax=infinity"]
+    lines = ["[Unit]", "ConditionPathExists=", "AssertPathExists=", "RefuseManualStart=no"]
+    lines += ["[Service]", "Type=exec", "Restart=no", "WatchdogSec=0", "RemainAfterExit=no", "PIDFile=", "Sockets=", "TasksMax=infinity"]
     # the probe makes children; limits are not judged
     lines += [f"Limit{key}=infinity" for key in ("NPROC", "AS", "FSIZE", "NOFILE", "CPU", "DATA", "MEMLOCK")]
-    lines += [f"{key}=" for key in ("ExecCondition", "ExecStartPre", "ExecStart", "ExecStartPost", "ExecReload", "ExecStop", "ExecStopPost")]
+    commands = ("ExecCondition", "ExecStartPre", "ExecStart", "ExecStartPost", "ExecReload", "ExecStop", "ExecStopPost")
+    lines += [f"{key}=" for key in commands]
     lines += [
         f"ExecStart={PROBE} hold", "TimeoutStartSec=30", "TTYPath=", f"StandardInput=file:/run/reality/{unit}.in",
         f"StandardOutput=append:/run/reality/{unit}.out", "StandardError=null",
@@ -52,7 +54,8 @@ def mounts_of(text: str) -> list[Mount]:
         first, _, last = line.partition(" - ")
         words = first.split()
         place, source = (re.sub(r"\\([0-7]{3})", lambda got: chr(int(got[1], 8)), words[at]) for at in (4, 3))
-        found.append(Mount(place, words[2], source, frozenset(words[5].split(",")), last.split()[0], frozenset(last.split()[-1].split(","))))
+        kind, *_, options = last.split()
+        found.append(Mount(place, words[2], source, frozenset(words[5].split(",")), kind, frozenset(options.split(","))))
     return found
 
 
@@ -82,12 +85,12 @@ class Started:
         return int(self.status[name].split()[0], base)
 
 
-def prepare(machine: Machine, unit: str, text: str) -> None:
-    """Writes the drop-in; a reload makes it known."""
-    folder = machine.path(f"systemd/system/{unit}.d")
+def prepare(root: str, unit: str, text: str) -> None:
+    """Writes the drop-in before systemd starts."""
+    folder = f"{root}/run/systemd/system/{unit}.d"
     os.makedirs(folder, exist_ok=True)
     Path(folder, DROPIN).write_text(dropin(unit, text))
-    Path(machine.path(f"reality/{unit}.in")).write_text("")
+    Path(f"{root}/run/reality/{unit}.in").write_text("")
 
 
 def start(machine: Machine, unit: str, tries: dict[str, Try] | None) -> Started:
@@ -102,7 +105,6 @@ def start(machine: Machine, unit: str, tries: dict[str, Try] | None) -> Started:
     if not pid:
         shown = machine.systemctl("show", "-p", "Result,ExecMainStatus,LoadError,LoadState", unit).stdout.split("\n")
         started.failure = " ".join([*told.stderr.split("\n")[:1], *filter(None, shown)])
-        machine.systemctl("reset-failed", unit)
         return started
     try:
         with kernel.stopped(pid):
@@ -173,6 +175,7 @@ def _is_alive(pid: int) -> bool:
 
 
 def _end(machine: Machine, unit: str, pid: int) -> None:
+    """Ends the processes; systemd sees it and puts the unit away."""
     try:
         os.kill(pid, signal.SIGKILL)
     except ProcessLookupError:
@@ -182,5 +185,3 @@ def _end(machine: Machine, unit: str, pid: int) -> None:
             os.kill(left, signal.SIGKILL)
         except ProcessLookupError:
             pass
-    machine.systemctl("stop", "--job-mode=ignore-dependencies", unit)
-    machine.systemctl("reset-failed", unit)
