@@ -40,13 +40,15 @@ _BY_WAY: dict[str, tuple[str, ...]] = {
     "shm": ("wx-programs",),
     "executable-already": ("mdwe-prctl",),
 }
-# asks-manager speaks of another process, which no try asks
-_OF_WAYS = {name for names in _BY_WAY.values() for name in names} - {"nnp-from-filters", "mdwe-prctl", "families-deny-bits"} | {"asks-manager"}
+# Names of a way that speak of what is done directly as well; and asks-manager, which speaks of another process.
+_ALSO_DIRECT = {"nnp-from-filters", "mdwe-prctl", "families-deny-bits"}
+_OF_WAYS = {name for names in _BY_WAY.values() for name in names} - _ALSO_DIRECT | {"asks-manager"}
 
 #: Of what the plan says otherwise: the partings that may be why, with the paths that they speak of.
 _OF_PLAN = (
-    ("run-writable", r"/run(/|$)"), ("strict-homes", r"/(home|root|run/user)(/|$)"), ("tunables-cgroup", r"/sys/fs/(cgroup|selinux)(/|$)"),
-    ("sys-writable", r"/sys(/|$)"), ("memory-pressure", r"/sys/fs/cgroup(/|$)"), ("device-folders", r"/dev(/|$)"),
+    ("run-writable", r"/run(/|$)"), ("strict-homes", r"/(home|root|run/user)(/|$)"),
+    ("tunables-cgroup", r"/sys/fs/(cgroup|selinux)(/|$)"), ("sys-writable", r"/sys(/|$)"),
+    ("memory-pressure", r"/sys/fs/cgroup(/|$)"), ("device-folders", r"/dev(/|$)"),
     ("shared-tmp", r"/(var/)?tmp(/|$)"), ("disconnected-tmp", r"/(var/)?tmp(/|$)"),
     *((name, r"") for name in ("old-names-open", "flags-apart", "linked-folders", "beaten", "folders-open", "links")),
 )  # fmt: skip

@@ -1,8 +1,8 @@
 """A root folder, started: systemd is PID 1 in user, PID, mount, network, IPC, UTS and cgroup namespaces of this machine.
 
 `Machine(root, fill)` is used with `with`. The root is written to: its `run` is emptied, `fill()` is called, and services make folders
-in it. Its ids are shown shifted (an id-mapped mount), so that its uid 0 is nobody on this machine. Nothing of this machine is mounted in it but devices such as
-/dev/null.
+in it. Its ids are shown shifted (an id-mapped mount), so that its uid 0 is nobody on this machine. Nothing of this machine is mounted
+in it but devices such as /dev/null.
 """
 from __future__ import annotations
 
