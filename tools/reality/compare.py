@@ -341,6 +341,8 @@ def filters_of(comparison: Comparison, programs: Sequence[bytes], names: Mapping
     here, there = Filters(programs).verdicts(), started.filters.verdicts()
     for number, said in sorted(here.items()):
         seen = there[number]
+        if number in NEVER_FILTERED:
+            continue
         comparison.numbers += 1
         if said != seen:
             name = names.get(number, f"#{number}")

@@ -205,7 +205,15 @@ class Harness:
         self.names = {number: name for name, number in self.calls.items()}
         self.rows = compare.rows_of(site.stdout.decode("utf-8", "surrogateescape"))
         self.dynamic = int(re.search(rb"^dynamic_uid\s*=\s*(\d+)", site.stdout, re.MULTILINE)[1])
+        self._make_folders()
         self.capable_rows = [row for row in self.rows if self._has_capabilities(row) and row != CAPABLE]
+
+    def _make_folders(self) -> None:
+        """Makes the rows of folders that systemd would make when their unit starts, so that PID 1 sees them from the beginning."""
+        for row, kind in self.rows.items():
+            if kind == "dir" and row.startswith(("/var/", "/run/", "/etc/")) and not os.path.lexists(self.root + row):
+                with contextlib.suppress(OSError):
+                    os.makedirs(self.root + row)
 
     def _has_capabilities(self, row: str) -> bool:
         try:
