@@ -9,6 +9,7 @@ import struct
 import subprocess
 import sys
 import tempfile
+import tomllib
 from pathlib import Path
 from typing import Any, Iterable, Sequence
 
@@ -16,9 +17,9 @@ from lentsheep.causes import State, held_capabilities, state_of
 from lentsheep.gather import view_of
 from lentsheep.program import Program, Run
 from lentsheep.report import parse
-from lentsheep.values import Launched, Plan, Report
+from lentsheep.values import PATH_KINDS, Launched, Plan, Report
 
-from . import compare, files, kernel, printed, questions, service, tries
+from . import compare, files, found, kernel, printed, questions, service, surroundings, tries
 from .cover import Told
 from .filters import I386, X86_64
 from .machine import Machine, Unstarted
@@ -203,7 +204,7 @@ class Harness:
         if not self.calls32:
             self.calls32 = calls_of(TABLES / "calls2.txt")[3]
         self.names = {number: name for name, number in self.calls.items()}
-        self.rows = compare.rows_of(site.stdout.decode("utf-8", "surrogateescape"))
+        self.rows = {row["path"]: row["kind"] for row in tomllib.loads(site.stdout.decode())["row"]}
         self.dynamic = int(re.search(rb"^dynamic_uid\s*=\s*(\d+)", site.stdout, re.MULTILINE)[1])
         self._make_folders()
         self.capable_rows = [row for row in self.rows if self._has_capabilities(row) and row != CAPABLE]
@@ -248,7 +249,7 @@ class Harness:
         own = [row for row in self.rows if os.path.islink(self.root + row) and _leads_to_proc(os.readlink(self.root + row))]
         links = frozenset(row for row in self.rows if os.path.realpath(self.root + row) != self.root + row)
         has_x32, has_i386 = (numbers.get(key, -1) > 0 for key in ("t999998", "t999999"))
-        self.seen = compare.Machine(identities, without, seen.mounts, own, links, has_x32, has_i386)
+        self.seen = found.Machine(identities, without, seen.mounts, own, links, has_x32, has_i386)
 
     def peers(self, uid: int) -> list[int]:
         """A service of this user that runs beside, by its number in the machine."""
@@ -275,7 +276,7 @@ class Harness:
         """What the tries of a unit rest on."""
         launch = report.launch
         closed = [answer.question for answer in report.answers if not answer.is_open]
-        denied = {question.name for question in closed if question.kind in compare.PATH_KINDS}
+        denied = {question.name for question in closed if question.kind in PATH_KINDS}
         writable = [mount.place for mount in plan.mounts if mount.writable]
         folders = [path for path in ("/tmp", "/var/tmp", "/dev/shm", "/run", "/var/lib/lentsheep", "/root") if path not in writable]
         return Place(
@@ -284,7 +285,7 @@ class Harness:
             self.capable_rows, [*writable[:12], *folders],
         )  # fmt: skip
 
-    def run(self, unit: str, with_questions: bool = True) -> compare.Comparison:
+    def run(self, unit: str, with_questions: bool = True) -> found.Comparison:
         """Judges, starts and compares a unit: all questions, or ids, mounts and filters alone."""
         run = self.program.run("judge", unit)
         report = run.printed
@@ -292,7 +293,7 @@ class Harness:
             raise Fault(f"./sandbox judge {unit}: status {run.status}")
         if report.refusal or not isinstance(report.launch, Launched):
             why = report.refusal.text if report.refusal else f"launch {report.launch}"
-            return compare.Comparison(unit, refusal=why, failure=service.start(self.machine, unit, None).failure)
+            return found.Comparison(unit, refusal=why, failure=service.start(self.machine, unit, None).failure)
         view = view_of(self.program, run)
         plan = view.plan
         # files that are handed in are the harness's own doing
@@ -304,18 +305,18 @@ class Harness:
             made, asked = self._tries(report, place)
         started = service.start(self.machine, unit, asked)
         if started.failure:
-            return compare.Comparison(unit, failure=started.failure)
+            return found.Comparison(unit, failure=started.failure)
         self._same_dynamic(started)
-        found = compare.Comparison(unit)
+        comparison = found.Comparison(unit)
         if with_questions:
-            compare.Comparer(self.seen, found, told, place, started, made).compare(report.answers)
-            compare.tried_of(found, started, made, self.calls)
-        compare.plan_of(found, self.seen, plan.mounts, self.rows, started, told)
-        compare.held_of(found, report.launch, held_capabilities(report), started, told)
+            compare.Comparer(self.seen, comparison, told, place, started, made).compare(report.answers)
+            surroundings.tried_of(comparison, started, made, self.calls)
+        surroundings.plan_of(comparison, self.seen, plan.mounts, self.rows, started, told)
+        surroundings.held_of(comparison, report.launch, held_capabilities(report), started, told)
         native = [entry.program for entry in self.told("filter", unit).filters if entry.abi == 0]
         programs = [b"".join(bytes.fromhex(step.text) for step in program) for program in native]
-        compare.filters_of(found, programs, self.names, started, told)
-        return found
+        surroundings.filters_of(comparison, programs, self.names, started, told)
+        return comparison
 
     def _same_dynamic(self, started: service.Started) -> None:
         """A dynamic id of the machine is the one that the site has for all."""

@@ -4,7 +4,8 @@ from __future__ import annotations
 from collections import Counter
 from typing import Sequence
 
-from .compare import UNEXPLAINED, Comparison
+from .compare import UNEXPLAINED
+from .found import Comparison
 from .tries import WAYS
 
 MOST_NAMES = 4
