@@ -160,6 +160,9 @@ class Comparer:
             reason = _MACHINE_LACKS.get(without, "refused without a sandbox too")
         elif parting := self.told.closed_by(question, number):
             reason = parting
+        elif kind in PATH_KINDS and number == 2:
+            # a folder of RuntimeDirectory= goes with its unit
+            reason = _MACHINE_LACKS[number]
         elif kind in PATH_KINDS and name in self.machine.links:
             reason = "links"
         elif kind in PATH_KINDS and number in (1, 13) and not self.effective >> CAPABILITY["CAP_DAC_OVERRIDE"] & 1:

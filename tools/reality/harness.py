@@ -1,11 +1,10 @@
-"""A run: a root is started, its units are judged and started, and the two are compared."""
+"""Starts a root, judges its units and starts them there, and compares the two."""
 from __future__ import annotations
 
 import contextlib
 import os
 import re
 import shutil
-import struct
 import subprocess
 import sys
 import tempfile
@@ -15,96 +14,25 @@ from typing import Any, Iterable, Sequence
 
 from lentsheep.causes import State, held_capabilities, state_of
 from lentsheep.gather import view_of
+from lentsheep.partings import files_in_force, partings_by_text
 from lentsheep.program import Program, Run
 from lentsheep.report import parse
-from lentsheep.values import PATH_KINDS, Launched, Plan, Report
+from lentsheep.values import PATH_KINDS, Launched, Plan, Replay, Report
 
 from . import compare, files, found, kernel, printed, questions, service, surroundings, tries
 from .cover import Told
 from .filters import I386, X86_64
+from .furnish import FURNISHED, Fault, furnish
 from .machine import Machine, Unstarted
-from .tries import CAPABLE, PROBE, SETUID, WRITABLE, Place, Try
+from .table import TABLES, calls_of, table_of
+from .tries import CAPABLE, PROBE, Place, Try
 
 TOP = kernel.TOP
-HERE = Path(__file__).resolve().parent
-TABLES = TOP / "tables" / "x86-64"
-FLAGS = (
-    "-static -nostdlib -fno-pie -no-pie -O1 -fno-stack-protector -fcf-protection=none -Wall -Wextra -Werror -Wl,-z,noexecstack "
-    "-Wl,--build-id=none -Wl,--section-start=.go=0x10000000"
-).split()
-# what is put into a root, so that there is something to hide: secrets, data and a home
-FURNISHED = {
-    "/srv/lentsheep/secret": 0o644, "/srv/lentsheep/data/file": 0o666, "/home/lentsheep/key": 0o644, "/home/lentsheep/open": 0o666,
-    "/root/lentsheep": 0o600, "/opt/lentsheep/file": 0o666, "/etc/lentsheep": 0o666, "/var/lib/lentsheep/file": 0o666,
-}  # fmt: skip
 PLAIN, PEER = "reality-plain.service", "reality-peer@{}.service"
 PEER_TEXT = "[Service]\nUser=%i\nExecStart=" + PROBE + " wait\nCapabilityBoundingSet=\nStandardOutput=null\n"
+NO_CALLS = "no-calls.txt"
 TWIST = "zzz-lentsheep-twist.conf"
 DYNAMIC = range(61184, 65520)
-
-
-class Fault(Exception):
-    """The run cannot go on; the text says why."""
-
-
-def build_probe(folder: str) -> None:
-    """Builds the probe, and the copy whose text can be written."""
-    for name, more in (("probe", []), ("wx", ["-Wl,-N"])):
-        words = ["gcc", *FLAGS, *more, "-o", f"{folder}/{name}", str(HERE / "probe.c")]
-        built = subprocess.run(words, capture_output=True, text=True, check=False)
-        if built.returncode:
-            raise Fault(f"the probe could not be built: {built.stderr.strip().splitlines()[:1]}")
-
-
-def furnish(root: str) -> None:
-    """Puts the probe, its copies with privileges, and some files into the root, where they are not there as they are now."""
-    with contextlib.suppress(FileNotFoundError):
-        if os.stat(root + WRITABLE).st_mtime > os.stat(HERE / "probe.c").st_mtime:
-            return
-    with tempfile.TemporaryDirectory() as folder:
-        build_probe(folder)
-        copies = ((PROBE, "probe", 0o755), (SETUID, "probe", 0o4755), (CAPABLE, "probe", 0o755), (WRITABLE, "wx", 0o755))
-        for target, name, mode in copies:
-            path = root + target
-            with contextlib.suppress(FileNotFoundError):
-                os.unlink(path)
-            shutil.copyfile(f"{folder}/{name}", path)
-            os.chown(path, 0, 0)
-            os.chmod(path, mode)
-    # VFS_CAP_REVISION_2 without the effective bit: all capabilities permitted
-    everything = (1 << len(tries.CAPABILITIES)) - 1
-    attribute = struct.pack("<IIIII", 0x02000000, everything & 0xFFFFFFFF, 0, everything >> 32, 0)
-    os.setxattr(root + CAPABLE, "security.capability", attribute)
-    for path, mode in FURNISHED.items():
-        os.makedirs(os.path.dirname(root + path), exist_ok=True)
-        Path(root + path).write_text("lentsheep\n")
-        os.chmod(root + path, mode)
-
-
-def table_of(site: str) -> Path:
-    """The table of calls for a site, as `./sandbox --root` takes it."""
-    heads = "".join(line + "\n" for line in site.splitlines() if line.startswith("# "))
-    folder = TABLES / "252" if re.search(r"^# systemd 252", heads, re.MULTILINE) and (TABLES / "252").is_dir() else TABLES
-    return folder / ("calls2.txt" if re.search(r"^# kernel .*which runs programs of i386", heads, re.MULTILINE) else "calls.txt")
-
-
-def calls_of(path: Path) -> tuple[dict[str, int], dict[str, list[str]], dict[str, int], dict[str, int]]:
-    """Native numbers, capabilities that a call asks for, families, and numbers of i386 (where the table has them)."""
-    native: dict[str, int] = {}
-    asked: dict[str, list[str]] = {}
-    families: dict[str, int] = {}
-    other: dict[str, int] = {}
-    into = native
-    for line in path.read_text().splitlines():
-        words = line.split()
-        if words[:1] == ["abi"]:
-            into = native if words[1] == "x86-64" else other
-        elif words[:1] == ["call"]:
-            into.setdefault(words[1], int(words[2]))
-            asked.setdefault(words[1], [text for text in words[3:] if text.startswith("CAP_")])
-        elif words[:1] == ["family"]:
-            families.setdefault(words[1], int(words[2]))
-    return native, asked, families, other
 
 
 class Runner(Program):
@@ -130,6 +58,8 @@ class Harness:
         self.units: list[str] = []
 
     def __enter__(self) -> "Harness":
+        if os.geteuid() != 0 or not shutil.which("gcc"):
+            raise Unstarted("it takes root of this machine, and gcc")
         try:
             furnish(self.root)
             self.machine = self._stack.enter_context(Machine(self.root, self._place_units))
@@ -146,7 +76,7 @@ class Harness:
         self._stack.close()
 
     def told(self, *words: str) -> Any:
-        """What ./sandbox prints of a command, as it is read for its views."""
+        """Returns what ./sandbox prints of a command, as its views read it."""
         run = self.program.run(*words)
         if not run.text:
             raise Fault(f"./sandbox {' '.join(words)}: status {run.status}")
@@ -197,6 +127,7 @@ class Harness:
             raise Fault(site.stderr.decode(errors="replace").strip())
         Path(self.folder, "site.toml").write_bytes(site.stdout)
         self._link_files()
+        Path(self.folder, NO_CALLS).write_text("")
         self.table = table_of(site.stdout.decode("utf-8", "replace"))
         os.symlink(self.table, f"{self.folder}/calls.txt")
         self.program = Runner(self.folder)
@@ -285,38 +216,53 @@ class Harness:
             self.capable_rows, [*writable[:12], *folders],
         )  # fmt: skip
 
-    def run(self, unit: str, with_questions: bool = True) -> found.Comparison:
-        """Judges, starts and compares a unit: all questions, or ids, mounts and filters alone."""
+    def run_alone(self, unit: str) -> found.Comparison:
+        """Launches, starts and compares a unit without a question: ids, mounts and filters."""
+        replay = self.told("replay", unit, NO_CALLS)
+        if replay.refusal or not isinstance(replay.launch, Launched):
+            return self._refused(unit, replay)
+        told = Told(partings_by_text(files_in_force(self.folder, unit)))
+        started = service.start(self.machine, unit, None)
+        comparison = found.Comparison(unit, failure=started.failure)
+        if not started.failure:
+            self._compare_surroundings(comparison, replay.launch, None, self.told("plan", unit), started, told)
+        return comparison
+
+    def _refused(self, unit: str, printed_: Report | Replay) -> found.Comparison:
+        why = printed_.refusal.text if printed_.refusal else f"launch {printed_.launch}"
+        return found.Comparison(unit, refusal=why, failure=service.start(self.machine, unit, None).failure)
+
+    def run(self, unit: str) -> found.Comparison:
+        """Judges, starts and compares a unit."""
         run = self.program.run("judge", unit)
         report = run.printed
         if not isinstance(report, Report) or not run.text:
             raise Fault(f"./sandbox judge {unit}: status {run.status}")
         if report.refusal or not isinstance(report.launch, Launched):
-            why = report.refusal.text if report.refusal else f"launch {report.launch}"
-            return found.Comparison(unit, refusal=why, failure=service.start(self.machine, unit, None).failure)
+            return self._refused(unit, report)
         view = view_of(self.program, run)
         plan = view.plan
         # files that are handed in are the harness's own doing
         told = Told(parting for parting in view.partings if parting.name != "handed-in")
-        made: dict[str, list[tuple[str, Try]]] = {}
-        asked: dict[str, Try] = {}
-        if with_questions:
-            place = self.place(report, plan)
-            made, asked = self._tries(report, place)
+        place = self.place(report, plan)
+        made, asked = self._tries(report, place)
         started = service.start(self.machine, unit, asked)
-        if started.failure:
-            return found.Comparison(unit, failure=started.failure)
-        self._same_dynamic(started)
-        comparison = found.Comparison(unit)
-        if with_questions:
+        comparison = found.Comparison(unit, failure=started.failure)
+        if not started.failure:
+            self._compare_surroundings(comparison, report.launch, held_capabilities(report), plan, started, told)
             compare.Comparer(self.seen, comparison, told, place, started, made).compare(report.answers)
             surroundings.tried_of(comparison, started, made, self.calls)
+        return comparison
+
+    def _compare_surroundings(
+        self, comparison: found.Comparison, launch: Launched, held: list[str] | None, plan: Plan, started: service.Started, told: Told
+    ) -> None:
+        self._same_dynamic(started)
         surroundings.plan_of(comparison, self.seen, plan.mounts, self.rows, started, told)
-        surroundings.held_of(comparison, report.launch, held_capabilities(report), started, told)
-        native = [entry.program for entry in self.told("filter", unit).filters if entry.abi == 0]
+        surroundings.held_of(comparison, launch, held, started, told)
+        native = [entry.program for entry in self.told("filter", comparison.unit).filters if entry.abi == 0]
         programs = [b"".join(bytes.fromhex(step.text) for step in program) for program in native]
         surroundings.filters_of(comparison, programs, self.names, started, told)
-        return comparison
 
     def _same_dynamic(self, started: service.Started) -> None:
         """A dynamic id of the machine is the one that the site has for all."""

@@ -69,7 +69,7 @@ def _run(is_executable: bool) -> str:
     return "exec" if is_executable else "noexec"
 
 
-def held_of(comparison: Comparison, launch: Launched, held: Sequence[str], started: Started, told: Told) -> None:
+def held_of(comparison: Comparison, launch: Launched, held: Sequence[str] | None, started: Started, told: Told) -> None:
     """Ids, effective set and no_new_privs against the status."""
     status = started.status
     pairs = [
@@ -81,6 +81,8 @@ def held_of(comparison: Comparison, launch: Launched, held: Sequence[str], start
             is_open = what != "no_new_privs" or seen == "0"
             parting = told.first("nnp-from-filters" if seen == "0" else "nnp-from-more") if what == "no_new_privs" else None
             comparison.held.append((f"{what} {said} here, {seen} there", parting or ("NEW" if is_open else "open here")))
+    if held is None:
+        return
     said_set = sum(1 << CAPABILITY[name] for name in held)
     seen_set = started.number("CapEff")
     more, less = seen_set & ~said_set, said_set & ~seen_set
