@@ -66,9 +66,9 @@ class Comparer:
 
     def _ways(self, kind: str, name: str, question: str) -> list[str]:
         """The ways by which the question was reached."""
-        if kind == "cap":
-            return [way for way, held in self._held if held.has(CAPABILITY[name], way)]
         ways: list[str] = []
+        if kind == "cap":
+            ways += [way for way, held in self._held if held.has(CAPABILITY[name], way)]
         if kind in ("uid", "gid"):
             has = self.started.status[kind.title()].split()[1:2] + (self.started.status["Groups"].split() if kind == "gid" else [])
             ways += ["plain"] if name in has else []

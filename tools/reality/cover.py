@@ -54,10 +54,18 @@ _OF_PLAN = (
 )  # fmt: skip
 
 
+#: Of calls whose arguments are filtered: the partings by which more of them pass.
+_OF_NUMBERS = {
+    "socket": ("families-none", "family-names"),
+    **dict.fromkeys(("unshare", "clone", "setns"), ("namespace-lines",)),
+}  # fmt: skip
+
+
 class Told:
     """The partings that views tell of a unit."""
 
-    def __init__(self, partings: Iterable[Parting]):
+    def __init__(self, partings: Iterable[Parting], judges_i386: bool):
+        self._judges_i386 = judges_i386
         self._each = [(parting.name, parting.direction, frozenset(getattr(parting, "answers", None) or ())) for parting in partings]
         self.names = {name for name, _, _ in self._each}
 
@@ -66,11 +74,15 @@ class Told:
         # a capability in a user namespace of one's own
         if way == "user-namespace" and question.kind == "cap":
             return self.first("user-namespaces")
-        for name, direction, answers in self._each:
-            if direction != Direction.OPEN_HERE and question in answers:
-                if name in _BY_WAY[way] if way in _BY_WAY else name not in _OF_WAYS:
-                    return name
-        return None
+        touching = self.near(question)
+        speaking = [name for name in touching if name in _BY_WAY.get(way, ())]
+        if way not in _BY_WAY or (way == "i386" and self._judges_i386):
+            speaking += [name for name in touching if name not in _OF_WAYS]
+        if speaking:
+            return speaking[0]
+        # one opens the question, and another one the way
+        others, name = [name for name in touching if name not in _OF_WAYS], self.first(*_BY_WAY.get(way, ()))
+        return f"{others[0]} with {name}" if others and name else None
 
     def near(self, question: Question) -> tuple[str, ...]:
         """The partings that touch a question without speaking of the way."""
@@ -79,6 +91,10 @@ class Told:
     def of_plan(self, path: str) -> str | None:
         """The parting by which a path may be open there that the plan closes."""
         return next((name for name, pattern in _OF_PLAN if name in self.names and re.match(pattern, path)), None)
+
+    def of_number(self, call: str) -> str | None:
+        """The parting by which a call passes there that the filters here refuse."""
+        return self.cover(Question("call", call), "plain") or self.first(*_OF_NUMBERS.get(call, ()))
 
     def first(self, *wanted: str) -> str | None:
         """The first of some names that is told."""

@@ -132,7 +132,8 @@ class Harness:
         os.symlink(self.table, f"{self.folder}/calls.txt")
         self.program = Runner(self.folder)
         self.calls, self.call_capabilities, self.families, self.calls32 = calls_of(self.table)
-        if not self.calls32:
+        self.judges_i386 = bool(self.calls32)
+        if not self.judges_i386:
             self.calls32 = calls_of(TABLES / "calls2.txt")[3]
         self.names = {number: name for name, number in self.calls.items()}
         self.rows = {row["path"]: row["kind"] for row in tomllib.loads(site.stdout.decode())["row"]}
@@ -221,7 +222,7 @@ class Harness:
         replay = self.told("replay", unit, NO_CALLS)
         if replay.refusal or not isinstance(replay.launch, Launched):
             return self._refused(unit, replay)
-        told = Told(partings_by_text(files_in_force(self.folder, unit)))
+        told = Told(partings_by_text(files_in_force(self.folder, unit)), self.judges_i386)
         started = service.start(self.machine, unit, None)
         comparison = found.Comparison(unit, failure=started.failure)
         if not started.failure:
@@ -243,7 +244,7 @@ class Harness:
         view = view_of(self.program, run)
         plan = view.plan
         # files that are handed in are the harness's own doing
-        told = Told(parting for parting in view.partings if parting.name != "handed-in")
+        told = Told((parting for parting in view.partings if parting.name != "handed-in"), self.judges_i386)
         place = self.place(report, plan)
         made, asked = self._tries(report, place)
         started = service.start(self.machine, unit, asked)

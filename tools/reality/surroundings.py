@@ -3,7 +3,7 @@ from __future__ import annotations
 
 from typing import Mapping, Sequence
 
-from lentsheep.values import Launched, Question
+from lentsheep.values import Launched
 from lentsheep.values import Mount as PlannedMount
 
 from .cover import Told
@@ -109,7 +109,7 @@ def filters_of(comparison: Comparison, programs: Sequence[bytes], names: Mapping
             if said.passes == seen.passes:
                 direction = "answer"
             elif seen.passes:
-                direction = told.cover(Question("call", name), "plain") or "NEW"
+                direction = told.of_number(name) or "NEW"
             else:
                 direction = "open here"
             comparison.verdicts.append((f"{name} {said.text} here, {seen.text} there", direction))
