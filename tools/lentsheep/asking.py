@@ -85,12 +85,12 @@ def hint(text: str, site: Site, table: Table, calls: frozenset[str], unit: str) 
         again = hint(rest, site, table, calls, unit)
         return again or f'"{first}" is an answer, and is left out: write only {rest}'
     if first in SWITCHES:
-        return f"{first} has nothing behind it" if rest else ""
+        return f"{first} has nothing after it" if rest else ""
     kinds = (*PATH_KINDS, *NAMED)
     if first not in kinds:
         return _no_kind(first, rest)
     if not rest:
-        return f"{first} needs {_what_of(first)} behind it"
+        return f"{first} needs {_what_of(first)} after it"
     if first in PATH_KINDS:
         return _of_path(first, rest, site, unit)
     told = {"call": _of_call, "socket": _of_socket, "ns": _of_namespace, "cap": _of_capability, "uid": _of_id, "gid": _of_id}[first]

@@ -91,7 +91,7 @@ class Questions(unittest.TestCase):
             ("call unshare", "what unshare(2) does is asked by ns TYPE, as ns user"),
             ("socket INET", "calls.txt has no family INET; socket AF_INET is meant?"), ("ns mount", "there is no namespace mount: ns mnt is meant?"),
             ("uid root", "uid needs a number, and root is none"), ("uid 7", "only ids of the site are asked, and 7 is none of them"),
-            ("gid web", "gid 34 is meant, the id of web?"), ("realtime yes", "realtime has nothing behind it"), ("cap", "cap needs a capability, as CAP_SYS_ADMIN behind it"),
+            ("gid web", "gid 34 is meant, the id of web?"), ("realtime yes", "realtime has nothing after it"), ("cap", "cap needs a capability, as CAP_SYS_ADMIN after it"),
             ("raed /etc", "read /etc is meant?"), ("/etc", "say what is asked of a path: see, read, write or exec /etc"),
             ("read /etc/", "write the path as read /etc"), ("write /etc/passwd/x", "nothing can be below /etc/passwd, which is a file"),
         ]:  # fmt: skip

@@ -11,12 +11,15 @@ import sys
 import tempfile
 import unittest
 from pathlib import Path
+from unittest import mock
 
 TOP = Path(__file__).resolve().parents[3]
 sys.path.insert(0, str(TOP / "tools"))
 
 from lentsheep.causes import causes
 from lentsheep.compare import changes
+from lentsheep.gather import partings_of
+from lentsheep.program import Program
 from lentsheep.report import parse
 from lentsheep.schema import faults, read_schema
 from lentsheep.table import read_table
@@ -229,6 +232,14 @@ def judged(folder, unit):
     return subprocess.run([TOP / "sandbox", "judge", unit], cwd=folder, env=HOW, stdout=subprocess.PIPE, check=False).stdout
 
 
+def met(folder, unit):
+    """The partings that a report meets, by their names; what closes its causes is not tried."""
+    with mock.patch.dict(os.environ, {"LENTSHEEP_RUNS": os.path.abspath(BUILT)}):
+        program = Program(folder)
+        found = program.run("judge", unit)
+        return {parting.name: parting for parting in partings_of(program, found, found.printed)}
+
+
 # What lines close is tried once for all tests.
 CACHE = tempfile.TemporaryDirectory(prefix="test-runs-")
 
@@ -280,8 +291,7 @@ class Runs(unittest.TestCase):
         for unit, wanted in PARTINGS.items():
             name = self.unit_folder(unit)
             self.write(f"usr/lib/systemd/system/{name}", f"[Service]\n{UNITS[unit][0]}\n")
-            found = json.loads(run(self.place, "--json", "judge", name)[1])["result"]["partings"]
-            self.assertEqual(sorted(wanted.split()), sorted(it["name"] for it in found), unit)
+            self.assertEqual(sorted(wanted.split()), sorted(met(self.place, name)), unit)
 
     def test_lines_that_end_a_parting(self):
         # with the line the parting is gone, or touches nothing any more, and nothing opens
@@ -289,17 +299,17 @@ class Runs(unittest.TestCase):
         name = self.unit_folder(unit)
         self.write("site.toml", site() + '[[row]]\npath = "/run/a"\nkind = "file"\n[[row]]\npath = "/sys/a"\nkind = "file"\n')
         self.write(f"usr/lib/systemd/system/{name}", f"[Service]\n{UNITS[unit][0]}\n")
-        before = {it["name"]: it for it in json.loads(run(self.place, "--json", "judge", name)[1])["result"]["partings"]}
+        before = met(self.place, name)
         for parting, line in [
             ("architectures", "SystemCallArchitectures=native"), ("io-uring", "SystemCallFilter=~io_uring_setup"),
             ("run-writable", "ReadOnlyPaths=/run"), ("sys-writable", "PrivateNetwork=yes"),
         ]:  # fmt: skip
-            self.assertIn(line, before[parting]["closed_by"])
-            self.assertLess(0, before[parting]["answers"], parting)
+            self.assertIn(line, before[parting].closed_by)
+            self.assertLess(0, len(before[parting].answers), parting)
             dropin = Path(self.write(f"etc/systemd/system/{name}.d/close.conf", f"[Service]\n{line}\n"))
-            after = {it["name"]: it for it in json.loads(run(self.place, "--json", "judge", name)[1])["result"]["partings"]}
+            after = met(self.place, name)
             dropin.unlink()
-            self.assertEqual(0, after[parting]["answers"] if parting in after else 0, parting)
+            self.assertEqual(0, len(after[parting].answers) if parting in after else 0, parting)
 
     def test_lines_that_close_a_way(self):
         # what closes a way leaves none of it, and opens nothing
