@@ -24,6 +24,8 @@ crates/sandbox_cli/out/sandbox_cli: FORCE
 install: $(PROGRAM)
 	mkdir -p $(BIN) $(LIB)/tools $(MAN)/man1 $(MAN)/man5 $(DOC)/docs $(COMPLETION)
 	install -m 755 $(PROGRAM) $(LIB)/program
+	rm -f $(LIB)/program.proved
+	[ ! -f $(PROGRAM).proved ] || install -m 644 $(PROGRAM).proved $(LIB)/program.proved
 	install -m 755 sandbox $(LIB)/sandbox
 	for tool in $(TOOLS); do install -m 755 tools/$$tool $(LIB)/tools/ || exit; done
 	find $(TREES) \( -name __pycache__ -o -name tests \) -prune -o -type f -exec install -D -m 644 {} $(LIB)/{} \;

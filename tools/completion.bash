@@ -25,7 +25,7 @@ _lentsheep() {
     local commands
     commands=$("${COMP_WORDS[0]}" --help 2>/dev/null | awk '/^  [a-z-]+ \[?[A-Z]/ { print $1 }')
     case $current:$command:$behind in
-        -*) mapfile -t COMPREPLY < <(compgen -W '--root --units --calls --site --fresh --full --top --drop-in --brief --json --html --expect --write --compare --help --version' -- "$current") ;;
+        -*) mapfile -t COMPREPLY < <(compgen -W '--root --units --calls --site --fresh --full --verbose --all --top --drop-in --brief --json --html --expect --write --compare --help --version' -- "$current") ;;
         *::*) mapfile -t COMPREPLY < <(compgen -W "$commands" -- "$current") ;;
         *:sample:* | *:fleet:0) ;;
         *:check:1)

@@ -1,10 +1,14 @@
 """The entry: `python3 tools/lentsheep WORDS..`, which tools/view runs."""
+import os
 import sys
-from pathlib import Path
 
 sys.dont_write_bytecode = True
 # The folder of the package stands in for that of its modules, whose names may be those of others.
-sys.path[0] = str(Path(__file__).resolve().parent.parent)
+sys.path[0] = os.path.dirname(os.path.dirname(os.path.realpath(__file__)))
+
+from sites import bytecode
+
+bytecode.keep()
 
 from lentsheep.cli import main
 

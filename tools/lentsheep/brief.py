@@ -8,12 +8,16 @@ from __future__ import annotations
 from dataclasses import dataclass, field
 from typing import Iterable, Sequence
 
-from .causes import Cause, State, causes, closed_by, held_capabilities, state_of, told
+from .causes import State, causes, held_capabilities, state_of
+from .harm import Group, Tried, closing, first_keys, groups
+from .identity import Identity
 from .notes import ToldNote
+from .parting_sides import bears_on
 from .partings import Direction, Parting, doubted
 from .places import Exceptional, described, is_below
 from .screen import LABEL, Page, braced, counted, covered, parted
 from .table import Table
+from .unit_lines import Passed
 from .values import PATH_KINDS, SWITCHES, Launched, LaunchKilled, LaunchPrivileged, LaunchRefused, Plan, Report
 from .words import escaped
 
@@ -37,17 +41,27 @@ class View:
     notes: Sequence[ToldNote] = ()
     partings: Sequence[Parting] = ()
     user_names: dict[int, str] = field(default_factory=dict)
+    #: lines of the unit's files that systemd passes over, too
+    passed: Sequence[Passed] = ()
+    #: what lines close that were tried; None where none was
+    tried: Tried | None = None
+    #: whether the unit sets a key that makes up a sandbox
+    has_sandbox: bool = True
+    #: the program and the sums of what it read
+    identity: Identity | None = None
 
 
 def brief(view: View, page: Page) -> list[str]:
     """The lines of the screen."""
     report = view.report
-    lines = _head(view, page)
+    lines = _wrong(view, page) + _head(view, page)
     if report.answers:
         lines += ["", *_causes(view, page), "", *_table(view, page), "", *_files(view, page), *_names(view, page)]
-    lines += _blind(view, page) + _notes(view.notes, page) + _partings(view.partings, page)
+    lines += _blind(view, page) + _notes(view.notes, page) + _partings(view, page)
+    if view.identity:
+        lines += page.lines("made by", [view.identity.words[0], *parted(view.identity.words[1:])])
     if not report.whole:
-        lines.append(page.line("cut", "the report ends early, so nothing is told of what it does not have"))
+        lines.append(page.line("cut", "the report ends early; what it lacks is not shown"))
     return lines
 
 
@@ -75,7 +89,7 @@ def _launch(view: View) -> str:
     if isinstance(launch, LaunchPrivileged):
         return f"no: {escaped(launch.program)} has a set-id bit or capabilities"
     if not isinstance(launch, Launched):
-        return "not told"
+        return "not in the report"
     name = view.user_names.get(launch.uid, "root" if launch.uid == 0 else "")
     who = f"uid {launch.uid}" + (f" ({name})" if name else "") + f", gid {launch.gid}"
     held = held_capabilities(view.report)
@@ -85,27 +99,41 @@ def _launch(view: View) -> str:
 
 
 def _causes(view: View, page: Page) -> list[str]:
-    found = causes(view.report, view.table)
+    found = groups(causes(view.report, view.table))
+    lines = _without_sandbox(view, page)
     if not found:
-        return [page.line("why open", "each open answer needs one call and no privilege, or nothing")]
-    lines = []
-    for cause in found[:MOST_CAUSES]:
-        lines += _cause(cause, view.report, page, "" if lines else "why open")
+        return lines or [page.line("why open", "each open answer needs one call and no privilege, or nothing")]
+    for group in found[:MOST_CAUSES]:
+        lines += _cause(group, view, page, "" if lines else "why open")
     if rest := found[MOST_CAUSES:]:
-        answers = counted(sum(cause.count for cause in rest), "answer")
+        # of other ids one answer stands for all
+        answers = counted(sum(1 if group.gives == "ids" else group.count for group in rest), "answer")
         lines.append(page.line("", f"and {counted(len(rest), 'further cause')}, of {answers}"))
     return lines
 
 
-def _cause(cause: Cause, report: Report, page: Page, label: str) -> list[str]:
+def _without_sandbox(view: View, page: Page) -> list[str]:
+    """One line, of a unit that sets no key of a sandbox, and the lines that would close most."""
+    if view.has_sandbox:
+        return []
+    # a value with spaces is not broken
+    keys = [f"{line} ({count})" for line, count in first_keys(view.tried)]
+    told = [*parted(["the unit sets no key of a sandbox;", *(["close most:"] if keys else [])], ""), *parted(keys)]
+    return page.lines("why open", told)
+
+
+def _cause(group: Group, view: View, page: Page, label: str) -> list[str]:
     """A cause, with its kinds and calls where it is the first, or the calls are more than one."""
-    shown = [f"{cause.example.question.text}:", *parted([call.text for call in cause.example.calls], ";")]
-    kinds = ", ".join(f"{kind} {count}" for kind, count in cause.kinds.items())
-    lines = [page.line(label, f"{counted(cause.count, 'answer')}, since {told(cause)}")]
-    if label or len(cause.example.calls) > 1:
+    example = group.example
+    shown = [f"{example.question.text}:", *parted([call.text for call in example.calls], ";")]
+    kinds = ", ".join(f"{kind} {count}" for kind, count in group.kinds.items())
+    count = f"other {next(iter(group.kinds), 'id')}s" if group.gives == "ids" else counted(group.count, "answer")
+    lines = page.lines(label, f"{count}, since {group.told}".split(" "), 2)
+    if group.gives != "ids" and (label or len(example.calls) > 1):
         lines += [page.line("", f"  {kinds}; as"), *page.lines("", shown, 4, "  ")]
-    closing = " or ".join(closed_by(cause, report))
-    return lines + ([page.line("", f"  closed by {closing}")] if closing else [])
+    lines_that_close = closing(group, view.report, view.tried)
+    told = f"closed by {' or '.join(lines_that_close)}".split(" ") if lines_that_close else []
+    return lines + page.lines("", told, 4, "  ")
 
 
 def _table(view: View, page: Page) -> list[str]:
@@ -115,10 +143,12 @@ def _table(view: View, page: Page) -> list[str]:
     for at, (_, kinds) in enumerate(COLUMNS):
         for answer in report.of_kind(*kinds):
             counts[state_of(answer)][at] += 1
-    opens = [once + steps for once, steps in zip(counts[State.OPEN], counts[State.STEPS])]
+    opens = list(map(sum, zip(counts[State.OPEN], counts[State.STEPS], counts[State.MODES])))
     rows = [("denied", counts[State.DENIED], "green"), ("open", opens, "red"), ("in steps", counts[State.STEPS], "yellow")]
     if names:
         rows.insert(1, ("  parting", parting, "yellow"))
+    # of those that are open, as the report has them
+    rows += [("by modes", counts[State.MODES], "green")] if any(counts[State.MODES]) else []
     headings = [heading for heading, _ in COLUMNS] + ["all"]
     numbers = [[*row, sum(row)] for _, row, _ in rows]
     widths = [max(map(len, map(str, column))) + 1 for column in zip(headings, *numbers)]
@@ -200,46 +230,72 @@ def _blind(view: View, page: Page) -> list[str]:
     return page.lines("blind", parted(braced([escaped(folder) for folder in folders]) + [held] * bool(held)))
 
 
+def wrong_lines(view: View) -> list[tuple[str, str]]:
+    """Lines of the unit that do not say what they seem to: where they stand, and what is wrong; in the order of files and lines."""
+    passed = {(it.file, it.line): it.text for it in view.passed}
+    places = {(told.note.file, told.note.line): told for told in view.notes if told.is_unknown or told.note.cause != "unjudged"}
+    order = {file: number for number, file in enumerate(dict.fromkeys(file for file, _ in [*places, *passed]))}
+    found = []
+    for at in sorted({*places, *passed}, key=lambda at: (order[at[0]], at[1])):
+        told = places.get(at)
+        if at in passed:
+            text = passed[at]
+        elif told and told.is_unknown:
+            text = f"no key of systemd{f' ({told.nearest}= is meant?)' if told.nearest else ''}: {told.text}"
+        else:
+            text = f"{_CAUSES.get(told.note.cause, told.note.cause)}: {told.text}" if told else ""
+        found.append((f"{escaped(at[0].rpartition('/')[2])}:{at[1]}", text))
+    return found
+
+
+_CAUSES = {
+    "value": "this value cannot be read", "no-equals": "no assignment", "no-section": "in front of all sections",
+    "specifier": "a specifier cannot be read", "unknown-name": "a name that the tables lack",
+}  # fmt: skip
+
+
+def _wrong(view: View, page: Page) -> list[str]:
+    """Above the verdict: what the unit does not say, though it looks so."""
+    found = wrong_lines(view)
+    lines = [line for place, text in found[:6] for line in page.lines("note", f"{place}: {text}".split(" "), 2)]
+    if len(found) > 6:
+        lines.append(page.line("", f"and {counted(len(found) - 6, 'more line')} that cannot be read"))
+    return [*lines, ""] if lines else []
+
+
 def _notes(notes: Sequence[ToldNote], page: Page) -> list[str]:
-    lines: list[str] = []
-    by_themselves = [told for told in notes if told.is_unknown or told.note.cause != "unjudged"]
-    for told in sorted(by_themselves, key=lambda told: not told.nearest)[:6]:
-        cause = "no key of systemd" if told.is_unknown else told.note.cause
-        meant = f" ({told.nearest}= is meant?)" if told.nearest else ""
-        place = f"{escaped(told.note.file.rpartition('/')[2])}:{told.note.line}"
-        lines.append(page.line("note", f"{place} {cause}{meant}: {told.text}"))
-    if len(by_themselves) > 6:
-        lines.append(page.line("", f"and {counted(len(by_themselves) - 6, 'more line')} that cannot be read"))
-    rest = [told for told in notes if told not in by_themselves]
-    if rest:
-        keys = list(dict.fromkeys(told.key for told in rest if told.key))
-        lines += page.lines("not judged", [counted(len(rest), "line") + ":" * bool(keys), *keys], 2)
-    return lines
+    rest = [told for told in notes if told.note.cause == "unjudged" and not told.is_unknown]
+    if not rest:
+        return []
+    keys = list(dict.fromkeys(told.key for told in rest if told.key))
+    return page.lines("not judged", [counted(len(rest), "line") + ":" * bool(keys), *keys], 2)
 
 
-_DIRECTIONS = {
+DIRECTIONS = {
     Direction.DENIED_HERE: "systemd opens what is denied here:",
     Direction.OPEN_HERE: "systemd denies what is open here:",
     Direction.EITHER: "systemd parts either way:",
 }
 
 
-def _partings(found: Sequence[Parting], page: Page) -> list[str]:
+def _partings(view: View, page: Page) -> list[str]:
+    found = [parting for parting in view.partings if not view.report.answers or bears_on(parting, view.report)]
     lines: list[str] = []
-    for direction, text in _DIRECTIONS.items():
+    for direction, text in DIRECTIONS.items():
         here = [parting for parting in found if parting.direction == direction]
         if not here:
             continue
         touching = [parting for parting in here if parting.opens and (parting.answers or parting.blind)]
         others = [_parting_name(parting) for parting in here if parting not in touching]
         label = "" if lines else "partings"
+        # none of them is cut
         if touching:
             lines.append(page.line(label, text))
             lines += [line for parting in touching for line in page.lines("", _touching(parting), 3, "  ")]
             if others:
-                lines += page.lines("", ["and of no answer here:", *parted(others)], 3, "  ")
+                lines += page.lines("", ["and of no answer here:", *parted(others)], len(others) + 1, "  ")
         else:
-            lines += page.lines(label, [text, *parted(others)])
+            lines += page.lines(label, [text, *parted(others)], len(others) + 1)
     return lines
 
 

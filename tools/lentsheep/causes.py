@@ -27,9 +27,13 @@ _ASKING = {
 
 
 class State(str, Enum):
-    """How a question stands; `in steps` is open only behind a call that changes mounts, ids or capabilities."""
+    """How a question stands; `in steps` is open only behind a call that changes mounts, ids or capabilities.
+
+    What is `closed by modes` is open in the report, which knows none, and closed by the mode of its file.
+    """
 
     DENIED = "denied"
+    MODES = "closed by modes"
     OPEN = "open"
     STEPS = "in steps"
 
@@ -57,6 +61,7 @@ class Cause:
     example: Answer
     #: how many the answers are
     count: int
+    answers: tuple[Answer, ...] = ()
 
 
 def before_last(answer: Answer) -> tuple[Call, ...]:
@@ -68,6 +73,8 @@ def state_of(answer: Answer) -> State:
     """How the question of this answer stands."""
     if not answer.is_open:
         return State.DENIED
+    if answer.by_modes:
+        return State.MODES
     return State.STEPS if before_last(answer) else State.OPEN
 
 
@@ -105,7 +112,7 @@ def causes(report: Report, table: Table) -> list[Cause]:
     """The root causes of a report, those of most answers first."""
     groups: dict[tuple[str, str], list[tuple[Answer, list[Need]]]] = {}
     for answer in report.answers:
-        needs = needs_of(answer, table) if answer.is_open else []
+        needs = needs_of(answer, table) if answer.is_open and not answer.by_modes else []
         if needs:
             first = needs[0]
             key = (first.kind, "" if first.kind == "programs" else first.by)
@@ -125,7 +132,7 @@ def _cause(members: list[tuple[Answer, list[Need]]]) -> Cause:
     shown = [answer for answer in shown if answer.question.kind == kind]
     example = min(shown, key=lambda answer: sum(len(call.text) for call in answer.calls))
     first = members[0][1][0]
-    return Cause(first, dict(kinds.most_common()), dict(then.most_common()), tuple(programs), example, len(members))
+    return Cause(first, dict(kinds.most_common()), dict(then.most_common()), tuple(programs), example, len(members), tuple(answer for answer, _ in members))
 
 
 def _second(needs: list[Need]) -> str:

@@ -1,38 +1,41 @@
 """The command line of the views, as `./sandbox` hands it over."""
 from __future__ import annotations
 
-import json
 import os
 import sys
-from pathlib import Path
-from typing import Callable, Sequence
+from typing import TYPE_CHECKING, Callable, Sequence
 
-from . import compare, expect
-from .brief import brief
-from .gather import partings_of, view_of
-from .jsonform import json_of
-from .page import page_of, read_names
+from .ask import ask, asked, explain
 from .program import POLICY, TOP, Program, Run
-from .report import parse
-from .screen import Page
-from .site_text import with_rows
 from .terminal import COMMAND, NAME, Paint, show, wants_colour, width_of, write
-from .values import Filters, Report, Score
+from .values import Filters, Fleet, Report, Score
+
+# What one view needs alone is read where it is made, so that the others do not wait for it.
+if TYPE_CHECKING:
+    from .expect import Expectation
 
 HELP = f"""\
-usage: {COMMAND} [--root DIR ..] --brief judge UNIT          the verdict in one screen
-       {COMMAND} [--root DIR ..] --json COMMAND UNIT ..      all that a command prints, as JSON (docs/JSON.md)
-       {COMMAND} [--root DIR ..] --html FILE judge UNIT      a page that stands by itself
-       {COMMAND} [--root DIR ..] --expect FILE judge UNIT    what does not hold of what FILE expects of the report
+usage: {COMMAND} [--root DIR ..] --brief judge UNIT          prints the verdict in one screen
+       {COMMAND} [--root DIR ..] --brief fleet               prints the units of most exposure, why, and what to add first
+       {COMMAND} [--root DIR ..] --json COMMAND UNIT ..      prints the output of a command as JSON (docs/JSON.md)
+       {COMMAND} [--root DIR ..] --html FILE judge UNIT      writes the report as one page
+       {COMMAND} [--root DIR ..] --html FILE fleet           writes a page of all units, and one of each into FILE-units
+       {COMMAND} [--root DIR ..] --expect FILE judge UNIT    prints the lines of FILE that do not hold of the report
        {COMMAND} [--root DIR ..] --write FILE judge UNIT     writes what the unit is denied into FILE, for --expect
-       {COMMAND} --compare OLD NEW                           what opened and closed between two reports
+       {COMMAND} --compare OLD NEW                           prints what opened and closed between two outputs of judge
 
-A line of FILE is one of a report, as `denied write /etc/shadow`, `open write /var/lib/web` and `blind /srv`, or
-`exposure <= 40`; `#` begins a comment. Behind `denied` and `blind` lines `as-run` asks that they hold whatever systemd does
-otherwise (docs/PROFILE.md); without it such lines are told on standard error. OLD and NEW are texts of judge.
+Lines of FILE (`#` begins a comment):
 
-The status is the program's; where it is 0, it is 1 where an expectation does not hold, or something opened between the reports.
-It is 2 for wrong words.
+  denied write /etc/shadow              a line of the report; a path with files below it means all of them
+  denied write /etc/fstab with-modes    denied, or closed by the file's mode (docs/VIEWS.md)
+  denied write /etc/shadow as-run       denied whatever systemd does otherwise (docs/PROFILE.md); also after a blind line
+  open write /var/lib/web
+  blind /srv
+  notes none                            no line of the unit is ignored by mistake
+  exposure <= 40                        by tables/policy/systemd.json, or `exposure POLICY <= 40`
+
+Standard error lists the lines without as-run that systemd may open. The exit status is the program's. If that is 0, it is 1 if a
+line of FILE does not hold, or if something opened between the reports. It is 2 for a usage error.
 """
 
 
@@ -47,8 +50,10 @@ def main(words: Sequence[str]) -> int:
     except Wrong as wrong:
         print(f"{NAME}: {wrong}", file=sys.stderr)
         return 2
-    except BrokenPipeError:
+    except OSError as error:
+        # a full disk, a closed pipe: as the program does, and what is left in the buffer goes nowhere
         os.dup2(os.open(os.devnull, os.O_WRONLY), sys.stdout.fileno())
+        print(f"{NAME}: a write failed ({error.strerror}), and the text was cut", file=sys.stderr)
         return 5
     except KeyboardInterrupt:
         return 130
@@ -56,7 +61,7 @@ def main(words: Sequence[str]) -> int:
 
 def _run(words: list[str]) -> int:
     if "--root" in words[:4]:
-        with_root = str(TOP / "tools" / "with-root")
+        with_root = f"{TOP}/tools/with-root"
         os.execv(with_root, [with_root, *words])
     unproved = words[:1] == ["--try"]
     words = words[unproved:]
@@ -67,26 +72,33 @@ def _run(words: list[str]) -> int:
     if option == "--compare":
         return _compare(rest)
     program = Program(".", unproved)
+    if option == "--ask":
+        return ask(program, rest)
+    if option == "--explain" and rest:
+        return explain(program, int(rest[0]), rest[1:])
     if option in _VIEWS:
         return _VIEWS[option](program, _command(option, rest))
     if option in _VIEWS_WITH_FILE:
         if len(rest) < 2:
-            raise Wrong(f"{option} needs a file and a command behind it")
+            raise Wrong(f"{option} needs a file and a command after it")
         return _VIEWS_WITH_FILE[option](program, rest[0], _command(option, rest[1:]))
-    raise Wrong(f"no word {option} ({COMMAND} --brief --help tells the words)")
+    raise Wrong(f"unknown option {option} ({COMMAND} --brief --help lists the options)")
 
 
 def _command(option: str, words: list[str]) -> list[str]:
     if not words:
-        raise Wrong(f"{option} needs a command behind it")
+        raise Wrong(f"{option} needs a command after it")
+    if option in ("--brief", "--html") and words[0] == "fleet":
+        return words
     if option != "--json" and words[0] != "judge":
-        raise Wrong(f"{option} tells of judge alone")
+        what = f"{option} FILE" if option in _VIEWS_WITH_FILE else option
+        raise Wrong(f"{option} is a view of judge alone: write {COMMAND} {what} judge UNIT; --json prints all of {words[0]}")
     return words
 
 
 def _judged(program: Program, words: Sequence[str]) -> tuple[Run, Report | None]:
     """The run, and its report; where there are no answers the text goes out as it is, and there is no report."""
-    run = program.run(*words)
+    run = asked(program, words)
     if isinstance(run.printed, Report) and run.printed.answers:
         return run, run.printed
     write(run.text)
@@ -94,32 +106,98 @@ def _judged(program: Program, words: Sequence[str]) -> tuple[Run, Report | None]
 
 
 def _brief(program: Program, words: list[str]) -> int:
-    run = program.run(*words)
+    if words[0] == "fleet":
+        return _brief_fleet(program, words)
+    run = asked(program, words)
     if not isinstance(run.printed, Report) or run.printed.refusal or not run.text:
         write(run.text)
         return run.status
+    from .brief import MOST_CAUSES, brief
+    from .gather import view_of
+    from .screen import Page
+
     screen = Page(width_of(sys.stdout), Paint(wants_colour(sys.stdout)))
-    show("\n".join(brief(view_of(program, run), screen)) + "\n")
+    show("\n".join(brief(view_of(program, run, MOST_CAUSES), screen)) + "\n")
+    return run.status
+
+
+def _brief_fleet(program: Program, words: list[str]) -> int:
+    from .fleet_view import MOST, brief_fleet
+    from .screen import Page
+
+    run = asked(program, words)
+    if not isinstance(run.printed, Fleet) or not run.printed.whole or run.printed.refusal:
+        write(run.text)
+        return run.status
+    most = os.environ.get("LENTSHEEP_TOP", "")
+    screen = Page(width_of(sys.stdout), Paint(wants_colour(sys.stdout)))
+    show("\n".join(brief_fleet(program, run.printed, screen, int(most) if most.isdigit() else MOST)) + "\n")
+    return run.status
+
+
+def _html_fleet(program: Program, file: str, words: list[str]) -> int:
+    from .fleet_view import folder_of, index_of, page_name, ranked, why
+    from .page import STYLE
+    from .table import read_table
+
+    run = asked(program, words)
+    if not isinstance(run.printed, Fleet) or not run.printed.whole or run.printed.refusal:
+        write(run.text)
+        return run.status
+    folder, table, rows = folder_of(file), read_table(program.folder), []
+    try:
+        os.makedirs(folder, exist_ok=True)
+    except OSError as error:
+        raise Wrong(f"{folder}: {error.strerror}") from None
+    for unit in ranked(program, run.printed, None):
+        name = page_name(unit.row.unit)
+        is_told = bool(unit.report and unit.report.answers)
+        if is_told:
+            _page_to(f"{folder}/{name}", program, program.run("judge", unit.row.unit))
+        link = f"{os.path.basename(folder)}/{name}" if is_told else ""
+        rows.append((unit, link, *why(program, unit, table)))
+    _text_to(file, index_of(rows, run.printed, STYLE))
     return run.status
 
 
 def _json(program: Program, words: list[str]) -> int:
-    run = program.run(*words)
+    import json
+
+    from .gather import view_of
+    from .identity import identity
+    from .jsonform import json_of
+    from .unit_text import files_in_force
+
+    run = asked(program, words)
     is_told = isinstance(run.printed, Report) and run.printed.refusal is None
-    write(json.dumps(json_of(run, view_of(program, run) if is_told else None), indent=1) + "\n")
+    view = view_of(program, run) if is_told else None
+    made_by = view.identity if view else identity(program, files_in_force(program.folder, words[1] if len(words) > 1 else ""))
+    write(json.dumps(json_of(run, view, made_by), indent=1) + "\n")
     return run.status
 
 
 def _html(program: Program, file: str, words: list[str]) -> int:
+    if words[0] == "fleet":
+        return _html_fleet(program, file, words)
     run, report = _judged(program, words)
     if report and run.status == 0:
-        filters = program.run("filter", *words[1:]).printed
-        names = read_names((program.read("calls.txt") or b"").decode("utf-8", "replace"))
-        _text_to(file, page_of(view_of(program, run), filters if isinstance(filters, Filters) else None, names))
+        _page_to(file, program, run)
     return run.status
 
 
+def _page_to(file: str, program: Program, run: Run) -> None:
+    """Writes the page of a report."""
+    from .gather import view_of
+    from .page import page_of, read_names
+
+    filters = program.run("filter", *run.words[1:]).printed
+    names = read_names((program.read("calls.txt") or b"").decode("utf-8", "replace"))
+    _text_to(file, page_of(view_of(program, run), filters if isinstance(filters, Filters) else None, names))
+
+
 def _write(program: Program, file: str, words: list[str]) -> int:
+    from . import expect
+
     run, report = _judged(program, words)
     if report and run.status == 0:
         _text_to(file, expect.baseline(report))
@@ -127,6 +205,9 @@ def _write(program: Program, file: str, words: list[str]) -> int:
 
 
 def _expect(program: Program, file: str, words: list[str]) -> int:
+    from . import expect
+    from .gather import partings_of
+
     try:
         expectations = expect.read_expectations(_text_of(file))
     except expect.Fault as fault:
@@ -135,7 +216,9 @@ def _expect(program: Program, file: str, words: list[str]) -> int:
     if report is None or run.status != 0:
         return run.status
     report = _with_rows(program, words, report, expectations)
-    found = partings_of(program, run, report)
+    if any(expectation.with_modes for expectation in expectations):
+        report = _with_modes(program, words[1], report)
+    found = partings_of(program, run, expect.with_modes_denied(report))
     failed = 0
     for expectation in expectations:
         reasons = _reasons(program, words, report, expectation, file)
@@ -151,8 +234,11 @@ def _expect(program: Program, file: str, words: list[str]) -> int:
     return 1 if failed else 0
 
 
-def _with_rows(program: Program, words: list[str], report: Report, expectations: list[expect.Expectation]) -> Report:
+def _with_rows(program: Program, words: list[str], report: Report, expectations: list[Expectation]) -> Report:
     """The report of a site with rows for what is expected; the one that is there where it has them or cannot have them."""
+    from . import expect
+    from .site_text import with_rows
+
     rows, site = expect.rows_for(expectations, report), program.read("site.toml")
     if not rows or site is None:
         return report
@@ -161,14 +247,33 @@ def _with_rows(program: Program, words: list[str], report: Report, expectations:
     return again.printed if again.status == 0 and isinstance(again.printed, Report) else report
 
 
+def _with_modes(program: Program, unit: str, report: Report) -> Report:
+    """The report with what file modes close; they are to be beside the site."""
+    from .modes import FILE, read_modes, with_modes
+    from .unit_text import Said, files_in_force
+
+    modes = read_modes(program.read(FILE))
+    if modes is None:
+        raise Wrong(f"with-modes needs {FILE} beside the site: --root makes it")
+    return with_modes(report, modes, Said(files_in_force(program.folder, unit)))
+
+
 def _reasons(
-    program: Program, words: list[str], report: Report, expectation: expect.Expectation, file: str
+    program: Program, words: list[str], report: Report, expectation: Expectation, file: str
 ) -> list[str]:
+    from . import expect
+
+    if expectation.no_notes:
+        from .brief import wrong_lines
+        from .gather import notes_of
+
+        return [f"{place}: {text}" for place, text in wrong_lines(notes_of(program, report, words[1]))]
     if expectation.most is None:
         return expect.failures(expectation, report)
-    policy = Path(file).parent / expectation.policy if expectation.policy else POLICY
+    policy = os.path.join(os.path.dirname(file), expectation.policy) if expectation.policy else POLICY
     try:
-        data = policy.read_bytes()
+        with open(policy, "rb") as text:
+            data = text.read()
     except OSError as error:
         raise Wrong(f"{policy}: {error.strerror}") from None
     with program.changed({"policy.json": data}) as changed:
@@ -180,13 +285,16 @@ def _reasons(
 
 
 def _compare(files: list[str]) -> int:
+    from . import compare
+    from .report import parse
+
     if len(files) != 2:
-        raise Wrong("--compare needs two reports behind it")
+        raise Wrong("--compare needs two reports after it")
     reports = []
     for file in files:
         report = parse(_text_of(file), "judge")
         if not isinstance(report, Report) or not report.whole or report.refusal or report.unread:
-            raise Wrong(f"{file} is no whole text of judge")
+            raise Wrong(f"{file} is not a complete output of judge")
         reports.append(report)
     found = compare.changes(*reports)
     show("\n".join(compare.lines_of(found)) + "\n")
@@ -195,14 +303,16 @@ def _compare(files: list[str]) -> int:
 
 def _text_of(file: str) -> str:
     try:
-        return Path(file).read_bytes().decode("utf-8", "surrogateescape")
+        with open(file, "rb") as text:
+            return text.read().decode("utf-8", "surrogateescape")
     except OSError as error:
         raise Wrong(f"{file}: {error.strerror}") from None
 
 
 def _text_to(file: str, text: str) -> None:
     try:
-        Path(file).write_bytes(text.encode("utf-8", "surrogateescape"))
+        with open(file, "wb") as page:
+            page.write(text.encode("utf-8", "surrogateescape"))
     except OSError as error:
         raise Wrong(f"{file}: {error.strerror}") from None
 

@@ -1,10 +1,11 @@
 """Expectations of a report: `denied write /etc/shadow`, `open write /var/lib/web`, `blind /srv`, `exposure <= 40`.
 
 Lines are those of a report; `#` begins a comment. A path with files below it stands for all of them. `as-run` behind a line that
-denies or is blind asks that no parting of systemd touches it.
+denies or is blind asks that no parting of systemd touches it, and `with-modes` that it is denied or that file modes close it.
 """
 from __future__ import annotations
 
+import dataclasses
 import re
 from dataclasses import dataclass
 from typing import Sequence
@@ -24,7 +25,7 @@ class Fault(Exception):
 
 @dataclass(frozen=True)
 class Expectation:
-    """A line: an answer, a blind folder, or the most that the exposure may be."""
+    """A line: an answer, a blind folder, the most that the exposure may be, or that no line of the unit is passed over."""
 
     line: int
     text: str
@@ -35,6 +36,8 @@ class Expectation:
     policy: str | None = None
     #: whether it is to hold whatever systemd does otherwise
     as_run: bool = False
+    no_notes: bool = False
+    with_modes: bool = False
 
 
 def read_expectations(text: str) -> list[Expectation]:
@@ -49,16 +52,27 @@ def read_expectations(text: str) -> list[Expectation]:
 
 def _expectation(number: int, line: str) -> Expectation:
     first, _, rest = line.partition(" ")
-    as_run = first in ("denied", "blind") and rest.endswith(" as-run")
-    rest = rest.removesuffix(" as-run") if as_run else rest
+    rest, ends = _ends(rest)
+    as_run, with_modes = "as-run" in ends, "with-modes" in ends
     question = read_question(rest) if first in ("open", "denied") else None
-    if question:
-        return Expectation(number, line, question, first == "open", as_run=as_run)
-    if first == "blind" and rest.startswith("/") and " " not in rest:
+    if question and not (as_run and first == "open") and (not with_modes or question.kind in ("read", "write", "exec")):
+        return Expectation(number, line, question, first == "open", as_run=as_run, with_modes=with_modes)
+    if first == "blind" and rest.startswith("/") and " " not in rest and not with_modes:
         return Expectation(number, line, blind=unescaped(rest), as_run=as_run)
+    if line == "notes none":
+        return Expectation(number, line, no_notes=True)
     if found := _EXPOSURE.fullmatch(line):
         return Expectation(number, line, most=int(found[2]), policy=found[1] and unescaped(found[1]))
     raise Fault(f"line {number} is no expectation: {line}")
+
+
+def _ends(words: str) -> tuple[str, frozenset[str]]:
+    """The words in front of `as-run` and `with-modes`, and which of the two are there."""
+    ends: set[str] = set()
+    while words.endswith((" as-run", " with-modes")):
+        words, _, end = words.rpartition(" ")
+        ends.add(end)
+    return words, frozenset(ends)
 
 
 def rows_for(expectations: Sequence[Expectation], report: Report) -> list[tuple[str, str]]:
@@ -109,7 +123,11 @@ def failures(expectation: Expectation, report: Report) -> list[str]:
     answers = _answers(expectation.question, report)
     if not answers:
         return ["the report does not ask this"]
-    return [_shown(answer) for answer in answers if answer.is_open != expectation.is_open][:3]
+
+    def is_open(answer: Answer) -> bool:
+        return answer.is_open and not (expectation.with_modes and answer.by_modes)
+
+    return [_shown(answer) for answer in answers if is_open(answer) != expectation.is_open][:3]
 
 
 def _answers(question: Question, report: Report) -> list[Answer]:
@@ -121,14 +139,25 @@ def _answers(question: Question, report: Report) -> list[Answer]:
 
 
 def doubts(expectation: Expectation, report: Report, found: Sequence[Parting]) -> list[str]:
-    """The partings by which systemd may open what a line denies, or show what it has as blind; none of other lines."""
+    """The partings by which systemd may open what a line denies, or show what it has as blind; none of other lines.
+
+    What file modes close rests on ids and capabilities, so it is doubted by what gives more of them, too.
+    """
     if expectation.blind is not None:
         return [it.name for it in found if it.opens and any(_are_one_way(expectation.blind, folder) for folder in it.blind)]
     if expectation.question is None or expectation.is_open:
         return []
     names = doubted(found)
     doubting = [names.get(answer.question, []) for answer in _answers(expectation.question, report)]
+    if any(answer.by_modes for answer in _answers(expectation.question, report)):
+        doubting += [more for question, more in names.items() if question.kind in ("cap", "uid", "gid")]
     return list(dict.fromkeys(name for each in doubting for name in each))
+
+
+def with_modes_denied(report: Report) -> Report:
+    """The report with what file modes close as denied, so that partings which would open it touch it."""
+    answers = (dataclasses.replace(it, is_open=False, calls=()) if it.by_modes else it for it in report.answers)
+    return dataclasses.replace(report, answers=tuple(answers))
 
 
 def _are_one_way(path: str, folder: str) -> bool:

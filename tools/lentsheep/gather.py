@@ -4,24 +4,39 @@ from __future__ import annotations
 from typing import Optional
 
 from .brief import View
+from .causes import causes
+from .harm import FIRST_KEYS, candidates, groups, has_sandbox
 from .host import read_host
+from .identity import identity
+from .modes import FILE, read_modes, with_modes
 from .notes import told_notes
 from .partings import Judged, Parting, files_in_force, partings
 from .program import Program, Run
 from .site_text import user_names
 from .table import read_table
+from .tries import tried
+from .unit_lines import passed_over
 from .unit_text import Said
 from .values import Plan, Report
 
-def view_of(program: Program, run: Run) -> View:
-    """What is told of a report."""
+
+def view_of(program: Program, run: Run, most: int | None = None) -> View:
+    """What is told of a report; what closes a cause is tried for so many of them, or for all."""
     report = run.printed
     assert isinstance(report, Report)
-    plan = plan_of(program, run, report)
-    files = files_in_force(program.folder, unit_of(run))
-    site = site_of(program)
-    found = partings(Judged(Said(files), report, plan, read_table(program.folder), read_host(site)))
-    return View(report, plan, read_table(program.folder), told_notes(report.notes, files), found, user_names(site))
+    unit, table = unit_of(run), read_table(program.folder)
+    files, site, plan = files_in_force(program.folder, unit), site_of(program), plan_of(program, run, report)
+    said, modes = Said(files), read_modes(program.read(FILE))
+    is_protected = has_sandbox(said)
+    report = with_modes(report, modes, said)
+    lines = [line for group in groups(causes(report, table))[:most] for line in candidates(group, report)]
+    lines += [] if is_protected else FIRST_KEYS
+    known = tried(program, unit, files, lines) if report.answers and run.status == 0 else None
+    notes, passed = told_notes(report.notes, files), passed_over(files)
+    # what modes are asked for is no parting any more
+    found = partings(Judged(said, report, plan, table, read_host(site)))
+    met = [parting for parting in found if modes is None or parting.name != "file-modes"]
+    return View(report, plan, table, notes, met, user_names(site), passed, known, is_protected, identity(program, files))
 
 
 def partings_of(program: Program, run: Run, report: Report) -> list[Parting]:
@@ -29,6 +44,12 @@ def partings_of(program: Program, run: Run, report: Report) -> list[Parting]:
     files = files_in_force(program.folder, unit_of(run))
     plan = plan_of(program, run, report)
     return partings(Judged(Said(files), report, plan, read_table(program.folder), read_host(site_of(program))))
+
+
+def notes_of(program: Program, report: Report, unit: str) -> View:
+    """A report with what is known of the lines of the unit's files, and no more."""
+    files = files_in_force(program.folder, unit)
+    return View(report, notes=told_notes(report.notes, files), passed=passed_over(files))
 
 
 def unit_of(run: Run) -> str:

@@ -7,7 +7,10 @@ from typing import Any
 from .bpf import described as described_instruction
 from .brief import COLUMNS, View, topmost
 from .calls import Call
-from .causes import Cause, State, causes, closed_by, held_capabilities, state_of, told
+from .causes import Cause, State, causes, held_capabilities, state_of, told
+from .harm import Group, Tried, closing, groups
+from .identity import Identity
+from .parting_sides import bears_on
 from .partings import Parting, doubted
 from .places import described
 from .program import Run
@@ -22,13 +25,15 @@ VERSION = 1
 Json = dict[str, Any]
 
 
-def json_of(run: Run, view: View | None = None) -> Json:
+def json_of(run: Run, view: View | None = None, made_by: Identity | None = None) -> Json:
     """All that a run printed; of a report also what its view tells."""
     printed = run.printed
     found: Json = {
         "version": VERSION, "command": printed.command, "words": list(run.words), "status": run.status, "whole": printed.whole,
         "refusal": _refusal(printed.refusal), "unread": list(printed.unread),
     }  # fmt: skip
+    if made_by is not None:
+        found["made_by"] = {"version": made_by.version, "proved_by": made_by.proved_by, "sums": made_by.sums}
     if printed.refusal is None:
         found["result"] = _result(printed, view)
     return found
@@ -78,11 +83,11 @@ def _counts(counts: Counts | None) -> Json | None:
     return None if counts is None else dataclasses.asdict(counts)
 
 
-def _cause(cause: Cause, report: Report) -> Json:
+def _cause(cause: Cause, group: Group, report: Report, tried: Tried | None) -> Json:
     return {
         "count": cause.count, "need": cause.need.kind, "by": cause.need.by, "text": told(cause), "kinds": cause.kinds,
         "then": cause.then, "programs": list(cause.programs), "example": _answer(cause.example),
-        "closed_by": closed_by(cause, report),
+        "gives": group.gives, "closed_by": closing(Group(group.gives, (cause,)), report, tried),
     }  # fmt: skip
 
 
@@ -94,7 +99,7 @@ def _kinds(report: Report) -> Json:
             states = [state_of(answer) for answer in report.of_kind(kind)]
             found[kind] = {
                 "denied": states.count(State.DENIED), "open": len(states) - states.count(State.DENIED),
-                "in_steps": states.count(State.STEPS),
+                "in_steps": states.count(State.STEPS), "by_modes": states.count(State.MODES),
             }  # fmt: skip
     return found
 
@@ -113,7 +118,7 @@ def _folders(view: View) -> Json:
 
 
 def _report(report: Report, view: View) -> Json:
-    names = doubted(view.partings)
+    report, names = view.report, doubted(view.partings)
     notes = [
         {
             "file": it.note.file, "line": it.note.line, "cause": it.note.cause, "key": it.key, "text": it.text,
@@ -126,19 +131,22 @@ def _report(report: Report, view: View) -> Json:
     ]
     return {
         "unit": report.unit, "launch": _launch(report.launch), "summary": _counts(report.summary), "kinds": _kinds(report),
-        "held": held_capabilities(report), "causes": [_cause(cause, report) for cause in causes(report, view.table)],
+        "held": held_capabilities(report), "causes": [
+            _cause(cause, group, report, view.tried) for group in groups(causes(report, view.table)) for cause in group.causes
+        ],
         "folders": _folders(view), "blind": list(report.blind), "topmost_blind": topmost(report.blind), "notes": notes,
-        "partings": [_parting(parting) for parting in view.partings],
+        "passed_over": [dict(it._asdict()) for it in view.passed],
+        "partings": [_parting(parting, report) for parting in view.partings],
         "doubted": len(names),
         "answers": [{**_answer(it), **_doubt(names.get(it.question, []))} for it in report.answers],
     }  # fmt: skip
 
 
-def _parting(parting: Parting) -> Json:
+def _parting(parting: Parting, report: Report) -> Json:
     return {
         "name": parting.name, "keys": list(parting.keys), "direction": parting.direction.value, "versions": parting.versions,
         "text": parting.text, "answers": None if parting.answers is None else len(parting.answers), "blind": list(parting.blind),
-        "closed_by": list(parting.closed_by),
+        "closed_by": list(parting.closed_by), "bears": bears_on(parting, report),
     }  # fmt: skip
 
 

@@ -1,10 +1,10 @@
 """Notes with what stands in their lines: the key, the text, and for a key that systemd does not know the nearest one."""
 from __future__ import annotations
 
-import difflib
 from dataclasses import dataclass
 from typing import Sequence
 
+from .nearest import nearest
 from .service_keys import SERVICE_KEYS
 from .unit_text import UnitFile
 from .values import Note
@@ -47,6 +47,4 @@ def _told(note: Note, lines: list[str]) -> ToldNote:
 
 def nearest_key(key: str) -> str:
     """The key of systemd that is meant; empty where none is near."""
-    by_small = {known.lower(): known for known in sorted(SERVICE_KEYS)}
-    found = difflib.get_close_matches(key.lower(), by_small, n=1, cutoff=0.8)
-    return by_small[found[0]] if found else ""
+    return nearest(key, SERVICE_KEYS)

@@ -19,6 +19,7 @@ const tell = (item) => {
 
 // One item of each group is reached by the tab key, and the others by the arrows.
 const groups = all('.tree, .items');
+const itemsOf = new Map(groups.map((group) => [group, all('[data-a]', group)]));
 const isShown = (item) => item.offsetParent !== null;
 const shownIn = (group) => all('[data-a]', group).filter(isShown);
 const go = (item) => {
@@ -28,9 +29,9 @@ const go = (item) => {
   item.focus();
 };
 const reachable = () => groups.forEach((group) => {
-  const shown = shownIn(group);
-  const one = shown.find((item) => item.tabIndex === 0) ?? shown[0];
-  all('[tabindex="0"]', group).forEach((item) => { item.tabIndex = -1; });
+  const before = all('[tabindex="0"]', group);
+  const one = before.find(isShown) ?? itemsOf.get(group).find(isShown);
+  before.forEach((item) => { item.tabIndex = -1; });
   if (one) one.tabIndex = 0;
 });
 const toggle = (item, state) => {
@@ -96,30 +97,38 @@ document.addEventListener('click', (event) => {
   if (event.target.closest('.row')) toggle(item);
 });
 
-// The search field shows what has the text in a line of the report.
+// The search field shows what has all of the words in a line of the report, in any order and case.
 const search = document.getElementById('search');
 const found = document.getElementById('found');
 const states = new Map(all('[aria-expanded]').map((item) => [item, item.getAttribute('aria-expanded')]));
+const small = data.answers.map(([line]) => line.toLowerCase());
+const parents = new Map(items.map((item) => [item, item.parentElement.closest('[data-a]')]));
+// With more hits than can be looked through, folders stay folded.
+const MOST_UNFOLDED = 300;
+const set = (item, name, value) => { if (item[name] !== value) item[name] = value; };
 const find = () => {
-  const text = search.value.trim();
+  const words = search.value.toLowerCase().split(/\s+/).filter(Boolean);
+  const text = words.join(' ');
+  const hit = small.map((line) => words.every((word) => line.includes(word)));
+  const shown = new Set();
+  const unfolded = new Set();
   let count = 0;
-  items.forEach((item) => { item.hidden = text !== ''; });
-  states.forEach((state, item) => item.setAttribute('aria-expanded', state));
   if (text) {
     items.forEach((item) => {
-      const hits = linesOf(item).filter(([line]) => line.includes(text)).length;
+      const hits = placesOf(item).filter((at) => hit[at]).length;
       count += hits;
-      if (!hits) return;
-      item.hidden = false;
-      for (let above = item.parentElement.closest('[data-a]'); above; above = above.parentElement.closest('[data-a]')) {
-        above.hidden = false;
-        toggle(above, true);
-      }
+      if (hits) shown.add(item);
+    });
+    [...shown].forEach((item) => {
+      for (let above = parents.get(item); above && !unfolded.has(above); above = parents.get(above)) unfolded.add(above);
     });
   }
+  items.forEach((item) => set(item, 'hidden', text !== '' && !shown.has(item) && !unfolded.has(item)));
+  const unfolds = count <= MOST_UNFOLDED;
+  states.forEach((state, item) => set(item, 'ariaExpanded', unfolds && unfolded.has(item) ? 'true' : state));
   // a section in which nothing was found makes room
   all('main > section').forEach((part) => { part.hidden = text !== '' && !part.querySelector('[data-a]:not([hidden])'); });
-  found.textContent = text ? `${count} of ${data.answers.length} answers` : '';
+  found.textContent = !text ? '' : count ? `${count} of ${data.answers.length} answers` : `no answer has ${words.length > 1 ? 'all of these words' : 'this word'}`;
   reachable();
 };
 search.addEventListener('input', find);

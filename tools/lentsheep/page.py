@@ -13,14 +13,17 @@ from pathlib import Path
 from typing import Iterable, Mapping, Optional, Sequence
 
 from .bpf import ACTIONS
-from .brief import View
-from .causes import State, causes, closed_by, state_of, told
+from .brief import DIRECTIONS, View, wrong_lines
+from .causes import State, causes, state_of
+from .harm import closing, groups
+from .parting_sides import bears_on
 from .page_filters import drawn
 from .page_tree import NONE, SIGNS, class_of, shown_tree
 from .partings import Parting, doubted
 from .values import KINDS, SWITCHES, Answer, Filters, Launched, LaunchKilled, LaunchPrivileged, LaunchRefused, Plan, Report
 
 HERE = Path(__file__).resolve().parent
+STYLE = (HERE / "page.css").read_text("utf-8")
 # The architecture of x86-64 (linux/audit.h), where no program says another.
 X86_64 = 0xC000003E
 POLICY = "default-src 'none'; style-src 'unsafe-inline'; script-src 'unsafe-inline'"
@@ -58,7 +61,7 @@ def document(unit: str, sections: list[tuple[str, str, str]], data: str) -> str:
 <meta name="viewport" content="width=device-width">
 <title>{escape(unit)}: what its sandbox leaves open</title>
 <style>
-{(HERE / "page.css").read_text("utf-8")}</style>
+{STYLE}</style>
 </head>
 <body>
 <a class="skip" href="#files">To the files</a>
@@ -98,14 +101,16 @@ def told_launch(report: Report) -> str:
         return f"Not launched: a filter ends it at step {launch.step}."
     if isinstance(launch, LaunchPrivileged):
         return f"Not launched: {launch.program} has a set-id bit or capabilities."
-    return "The report does not tell the launch."
+    return "The report does not have the launch."
 
 
 def table(head: Iterable[str], rows: Iterable[Sequence[str]], kind: str = "") -> str:
     """A table, of texts that are escaped already."""
     cells = ("".join(f'<td class="{kind}">{cell}</td>' for cell in row) for row in rows)
     body = "".join(f"<tr>{row}</tr>" for row in cells)
-    return f"<table><thead><tr>{''.join(f'<th>{cell}</th>' for cell in head)}</tr></thead><tbody>{body}</tbody></table>"
+    heads = "".join(f"<th>{cell}</th>" for cell in head)
+    # what is wider than the screen scrolls within it
+    return f'<div class="scroll" tabindex="0"><table><thead><tr>{heads}</tr></thead><tbody>{body}</tbody></table></div>'
 
 
 def glance(view: View) -> str:
@@ -113,14 +118,23 @@ def glance(view: View) -> str:
     report = view.report
     if report.refusal:
         return f"<p><code>{escape(report.refusal.text)}</code></p>"
-    parts = [f"<p>{escape(told_launch(report))}</p>"]
+    parts = [wrong(view), f"<p>{escape(told_launch(report))}</p>"]
     if not report.whole:
         parts.append("<p><b>The text of the report was cut: what follows its last line is not known.</b></p>")
     if report.summary:
         parts.append(f"<p>Answers: {report.summary.denied} denied{held_less(view)}, {report.summary.open} open.</p>")
+    parts.append(parted_in_short(view))
     lists = why(view) + blind(report) + noted(view)
     parts.append(f'<div class="columns"><div>{counts(report)}</div><div class="wide">{lists}</div></div>')
-    return "".join(parts) + parted(view)
+    return "".join(parts) + parted(view) + made_by(view)
+
+
+def made_by(view: View) -> str:
+    """The program, and the sums of what it read."""
+    if view.identity is None:
+        return ""
+    rows = [(escape(name), f"<code>{total}</code>") for name, total in view.identity.sums.items()]
+    return f"<h3>Made by</h3><p>{escape(view.identity.build)}</p>" + table(("File", "SHA-256"), rows)
 
 
 def held_less(view: View) -> str:
@@ -130,24 +144,32 @@ def held_less(view: View) -> str:
 
 
 def counts(report: Report) -> str:
-    """How the questions of each kind stand."""
+    """How the questions of each kind stand, with the counts of the screen: what is open in steps or closed by modes is open, too."""
     kinds = [kind for kind in KINDS if kind not in SWITCHES]
     groups = [(kind, report.of_kind(kind)) for kind in kinds] + [("switches", report.of_kind(*SWITCHES))]
-    stand = {kind: Counter(state_of(it).value for it in found) for kind, found in groups if found}
-    states = [state.value for state in State]
+    stand = {kind: Counter(state_of(it) for it in found) for kind, found in groups if found}
+    of_all: Counter = sum(stand.values(), Counter())
+    shown = [State.STEPS] + [State.MODES] * bool(of_all[State.MODES])
     rows = [
-        (kind, *(f'<span class="{class_of(state)}">{found[state] or "–"}</span>' for state in states))
-        for kind, found in stand.items()
-    ]
-    return table(("Kind", *states), rows)
+        (kind, cell(found[State.DENIED], "denied"), cell(sum(found.values()) - found[State.DENIED], "open"),
+         *(cell(found[state], class_of(state.value)) for state in shown))
+        for kind, found in [*stand.items(), ("all", of_all)]
+    ]  # fmt: skip
+    heads = {State.STEPS: "of these in steps", State.MODES: "of these closed by modes"}
+    return table(("Kind", "denied", "open", *(heads[state] for state in shown)), rows)
+
+
+def cell(count: int, kind: str) -> str:
+    """A count in its colour."""
+    return f'<span class="{kind}">{count or "–"}</span>'
 
 
 def why(view: View) -> str:
     """Why answers are open that are shown in steps alone, and what closes them."""
     rows = [
-        (str(cause.count), escape(told(cause)), " or ".join(f"<code>{escape(it)}</code>" for it in closed_by(cause, view.report)),
-         "<br>".join(f"<code>{escape(it.text)}</code>" for it in cause.example.calls))
-        for cause in causes(view.report, view.table)
+        (str(group.count), escape(group.told), " or ".join(f"<code>{escape(it)}</code>" for it in closing(group, view.report, view.tried)),
+         "<br>".join(f"<code>{escape(it.text)}</code>" for it in group.example.calls))
+        for group in groups(causes(view.report, view.table))
     ]  # fmt: skip
     return "<h3>Why open</h3>" + table(("Answers", "since", "closed by", "as"), rows) if rows else ""
 
@@ -164,13 +186,28 @@ def blind(report: Report) -> str:
 
 
 def noted(view: View) -> str:
-    """What was passed over in the unit."""
+    """What was passed over in the unit and has no part in the answers."""
     rows = [
-        (escape(it.place), escape(it.note.cause), f"<code>{escape(it.text)}</code>",
-         f"{escape(it.nearest)}= is meant?" if it.nearest else "")
-        for it in view.notes
-    ]  # fmt: skip
-    return "<h3>Passed over in the unit</h3>" + table(("Line", "Cause", "Text", ""), rows) if rows else ""
+        (escape(it.place), escape(it.note.cause), f"<code>{escape(it.text)}</code>") for it in view.notes if not it.is_unknown
+    ]
+    return "<h3>Passed over in the unit</h3>" + table(("Line", "Cause", "Text"), rows) if rows else ""
+
+
+def wrong(view: View) -> str:
+    """Lines of the unit that do not say what they seem to."""
+    rows = [(escape(place), escape(text)) for place, text in wrong_lines(view)]
+    return "<h3>Lines of the unit that are not read</h3>" + table(("Line", "What is wrong"), rows) if rows else ""
+
+
+def parted_in_short(view: View) -> str:
+    """The partings that an answer is on the side of, by their names."""
+    found = [parting for parting in view.partings if bears_on(parting, view.report)]
+    lines = []
+    for direction, text in DIRECTIONS.items():
+        names = [f'<a href="#partings" title="{escape(it.text)}">{escape(it.name)}</a>' for it in found if it.direction == direction]
+        if names:
+            lines.append(f"<p>{escape(text)} {', '.join(names)}</p>")
+    return "".join(lines)
 
 
 def parted(view: View) -> str:
@@ -181,7 +218,7 @@ def parted(view: View) -> str:
         for it in view.partings
     ]  # fmt: skip
     head = ("Parting", "Keys", "Which", "What", "Answers", "closed by", "systemd")
-    return "<h3>Where systemd may part from this</h3>" + table(head, rows) if rows else ""
+    return '<h3 id="partings">Where systemd may part from this</h3>' + table(head, rows) if rows else ""
 
 
 def touched(parting: Parting) -> str:
@@ -230,7 +267,7 @@ def mounts(plan: Plan) -> str:
          "" if it.executable is None else "exec" if it.executable else "noexec")
         for it in plan.mounts
     ]  # fmt: skip
-    return table(("Place", "What stands there", "", ""), rows, "code")
+    return table(("Place", "What is there", "", ""), rows, "code")
 
 
 def pictures(filters: Filters, names: Mapping[str, int]) -> str:

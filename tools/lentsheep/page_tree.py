@@ -13,7 +13,7 @@ from .values import PATH_KINDS, Answer, Report
 
 # The signs of marks: of how a question stands, of several that stand otherwise, and of none.
 MIXED, NONE = "mixed", "none"
-SIGNS = {State.OPEN.value: "●", State.STEPS.value: "◎", MIXED: "◐", State.DENIED.value: "○", NONE: "·"}
+SIGNS = {State.OPEN.value: "●", State.STEPS.value: "◎", MIXED: "◐", State.DENIED.value: "○", State.MODES.value: "◇", NONE: "·"}
 # How many children that are alike are folded to one row.
 MANY = 6
 

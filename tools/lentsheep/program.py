@@ -4,18 +4,16 @@ from __future__ import annotations
 import contextlib
 import os
 import subprocess
-import tempfile
 from dataclasses import dataclass
-from pathlib import Path
-from typing import Iterator, Mapping
+from typing import Iterator, Mapping, Sequence
 
 from .report import parse
 from .terminal import doing
 from .values import Printed
 
-TOP = Path(__file__).resolve().parent.parent.parent
-SANDBOX = TOP / "sandbox"
-POLICY = TOP / "tables" / "policy" / "systemd.json"
+TOP = os.path.dirname(os.path.dirname(os.path.dirname(os.path.realpath(__file__))))
+SANDBOX = f"{TOP}/sandbox"
+POLICY = f"{TOP}/tables/policy/systemd.json"
 
 
 @dataclass(frozen=True)
@@ -40,28 +38,61 @@ class Program:
         self.folder = folder
         self.unproved = unproved
 
+    @property
+    def built(self) -> str | None:
+        """The program as ./sandbox names it where it is built; None where ./sandbox builds it and runs it."""
+        return None if self.unproved else os.environ.get("LENTSHEEP_RUNS")
+
+    def _command(self, words: Sequence[str]) -> list[str]:
+        return [*([self.built] if self.built else [SANDBOX, "--try"] if self.unproved else [SANDBOX]), *words]
+
+    def run_many(self, many: Sequence[Sequence[str]], what: str = "trying what closes them") -> list[str]:
+        """What the program prints of each of several words, as many at a time as there are processors."""
+        texts: list[str] = []
+        how = {"cwd": self.folder, "env": {**os.environ, "LENTSHEEP_PLAIN": "yes"}, "stderr": subprocess.DEVNULL}
+        at_once = max(1, min(8, os.cpu_count() or 1))
+        with doing(what):
+            for at in range(0, len(many), at_once):
+                runs = [subprocess.Popen(self._command(words), stdout=subprocess.PIPE, **how) for words in many[at : at + at_once]]
+                texts += [run.communicate()[0].decode("utf-8", "surrogateescape") for run in runs]
+        return texts
+
     def run(self, *words: str) -> Run:
         """Runs the program; what it says on standard error goes on as it is."""
-        how = ["--try"] if self.unproved else []
+        how = {**os.environ, "LENTSHEEP_PLAIN": "yes"}
         with doing("making " + " ".join(words)):
-            ended = subprocess.run([SANDBOX, *how, *words], cwd=self.folder, stdout=subprocess.PIPE, check=False)
+            ended = subprocess.run(self._command(words), cwd=self.folder, env=how, stdout=subprocess.PIPE, check=False)
         text = ended.stdout.decode("utf-8", "surrogateescape")
         status = ended.returncode if ended.returncode >= 0 else 128 - ended.returncode
         return Run(words, text, parse(text, words[0] if words else None), status)
 
     @contextlib.contextmanager
     def changed(self, files: Mapping[str, bytes]) -> Iterator["Program"]:
-        """The same folder with some files in the place of its own, in a folder that is gone afterwards."""
+        """The same folder with some files, by their paths below it, in the place of its own, in a folder that is gone afterwards."""
+        import tempfile
+
         with tempfile.TemporaryDirectory(prefix="lentsheep.") as place:
-            for name in os.listdir(self.folder):
-                if name not in files:
-                    os.symlink(os.path.abspath(os.path.join(self.folder, name)), os.path.join(place, name))
-            for name, data in files.items():
-                Path(place, name).write_bytes(data)
+            _overlay(os.path.abspath(self.folder), place, {tuple(name.split("/")): data for name, data in files.items()})
             yield Program(place, self.unproved)
 
     def read(self, name: str) -> bytes | None:
         """The bytes of a file of the folder; None where there is none."""
-        with contextlib.suppress(OSError):
-            return Path(self.folder, name).read_bytes()
+        with contextlib.suppress(OSError), open(os.path.join(self.folder, name), "rb") as file:
+            return file.read()
         return None
+
+
+def _overlay(folder: str, place: str, files: Mapping[tuple[str, ...], bytes]) -> None:
+    """Links what a folder has into another one, but for some files, which are written there."""
+    heads = {names[0] for names in files}
+    for name in os.listdir(folder) if os.path.isdir(folder) else []:
+        if name not in heads:
+            os.symlink(os.path.join(folder, name), os.path.join(place, name))
+    for head in sorted(heads):
+        below = {names[1:]: data for names, data in files.items() if names[0] == head}
+        if () in below:
+            with open(os.path.join(place, head), "wb") as file:
+                file.write(below[()])
+        else:
+            os.mkdir(os.path.join(place, head))
+            _overlay(os.path.join(folder, head), os.path.join(place, head), below)

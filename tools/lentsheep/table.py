@@ -1,12 +1,12 @@
 """The table of system calls, as far as views tell its names: groups, and capabilities that calls and families ask for."""
 from __future__ import annotations
 
+import os
 from dataclasses import dataclass, field
 from functools import lru_cache
-from pathlib import Path
 
 #: The tables of this tree, with the groups of systemd 257; those of 252 are in a folder of their own.
-TABLES = Path(__file__).resolve().parents[2] / "tables" / "x86-64"
+TABLES = f"{os.path.dirname(os.path.dirname(os.path.dirname(os.path.realpath(__file__))))}/tables/x86-64"
 
 
 @dataclass(frozen=True)
@@ -26,7 +26,8 @@ class Table:
 def read_table(folder: str) -> Table:
     """The table of a folder that the program reads."""
     try:
-        text = Path(folder, "calls.txt").read_text("utf-8", "replace")
+        with open(f"{folder}/calls.txt", encoding="utf-8", errors="replace") as file:
+            text = file.read()
     except OSError:
         return Table()
     return table_of(text)
@@ -52,4 +53,4 @@ def table_of(text: str) -> Table:
 @lru_cache(maxsize=None)
 def read_groups(version: int = 257) -> dict[str, frozenset[str]]:
     """The groups of a version of systemd; none where this tree has no table of it."""
-    return read_table(str(TABLES / str(version) if version != 257 else TABLES)).groups
+    return read_table(f"{TABLES}/{version}" if version != 257 else TABLES).groups

@@ -8,11 +8,11 @@ import shutil
 import subprocess
 import sys
 import threading
-from pathlib import Path
 from typing import Iterator, TextIO
 
 #: How the command is called, in a checkout and where it is installed.
-COMMAND = "./sandbox" if (Path(__file__).resolve().parents[2] / "crates.txt").is_file() else "lentsheep"
+TOP = os.path.dirname(os.path.dirname(os.path.dirname(os.path.realpath(__file__))))
+COMMAND = "./sandbox" if os.path.isfile(f"{TOP}/crates.txt") else "lentsheep"
 #: The same, before what it tells.
 NAME = COMMAND.removeprefix("./")
 

@@ -109,6 +109,8 @@ class Answer:
     question: Question
     is_open: bool
     calls: tuple[Call, ...] = ()
+    #: whether views found that file modes close it; the text of the program does not say so
+    by_modes: bool = False
 
     @property
     def verdict(self) -> str:

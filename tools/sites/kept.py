@@ -1,9 +1,10 @@
-"""A site that is kept in a file, and made anew where what it came from, or an installed package, is newer."""
+"""A site and the walk over a root, kept in files, and made anew where what they came from, or an installed package, is newer."""
+import contextlib
 import itertools
 import os
 import tempfile
 
-from sites import units
+from sites import units, walk
 
 # What changes whenever a package is installed or removed: of dpkg, rpm, pacman and apk.
 PACKAGES = b"""
@@ -42,8 +43,13 @@ def files_behind(root, unit_root, names):
     for name in filter(None, map(units.read_name, names)):
         files, folders = units.sources(unit_root, name)
         found += [unit_root.outside(path) for path in files + folders]
+    return found + own_files()
+
+
+def own_files():
+    """The files of this tool."""
     here = os.path.dirname(os.path.abspath(__file__))
-    return found + [os.path.join(here, file) for file in os.listdir(here) if file.endswith(".py")]
+    return [os.path.join(here, file) for file in os.listdir(here) if file.endswith(".py")]
 
 
 def heads_of(text):
@@ -62,6 +68,30 @@ def fresh(file, head, root, unit_root, names):
         return None
     is_ours = text.startswith("".join(f"# {line}\n" for line in head).encode())
     return text if is_ours and all(changed(it) < written for it in files_behind(root, unit_root, names)) else None
+
+
+def head_of_walks(root):
+    """What walks are of: the root by its name and its number on this machine."""
+    status = os.stat(root.folder)
+    return f"walks of {os.fsdecode(root.folder)} {status.st_dev} {status.st_ino}"
+
+
+def fresh_walks(file, root):
+    """The walks of a file with what was told of them, if they are of this root and newer than its packages and this tool."""
+    try:
+        written = os.stat(file).st_mtime_ns
+        if any(changed(it) >= written for it in package_files(root) + own_files()):
+            return None
+        with open(file, "rb") as text:
+            return walk.read(text.read(), head_of_walks(root))
+    except OSError:
+        return None
+
+
+def keep_walks(file, root, walks, kinds):
+    """Writes walks with what was told of them into a file, if that can be written."""
+    with contextlib.suppress(OSError):
+        write_whole(file, walk.text_of(head_of_walks(root), walks, kinds))
 
 
 def write_whole(file, text):

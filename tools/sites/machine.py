@@ -18,8 +18,9 @@ TABLE = os.path.join(os.path.dirname(os.path.abspath(__file__)), "../../tables/x
 FUNCTIONS = {"umount2": "umount"}
 # Families by what their protocols are called in /proc/net/protocols; the others are called as they are, without AF_.
 PROTOCOLS_OF = {
-    "AF_UNIX": r"UNIX.*", "AF_INET": r"TCP|UDP|UDP-Lite|RAW|PING|MPTCP|DCCP|SCTP|L2TP.*", "AF_INET6": r"\w+v6", "AF_BLUETOOTH": r"L2CAP|HCI|SCO|RFCOMM|BNEP",
-    "AF_CAN": r"CAN_\w+|ISOTP|CAN-?J1939", "AF_APPLETALK": r"DDP", "AF_PPPOX": r"PPPO\w+", "AF_IEEE802154": r"IEEE-802.15.4.*|IEEE802154.*",
+    "AF_UNIX": r"UNIX.*", "AF_INET": r"TCP|UDP|UDP-Lite|RAW|PING|MPTCP|DCCP|SCTP|L2TP.*", "AF_INET6": r"\w+v6",
+    "AF_BLUETOOTH": r"L2CAP|HCI|SCO|RFCOMM|BNEP", "AF_CAN": r"CAN_\w+|ISOTP|CAN-?J1939", "AF_APPLETALK": r"DDP",
+    "AF_PPPOX": r"PPPO\w+", "AF_IEEE802154": r"IEEE-802.15.4.*|IEEE802154.*",
     "AF_VSOCK": r"AF_VSOCK", "AF_SMC": r"SMC6?", "AF_NFC": r"NFC.*", "AF_CAIF": r"CAIF.*",
 }  # fmt: skip
 

@@ -44,7 +44,7 @@ def lines_of(text, fields, ids, file, told):
             told.add(f"left out, names of {file} that are not UTF-8", found[0])
             continue
         if len(found) != fields or not name or any(read_id(found[at]) is None for at in ids):
-            told.add(f"left out, lines of {file} without a name, or with an id that is none", line)
+            told.add(f"left out, lines of {file} without a name, or with an invalid id", line)
         elif name in names:
             told.add(f"left out, names of {file} that an earlier line has", found[0])
         else:

@@ -89,10 +89,10 @@ def caps_of(file, path, told):
     if caps is None:
         return (), False
     if caps.root != 0:
-        told.add("left out, capabilities that count in another user namespace alone", path)
+        told.add("left out, capabilities that count only in another user namespace", path)
         return (), False
     if caps.permitted >> len(CAPABILITIES):
-        told.add("left out, capabilities that have no name here", path)
+        told.add("left out, capabilities without a known name", path)
     names = tuple(name for cap, name in enumerate(CAPABILITIES) if caps.permitted >> cap & 1)
     return names, caps.effective and names != ()
 
@@ -105,9 +105,9 @@ def at_most_one(found, path, told):
     if found.setuid is None or not found.caps:
         return found
     if found.setuid == 0:
-        told.add("both set-user-ID root and capabilities, which uid 0 has without them: the bit is told", path)
+        told.add("both set-user-ID root and capabilities: the row has the bit, since uid 0 has every capability", path)
         return found._replace(caps=(), effective=False)
-    told.add("both capabilities and the set-user-ID bit of an owner who has none: the capabilities are told", path)
+    told.add("both capabilities and the set-user-ID bit of another owner than root: the row has the capabilities", path)
     return found._replace(setuid=None)
 
 
@@ -121,6 +121,6 @@ def privileges_of(file, status, path, told):
     setgid = status.st_gid if by_group else None
     found = Privileges(setuid, setgid, *caps_of(file, path, told))
     if found != NONE and is_script(file):
-        told.add("left out, set-id bits and capabilities of scripts, which Linux passes over", path)
+        told.add("left out, set-id bits and capabilities of scripts, which Linux ignores", path)
         return NONE
     return at_most_one(found, path, told)

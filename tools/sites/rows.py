@@ -98,7 +98,7 @@ class Rows:
     def leave_filler(self, path):
         """Counts a folder that says nothing of a sandbox, where it has no row as the parent of another."""
         if path not in self.rows:
-            self.told.add("left out, folders of folders and plain files alone that no unit names (--full has them)", path)
+            self.told.add("left out, folders with nothing but folders and plain files that no unit names (--full includes them)", path)
 
     def put(self, path, row):
         """Takes a row with the parents that it lacks, if there is room for all of them."""
@@ -143,9 +143,9 @@ class Rows:
         """Takes the row of a path where nothing is, or nothing that can be looked at."""
         missing = error.errno in (errno.ENOENT, errno.ENOTDIR)
         if not missing:
-            self.told.add(f"paths that could not be looked at ({error.strerror})", path)
+            self.told.add(f"paths that could not be checked ({error.strerror})", path)
         elif wanted:
-            self.told.add("named paths that are not there", path)
+            self.told.add("named paths that do not exist", path)
         if made and error.errno != errno.ENOTDIR:
             self.put(path, made_row(path, made))
 

@@ -1,11 +1,12 @@
 """The site of a root: which rows it has, in the order in which they are chosen, and which users and groups."""
 import stat
 
-from sites import machine, people, places, toml, units
+from sites import kept, machine, people, places, toml, units
 from sites.root import folded
 from sites.rows import Rows, Row, fault_of, parents_of
 from sites.spaces import user_namespaces
-from sites.walk import walk
+from sites.told import Told
+from sites.walk import leads_to_folder, walk
 
 
 class Fault(Exception):
@@ -24,7 +25,7 @@ def add_running(rows):
     for path, kind in [(path, kind) for kind, paths in places.RUNNING.items() for path in paths.split()]:
         path = path.encode()
         if not rows.root.stands(path):
-            rows.told.add("rows of what a running system has, since nothing is in this /proc", path)
+            rows.told.add("rows of every running system, since this /proc is empty", path)
         rows.add(path, made=kind)
 
 
@@ -35,7 +36,7 @@ def tell_links(rows, path):
         return
     target = rows.root.real(path)
     if target != path:
-        rows.told.add("paths of the units that lead through links, and are judged apart from what they lead to", path)
+        rows.told.add("paths of the units that lead through links, and are judged apart from their targets", path)
 
 
 def add_said(rows, says):
@@ -53,8 +54,26 @@ def add_said(rows, says):
         tell_links(rows, path)
 
 
-def walks(root, also, told):
-    """The walks over the file systems of the root, of /usr, and of the folders that are to be walked as well."""
+def walks(root, also, told, keep=None):
+    """The walks over the file systems of the root, of /usr, and of the folders that are to be walked as well.
+
+    Those of a root without further folders are kept in the file `keep`, and taken from it as long as no package was installed.
+    """
+    found = kept.fresh_walks(keep, root) if keep and not also else None
+    if found is None:
+        of_the_walk = Told()
+        found = new_walks(root, also, of_the_walk), of_the_walk.kinds
+        if keep and not also:
+            kept.keep_walks(keep, root, *found)
+    told.take(found[1])
+    starts = {it.folders[0][0] for it in found[0]}
+    for path in [path for it in found[0] for path in it.elsewhere if path not in starts]:
+        told.add("not walked, folders of other file systems (--also walks one)", path)
+    return found[0]
+
+
+def new_walks(root, also, told):
+    """The walks as they are made."""
     seen = set()
     found = []
     for start in [b"/", b"/usr"] + also:
@@ -65,11 +84,8 @@ def walks(root, also, told):
             continue
         if stat.S_ISDIR(status.st_mode) and (status.st_dev, status.st_ino) not in seen:
             seen.add((status.st_dev, status.st_ino))
-            found.append((start, walk(root, start, told, seen)))
-    starts = [start for start, _ in found]
-    for path in [path for _, it in found for path in it.elsewhere if path not in starts]:
-        told.add("not walked, folders of other file systems (--also walks one)", path)
-    return [it for _, it in found]
+            found.append(walk(root, start, told, seen))
+    return found
 
 
 def add_sockets(rows, found):
@@ -102,7 +118,7 @@ def add_telling(rows, found):
     """Takes the rows of the folders that hold more than folders and plain files, and of the folders of `/` itself."""
     of_the_root = found[0]
     taken = {path for level in of_the_root.folders[1:2] for path in level}
-    taken.update(path for path in of_the_root.links[0] if leads_to_folder(rows.root, path))
+    taken.update(of_the_root.links[0])
     taken.update(path for it in found for path in it.telling)
     for path in sorted(taken):
         add_folder(rows, path)
@@ -119,16 +135,7 @@ def add_folders(rows, found, full):
         for path in sorted(folders | links):
             if any(is_below(path, passing) for passing in places.PASSING):
                 continue
-            if path in folders or leads_to_folder(rows.root, path):
-                add_folder(rows, path) if full else rows.leave_filler(path)
-
-
-def leads_to_folder(root, link):
-    """Whether a link leads to a folder."""
-    try:
-        return stat.S_ISDIR(root.status(link).st_mode)
-    except OSError:
-        return False
+            add_folder(rows, path) if full else rows.leave_filler(path)
 
 
 def add_folder(rows, path):
@@ -140,7 +147,7 @@ def add_folder(rows, path):
         rows.put(path, Row("dir"))
 
 
-def add_rows(rows, all_said, also, full):
+def add_rows(rows, all_said, also, full, keep):
     """Takes all rows, the most telling first."""
     rows.put(b"/", Row("dir"))
     rows.put(b"/proc", Row("dir"))
@@ -151,7 +158,7 @@ def add_rows(rows, all_said, also, full):
         add_said(rows, says)
     for path in also:
         rows.add(path, wanted=True)
-    found = walks(rows.root, also, rows.told)
+    found = walks(rows.root, also, rows.told, keep)
     for path in sorted(path for it in found for path in it.privileged):
         rows.add(path)
     for pattern in places.SENSITIVE:
@@ -169,11 +176,11 @@ def read_people(root, says, told):
     try:
         passwd = root.read(b"/etc/passwd")
     except OSError as error:
-        raise Fault(f"{root.folder.decode(errors='replace')} has no etc/passwd that can be read ({error.strerror})")
+        raise Fault(f"{root.folder.decode(errors='replace')} has no readable etc/passwd ({error.strerror})")
     try:
         group = root.read(b"/etc/group")
     except OSError as error:
-        told.add(f"without groups, since there is no file that can be read ({error.strerror})", b"/etc/group")
+        told.add(f"without groups, since the file is not readable ({error.strerror})", b"/etc/group")
         group = b""
     groups = people.read_groups(group, told)
     users = people.read_users(passwd, groups, told)
@@ -183,34 +190,37 @@ def read_people(root, says, told):
     return users, people.at_most(groups, wanted_groups, "etc/group", told)
 
 
-def all_said(unit_root, names, told):
-    """What each of the units says; a name of no unit is told."""
+def all_said(unit_root, names, told, dropin=None):
+    """What each of the units says, with the text of a further drop-in; a name of no unit is told."""
     found = []
     for text in names:
         name = units.read_name(text)
         if name is None or units.fragment(unit_root, name) is None:
-            told.add("units that are not there", text.encode("utf-8", "surrogateescape"))
+            told.add("units that do not exist", text.encode("utf-8", "surrogateescape"))
         else:
-            found.append(units.said(unit_root, name, told))
+            found.append(units.said(unit_root, name, told, dropin))
     return found
 
 
 def tell_owner(root, told):
     """Tells a root that another user unpacked, who then owns its set-user-ID programs."""
     if root.status(b"/").st_uid != 0:
-        told.add("not owned by root, so that set-user-ID bits may stand for other uids once it runs", b"/")
+        told.add("not owned by root, so set-user-ID bits may mean other uids once it runs", b"/")
 
 
-def make_site(head, root, unit_root, names, also, full, told):
-    """The bytes of site.toml, which begin with these lines, what it has, what it leaves out, and what of the root is otherwise."""
-    says = all_said(unit_root, names, told)
+def make_site(head, root, unit_root, names, also, full, told, keep=None, dropin=None):
+    """The bytes of site.toml, which begin with these lines, what it has, what it leaves out, and what of the root is otherwise.
+
+    The walks are kept in the file `keep`, and `dropin` is the text of a drop-in that applies to each unit besides its own.
+    """
+    says = all_said(unit_root, names, told, dropin)
     users, groups = read_people(root, says, told)
     rows = Rows(root, told, names)
     tell_owner(root, told)
-    add_rows(rows, says, also, full)
+    add_rows(rows, says, also, full, keep)
     numbers = people.dynamic_uid(users, groups), user_namespaces(root, told)
     counts = f"{len(rows.rows)} rows, {len(users)} users, {len(groups)} groups"
     text = toml.site_text([*head, *machine.kernel_heads(root), counts, *told.lines()], *numbers, rows.rows, users, groups)
     if len(text) > toml.LONGEST:
-        raise Fault(f"the site has {len(text)} bytes, and the program reads {toml.LONGEST}")
+        raise Fault(f"the site has {len(text)} bytes, but the program reads at most {toml.LONGEST}")
     return text

@@ -17,7 +17,7 @@ def user_namespaces(root, told):
     """The kernel's limit, at most what a site may say; None where the root does not show its kernel, as one that does not run."""
     limit = number(root, LIMIT)
     if limit is None:
-        told.add("without user namespaces, since the root does not show how many its kernel makes", LIMIT)
+        told.add("without user namespaces, since the root does not show the limit of its kernel", LIMIT)
         return None
     if number(root, SWITCH) == 0:
         return 0

@@ -23,6 +23,13 @@ class Told:
         if len(names[1]) < MOST_NAMES:
             names[1].append(shown(name))
 
+    def take(self, kinds):
+        """Counts what another told, as it came up there."""
+        for kind, (count, names) in kinds.items():
+            mine = self.kinds.setdefault(kind, [0, []])
+            mine[0] += count
+            mine[1] += names[: MOST_NAMES - len(mine[1])]
+
     def lines(self):
         """A line for each kind."""
         for kind, (count, names) in self.kinds.items():

@@ -147,8 +147,8 @@ def joined_lines(text):
         yield whole
 
 
-def assignments(text):
-    """The keys and values of [Service]."""
+def all_assignments(text):
+    """The sections, keys and values of a file."""
     section = None
     for line in joined_lines(text):
         line = line.strip(SPACES)
@@ -156,8 +156,15 @@ def assignments(text):
             section = line
             continue
         key, equals, value = line.partition("=")
-        if section == "[Service]" and equals:
-            yield key.strip(SPACES), value.strip(SPACES)
+        if equals:
+            yield section, key.strip(SPACES), value.strip(SPACES)
+
+
+def assignments(text):
+    """The keys and values of [Service]."""
+    for section, key, value in all_assignments(text):
+        if section == "[Service]":
+            yield key, value
 
 
 def unescaped(text):
@@ -263,17 +270,18 @@ def add_assignment(says, key, value):
         add_words(says, key, words(value))
 
 
-def said(root, name, told):
-    """What the files of a unit say, whether or not a later assignment takes it back."""
+def said(root, name, told, dropin=None):
+    """What the files of a unit, and the text of a further drop-in, say, whether or not a later assignment takes it back."""
     says = Says([], [], [], [], [], set(), set())
+    texts = []
     for path in sources(root, name)[0]:
         if is_mask(root, path):
             continue
         try:
-            text = root.read(path).decode("utf-8")
+            texts.append(root.read(path).decode("utf-8"))
         except (OSError, ValueError):
             told.add("files of units that could not be read", path)
-            continue
+    for text in texts + ([dropin] if dropin else []):
         for key, value in assignments(text):
             value = expanded(name, value)
             if value:

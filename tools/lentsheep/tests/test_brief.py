@@ -66,6 +66,9 @@ summary denied 4 open 13
 """
 TABLE = Table({"@clock": frozenset({"settimeofday"})}, {"settimeofday": "CAP_SYS_TIME", "reboot": "CAP_SYS_BOOT"}, {1: "AF_UNIX"})
 SCREEN = """\
+note        web.service:4: no key of systemd (ProtectSystem= is meant?): ProtectSytem=yes
+note        web.service:5: this value cannot be read: PrivateTmp=maybe
+
 unit        web.service: denied 4, open 13
 launched    as uid 0 (root), gid 0, with 2 capabilities, no_new_privs on
 
@@ -74,10 +77,10 @@ why open    3 answers, since it can change mounts (CAP_SYS_ADMIN is held)
               write /etc/passwd: 1 mount / /proc 0 0 0 4096; 1 mount / /proc 0 0 0 4128;
               1 open /proc/etc/passwd 0 1
               closed by CapabilityBoundingSet=~CAP_SYS_ADMIN or SystemCallFilter=~@mount
-            1 answer, since it can make calls that ask for a capability (CAP_SYS_TIME is held)
-              closed by CapabilityBoundingSet=~CAP_SYS_TIME
             1 answer, since it can make namespaces (CAP_SYS_ADMIN is held)
               closed by CapabilityBoundingSet=~CAP_SYS_ADMIN or RestrictNamespaces=yes
+            1 answer, since it can make calls that ask for a capability (CAP_SYS_TIME is held)
+              closed by CapabilityBoundingSet=~CAP_SYS_TIME
 
              see read write exec call socket ns switch cap uid gid all
 denied         -    -     -    -    1      -  -      1   1   1   -   4
@@ -93,8 +96,6 @@ switches    denied all 1
 caps        open 2 but denied 1: CAP_SETUID
 uids        open 1 but denied 1: 33
 gids        open all 1
-note        web.service:4 no key of systemd (ProtectSystem= is meant?): ProtectSytem=yes
-note        web.service:5 value: PrivateTmp=maybe
 not judged  1 line: Restart
 """
 UNIT = UnitFile(

@@ -97,7 +97,8 @@ class Heads(Places):
         self.assertTrue({"uselib", "write", "AF_KEY"} <= host.lacking)
         self.assertFalse({"read", "umount2", "AF_UNIX", "AF_INET6"} & host.lacking)
         # these lines are no lines of what is left out
-        self.assertFalse([line for line in told.split("\n") if line.startswith(("make-site: kernel", "make-site: systemd", "make-site: the kernel"))])
+        starts = ("make-site: kernel", "make-site: systemd", "make-site: the kernel")
+        self.assertFalse([line for line in told.split("\n") if line.startswith(starts)])
 
     def test_a_kernel_makes_the_site_anew(self):
         self.running()

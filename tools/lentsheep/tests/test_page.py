@@ -118,8 +118,8 @@ class Text(unittest.TestCase):
         files = [UnitFile("etc/systemd/system/web.service", "[Service]\nProtectSystem=strict\n\n\n\nRestrat=always\n")]
         text = made(partings=partings_by_text(files), notes=told_notes(parse(REPORT, "judge").notes, files))
         self.assertIn("<td class=\"\">ProtectSystem=</td><td class=\"\">denied here, open there</td>", text)
-        self.assertIn("etc/systemd/system/web.service:6", text)
-        self.assertIn("<code>Restrat=always</code></td><td class=\"\">Restart= is meant?</td>", text)
+        self.assertIn("<td class=\"\">web.service:6</td>", text)
+        self.assertIn("<td class=\"\">no key of systemd (Restart= is meant?): Restrat=always</td>", text)
         # /tmp/x stands in /tmp
         self.assertIn("<code>/tmp</code></p>", text)
 
@@ -244,6 +244,14 @@ type(search, 'denied write');
 results.hits = [found.textContent, shown(), all('main > section').filter((it) => !it.hidden).map((it) => it.id)];
 key('Escape', search);
 results.cleared = [found.textContent, search.value, shown().length];
+type(search, 'PASSWD  Denied');
+results.words = [found.textContent, shown()];
+type(search, 'nosuch');
+results.none = found.textContent;
+type(search, 'passwd nosuch');
+results.noneOfBoth = found.textContent;
+key('Escape', search);
+results.wide = [document.documentElement.scrollWidth <= innerWidth, all('table').every((it) => it.closest('.scroll'))];
 all('#rest .items [tabindex="0"]')[0].focus();
 results.item = label();
 all('#calls .items [tabindex="0"]')[0].focus();
@@ -304,6 +312,10 @@ class Used(unittest.TestCase):
         self.assertEqual(wanted, self.results["hits"])
         self.assertEqual(["", "", 8], self.results["cleared"])
         self.assertEqual("denied socket AF_PACKET", self.results["item"])
+        # words in any order and case
+        self.assertEqual(["1 of 16 answers", ["/", "/etc", "/etc/passwd"]], self.results["words"])
+        self.assertEqual(["no answer has this word", "no answer has all of these words"], [self.results["none"], self.results["noneOfBoth"]])
+        self.assertEqual([True, True], self.results["wide"])
 
     def test_arrows_within_a_group(self):
         # of two calls on one line: behind the last and below there is none
@@ -335,6 +347,55 @@ class Used(unittest.TestCase):
     def test_themes_and_no_network(self):
         self.assertTrue(self.results["themes"])
         self.assertEqual(0, self.results["outside"])
+
+
+TIMES = """
+const results = {};
+const type = (field, text) => { field.value = text; field.dispatchEvent(new Event('input')); };
+// all is read and laid out by now, and what is left is to be painted
+document.body.offsetHeight;
+results.painted = performance.now();
+results.searches = ['denied write', '77 SRV open', 'nosuch', ''].map((text) => {
+  const before = performance.now();
+  type(search, text);
+  document.body.offsetHeight;
+  return performance.now() - before;
+});
+type(search, '/srv/77/ write');
+results.found = found.textContent;
+results.narrow = document.documentElement.scrollWidth <= innerWidth;
+document.body.innerHTML = '<pre id="results"></pre>';
+document.getElementById('results').textContent = JSON.stringify(results);
+"""
+
+
+@unittest.skipUnless(CHROMIUM, "there is no Chromium on the PATH (Debian's package chromium)")
+class Large(unittest.TestCase):
+    """A page of 9,000 answers on a narrow screen."""
+
+    def test_times(self):
+        lines = ["unit web.service", "launched uid 33 gid 33 nnp yes steps 9"]
+        for folder in range(90):
+            for file in range(50):
+                path = f"/srv/{folder}/{'a-long-name-' * 3}{file}"
+                lines += [f"open read {path}\n  1 open {path}", f"denied write {path}"]
+        text = page_of(View(parse("\n".join([*lines, "summary denied 4500 open 4500", ""]), "judge")))
+        with tempfile.TemporaryDirectory() as folder:
+            file = Path(folder) / "page.html"
+            file.write_text(text.replace("</body>", f"<script>{TIMES}</script></body>"), "utf-8")
+            words = [CHROMIUM, "--headless", "--no-sandbox", "--disable-gpu", "--window-size=390,800"]
+            words += [f"--user-data-dir={folder}/profile", "--dump-dom", f"file://{file}"]
+            found = subprocess.run(words, capture_output=True, timeout=120, env={**os.environ, "HOME": folder})
+        told = re.search(r'<pre id="results">(.*?)</pre>', found.stdout.decode(), re.S)
+        self.assertTrue(told, found.stderr.decode()[-2000:])
+        results = json.loads(told[1])
+        if os.environ.get("LENTSHEEP_TIMES"):
+            print(results, file=sys.stderr)
+        # folder 77 has 50 files to be written
+        self.assertEqual(("50 of 9000 answers", True), (results["found"], results["narrow"]))
+        # a machine that does other work beside takes longer: each may be twice what is wanted, 2 s and 100 ms
+        self.assertLess(results["painted"], 4000)
+        self.assertLess(max(results["searches"]), 200, results)
 
 
 if __name__ == "__main__":

@@ -11,12 +11,15 @@ import sys
 import tempfile
 import unittest
 from pathlib import Path
+from unittest import mock
 
 TOP = Path(__file__).resolve().parents[3]
 sys.path.insert(0, str(TOP / "tools"))
 
 from lentsheep.causes import causes
 from lentsheep.compare import changes
+from lentsheep.gather import partings_of
+from lentsheep.program import Program
 from lentsheep.report import parse
 from lentsheep.schema import faults, read_schema
 from lentsheep.table import read_table
@@ -39,12 +42,14 @@ UNITS = {
         "ExecStart=/usr/sbin/cupsd -l",
         """\
 launched    as uid 0 (root), gid 0, with all 41 capabilities, no_new_privs off
-why open    6 answers, since it can make calls that ask for a capability (CAP_SYS_ADMIN is held)
-              call 5, socket 1; as
-              call swapon: 1 swapon
+why open    the unit sets no key of a sandbox; close most: CapabilityBoundingSet= (77),
+            8 answers, since it can change the kernel or start another (CAP_SYS_BOOT, CAP_SYS_MODULE
+              closed by CapabilityBoundingSet=~CAP_SYS_BOOT CAP_SYS_MODULE CAP_SYS_RAWIO or
+              SystemCallFilter=~@module @raw-io @reboot
+            3 answers, since it can reach disks beside their files (CAP_DAC_READ_SEARCH and
             6 answers, since it can make namespaces (CAP_SYS_ADMIN is held)
-            3 answers, since it can make calls that ask for a capability (CAP_SYS_BOOT is held)
-            and 10 further causes, of 18 answers
+            13 answers, since it can make calls that ask for a capability (CAP_NET_ADMIN,
+            and 2 further causes, of 2 answers
 files       open everywhere
 namespaces  open 6 but denied 1: user
 switches    open all 6
@@ -78,14 +83,12 @@ uids        in steps 3 but open 1: 983
         "NoNewPrivileges=true",
         """\
 launched    as uid 0 (root), gid 0, with 7 capabilities, no_new_privs on
-why open    3 answers, since it can take other user ids (CAP_SETUID is held)
-              uid 3; as
-              uid 945: 1 setuid 945
+why open    3 answers, since it can make calls that ask for a capability (CAP_SYSLOG and
+            CAP_SYS_TIME are held)
+              closed by CapabilityBoundingSet=~CAP_SYSLOG CAP_SYS_TIME
+            other uids, since it can take other user ids (CAP_SETUID is held)
               closed by CapabilityBoundingSet=~CAP_SETUID or SystemCallFilter=~@setuid
-            3 answers, since it can take other groups (CAP_SETGID is held)
-            2 answers, since it can make calls that ask for a capability (CAP_SYS_TIME is held)
-              closed by CapabilityBoundingSet=~CAP_SYS_TIME
-            1 answer, since it can make calls that ask for a capability (CAP_SYSLOG is held)
+            other gids, since it can take other groups (CAP_SETGID is held)
 see, read   open everywhere but denied in /dev, /home, /root, /tmp, /run/user, /var/tmp
             and open in /dev/null
 write       denied everywhere but open in /dev/null, /proc/kmsg, /sbin/fstrim
@@ -143,15 +146,14 @@ blind       /usr/lib/modules, of which 1 holds only without what `partings` name
         "ProtectKernelModules=true\nRestrictRealtime=true\nNoNewPrivileges=true",
         """\
 launched    as uid 0 (root), gid 0, with 38 capabilities, no_new_privs on
-why open    34 answers, since it can change mounts (CAP_SYS_ADMIN is held)
+why open    3 answers, since it can change the kernel or start another (CAP_SYS_BOOT is held)
+              call 3; as
+            34 answers, since it can change mounts (CAP_SYS_ADMIN is held)
               write 12, see 11, read 11; as
               write /dev/mem: 1 mount / /proc 0 0 0 4096; 1 mount / /proc 0 0 0 4128;
               1 open /proc/dev/mem 0 1
               closed by CapabilityBoundingSet=~CAP_SYS_ADMIN or SystemCallFilter=~@mount
             6 answers, since it can make namespaces (CAP_SYS_ADMIN is held)
-            5 answers, since it can make calls that ask for a capability (CAP_SYS_ADMIN is held)
-            3 answers, since it can make calls that ask for a capability (CAP_SYS_BOOT is held)
-            and 7 further causes, of 12 answers
 see, read   open everywhere but in steps in /dev, /home, /root, /tmp, /run/user, /usr/lib/modules,
             /var/tmp and open in /dev/null
 write       in steps everywhere but open in /dev/null, /proc
@@ -218,15 +220,28 @@ def site():
     return "\n".join(lines) + "\n"
 
 
-def run(folder, *words):
-    """Runs a view in a folder: its status and what it printed."""
-    ended = subprocess.run([VIEW, *words], cwd=folder, env=HOW, capture_output=True, text=True, check=False)
+def run(folder, *words, by=None):
+    """Runs a view in a folder, as ./sandbox does: its status and what it printed."""
+    how = {**HOW, "LENTSHEEP_RUNS": os.path.abspath(BUILT), "XDG_CACHE_HOME": CACHE.name}
+    ended = subprocess.run([VIEW, *words], cwd=folder, env=by or how, capture_output=True, text=True, check=False)
     return ended.returncode, ended.stdout + ended.stderr
 
 
 def judged(folder, unit):
     """What judge prints in a folder."""
     return subprocess.run([TOP / "sandbox", "judge", unit], cwd=folder, env=HOW, stdout=subprocess.PIPE, check=False).stdout
+
+
+def met(folder, unit):
+    """The partings that a report meets, by their names; what closes its causes is not tried."""
+    with mock.patch.dict(os.environ, {"LENTSHEEP_RUNS": os.path.abspath(BUILT)}):
+        program = Program(folder)
+        found = program.run("judge", unit)
+        return {parting.name: parting for parting in partings_of(program, found, found.printed)}
+
+
+# What lines close is tried once for all tests.
+CACHE = tempfile.TemporaryDirectory(prefix="test-runs-")
 
 
 @unittest.skipUnless(os.access(BUILT, os.X_OK), "the program was not built, and LENTSHEEP_PROGRAM names none")
@@ -276,8 +291,7 @@ class Runs(unittest.TestCase):
         for unit, wanted in PARTINGS.items():
             name = self.unit_folder(unit)
             self.write(f"usr/lib/systemd/system/{name}", f"[Service]\n{UNITS[unit][0]}\n")
-            found = json.loads(run(self.place, "--json", "judge", name)[1])["result"]["partings"]
-            self.assertEqual(sorted(wanted.split()), sorted(it["name"] for it in found), unit)
+            self.assertEqual(sorted(wanted.split()), sorted(met(self.place, name)), unit)
 
     def test_lines_that_end_a_parting(self):
         # with the line the parting is gone, or touches nothing any more, and nothing opens
@@ -285,17 +299,17 @@ class Runs(unittest.TestCase):
         name = self.unit_folder(unit)
         self.write("site.toml", site() + '[[row]]\npath = "/run/a"\nkind = "file"\n[[row]]\npath = "/sys/a"\nkind = "file"\n')
         self.write(f"usr/lib/systemd/system/{name}", f"[Service]\n{UNITS[unit][0]}\n")
-        before = {it["name"]: it for it in json.loads(run(self.place, "--json", "judge", name)[1])["result"]["partings"]}
+        before = met(self.place, name)
         for parting, line in [
             ("architectures", "SystemCallArchitectures=native"), ("io-uring", "SystemCallFilter=~io_uring_setup"),
             ("run-writable", "ReadOnlyPaths=/run"), ("sys-writable", "PrivateNetwork=yes"),
         ]:  # fmt: skip
-            self.assertIn(line, before[parting]["closed_by"])
-            self.assertLess(0, before[parting]["answers"], parting)
+            self.assertIn(line, before[parting].closed_by)
+            self.assertLess(0, len(before[parting].answers), parting)
             dropin = Path(self.write(f"etc/systemd/system/{name}.d/close.conf", f"[Service]\n{line}\n"))
-            after = {it["name"]: it for it in json.loads(run(self.place, "--json", "judge", name)[1])["result"]["partings"]}
+            after = met(self.place, name)
             dropin.unlink()
-            self.assertEqual(0, after[parting]["answers"] if parting in after else 0, parting)
+            self.assertEqual(0, len(after[parting].answers) if parting in after else 0, parting)
 
     def test_lines_that_close_a_way(self):
         # what closes a way leaves none of it, and opens nothing
@@ -417,19 +431,20 @@ expectations 4 failed 2
     def test_wrong_words_and_refusals(self):
         hardened = EXAMPLES / "hardened"
         bad = self.write("bad", "denies write /etc\n")
+        no_unit = "sandbox: no unit no.service is below this folder; web.service is\n"
         for words, status, text in [
-            (["--brief"], 2, "sandbox: --brief needs a command behind it\n"),
-            (["--brief", "plan", "web.service"], 2, "sandbox: --brief tells of judge alone\n"),
+            (["--brief"], 2, "sandbox: --brief needs a command after it\n"),
+            (["--brief", "plan", "web.service"], 2, "sandbox: --brief is a view of judge alone: write ./sandbox --brief judge UNIT; --json prints all of plan\n"),
             (["--expect", "none", "judge", "web.service"], 2, "sandbox: none: No such file or directory\n"),
             (["--expect", bad, "judge", "web.service"], 2, f"sandbox: {bad}: line 1 is no expectation: denies write /etc\n"),
-            (["--expect", bad], 2, "sandbox: --expect needs a file and a command behind it\n"),
-            (["--compare", bad], 2, "sandbox: --compare needs two reports behind it\n"),
-            (["--compare", bad, bad], 2, f"sandbox: {bad} is no whole text of judge\n"),
-            (["--brief", "judge", "no.service"], 3, "refused no.service not-found\n"),
-            (["--write", bad, "judge", "no.service"], 3, "refused no.service not-found\n"),
+            (["--expect", bad], 2, "sandbox: --expect needs a file and a command after it\n"),
+            (["--compare", bad], 2, "sandbox: --compare needs two reports after it\n"),
+            (["--compare", bad, bad], 2, f"sandbox: {bad} is not a complete output of judge\n"),
+            (["--brief", "judge", "no.service"], 3, f"refused no.service not-found\n{no_unit}"),
+            (["--write", bad, "judge", "no.service"], 3, f"refused no.service not-found\n{no_unit}"),
             (["--brief", "judge"], 2, "refused words\nsandbox: write ./sandbox judge UNIT (./sandbox --help)\n"),
         ]:  # fmt: skip
-            self.assertEqual((status, text), run(hardened, *words), words)
+            self.assertEqual((status, text), run(hardened, *words, by=HOW), words)
         self.assertEqual(0, run(hardened, "--brief", "--help")[0])
 
 

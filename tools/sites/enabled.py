@@ -1,0 +1,72 @@
+"""Which services of a root are enabled or were started (systemd.unit(5)): those that something pulls in.
+
+A service counts that stands in a folder `*.wants`, `*.requires` or `*.upholds`, is activated by a socket, a timer, a path or a name of
+D-Bus that counts, is named in Wants= and the like of what counts, or was started on a running system.
+"""
+from sites import units
+
+FOLDERS = (b".wants", b".requires", b".upholds")
+PULLING = ("Wants", "Requires", "Requisite", "BindsTo", "Upholds")
+# What is activated by another unit: the section and the key that name the service, and else its own name.
+ACTIVATING = {"socket": ("[Socket]", "Service"), "timer": ("[Timer]", "Unit"), "path": ("[Path]", "Unit")}
+STARTED = b"/run/systemd/units"
+
+
+def pulled_in(root):
+    """The names that stand in the folders of units that are enabled, but for those of an initial file system."""
+    found = set()
+    for place in units.PLACES:
+        for folder in units.names_in(root, place):
+            if folder.endswith(FOLDERS) and not folder.startswith(b"initrd"):
+                found.update(units.names_in(root, place + b"/" + folder))
+        # the name of D-Bus that an enabled unit has is a link in etc
+        if place == units.PLACES[0]:
+            found.update(name for name in units.names_in(root, place) if name.startswith(b"dbus-"))
+    return found
+
+
+def started(root):
+    """The names of the units that were started since the root runs."""
+    return {name.partition(b":")[2] for name in root.names(STARTED) if name.startswith(b"invocation:")}
+
+
+def settings(root, name):
+    """The sections, keys and values of the files of a unit of any kind."""
+    stem, at, rest = name.partition("@")
+    template = f"{stem}@.{rest.rpartition('.')[2]}" if at else name
+    found = []
+    for file in dict.fromkeys([name, template]):
+        for place in units.PLACES:
+            path = place + b"/" + file.encode()
+            paths = [path] + [path + b".d/" + it for it in units.names_in(root, path + b".d")]
+            for it in filter(None, (units.standing(root, one) for one in paths)):
+                try:
+                    found += units.all_assignments(root.read(it).decode("utf-8"))
+                except (OSError, ValueError):
+                    continue
+    return found
+
+
+def activated(root, name, own):
+    """The names that a unit pulls in or activates."""
+    kind = name.rpartition(".")[2]
+    said = settings(root, name)
+    found = [word for section, key, value in said if section == "[Unit]" and key in PULLING for word in value.split()]
+    if kind in ACTIVATING:
+        section, key = ACTIVATING[kind]
+        named = [value for where, it, value in said if where == section and it == key and value]
+        accepts = any(key == "Accept" and value.lower() in ("yes", "true", "1", "on") for _, key, value in said)
+        found += named[-1:] or ([] if accepts else [name.rpartition(".")[0] + ".service"])
+    return [own(it) for it in found if "%" not in it]
+
+
+def enabled(root, own):
+    """The names of the units that are enabled or were started; `own` gives a unit's own name for another name of it."""
+    left = [own(name.decode("utf-8", "replace")) for name in sorted(pulled_in(root) | started(root))]
+    found = set()
+    while left:
+        name = left.pop()
+        if name not in found:
+            found.add(name)
+            left += activated(root, name, own)
+    return found
