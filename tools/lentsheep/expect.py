@@ -16,6 +16,8 @@ from .report import read_question
 from .values import PATH_KINDS, Answer, Question, Report
 from .words import escaped, unescaped
 
+# Partings by which another path, call or mount leads to a file, whose mode the kernel compares there as well.
+_OTHER_WAYS = frozenset("outside-roots io-uring other-calls strict-homes run-writable sys-writable devices-read-only old-names-open".split())
 _EXPOSURE = re.compile(r"exposure(?: ([^ ]+))? <= ([0-9]{1,3})")
 
 
@@ -141,15 +143,17 @@ def _answers(question: Question, report: Report) -> list[Answer]:
 def doubts(expectation: Expectation, report: Report, found: Sequence[Parting]) -> list[str]:
     """The partings by which systemd may open what a line denies, or show what it has as blind; none of other lines.
 
-    What file modes close rests on ids and capabilities, so it is doubted by what gives more of them, too.
+    What file modes close rests on ids and capabilities, so it is doubted by what gives more of them, and not by another way to the file.
     """
     if expectation.blind is not None:
         return [it.name for it in found if it.opens and any(_are_one_way(expectation.blind, folder) for folder in it.blind)]
     if expectation.question is None or expectation.is_open:
         return []
-    names = doubted(found)
-    doubting = [names.get(answer.question, []) for answer in _answers(expectation.question, report)]
-    if any(answer.by_modes for answer in _answers(expectation.question, report)):
+    names, answers = doubted(found), _answers(expectation.question, report)
+    doubting = [
+        [name for name in names.get(answer.question, []) if not (answer.by_modes and name in _OTHER_WAYS)] for answer in answers
+    ]
+    if any(answer.by_modes for answer in answers):
         doubting += [more for question, more in names.items() if question.kind in ("cap", "uid", "gid")]
     return list(dict.fromkeys(name for each in doubting for name in each))
 

@@ -1,4 +1,5 @@
 """Tests which open answers file modes close: the rule by itself, and against the kernel of this machine where the test runs as root."""
+import dataclasses
 import json
 import os
 import shutil
@@ -109,6 +110,12 @@ class Rule(unittest.TestCase):
             self.assertIsNone(read_modes(data), data)
 
 
+def denied_of(report):
+    """The report with what modes close as denied by the report itself."""
+    report = expect.with_modes_denied(report)
+    return dataclasses.replace(report, answers=tuple(dataclasses.replace(it, by_modes=False) for it in report.answers))
+
+
 class Views(unittest.TestCase):
     """How it is told."""
 
@@ -141,7 +148,13 @@ class Views(unittest.TestCase):
         ]:  # fmt: skip
             parting = Parting("a", (), direction, "", "", (read_question(question),))
             self.assertEqual([wanted] * 2, [expect.doubts(it, report, [parting]) for it in lines], question)
-        denied = expect.with_modes_denied(report)
+        # the mode holds by another way as well, but for one that gives an id
+        for questions, wanted in [(["write /etc/b"], []), (["write /etc/b", "uid 0"], ["outside-roots"])]:
+            parting = Parting("outside-roots", (), Direction.DENIED_HERE, "", "", tuple(map(read_question, questions)))
+            self.assertEqual(wanted, expect.doubts(lines[0], report, [parting]))
+        parting = Parting("outside-roots", (), Direction.DENIED_HERE, "", "", (read_question("write /etc/b"),))
+        self.assertEqual(["outside-roots"], expect.doubts(lines[0], denied_of(report), [parting]))
+        denied = denied_of(report)
         self.assertEqual({State.DENIED, State.OPEN}, set(map(state_of, denied.answers)))
         self.assertEqual([], [it for it in denied.answers if it.question.text == "write /etc/b" and it.is_open])
 
