@@ -43,5 +43,5 @@ uninstall:
 
 # The quick tests, which need neither the kit nor a proved program. The gate is rt ci.
 test:
-	for test in command sites views docs prose graph; do tools/test-$$test || exit; done
+	for test in command sites views docs prose reality graph; do tools/test-$$test || exit; done
 	tools/graph
