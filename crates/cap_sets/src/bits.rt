@@ -7,7 +7,7 @@ ghost use Rattle.cap_sets.specs.Names.{table};
 
 use bitflags::{Flag, Flags, bitflag_items};
 
-/// Any bits of a word, those above 40 too.
+/// Any bits of a word, those above 40 too. No public item names it, so `bitflags` stays out of the interface.
 #[derive(Clone, Copy, PartialEq, Eq)]
 pub(crate) struct Bits(pub(crate) u64);
 

@@ -12,7 +12,7 @@ use std::marker::Model;
 /// A set of capabilities: numbers 0 to 40, as capabilities(7) lists them.
 #[derive(Clone, Copy, PartialEq, Eq)]
 pub struct CapSet {
-    bits: Bits,
+    bits: u64,
 }
 
 impl Model for CapSet {
@@ -20,11 +20,11 @@ impl Model for CapSet {
 
     ghost Value = { ℕ };
 
-    ghost view = { λ set. set.bits.0 };
+    ghost view = { λ set. set.bits };
 
-    ghost invariant = { λ set. set.bits.0 < 2 ^ 41 };
+    ghost invariant = { λ set. set.bits < 2 ^ 41 };
 
-    ghost inverse = { λ word. record { bits = record { 0 = word } } };
+    ghost inverse = { λ word. record { bits = word } };
 }
 
 impl CapSet {
@@ -34,7 +34,7 @@ impl CapSet {
         ensures none { result ≡ none }
         ensures members { (number : ℕ) → has result number ≡ false }
     {
-        CapSet { bits: Bits(0) }
+        CapSet { bits: 0 }
     }
 
     /// The set of all 41.
@@ -44,7 +44,7 @@ impl CapSet {
         ensures members { (number : ℕ) → has result number ≡ nat_le number 40 }
     {
         CapSet {
-            bits: Bits((1 << 41) - 1),
+            bits: (1 << 41) - 1,
         }
     }
 
@@ -55,7 +55,7 @@ impl CapSet {
         ensures members { (number : ℕ) → has result number ≡ (has self number || has other number) }
     {
         CapSet {
-            bits: self.bits.union(other.bits),
+            bits: Bits(self.bits).union(Bits(other.bits)).0,
         }
     }
 
@@ -65,10 +65,10 @@ impl CapSet {
         ensures minus { result ≡ minus self other }
         ensures members { (number : ℕ) → has result number ≡ (has self number && not (has other number)) }
     {
+        let bits = Bits(self.bits);
+        let both = bits.intersection(Bits(other.bits));
         CapSet {
-            bits: self
-                .bits
-                .symmetric_difference(self.bits.intersection(other.bits)),
+            bits: bits.symmetric_difference(both).0,
         }
     }
 
@@ -79,7 +79,7 @@ impl CapSet {
         ensures members { (number : ℕ) → has result number ≡ (has self number && has other number) }
     {
         CapSet {
-            bits: self.bits.intersection(other.bits),
+            bits: Bits(self.bits).intersection(Bits(other.bits)).0,
         }
     }
 
@@ -89,7 +89,7 @@ impl CapSet {
         ensures has { result ≡ has self cap }
         ensures none_above_40 { IsTrue result → cap ≤ 40 }
     {
-        cap <= 40 && (self.bits.0 >> cap) & 1 == 1
+        cap <= 40 && (self.bits >> cap) & 1 == 1
     }
 
     /// Whether each of this set is in the other.
@@ -98,7 +98,7 @@ impl CapSet {
         ensures test { result ≡ within self other }
         ensures each { IsTrue result ↔ IsWithin self other }
     {
-        other.bits.contains(self.bits)
+        Bits(other.bits).contains(Bits(self.bits))
     }
 
     /// This set and the capability of this number, at most 40.
@@ -109,7 +109,7 @@ impl CapSet {
         ensures members { (number : ℕ) → has result number ≡ (has self number || number == cap) }
     {
         CapSet {
-            bits: self.bits.union(Bits(1 << cap)),
+            bits: Bits(self.bits).union(Bits(1 << cap)).0,
         }
     }
 
@@ -118,7 +118,7 @@ impl CapSet {
         ensures word { result ≡ self }
         ensures below { result < 2 ^ 41 }
     {
-        self.bits.0
+        self.bits
     }
 
     /// The set of a word, or None exactly where a bit above 40 is set.
@@ -127,7 +127,7 @@ impl CapSet {
         ensures set { IfSome result (λ set. set ≡ n) }
     {
         if n < 1 << 41 {
-            Some(CapSet { bits: Bits(n) })
+            Some(CapSet { bits: n })
         } else {
             None
         }
