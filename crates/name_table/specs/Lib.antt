@@ -1,1 +1,4 @@
-pub mod Names
+pub mod Before
+pub mod NameAt
+pub mod Places
+pub mod Rank

@@ -1,14 +1,16 @@
 //! Lines that have names, in the order of a file, found by their names.
 //!
-//! A `NameTable` is the kit's `IndexMap` of lines by name, which keeps the order in which they were put. Contracts see the list of
-//! the lines: `table.push(alloc, line)?` puts a line last, `table.get("read")` finds it, and `table.lines()` lends all.
+//! A `NameTable` holds the lines in the order in which they were put, and beside them their places in the order of their names,
+//! in which a name is found by halving. Contracts see the list of the lines: `table.push(alloc, line)?` puts a line last,
+//! `table.get("read")` finds it, and `table.lines()` lends all.
 #![tactic(auto)]
 
-ghost use Rattle.std.specs.Prelude.{◌≡◌, ◌++◌, ◌∷◌, [], false, is_some, find, position, option_copied, OnOk, OnErr};
+ghost use Rattle.std.specs.Prelude.{◌≡◌, ◌++◌, ◌∷◌, [], map, false, is_some, find, position, option_copied, OnOk, OnErr};
 ghost use Rattle.std.specs.List.{list_any};
 ghost use Rattle.std.specs.Str.{bytes_eq};
+ghost use Rattle.name_table.specs.Places.{ArePlaces};
+ghost use Rattle.name_table.specs.Rank.{IsRank};
 
-use indexmap::IndexMap;
 use std::alloc::{AllocError, Global};
 use std::marker::Model;
 
@@ -26,19 +28,20 @@ pub trait Named {
 /// Lines in their order, each with a name of its own; contracts see them as a list.
 #[derive(Drop)]
 pub struct NameTable<L: Named> {
-    lines: IndexMap<String, L>,
+    lines: Vec<L>,
+    // The places of the lines, in the order of their names.
+    places: Vec<usize>,
 }
 
 impl<L: Named> Model for NameTable<L> {
-    ghost use Rattle.std.specs.Prelude.{List};
-    ghost use Rattle.indexmap.specs.IndexMap.{values};
-    ghost use Rattle.name_table.specs.Names.{AreNamed};
+    ghost use Rattle.std.specs.Prelude.{List, map};
+    ghost use Rattle.name_table.specs.Places.{ArePlaces};
 
     ghost Value = { List L };
 
-    ghost view = { λ table. values table.lines };
+    ghost view = { λ table. table.lines.items };
 
-    ghost invariant = { λ table. AreNamed L.name_of table.lines.entries };
+    ghost invariant = { λ table. ArePlaces (map L.name_of table.lines.items) table.places.items };
 }
 
 impl<L: Named> NameTable<L> {
@@ -47,7 +50,8 @@ impl<L: Named> NameTable<L> {
         ensures no_line { result ≡ [] }
     {
         NameTable {
-            lines: IndexMap::new(alloc),
+            lines: Vec::new(alloc),
+            places: Vec::new(alloc),
         }
     }
 
@@ -55,28 +59,29 @@ impl<L: Named> NameTable<L> {
     pub fn lines(&self) -> &[L]
         ensures all_in_order { result.now ≡ self.now }
     {
-        self.lines.values().as_slice()
+        self.lines.as_slice()
     }
 
     /// Whether a line has this name.
     pub fn has(&self, name: &str) -> bool
         ensures by_name { result ≡ list_any (λ line. bytes_eq name.now (L.name_of line)) self.now }
     {
-        self.lines.contains_key(name)
+        place_of(&self.lines, &self.places, name).is_some()
     }
 
     /// The line of this name.
     pub fn get(&self, name: &str) -> Option<&L>
         ensures by_name { option_copied result ≡ find (λ line. bytes_eq name.now (L.name_of line)) self.now }
     {
-        self.lines.get(name)
+        let place = place_of(&self.lines, &self.places, name)?;
+        self.lines.get(place)
     }
 
     /// The place of the line of this name, from 0.
     pub fn place(&self, name: &str) -> Option<usize>
         ensures by_name { result ≡ position (λ line. bytes_eq name.now (L.name_of line)) self.now }
     {
-        self.lines.get_index_of(name)
+        place_of(&self.lines, &self.places, name)
     }
 }
 
@@ -87,8 +92,47 @@ impl<L: Named + Drop> NameTable<L> {
         ensures goes_last { OnOk result (self.new ≡ self.old ++ line ∷ []) }
         ensures unchanged { OnErr result (self.new ≡ self.old) }
     {
-        let name = String::from_str(alloc, line.name())?;
-        self.lines.insert(name, line)?;
+        let rank = rank_of(&self.lines, &self.places, line.name());
+        let place = self.lines.len();
+        // With room made first, nothing fails once the place is put.
+        self.lines.reserve(1)?;
+        self.places.insert(rank, place)?;
+        self.lines.push(line)?;
         Ok(())
+    }
+}
+
+/// How many of the names come before this one.
+fn rank_of<L: Named>(lines: &[L], places: &[usize], name: &str) -> usize
+    requires { ArePlaces (map L.name_of lines.now) places.now }
+    ensures rank { IsRank (map L.name_of lines.now) places.now name.now result }
+{
+    let mut low = 0;
+    let mut high = places.len();
+    while low < high {
+        let middle = low + (high - low) / 2;
+        if lines[places[middle]].name() < name {
+            low = middle + 1;
+        } else {
+            high = middle;
+        }
+    }
+    low
+}
+
+/// The place of the line of this name, from 0.
+fn place_of<L: Named>(lines: &[L], places: &[usize], name: &str) -> Option<usize>
+    requires { ArePlaces (map L.name_of lines.now) places.now }
+    ensures by_name { result ≡ position (λ line. bytes_eq name.now (L.name_of line)) lines.now }
+{
+    let rank = rank_of(lines, places, name);
+    if rank == places.len() {
+        return None;
+    }
+    let place = places[rank];
+    if lines[place].name() == name {
+        Some(place)
+    } else {
+        None
     }
 }

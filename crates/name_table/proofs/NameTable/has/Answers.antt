@@ -1,11 +1,14 @@
-use Rattle.std.proofs.Common.{◌∙◌, ap}
+use Rattle.std.proofs.Common.{ap, ◌∙◌}
+use Rattle.std.specs.Prelude.{is_some}
 use Rattle.std.specs.List.{list_any}
-use Rattle.std.specs.Str.{bytes_eq}
-use Rattle.name_table.proofs.Finding.{there}
+use Rattle.name_table.proofs.Positions.{has_name, some_passes}
 use Rattle.name_table.proofs.NameTable.has.Goals as goal
 
 pub returns : goal.returns
-returns g c = record {
-  by_name = c.contains_key.ensures ∙ there g.L.Named.name_of (λ bytes. bytes_eq c.args.name.now bytes) _ c.self.invariant
-      ∙ ap (λ lines. list_any (λ line. bytes_eq c.args.name.now (g.L.Named.name_of line)) lines) c.self.view_is;
-}
+returns g c =
+    let test = has_name g.L.Named.name_of c.args.name.now in
+    record {
+      by_name =
+          c.is_some.ensures ∙ ap is_some c.place_of.ensures.by_name ∙ some_passes test c.deref.result.now
+          ∙ ap (list_any test) (c.deref.ensures.value ∙ c.self.view_is);
+    }
